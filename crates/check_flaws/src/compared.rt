@@ -1,16 +1,15 @@
 //! A certificate beside its program, and what breaks the condition of a number.
 
 use crate::bound::{Loose, loose_bound};
-use crate::extra::{Extra, first_extra, unknown_class};
+use crate::extra::{Extra, first_extra};
 use crate::missing::first_missing;
 use crate::node_name::node_name_text;
-use crate::placing::{last_places, line_numbers, line_of};
+use crate::placing::{last_places, line_numbers};
 use crate::ranks::{Rise, first_rise};
 use crate::rows::{bound_row, node_row};
-use crate::sets::{Mistake, first_mistake};
 use effect_scan::{Node, Scan};
 use program_flaws::{Source, class_text, node_text, push_edge, text_of};
-use rank_check::{Certificate, Line, MemberName, NodeName};
+use rank_check::{Cause, Certificate, Line, MemberName, Mistake, NodeName, Place, SetItem, judge};
 use std::alloc::AllocError;
 
 /// A certificate and its text, beside the nodes of a program.
@@ -82,14 +81,6 @@ impl<'s> Compared<'s> {
         node_row(self.source.alloc, self.text, place)
     }
 
-    /// The same for the line of the node of this number.
-    fn row_of(&self, number: usize) -> Result<usize, AllocError> {
-        match line_of(self.lines(), self.places, number) {
-            Some(placed) => self.row(placed.place),
-            None => Ok(0),
-        }
-    }
-
     /// The first node without a line.
     fn missing(&self) -> Result<Option<String>, AllocError> {
         let Some(number) = first_missing(self.places) else {
@@ -152,13 +143,28 @@ impl<'s> Compared<'s> {
         Ok(Some(text))
     }
 
-    /// The first class in a set that isn't there.
+    /// What the check's own judgement names, where a condition doesn't hold.
+    fn cause(&self) -> Result<Option<Cause>, AllocError> {
+        match judge(self.source.alloc, self.source.meta, self.certificate) {
+            Ok(()) => Ok(None),
+            Err(Cause::Memory) => Err(AllocError),
+            Err(cause) => Ok(Some(cause)),
+        }
+    }
+
+    /// The first class that an item of a set names and that isn't there.
     fn class_missing(&self) -> Result<Option<String>, AllocError> {
-        let Some(unknown) = unknown_class(self.source.meta, self.lines(), self.places) else {
+        let Some(Cause::Extra(rank_check::Extra::Class(place, item))) = self.cause()? else {
             return Ok(None);
         };
-        let row = self.row(unknown.place)?;
-        let class = text_of(self.source.alloc, unknown.name.bytes())?;
+        let Some(line) = self.lines().get(place) else {
+            return Ok(None);
+        };
+        let Some(SetItem::Class(name) | SetItem::Closure(name)) = line.destroys.get(item) else {
+            return Ok(None);
+        };
+        let row = self.row(place)?;
+        let class = text_of(self.source.alloc, name.bytes())?;
         let text = format!(in self.source.alloc;
             "line {row} of the certificate has the class `{class}`, which isn't there\nhelp: make the certificate anew with `certify`, after each change of the program\n"
         )?;
@@ -218,18 +224,18 @@ impl<'s> Compared<'s> {
 
     /// What is wrong with the first set that isn't as it has to be.
     fn mistake(&self) -> Result<Option<String>, AllocError> {
-        match first_mistake(self.source.meta, self.scan, self.lines(), self.places) {
-            Some(Mistake::Unclosed(number, class)) => self.unclosed(number, class),
-            Some(Mistake::Own(number)) => self.own(number),
-            Some(Mistake::Lost(from, to, class)) => self.lost(from, to, class),
-            None => Ok(None),
+        match self.cause()? {
+            Some(Cause::Destroys(Mistake::Unclosed(at, class))) => self.unclosed(at, class),
+            Some(Cause::Destroys(Mistake::Own(at))) => self.own(at),
+            Some(Cause::Destroys(Mistake::Lost(from, to, class))) => self.lost(from, to, class),
+            _ => Ok(None),
         }
     }
 
     /// The set of a destruction lacks a class.
-    fn unclosed(&self, number: usize, class: usize) -> Result<Option<String>, AllocError> {
-        let row = self.row_of(number)?;
-        let node = self.node(number)?;
+    fn unclosed(&self, at: Place, class: usize) -> Result<Option<String>, AllocError> {
+        let row = self.row(at.line)?;
+        let node = self.node(at.node)?;
         let class = class_text(self.source.alloc, self.source.meta, class)?;
         let text = format!(in self.source.alloc;
             "line {row} of the certificate: the set of `{node}` lacks `{class}`, and with it an object of that class may be deleted\nhelp: make the certificate anew with `certify`\n"
@@ -238,9 +244,9 @@ impl<'s> Compared<'s> {
     }
 
     /// The set of a slot or native holds its own class.
-    fn own(&self, number: usize) -> Result<Option<String>, AllocError> {
-        let row = self.row_of(number)?;
-        let node = self.node(number)?;
+    fn own(&self, at: Place) -> Result<Option<String>, AllocError> {
+        let row = self.row(at.line)?;
+        let node = self.node(at.node)?;
         let text = format!(in self.source.alloc;
             "line {row} of the certificate: the set of `{node}` holds its own class, so an object could die while this body of its own runs\nhelp: make the certificate anew with `certify`; where the slot does lead to a deletion, it names the chain, and `later` in the place of `delete` puts the deletion off\n"
         )?;
@@ -248,15 +254,15 @@ impl<'s> Compared<'s> {
     }
 
     /// A set lacks a class of the set of another node.
-    fn lost(&self, from: usize, to: usize, class: usize) -> Result<Option<String>, AllocError> {
-        let row = self.row_of(from)?;
-        let node = self.node(from)?;
+    fn lost(&self, from: Place, to: Place, class: usize) -> Result<Option<String>, AllocError> {
+        let row = self.row(from.line)?;
+        let node = self.node(from.node)?;
         let class = class_text(self.source.alloc, self.source.meta, class)?;
-        let other = self.row_of(to)?;
+        let other = self.row(to.line)?;
         let mut text = format!(in self.source.alloc;
             "line {row} of the certificate: the set of `{node}` lacks `{class}`, which that in line {other} has\n"
         )?;
-        self.push_edge(&mut text, from, to)?;
+        self.push_edge(&mut text, from.node, to.node)?;
         text.push_str("help: make the certificate anew with `certify`\n")?;
         Ok(Some(text))
     }

@@ -11,6 +11,5 @@ mod node_name;
 mod placing;
 mod ranks;
 mod rows;
-mod sets;
 
 pub use explain::broken_condition;

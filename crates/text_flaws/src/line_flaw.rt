@@ -4,12 +4,12 @@ ghost use Rattle.std.specs.Prelude.{◌≤◌, length, IfOk, IfSome};
 
 use crate::flaw::{Flaw, bad_byte, known_flaw, place_of, stop_flaw};
 use crate::limits::{eighth_comma, plain_reference};
-use crate::lines::{BOUND, NODE, VERSION, event};
+use crate::lines::{BOUND, NODE_OF_ONE, NODE_OF_TWO, VERSION, event};
 use crate::part::Part;
 use crate::recogniser::{Stop, first_stop};
 use crate::scan::{Mark, ScanFault, marks};
 use std::alloc::{AllocError, Global};
-use texts::{Token, split_line};
+use texts::{Token, number, split_line};
 
 /// What is wrong with this line of a script, counted from 1.
 pub fn script_flaw(alloc: Global, text: &[u8], line: usize) -> Result<Option<Flaw>, AllocError>
@@ -34,6 +34,7 @@ pub fn certificate_flaw(alloc: Global, text: &[u8]) -> Result<Option<Flaw>, Allo
 {
     let mut left = text;
     let mut row = 0u8;
+    let mut is_one = false;
     while let Some((content, rest)) = split_line(left) {
         let marks = match marks(alloc, content) {
             Ok(marks) => marks,
@@ -44,9 +45,12 @@ pub fn certificate_flaw(alloc: Global, text: &[u8]) -> Result<Option<Flaw>, Allo
             Err(ScanFault::Memory) => return Err(AllocError),
         };
         if !marks.is_empty() {
-            let flaw = row_flaw(alloc, content, marks.as_slice(), row)?;
+            let flaw = row_flaw(alloc, content, marks.as_slice(), row, is_one)?;
             if flaw.is_some() {
                 return Ok(within(text, left, flaw));
+            }
+            if row == 0 {
+                is_one = version(marks.as_slice()) == Some(1);
             }
             row = row.saturating_add(1);
         }
@@ -122,25 +126,76 @@ fn followed_flaw(
     }
 }
 
-/// What is wrong with the tokens of a certificate's line behind so many others.
+/// What is wrong with the tokens of a certificate's line behind so many others, in version 1 or 2.
 fn row_flaw(
     alloc: Global,
     line: &[u8],
     tokens: &[Mark],
     row: u8,
+    is_one: bool,
 ) -> Result<Option<Flaw>, AllocError> {
     match row {
-        0 | 1 => {
-            let name: &[u8] = if row == 0 { b"certificate" } else { b"bound" };
-            let parts: &[Part] = if row == 0 { &VERSION } else { &BOUND };
-            match tokens.split_first() {
-                Some((first, others)) if is_named(&first.token, name) => {
-                    followed_flaw(alloc, line, tokens, others, parts)
-                }
-                _ => Ok(Some(begins_otherwise(alloc, 0)?)),
-            }
+        0 => match setting_flaw(alloc, line, tokens, b"certificate", &VERSION)? {
+            Some(flaw) => Ok(Some(flaw)),
+            None => version_flaw(alloc, line, tokens),
+        },
+        1 => setting_flaw(alloc, line, tokens, b"bound", &BOUND),
+        _ if is_one => flaw_of_one(alloc, line, tokens),
+        _ => followed_flaw(alloc, line, tokens, tokens, &NODE_OF_TWO),
+    }
+}
+
+/// What is wrong with tokens that are to be this name and these parts.
+fn setting_flaw(
+    alloc: Global,
+    line: &[u8],
+    tokens: &[Mark],
+    name: &[u8],
+    parts: &[Part],
+) -> Result<Option<Flaw>, AllocError> {
+    match tokens.split_first() {
+        Some((first, others)) if is_named(&first.token, name) => {
+            followed_flaw(alloc, line, tokens, others, parts)
         }
-        _ => followed_flaw(alloc, line, tokens, tokens, &[NODE]),
+        _ => Ok(Some(begins_otherwise(alloc, 0)?)),
+    }
+}
+
+/// A version that there isn't, in the tokens of a certificate's first line.
+fn version_flaw(alloc: Global, line: &[u8], tokens: &[Mark]) -> Result<Option<Flaw>, AllocError> {
+    if let Some(1 | 2) = version(tokens) {
+        return Ok(None);
+    }
+    let sentence = String::from_str(alloc, "there is no such version")?;
+    Ok(Some(Flaw {
+        at: place_of(line, tokens, 1),
+        sentence,
+        advice: Some("write `certificate 2`; `certificate 1` is read too"),
+    }))
+}
+
+/// The number in the tokens of a certificate's first line.
+fn version(tokens: &[Mark]) -> Option<u64> {
+    match &tokens.get(1)?.token {
+        Token::Number(digits) => number(digits.as_slice(), u64::from(u32::MAX)),
+        _ => None,
+    }
+}
+
+/// What is wrong with the line of a node in version 1. What is no flaw in version 2 is a `~` in front of a class.
+fn flaw_of_one(alloc: Global, line: &[u8], tokens: &[Mark]) -> Result<Option<Flaw>, AllocError> {
+    let Some(flaw) = followed_flaw(alloc, line, tokens, tokens, &NODE_OF_ONE)? else {
+        return Ok(None);
+    };
+    match followed_flaw(alloc, line, tokens, tokens, &NODE_OF_TWO)? {
+        Some(other) if other.at == flaw.at => Ok(Some(flaw)),
+        _ => Ok(Some(Flaw {
+            at: flaw.at,
+            sentence: flaw.sentence,
+            advice: Some(
+                "`~C` stands for the closure of a class in `certificate 2`, and not in `certificate 1`",
+            ),
+        })),
     }
 }
 
@@ -152,7 +207,7 @@ fn begins_otherwise(alloc: Global, at: usize) -> Result<Flaw, AllocError>
     Ok(Flaw {
         at,
         sentence,
-        advice: Some("its first line is `certificate 1`, its second one `bound N`"),
+        advice: Some("its first line is `certificate 2`, its second one `bound N`"),
     })
 }
 

@@ -22,8 +22,10 @@ pub enum LineRule {
     Options,
     /// `[single]`
     LastOption,
-    /// `~C`, `C.m(T, ..)` or `C.p`, with its rank and its classes.
+    /// `~C`, `C.m(T, ..)` or `C.p`, with its rank.
     Node,
+    /// `{["~"] Name}`
+    Items,
     /// `[(T, ..)]`
     NodeTypes,
 }
@@ -40,12 +42,19 @@ const OPTIONS: Part = Part::Line(LineRule::Options);
 
 const LAST_OPTION: Part = Part::Line(LineRule::LastOption);
 
-pub const NODE: Part = Part::Line(LineRule::Node);
+const NODE: Part = Part::Line(LineRule::Node);
+
+const ITEMS: Part = Part::Line(LineRule::Items);
 
 /// What follows `certificate`.
 pub const VERSION: [Part; 1] = [NUMBER];
 /// What follows `bound`.
 pub const BOUND: [Part; 1] = [NUMBER];
+
+/// The line of a node in version 1, in which a set has classes alone.
+pub const NODE_OF_ONE: [Part; 2] = [NODE, NAMES];
+/// The line of a node in version 2.
+pub const NODE_OF_TWO: [Part; 2] = [NODE, ITEMS];
 
 const NODE_TYPES: Part = Part::Line(LineRule::NodeTypes);
 
@@ -82,8 +91,13 @@ impl LineRule {
                 _ => None,
             },
             LineRule::Node => match next {
-                Terminal::Symbol(Symbol::Tilde) => Some(&[NAME, NUMBER, NAMES]),
-                Terminal::Name => Some(&[DOT, NAME, NODE_TYPES, NUMBER, NAMES]),
+                Terminal::Symbol(Symbol::Tilde) => Some(&[NAME, NUMBER]),
+                Terminal::Name => Some(&[DOT, NAME, NODE_TYPES, NUMBER]),
+                _ => None,
+            },
+            LineRule::Items => match next {
+                Terminal::Symbol(Symbol::Tilde) => Some(&[NAME, ITEMS]),
+                Terminal::Name => Some(&[ITEMS]),
                 _ => None,
             },
             LineRule::NodeTypes => match next {

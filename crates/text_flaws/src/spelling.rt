@@ -86,6 +86,7 @@ fn line_words(rule: LineRule) -> Option<&'static str> {
         LineRule::Options => Some("`unique` or `single`"),
         LineRule::LastOption => Some("`single`"),
         LineRule::Node => Some("a node (`C.m(int)`, `C.p` or `~C`)"),
+        LineRule::Items => Some("a class (`C` or `~C`)"),
         LineRule::NodeTypes => Some("`(`"),
     }
 }
