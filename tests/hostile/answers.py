@@ -29,7 +29,7 @@ CLASSES = lines(
     rb"[0-9]+ (?:signal|slot|native) " + METHOD,
     rb"property " + NAME + rb" " + TYPE + rb"(?: notify " + METHOD + rb")?",
 )
-CERTIFICATE = re.compile(rb"certificate 1\nbound [0-9]+\n(?:" + NODE + rb" [0-9]+(?: " + NAME + rb")*\n)+")
+CERTIFICATE = re.compile(rb"certificate 2\nbound [0-9]+\n(?:" + NODE + rb" [0-9]+(?: ~" + NAME + rb")*\n)+")
 NODES = NODE + rb"(?: " + NODE + rb")+"
 NO_CERTIFICATE = re.compile(
     rb"no (?:wire [0-9]+|type (?:" + NODE + rb"|binding " + NAME + rb")|(?:cycle|destroy|high) " + NODES + rb")\n"

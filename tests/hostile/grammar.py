@@ -85,6 +85,7 @@ def script_refusal(text):
 def is_certificate(text):
     """Whether a text is a certificate."""
     parts = iter([Reading.version, Reading.bound])
+    node = Reading.node
     count = 0
     for line in text.split(b"\n"):
         found = tokens(line)
@@ -92,8 +93,10 @@ def is_certificate(text):
             return False
         if found:
             count += 1
-            if not is_line(line, next(parts, Reading.node)):
+            if not is_line(line, next(parts, node)):
                 return False
+            if count == 1 and number_of(found[1]) == 2:
+                node = Reading.node_of_second
     return count >= 2
 
 
@@ -446,7 +449,7 @@ class Reading:
 
     def version(self):
         self.need(b"certificate")
-        if self.number() != 1:
+        if self.number() not in (1, 2):
             raise Refused
 
     def bound(self):
@@ -454,6 +457,18 @@ class Reading:
         self.number()
 
     def node(self):
+        self.ranked()
+        while not self.ends():
+            self.name()
+
+    def node_of_second(self):
+        """As version 2 has it: an item of a set may be `~C`."""
+        self.ranked()
+        while not self.ends():
+            self.has(b"~")
+            self.name()
+
+    def ranked(self):
         if self.has(b"~"):
             self.name()
         else:
@@ -461,5 +476,3 @@ class Reading:
             if self.next() == b"(":
                 self.parameters(self.type)
         self.number()
-        while not self.ends():
-            self.name()

@@ -168,16 +168,19 @@ def chain(length):
 
 
 def certificates(certificate, nine):
-    head = b"certificate 1\nbound 5\n"
+    head = b"certificate 2\nbound 5\n"
     yield "a certificate of braces", repeated(b"{", head)
     yield "a certificate of one name", repeated(b"a", head)
     yield "a certificate of one number", repeated(b"9", head + b"~A ")
     yield "a bound of many digits", repeated(b"9", b"certificate 1\nbound ")
+    yield "a version of many digits", repeated(b"9", b"certificate ")
     yield "a certificate and 100,000 empty lines", certificate + b"\n" * 100000
     yield "a certificate in empty lines", repeated(b"\n", certificate)
     yield "a certificate with one line again and again", repeated(b"~Label 1 Label\n", certificate)
     yield "a certificate with nodes that aren't there", repeated(b"A.b 0\n", certificate)
     yield "a certificate with a large set", repeated(b" Label", certificate.rstrip(b"\n"), b"\n")
+    yield "a certificate with a large set of closures", repeated(b" ~Label", certificate.rstrip(b"\n"), b"\n")
+    yield "a certificate with a set of tildes", repeated(b" ~", certificate.rstrip(b"\n"), b"\n")
     yield "a certificate with a set of classes that aren't there", repeated(b" A", certificate.rstrip(b"\n"), b"\n")
     yield "a certificate with nine types", repeated(b"A.s(%s) 0\n" % nine, head)
     yield "a certificate of many nodes", head + numbered(b"A%(n)d.b%(n)d(int,A%(n)d*) %(n)d\n", 30000)
