@@ -15,7 +15,7 @@ use texts::Expr;
 /// What draws an edge.
 #[derive(Clone, Copy)]
 pub enum Cause<'m> {
-    /// A statement in the body of the slot, or in a block of it.
+    /// A statement in the body of the slot, or in a block or a group of it.
     Statement(&'m Statement),
     /// The effects that the native is declared with.
     Native,
@@ -96,7 +96,7 @@ fn cause_in_work<'m>(meta: &'m Meta, class: usize, method: usize, to: Node) -> O
     }
 }
 
-/// The first statement of the body that leads to the node, or of a block in it.
+/// The first statement of the body that leads to the node, or of a block or a group in it.
 #[cycle(bodies)]
 fn doing<'m>(search: &Search<'_>, body: &'m [Statement]) -> Option<&'m Statement> {
     for statement in body {
@@ -107,7 +107,7 @@ fn doing<'m>(search: &Search<'_>, body: &'m [Statement]) -> Option<&'m Statement
     None
 }
 
-/// The statement, or the first one in its blocks, that leads to the node.
+/// The statement, or the first one that stands in it, that leads to the node.
 #[cycle(bodies)]
 fn doing_in<'m>(search: &Search<'_>, statement: &'m Statement) -> Option<&'m Statement> {
     if search.is_done_by(statement) {
@@ -118,6 +118,7 @@ fn doing_in<'m>(search: &Search<'_>, statement: &'m Statement) -> Option<&'m Sta
             Some(found) => Some(found),
             None => doing(search, other.as_slice()),
         },
+        Statement::Group(sets) => doing(search, sets.as_slice()),
         _ => None,
     }
 }

@@ -4,9 +4,9 @@
 
 mod cause;
 mod edge;
-mod fronts;
 mod ill_typed;
 mod names;
+mod numbers;
 mod reasons;
 mod source;
 mod statement;

@@ -19,17 +19,16 @@ const MOST_EDGES: usize = 12;
 /// `None` where the program doesn't load, or has a certificate.
 pub fn missing_certificate(alloc: Global, program: &[u8]) -> Result<Option<String>, AllocError> {
     match declarations_of(alloc, program)? {
-        Some(tree) => missing_in(alloc, program, &tree),
+        Some(tree) => missing_in(alloc, &tree),
         None => Ok(None),
     }
 }
 
 /// What the reason is about, for the declarations of a program.
-fn missing_in(alloc: Global, text: &[u8], program: &Program) -> Result<Option<String>, AllocError> {
+fn missing_in(alloc: Global, program: &Program) -> Result<Option<String>, AllocError> {
     match meta_of(alloc, program)? {
         Some(meta) => reason_text(Source {
             alloc,
-            text,
             program,
             meta: &meta,
         }),
