@@ -1,15 +1,14 @@
 -- Statements and blocks.
-use Rattle.std.proofs.Common.{◌≡◌, ◌∙◌, List, [], ◌∷◌, ◌++◌, Result, Ok, Err, refl, sym, ap, append_assoc}
+use Rattle.std.proofs.Common.{◌≡◌, ◌∙◌, ℕ, codes, List, [], ◌∷◌, ◌++◌, Result, Ok, Err, refl, sym, ap, append_assoc}
 use Rattle.std.proofs.lemmas.List.{append-nil}
 use Rattle.signatures.specs.declared.word.Word.{Word}
 use Rattle.signatures.specs.declared.word.Word.TheVariants as word
-use Rattle.texts.specs.code.Cursor.{NotAt, NotAtWord}
+use Rattle.texts.specs.code.Cursor.{NotNext, NotAt, NotAtWord}
 use Rattle.slot_lang.specs.Expressions.{Expression, tree_of_expression}
 use Rattle.slot_lang.specs.code.Expressions.{EndsFactor}
-use Rattle.slot_lang.specs.Grammar.{spell_value, spell_arguments, spell_condition, Assignment, spell_assignment, tree_of_assignment, Emission, spell_emission, tree_of_emission, Call, spell_call, tree_of_call, PathEnds, Connection, spell_connection, tree_of_connection, spell_disconnection, tree_of_disconnection, spell_object, tree_of_deletion, tree_of_later_deletion, Body, no_more, more, Statement, set, emit, call, choice, connect, disconnect, delete, later, Else, no_else, else_block, spell_statements, spell_statement, spell_else, spell_block, tree_of_block, tree_of_statement, tree_of_else}
+use Rattle.slot_lang.specs.Grammar.{spell_value, spell_arguments, spell_condition, Assignment, spell_assignment, tree_of_assignment, Emission, spell_emission, tree_of_emission, Call, spell_call, tree_of_call, PathEnds, Connection, spell_connection, tree_of_connection, spell_disconnection, tree_of_disconnection, spell_object, tree_of_deletion, tree_of_later_deletion, Sets, spell_update_group, tree_of_update_group, Body, no_more, more, Statement, set, emit, call, choice, connect, disconnect, delete, later, group, Else, no_else, else_block, spell_statements, spell_statement, spell_else, spell_block, tree_of_block, tree_of_statement, tree_of_else}
 use Rattle.slot_lang.specs.code.Grammar.{Choice, spell_choice, tree_of_choice, EndsStatement, ReadsStatement}
 use Rattle.texts.specs.code.Reading.{EndsAnywhere, Found, Reads}
-use Rattle.texts.specs.Reading.{spell_word}
 use Rattle.texts.specs.declared.fault.ParseFault.{ParseFault}
 use Rattle.texts.specs.declared.symbol.Symbol.{Symbol}
 use Rattle.texts.specs.declared.symbol.Symbol.TheVariants.{OpenBrace, CloseBrace}
@@ -74,21 +73,21 @@ nothing_only (else_block b) before rest none g = absurd (none _ g)
 pub nothing_found : {before : List Token} → NotAtWord word.Else before → Found spell_else tree_of_else EndsStatement before [] before
 nothing_found {before} none = record { reading = no_else; spelled = refl; tree_is = refl; only = λ r rest ends g. nothing_only r before rest none g }
 
--- ---- a statement by its first word
+-- ---- a statement by its first token
 
--- the statements that begin with the word; R are the readings of what follows it
-pub record IsForm {R : Type 0} (first : Word) (spell : R → List Token → List Token) (tree : R → Stmt) (Ends : List Token → Type 0) : Type 0 where
+-- the statements that begin with the token; R are the readings of what follows it
+pub record IsForm {R : Type 0} (first : Token) (spell : R → List Token → List Token) (tree : R → Stmt) (Ends : List Token → Type 0) : Type 0 where
   pub statement : R → Statement
-  pub spelled : (r : R) (rest : List Token) → spell_statement (statement r) rest ≡ token.Word first ∷ spell r rest
+  pub spelled : (r : R) (rest : List Token) → spell_statement (statement r) rest ≡ first ∷ spell r rest
   pub tree_is : (r : R) → tree_of_statement (statement r) ≡ tree r
   pub ends : (rest : List Token) → EndsStatement rest → Ends rest
-  pub only : (s : Statement) (between rest : List Token) → token.Word first ∷ between ≡ spell_statement s rest → (r : R) × (between ≡ spell r rest)
+  pub only : (s : Statement) (between rest : List Token) → first ∷ between ≡ spell_statement s rest → (r : R) × (between ≡ spell r rest)
 
 -- an answer, which is returned as it is
-pub form_reads : {R : Type 0} {first : Word} {spell : R → List Token → List Token} {tree : R → Stmt} {Ends : List Token → Type 0} → IsForm first spell tree Ends → {before between : List Token} (after : List Token) (result : Result Stmt ParseFault) → before ≡ token.Word first ∷ between → Reads spell tree Ends between result after → ReadsStatement before result after
+pub form_reads : {R : Type 0} {first : Token} {spell : R → List Token → List Token} {tree : R → Stmt} {Ends : List Token → Type 0} → IsForm first spell tree Ends → {before between : List Token} (after : List Token) (result : Result Stmt ParseFault) → before ≡ first ∷ between → Reads spell tree Ends between result after → ReadsStatement before result after
 form_reads {first = first} form {between = between} after (Ok s) at h = record {
   reading = form.statement h.reading;
-  spelled = at ∙ (ap (λ ts. token.Word first ∷ ts) h.spelled ∙ sym (form.spelled h.reading after));
+  spelled = at ∙ (ap (λ ts. first ∷ ts) h.spelled ∙ sym (form.spelled h.reading after));
   tree_is = form.tree_is h.reading ∙ h.tree_is;
   only = λ s rest ends g. let w = form.only s between rest (sym at ∙ g) in h.only w.0 rest (form.ends rest ends) w.1;
 }
@@ -98,90 +97,109 @@ after_set : (s : Statement) (between rest : List Token) → token.Word word.Set 
 after_set (set a) between rest g = (a, cc)
 after_set _ between rest g = cc
 
-pub set_form : IsForm word.Set spell_assignment tree_of_assignment EndsAnywhere
+pub set_form : IsForm (token.Word word.Set) spell_assignment tree_of_assignment EndsAnywhere
 set_form = record { statement = λ a. set a; spelled = λ a rest. refl; tree_is = λ a. refl; ends = λ rest e. tt; only = after_set }
 
 after_emit : (s : Statement) (between rest : List Token) → token.Word word.Emit ∷ between ≡ spell_statement s rest → (e : Emission) × (between ≡ spell_emission e rest)
 after_emit (emit e) between rest g = (e, cc)
 after_emit _ between rest g = cc
 
-pub emit_form : IsForm word.Emit spell_emission tree_of_emission EndsAnywhere
+pub emit_form : IsForm (token.Word word.Emit) spell_emission tree_of_emission EndsAnywhere
 emit_form = record { statement = λ e. emit e; spelled = λ e rest. refl; tree_is = λ e. refl; ends = λ rest e. tt; only = after_emit }
 
 after_call : (s : Statement) (between rest : List Token) → token.Word word.Call ∷ between ≡ spell_statement s rest → (c : Call) × (between ≡ spell_call c rest)
 after_call (call c) between rest g = (c, cc)
 after_call _ between rest g = cc
 
-pub call_form : IsForm word.Call spell_call tree_of_call EndsAnywhere
+pub call_form : IsForm (token.Word word.Call) spell_call tree_of_call EndsAnywhere
 call_form = record { statement = λ c. call c; spelled = λ c rest. refl; tree_is = λ c. refl; ends = λ rest e. tt; only = after_call }
 
 after_if : (s : Statement) (between rest : List Token) → token.Word word.If ∷ between ≡ spell_statement s rest → (c : Choice) × (between ≡ spell_choice c rest)
 after_if (choice e b o) between rest g = ((e, b, o), cc)
 after_if _ between rest g = cc
 
-pub if_form : IsForm word.If spell_choice tree_of_choice EndsStatement
+pub if_form : IsForm (token.Word word.If) spell_choice tree_of_choice EndsStatement
 if_form = record { statement = λ c. choice c.0 c.1 c.2; spelled = λ c rest. refl; tree_is = λ c. refl; ends = λ rest e. e; only = after_if }
 
 after_connect : (s : Statement) (between rest : List Token) → token.Word word.Connect ∷ between ≡ spell_statement s rest → (c : Connection) × (between ≡ spell_connection c rest)
 after_connect (connect c) between rest g = (c, cc)
 after_connect _ between rest g = cc
 
-pub connect_form : IsForm word.Connect spell_connection tree_of_connection EndsAnywhere
+pub connect_form : IsForm (token.Word word.Connect) spell_connection tree_of_connection EndsAnywhere
 connect_form = record { statement = λ c. connect c; spelled = λ c rest. refl; tree_is = λ c. refl; ends = λ rest e. tt; only = after_connect }
 
 after_disconnect : (s : Statement) (between rest : List Token) → token.Word word.Disconnect ∷ between ≡ spell_statement s rest → (ends : PathEnds) × (between ≡ spell_disconnection ends rest)
 after_disconnect (disconnect ends) between rest g = (ends, cc)
 after_disconnect _ between rest g = cc
 
-pub disconnect_form : IsForm word.Disconnect spell_disconnection tree_of_disconnection EndsAnywhere
+pub disconnect_form : IsForm (token.Word word.Disconnect) spell_disconnection tree_of_disconnection EndsAnywhere
 disconnect_form = record { statement = λ ends. disconnect ends; spelled = λ ends rest. refl; tree_is = λ ends. refl; ends = λ rest e. tt; only = after_disconnect }
 
 after_delete : (s : Statement) (between rest : List Token) → token.Word word.Delete ∷ between ≡ spell_statement s rest → (path : Path) × (between ≡ spell_object path rest)
 after_delete (delete path) between rest g = (path, cc)
 after_delete _ between rest g = cc
 
-pub delete_form : IsForm word.Delete spell_object tree_of_deletion EndsAnywhere
+pub delete_form : IsForm (token.Word word.Delete) spell_object tree_of_deletion EndsAnywhere
 delete_form = record { statement = λ path. delete path; spelled = λ path rest. refl; tree_is = λ path. refl; ends = λ rest e. tt; only = after_delete }
 
 after_later : (s : Statement) (between rest : List Token) → token.Word word.Later ∷ between ≡ spell_statement s rest → (path : Path) × (between ≡ spell_object path rest)
 after_later (later path) between rest g = (path, cc)
 after_later _ between rest g = cc
 
-pub later_form : IsForm word.Later spell_object tree_of_later_deletion EndsAnywhere
+pub later_form : IsForm (token.Word word.Later) spell_object tree_of_later_deletion EndsAnywhere
 later_form = record { statement = λ path. later path; spelled = λ path rest. refl; tree_is = λ path. refl; ends = λ rest e. tt; only = after_later }
 
--- the word that comes next
-pub word_at : {before after : List Token} {found : Word} → Found spell_word (λ word. word) EndsAnywhere before found after → (first : Word) → found ≡ first → before ≡ token.Word first ∷ after
-word_at {after = after} f first is = f.spelled ∙ ap (λ w. spell_word w after) (f.tree_is ∙ is)
+after_group : (s : Statement) (between rest : List Token) → token.Name (codes "group") ∷ between ≡ spell_statement s rest → (sets : Sets) × (between ≡ spell_update_group sets rest)
+after_group (group sets) between rest g = (sets, cc)
+after_group _ between rest g = cc
 
--- .. and one that doesn't
-pub not_at_word : {before after : List Token} {found : Word} → Found spell_word (λ word. word) EndsAnywhere before found after → (other : Word) → (found ≡ other → ⊥) → NotAtWord other before
-not_at_word f other differs rest e =
-    let at = f.spelled in
-    let is = f.tree_is in
-    differs cc
+pub group_form : IsForm (token.Name (codes "group")) spell_update_group tree_of_update_group EndsAnywhere
+group_form = record { statement = λ sets. group sets; spelled = λ sets rest. refl; tree_is = λ sets. refl; ends = λ rest e. tt; only = after_group }
 
--- where another word comes next, or none
-pub no_statement_at : {before : List Token} → NotAtWord word.Set before → NotAtWord word.Emit before → NotAtWord word.Call before → NotAtWord word.If before → NotAtWord word.Connect before → NotAtWord word.Disconnect before → NotAtWord word.Delete before → NotAtWord word.Later before → None spell_statement EndsStatement before
-no_statement_at s e c i n d x l (set a) rest ends g = s _ g
-no_statement_at s e c i n d x l (emit a) rest ends g = e _ g
-no_statement_at s e c i n d x l (call a) rest ends g = c _ g
-no_statement_at s e c i n d x l (choice t b o) rest ends g = i _ g
-no_statement_at s e c i n d x l (connect a) rest ends g = n _ g
-no_statement_at s e c i n d x l (disconnect a) rest ends g = d _ g
-no_statement_at s e c i n d x l (delete a) rest ends g = x _ g
-no_statement_at s e c i n d x l (later a) rest ends g = l _ g
+pub same_word : {first other : Word} {between : List Token} → first ≡ other → token.Word first ∷ between ≡ token.Word other ∷ between
+same_word {between = between} same = ap (λ word. token.Word word ∷ between) same
 
-pub no_statement_without_word : {before : List Token} → None spell_word EndsAnywhere before → None spell_statement EndsStatement before
-no_statement_without_word none =
-    no_statement_at (λ rest e. none word.Set rest tt e) (λ rest e. none word.Emit rest tt e) (λ rest e. none word.Call rest tt e) (λ rest e. none word.If rest tt e) (λ rest e. none word.Connect rest tt e) (λ rest e. none word.Disconnect rest tt e) (λ rest e. none word.Delete rest tt e) (λ rest e. none word.Later rest tt e)
+-- behind another word there is no statement ..
+pub none_by_word : {first : Word} (between : List Token) → (first ≡ word.Set → ⊥) → (first ≡ word.Emit → ⊥) → (first ≡ word.Call → ⊥) → (first ≡ word.If → ⊥) → (first ≡ word.Connect → ⊥) → (first ≡ word.Disconnect → ⊥) → (first ≡ word.Delete → ⊥) → (first ≡ word.Later → ⊥) → None spell_statement EndsStatement (token.Word first ∷ between)
+none_by_word between s e c i n d x l (set a) rest ends g = s cc
+none_by_word between s e c i n d x l (emit a) rest ends g = e cc
+none_by_word between s e c i n d x l (call a) rest ends g = c cc
+none_by_word between s e c i n d x l (choice t b o) rest ends g = i cc
+none_by_word between s e c i n d x l (connect a) rest ends g = n cc
+none_by_word between s e c i n d x l (disconnect a) rest ends g = d cc
+none_by_word between s e c i n d x l (delete a) rest ends g = x cc
+none_by_word between s e c i n d x l (later a) rest ends g = l cc
+none_by_word between s e c i n d x l (group a) rest ends g = cc
 
--- a statement begins with a word ..
-pub begins_with_word : (s : Statement) (symbol : Symbol) (after rest : List Token) → spell_statement s after ≡ token.Symbol symbol ∷ rest → ⊥
-begins_with_word (set a) symbol after rest e = cc
-begins_with_word _ symbol after rest e = cc
+-- .. nor behind another name ..
+pub none_by_name : {first : List ℕ} (between : List Token) → (first ≡ codes "group" → ⊥) → None spell_statement EndsStatement (token.Name first ∷ between)
+none_by_name between differs (group sets) rest ends g = differs cc
+none_by_name between differs _ rest ends g = cc
 
--- .. which isn't `else`
+-- .. nor where neither comes next
+none_elsewhere : {before : List Token} → ((first : Word) → NotAtWord first before) → ((first : List ℕ) → NotNext (token.Name first) before) → None spell_statement EndsStatement before
+none_elsewhere words names (set a) rest ends g = words word.Set _ g
+none_elsewhere words names (emit a) rest ends g = words word.Emit _ g
+none_elsewhere words names (call a) rest ends g = words word.Call _ g
+none_elsewhere words names (choice t b o) rest ends g = words word.If _ g
+none_elsewhere words names (connect a) rest ends g = words word.Connect _ g
+none_elsewhere words names (disconnect a) rest ends g = words word.Disconnect _ g
+none_elsewhere words names (delete a) rest ends g = words word.Delete _ g
+none_elsewhere words names (later a) rest ends g = words word.Later _ g
+none_elsewhere words names (group a) rest ends g = names (codes "group") _ g
+
+pub none_by_another : {before after : List Token} {first : Token} → before ≡ first ∷ after → ((w : Word) → first ≡ token.Word w → ⊥) → ((name : List ℕ) → first ≡ token.Name name → ⊥) → None spell_statement EndsStatement before
+none_by_another at no_word no_name = none_elsewhere (λ w rest e. no_word w cc) (λ name rest e. no_name name cc)
+
+pub none_at_end : {before : List Token} → before ≡ [] → None spell_statement EndsStatement before
+none_at_end at = none_elsewhere (λ w rest e. cc) (λ name rest e. cc)
+
+-- a statement begins with a word or a name ..
+pub begins_with_no_symbol : (s : Statement) (symbol : Symbol) (after rest : List Token) → spell_statement s after ≡ token.Symbol symbol ∷ rest → ⊥
+begins_with_no_symbol (set a) symbol after rest e = cc
+begins_with_no_symbol _ symbol after rest e = cc
+
+-- .. that isn't `else`
 not_with_else : (s : Statement) (after rest : List Token) → spell_statement s after ≡ token.Word word.Else ∷ rest → ⊥
 not_with_else (set a) after rest e = cc
 not_with_else _ after rest e = cc
@@ -213,7 +231,7 @@ no_statement_left (more s body) now rest unclosed none g = none s (spell_rest bo
 
 closed : (m : Body) (now after rest : List Token) → now ≡ token.Symbol CloseBrace ∷ after → now ≡ spell_rest m rest → after ≡ rest
 closed no_more now after rest e g = cc
-closed (more s body) now after rest e g = absurd (begins_with_word s CloseBrace (spell_rest body rest) after (sym g ∙ e))
+closed (more s body) now after rest e g = absurd (begins_with_no_symbol s CloseBrace (spell_rest body rest) after (sym g ∙ e))
 
 module _ {before : List Token} {found : List Stmt} {now : List Token} (h : BodySoFar before found now) where
   pub body_step : {s : Stmt} {after : List Token} → NotAt CloseBrace now → Found spell_statement tree_of_statement EndsStatement now s after → BodySoFar before (found ++ s ∷ []) after

@@ -55,6 +55,11 @@ pub one_has_many : (body : List Stmt) (i : ℕ) (s : Stmt) (few : Bool) → i < 
 one_has_many body i s few below is many h =
     (λ e. cc, λ all. let e = h.1 (subst HasFew (sym is) (all_of_part HasFewTypes signatures_of body i s below all)) in cc)
 
+signatures_of-Group : (sets : List Stmt) → signatures_of (stmt.Group sets) ≡ signatures_in sets
+signatures_of-Group sets =
+    let a = joined_map signatures_of sets in
+    ap signatures_of (sym (stmt.rolls-Group sets)) ∙ (fold-roll-Stmt (List Sig) signatures_step (layer.Group sets) ∙ cc)
+
 module _ (condition : Expr Path) (body other : List Stmt) where
   signatures_of-If : signatures_of (stmt.If condition body other) ≡ signatures_in body ++ signatures_in other
   signatures_of-If =
@@ -71,3 +76,7 @@ module _ (condition : Expr Path) (body other : List Stmt) where
   pub first_has_many : (few : Bool) → few ≡ false → (IsTrue few ↔ All HasFewTypes (signatures_in body)) → IsTrue few ↔ All HasFewTypes (signatures_of (stmt.If condition body other))
   first_has_many few many h =
       rw signatures_of-If (λ e. cc, λ all. h.1 (all_before HasFewTypes (signatures_in body) (signatures_in other) all))
+
+-- of a group, what its sets have
+pub group_has_few : (sets : List Stmt) (few : Bool) → (IsTrue few ↔ All HasFewTypes (signatures_in sets)) → IsTrue few ↔ All HasFewTypes (signatures_of (stmt.Group sets))
+group_has_few sets few h = rw (signatures_of-Group sets) h

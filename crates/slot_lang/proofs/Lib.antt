@@ -5,6 +5,7 @@ pub mod Paths
 pub mod Factors
 pub mod OneExpression
 pub mod Arguments
+pub mod Sets
 pub mod Bodies
 pub mod Unique
 pub mod FewTypes

@@ -2,7 +2,7 @@
 use Rattle.std.proofs.Common.{◌≡◌, ◌∙◌, ℕ, List, [], ◌∷◌, ◌++◌, map, Some, refl, sym, ap}
 use Rattle.slot_lang.specs.Expressions.{Expression, spell_expression, spell_path, tree_of_expression}
 use Rattle.slot_lang.specs.code.Expressions.{EndsFactor}
-use Rattle.slot_lang.specs.Grammar.{Target, spell_target, spell_value, spell_arguments, Assignment, spell_assignment, tree_of_assignment, Emission, spell_emission, tree_of_emission, Call, spell_call, tree_of_call, spell_condition, spell_path_ends, tree_of_path_ends, spell_how, spell_connection, tree_of_connection, spell_disconnection, tree_of_disconnection, spell_object, Body, no_more, more, Statement, set, emit, call, choice, connect, disconnect, delete, later, Else, no_else, else_block, spell_statements, spell_statement, spell_else, spell_block, tree_of_block, tree_of_statement, tree_of_else, IsBody}
+use Rattle.slot_lang.specs.Grammar.{Target, spell_target, spell_value, spell_arguments, Assignment, spell_assignment, tree_of_assignment, spell_set, Sets, spell_sets, trees_of_sets, Emission, spell_emission, tree_of_emission, Call, spell_call, tree_of_call, spell_condition, spell_path_ends, tree_of_path_ends, spell_how, spell_connection, tree_of_connection, spell_disconnection, tree_of_disconnection, spell_object, Body, no_more, more, Statement, set, emit, call, choice, connect, disconnect, delete, later, group, Else, no_else, else_block, spell_statements, spell_statement, spell_else, spell_block, tree_of_block, tree_of_statement, tree_of_else, IsBody}
 use Rattle.slot_lang.specs.code.Grammar.{EndsStatement}
 use Rattle.texts.specs.code.Connections.{EndsAtSig, EndsConnectionType}
 use Rattle.texts.specs.code.Reading.{EndsAnywhere}
@@ -15,11 +15,12 @@ use Rattle.texts.specs.declared.token.Token.TheVariants as token
 use Rattle.slot_lang.proofs.Arguments.{expressions_are_parts}
 use Rattle.texts.proofs.Both.{one_tree_of_both}
 use Rattle.texts.proofs.Connections.{one_tree_of_ends, one_tree_of_connection_type}
-use Rattle.slot_lang.proofs.Bodies.{begins_with_word, ends_in_body, value_meets, arguments_meet}
+use Rattle.slot_lang.proofs.Bodies.{begins_with_no_symbol, ends_in_body, value_meets, arguments_meet}
 use Rattle.slot_lang.proofs.Factors.{ends_at_close}
 use Rattle.slot_lang.proofs.OneExpression.{one_path, one_tree_of_expression}
 use Rattle.texts.proofs.OneTree.{HasOneTree, one_tree_of_listed}
 use Rattle.slot_lang.proofs.Paths.{whole_path, spelled_whole}
+use Rattle.slot_lang.proofs.Sets.{spell_left}
 use Rattle.slot_lang.proofs.Precedences.{expression_ends}
 
 -- ---- the parts of statements
@@ -62,6 +63,21 @@ one_assignment a b r s e =
     let h = one_target a.0 b.0 (spell_value a.1 r) (spell_value b.1 s) (value_meets a.1 r tt) (value_meets b.1 s tt) e in
     let k = one_value a.1 b.1 r s h.1 in
     (ap (λ (t : Target). stmt.Set t.0 t.1 (tree_of_expression a.1)) h.0 ∙ ap (λ x. stmt.Set b.0.0 b.0.1 x) k.0, k.1)
+
+one_set : (a b : Assignment) (r s : List Token) → spell_set a r ≡ spell_set b s → (tree_of_assignment a ≡ tree_of_assignment b) × (r ≡ s)
+one_set a b r s e = one_assignment a b r s cc
+
+one_left : (as_ bs : List Assignment) (r s : List Token) → spell_left as_ r ≡ spell_left bs s → (map tree_of_assignment as_ ≡ map tree_of_assignment bs) × (r ≡ s)
+one_left [] [] r s e = (refl, cc)
+one_left [] (b ∷ bs) r s e = cc
+one_left (a ∷ as_) [] r s e = cc
+one_left (a ∷ as_) (b ∷ bs) r s e =
+    let h = one_set a b (spell_left as_ r) (spell_left bs s) e in
+    let k = one_left as_ bs r s h.1 in
+    (ap (λ x. x ∷ map tree_of_assignment as_) h.0 ∙ ap (λ xs. tree_of_assignment b ∷ xs) k.0, k.1)
+
+one_sets : (a b : Sets) (r s : List Token) → spell_sets a r ≡ spell_sets b s → (trees_of_sets a ≡ trees_of_sets b) × (r ≡ s)
+one_sets (a, as_) (b, bs) r s e = one_left (a ∷ as_) (b ∷ bs) r s e
 
 one_emission : (a b : Emission) (r s : List Token) → spell_emission a r ≡ spell_emission b s → (tree_of_emission a ≡ tree_of_emission b) × (r ≡ s)
 one_emission a b r s e =
@@ -114,8 +130,8 @@ one_object a b r s er es e =
 mutual
   unique_statements : (c d : Body) (r s : List Token) → spell_statements c (token.Symbol CloseBrace ∷ r) ≡ spell_statements d (token.Symbol CloseBrace ∷ s) → (tree_of_block c ≡ tree_of_block d) × (r ≡ s)
   unique_statements no_more no_more r s e = (refl, cc)
-  unique_statements no_more (more b d) r s e = absurd (begins_with_word b CloseBrace _ r (sym e))
-  unique_statements (more a c) no_more r s e = absurd (begins_with_word a CloseBrace _ s e)
+  unique_statements no_more (more b d) r s e = absurd (begins_with_no_symbol b CloseBrace _ r (sym e))
+  unique_statements (more a c) no_more r s e = absurd (begins_with_no_symbol a CloseBrace _ s e)
   unique_statements (more a c) (more b d) r s e =
       let h : (tree_of_statement a ≡ tree_of_statement b) × (spell_statements c (token.Symbol CloseBrace ∷ r) ≡ spell_statements d (token.Symbol CloseBrace ∷ s)) = unique_statement a b (spell_statements c (token.Symbol CloseBrace ∷ r)) (spell_statements d (token.Symbol CloseBrace ∷ s)) (ends_in_body c r) (ends_in_body d s) e in
       let k = unique_statements c d r s h.1 in
@@ -135,6 +151,7 @@ mutual
   unique_statement (disconnect a) (disconnect b) r s er es e = one_disconnection a b r s tt tt cc
   unique_statement (delete a) (delete b) r s er es e = let h = one_object a b r s tt tt cc in (ap (λ path. stmt.Delete path) h.0, h.1)
   unique_statement (later a) (later b) r s er es e = let h = one_object a b r s tt tt cc in (ap (λ path. stmt.Later path) h.0, h.1)
+  unique_statement (group a) (group b) r s er es e = let h = one_sets a b r s cc in (ap (λ sets. stmt.Group sets) h.0, h.1)
   unique_statement _ _ r s er es e = cc
 
   unique_else : (o p : Else) (r s : List Token) → EndsStatement r → EndsStatement s → spell_else o r ≡ spell_else p s → (tree_of_else o ≡ tree_of_else p) × (r ≡ s)

@@ -16,6 +16,7 @@ signatures_step (layer.Connect ends how) = signatures_at ends
 signatures_step (layer.Disconnect ends) = signatures_at ends
 signatures_step (layer.Delete path) = []
 signatures_step (layer.Later path) = []
+signatures_step (layer.Group sets) = flat_map (λ sigs. sigs) sets
 
 abbrev pub signatures_of : Stmt → List Sig
 signatures_of = fold-Stmt (List Sig) signatures_step

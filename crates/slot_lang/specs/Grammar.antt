@@ -2,7 +2,7 @@
 -- "Slot bodies").
 --
 --   block = "{" {stmt} "}"
---   stmt  = "set" path "." Name "=" expr ";"
+--   stmt  = set
 --         | "emit" Name "(" [expr {"," expr}] ")" ";"
 --         | "call" path "." Name "(" [expr {"," expr}] ")" ";"
 --         | "if" "(" expr ")" block ["else" block]
@@ -10,13 +10,17 @@
 --         | "disconnect" ends ";"
 --         | "delete" path ";"
 --         | "later" path ";"
+--         | "group" "{" set {set} "}"
+--   set   = "set" path "." Name "=" expr ";"
 --   ends  = path "," sig "," path "," sig
 --   how   = kind ["," "unique"] ["," "single"]
-use Rattle.std.specs.Prelude.{ℕ, ◌≡◌, List, [], ◌∷◌, map, Some}
+--
+-- `group` is a name; the other statements begin with reserved words.
+use Rattle.std.specs.Prelude.{ℕ, ◌≡◌, List, [], ◌∷◌, map, codes, Some}
 use Rattle.signatures.specs.declared.word.Word.TheVariants as word
 use Rattle.texts.specs.Connections.{BothEnds, spell_ends, tree_of_ends, spell_connection_type}
 use Rattle.slot_lang.specs.Expressions.{Expression, spell_expression, spell_group, spell_path, tree_of_expression}
-use Rattle.texts.specs.Lists.{spell_listed}
+use Rattle.texts.specs.Lists.{spell_each, spell_listed, trees_of_parts}
 use Rattle.texts.specs.declared.connection.ConnectionType.{ConnectionType}
 use Rattle.texts.specs.declared.connection.Endpoints.{Endpoints}
 use Rattle.texts.specs.declared.symbol.Symbol.TheVariants.{Dot, Comma, Assign, Semicolon, Open, OpenBrace, CloseBrace}
@@ -56,6 +60,27 @@ spell_assignment a after = spell_target a.0 (spell_value a.1 after)
 
 abbrev pub tree_of_assignment : Assignment → Stmt
 tree_of_assignment a = stmt.Set a.0.0 a.0.1 (tree_of_expression a.1)
+
+-- "set" path "." Name "=" expr ";"
+abbrev pub spell_set : Assignment → List Token → List Token
+spell_set a after = token.Word word.Set ∷ spell_assignment a after
+
+-- set {set} "}": the first one and the others
+abbrev pub Sets : Type 0
+Sets = Assignment × List Assignment
+
+abbrev pub spell_sets : Sets → List Token → List Token
+spell_sets sets after = spell_set sets.0 (spell_each spell_set sets.1 (token.Symbol CloseBrace ∷ after))
+
+abbrev pub trees_of_sets : Sets → List Stmt
+trees_of_sets sets = trees_of_parts tree_of_assignment sets
+
+-- what follows "group"
+abbrev pub spell_update_group : Sets → List Token → List Token
+spell_update_group sets after = token.Symbol OpenBrace ∷ spell_sets sets after
+
+abbrev pub tree_of_update_group : Sets → Stmt
+tree_of_update_group sets = stmt.Group (trees_of_sets sets)
 
 -- what follows "emit"
 abbrev pub Emission : Type 0
@@ -135,6 +160,7 @@ mutual
     disconnect : PathEnds → Statement
     delete : Path → Statement
     later : Path → Statement
+    group : Sets → Statement
 
   -- ["else" block]
   pub data Else : Type 0 where
@@ -147,7 +173,7 @@ abbrev mutual
   spell_statements (more s body) after = spell_statement s (spell_statements body after)
 
   pub spell_statement : Statement → List Token → List Token
-  spell_statement (set a) after = token.Word word.Set ∷ spell_assignment a after
+  spell_statement (set a) after = spell_set a after
   spell_statement (emit e) after = token.Word word.Emit ∷ spell_emission e after
   spell_statement (call c) after = token.Word word.Call ∷ spell_call c after
   spell_statement (choice e body other) after =
@@ -156,6 +182,7 @@ abbrev mutual
   spell_statement (disconnect ends) after = token.Word word.Disconnect ∷ spell_disconnection ends after
   spell_statement (delete path) after = token.Word word.Delete ∷ spell_object path after
   spell_statement (later path) after = token.Word word.Later ∷ spell_object path after
+  spell_statement (group sets) after = token.Name (codes "group") ∷ spell_update_group sets after
 
   pub spell_else : Else → List Token → List Token
   spell_else no_else after = after
@@ -178,6 +205,7 @@ abbrev mutual
   tree_of_statement (disconnect ends) = tree_of_disconnection ends
   tree_of_statement (delete path) = tree_of_deletion path
   tree_of_statement (later path) = tree_of_later_deletion path
+  tree_of_statement (group sets) = tree_of_update_group sets
 
   -- a missing `else` is an empty one
   pub tree_of_else : Else → List Stmt

@@ -1,12 +1,13 @@
 //! Statements and blocks.
 
-ghost use Rattle.std.specs.Prelude.{◌≡◌, ◌<◌, ◌≤◌, length, IfOk, OnOk, Err};
+ghost use Rattle.std.specs.Prelude.{◌≡◌, ◌<◌, ◌≤◌, ◌∷◌, length, IfOk, OnOk, Err};
 ghost use Rattle.slot_lang.specs.Expressions.{tree_of_expression};
 ghost use Rattle.slot_lang.specs.Grammar.{IsBody, IsNoBody, OneBody, spell_value, spell_call, tree_of_call, spell_else, tree_of_else, spell_block, tree_of_block};
 ghost use Rattle.slot_lang.specs.code.Grammar.{ReadsStatement, ReadsAssignment, ReadsEmission, ReadsCondition, ReadsArguments, spell_choice, tree_of_choice, EndsStatement};
 ghost use Rattle.slot_lang.specs.Reads.{ReadsBody, OneAnswer};
 ghost use Rattle.texts.specs.code.Reading.{Reads, EndsAnywhere};
 ghost use Rattle.texts.specs.declared.fault.ParseFault.TheVariants.{Syntax};
+ghost use Rattle.texts.specs.declared.token.Token.TheVariants as token;
 
 use crate::connection::{connection, disconnection};
 use crate::deletion::{deletion, later_deletion};
@@ -14,7 +15,8 @@ use crate::expression::{Argument, expression, group};
 use crate::fault::BodyFault;
 use crate::limits::body_has_few_parameters;
 use crate::path::target;
-use signatures::Word;
+use crate::update_group::update_group;
+use signatures::{Name, Word};
 use sqlite_items::Items;
 use std::alloc::Global;
 use texts::{
@@ -23,7 +25,7 @@ use texts::{
 };
 
 /// What begins a statement.
-const STATEMENTS: [Wanted; 8] = [
+const STATEMENTS: [Wanted; 9] = [
     Wanted::Word(Word::Set),
     Wanted::Word(Word::Emit),
     Wanted::Word(Word::Call),
@@ -32,6 +34,7 @@ const STATEMENTS: [Wanted; 8] = [
     Wanted::Word(Word::Disconnect),
     Wanted::Word(Word::Delete),
     Wanted::Word(Word::Later),
+    Wanted::Spelled(b"group"),
 ];
 
 /// Reads a slot's body, which all of the tokens are: its statements, in their order.
@@ -101,7 +104,20 @@ fn statement(cursor: &mut Cursor) -> Result<Stmt, ParseFault>
     ensures reads { ReadsStatement cursor.old result cursor.new }
     ensures shorter { OnOk result (length cursor.new < length cursor.old) }
 {
-    match cursor.opening_word(Landmark::Statement, &STATEMENTS)? {
+    match cursor.opening(Landmark::Statement, &STATEMENTS)? {
+        Token::Word(word) => begun_by_word(cursor, *word),
+        Token::Name(name) => begun_by_name(cursor, name),
+        _ => Err(ParseFault::Syntax),
+    }
+}
+
+/// What follows the reserved word of a statement.
+#[cycle(block)]
+fn begun_by_word(cursor: &mut Cursor, word: Word) -> Result<Stmt, ParseFault>
+    ensures reads { ReadsStatement (token.Word word ∷ cursor.old) result cursor.new }
+    ensures shorter { OnOk result (length cursor.new < length cursor.old) }
+{
+    match word {
         Word::Set => assignment(cursor),
         Word::Emit => emission(cursor),
         Word::Call => call(cursor),
@@ -111,6 +127,18 @@ fn statement(cursor: &mut Cursor) -> Result<Stmt, ParseFault>
         Word::Delete => deletion(cursor),
         Word::Later => later_deletion(cursor),
         _ => Err(ParseFault::Syntax),
+    }
+}
+
+/// What follows the name with which a statement begins.
+fn begun_by_name(cursor: &mut Cursor, name: &Name) -> Result<Stmt, ParseFault>
+    ensures reads { ReadsStatement (token.Name name.now ∷ cursor.old) result cursor.new }
+    ensures shorter { OnOk result (length cursor.new < length cursor.old) }
+{
+    if name.bytes() == b"group".as_slice() {
+        update_group(cursor)
+    } else {
+        Err(ParseFault::Syntax)
     }
 }
 
@@ -151,7 +179,7 @@ fn condition(cursor: &mut Cursor) -> Result<Expr<Path>, ParseFault>
 }
 
 /// What follows `set`.
-fn assignment(cursor: &mut Cursor) -> Result<Stmt, ParseFault>
+pub fn assignment(cursor: &mut Cursor) -> Result<Stmt, ParseFault>
     ensures reads { ReadsAssignment cursor.old result cursor.new }
     ensures shorter { OnOk result (length cursor.new < length cursor.old) }
 {

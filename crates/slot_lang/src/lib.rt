@@ -9,6 +9,7 @@ mod fault;
 mod limits;
 mod path;
 mod precedence;
+mod update_group;
 
 pub use body::{block, one_answer, one_body, parse_body, value};
 pub use expression::{one_expression, parse_expr};

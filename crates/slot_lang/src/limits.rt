@@ -35,5 +35,6 @@ fn statement_has_few_parameters(statement: &Stmt) -> bool
         Stmt::Disconnect(ends) => ends.have_few_types(),
         Stmt::Delete(_) => true,
         Stmt::Later(_) => true,
+        Stmt::Group(sets) => body_has_few_parameters(sets.as_slice()),
     }
 }

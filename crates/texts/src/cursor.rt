@@ -5,7 +5,7 @@ ghost use Rattle.std.specs.Bool.{OnTrue};
 ghost use Rattle.texts.specs.code.Cursor.{TakesNext, Eats, Expects};
 ghost use Rattle.texts.specs.code.Optional.{ReadsOptionalName};
 ghost use Rattle.texts.specs.code.Reading.{Reads, EndsAnywhere};
-ghost use Rattle.texts.specs.Reading.{spell_name, spell_word};
+ghost use Rattle.texts.specs.Reading.{spell_name};
 ghost use Rattle.texts.specs.declared.token.Token.TheVariants as token;
 
 use crate::fault::ParseFault;
@@ -134,6 +134,19 @@ impl<'a> Cursor<'a> {
         self.next()
     }
 
+    /// Takes the next token, which is to be one of these and begins such a part; at the end that is a fault of syntax.
+    pub fn opening(
+        &mut self,
+        landmark: Landmark,
+        wanted: &[Wanted],
+    ) -> Result<&'a Token, ParseFault>
+        ensures found { TakesNext self.old result self.new }
+        ensures shorter { OnOk result (length self.new < length self.old) }
+    {
+        begin(&mut self.trail, self.tokens.len(), landmark);
+        self.next_of(wanted)
+    }
+
     /// Takes the reserved word, if it comes next, and says whether it did.
     pub fn eat_word(&mut self, word: Word) -> bool
         ensures found { Eats (token.Word word) self.old result self.new }
@@ -198,27 +211,6 @@ impl<'a> Cursor<'a> {
             Ok(())
         } else {
             Err(ParseFault::Syntax)
-        }
-    }
-
-    /// Takes the reserved word that has to come next, which is to be one of these and begins such a part; where no
-    /// reserved word comes next, that is a fault of syntax.
-    pub fn opening_word(
-        &mut self,
-        landmark: Landmark,
-        wanted: &[Wanted],
-    ) -> Result<Word, ParseFault>
-        ensures reads { Reads spell_word (λ word. word) EndsAnywhere self.old result self.new }
-        ensures shorter { OnOk result (length self.new < length self.old) }
-    {
-        want_each(&mut self.trail, self.tokens.len(), wanted);
-        begin(&mut self.trail, self.tokens.len(), landmark);
-        match self.tokens.split_first() {
-            Some((Token::Word(word), rest)) => {
-                self.tokens = rest;
-                Ok(*word)
-            }
-            _ => Err(ParseFault::Syntax),
         }
     }
 

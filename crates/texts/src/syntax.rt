@@ -141,6 +141,8 @@ pub enum Stmt {
     Delete(Path),
     /// `later path;`: the path of the object whose deletion is scheduled.
     Later(Path),
+    /// `group { set path.p = e; .. }`: its sets, at least one, each a `Set`.
+    Group(Items<Stmt>),
 }
 
 /// The statements of a block, in their order.

@@ -10,7 +10,7 @@ use Rattle.texts.specs.declared.syntax.Path.{Path}
 use Rattle.texts.specs.declared.syntax.Stmt.{Stmt}
 use Rattle.texts.specs.declared.syntax.Stmt.TheVariants as stmt
 use Rattle.texts.specs.declared.token.Token.{Token}
-use Rattle.slot_lang.specs.Grammar.{spell_arguments, spell_condition, spell_assignment, tree_of_assignment, spell_emission, tree_of_emission, spell_connection, tree_of_connection, spell_disconnection, tree_of_disconnection, spell_object, tree_of_deletion, tree_of_later_deletion, Body, Else, spell_statement, spell_else, spell_block, tree_of_block, tree_of_statement, tree_of_else}
+use Rattle.slot_lang.specs.Grammar.{spell_arguments, spell_condition, spell_assignment, tree_of_assignment, spell_sets, trees_of_sets, spell_update_group, tree_of_update_group, spell_emission, tree_of_emission, spell_connection, tree_of_connection, spell_disconnection, tree_of_disconnection, spell_object, tree_of_deletion, tree_of_later_deletion, Body, Else, spell_statement, spell_else, spell_block, tree_of_block, tree_of_statement, tree_of_else}
 
 -- what follows "if"
 abbrev pub Choice : Type 0
@@ -31,6 +31,12 @@ ReadsAssignment before result after = Reads spell_assignment tree_of_assignment 
 
 abbrev pub ReadsStatement : List Token → Result Stmt ParseFault → List Token → Type 0
 ReadsStatement before result after = Reads spell_statement tree_of_statement EndsStatement before result after
+
+abbrev pub ReadsSets : List Token → Result (List Stmt) ParseFault → List Token → Type 0
+ReadsSets before result after = Reads spell_sets trees_of_sets EndsAnywhere before result after
+
+abbrev pub ReadsUpdateGroup : List Token → Result Stmt ParseFault → List Token → Type 0
+ReadsUpdateGroup before result after = Reads spell_update_group tree_of_update_group EndsAnywhere before result after
 
 abbrev pub ReadsEmission : List Token → Result Stmt ParseFault → List Token → Type 0
 ReadsEmission before result after = Reads spell_emission tree_of_emission EndsAnywhere before result after

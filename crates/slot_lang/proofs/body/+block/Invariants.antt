@@ -11,6 +11,9 @@ decreases-otherwise l = 4 * length l.cursor.now + 1
 abbrev pub decreases-choice : goal.decreases-choice
 decreases-choice l = 4 * length l.cursor.now + 2
 
+abbrev pub decreases-begun_by_word : goal.decreases-begun_by_word
+decreases-begun_by_word l = 4 * length l.cursor.now + 3
+
 abbrev pub decreases-statement : goal.decreases-statement
 decreases-statement l = 4 * length l.cursor.now + 3
 

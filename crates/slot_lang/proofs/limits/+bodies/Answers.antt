@@ -1,5 +1,5 @@
 use Rattle.std.proofs.lemmas.List.Elements.{All-nil}
-use Rattle.slot_lang.proofs.FewTypes.{HasFew, one_more, all_have_few, one_has_many, other_decides, first_has_many}
+use Rattle.slot_lang.proofs.FewTypes.{HasFew, one_more, all_have_few, one_has_many, other_decides, first_has_many, group_has_few}
 use Rattle.slot_lang.proofs.limits.+bodies.Goals as goal
 
 pub body_has_few_parameters-returns-then-not-statement_has_few_parameters : goal.body_has_few_parameters-returns-then-not-statement_has_few_parameters
@@ -26,3 +26,8 @@ pub statement_has_few_parameters-returns-else-body_has_few_parameters : goal.sta
 statement_has_few_parameters-returns-else-body_has_few_parameters t c =
     let first = rw c.as_slice.ensures at c.body_has_few_parameters.ensures in
     rw c.in-If.is (first_has_many _ _ _ _ c.if-body_has_few_parameters.false first)
+
+pub statement_has_few_parameters-returns-in-Group : goal.statement_has_few_parameters-returns-in-Group
+statement_has_few_parameters-returns-in-Group t c =
+    let few = rw c.as_slice-in-Group.ensures at c.body_has_few_parameters-in-Group.ensures in
+    rw c.in-Group.is (group_has_few _ _ few)
