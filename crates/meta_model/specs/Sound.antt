@@ -118,6 +118,17 @@ pub record AreSoundEnds (p : Loaded) (me : ℕ) (kinds : List ValueType) (ends :
   pub receiver : LeadsToClass p me kinds ends.receiver to_class
   pub connects : AreConnectable p from_class ends.signal to_class ends.method
 
+-- the statement is a `set`: nothing else stands in a group
+pub record IsSet (s : Statement) : Type 0 where
+  pub path : MetaPath
+  pub property : ℕ
+  pub value : Expr MetaPath
+  pub is : out-Statement s ≡ statement.Set path property value
+
+-- the statements of a group: one `set` or more
+abbrev pub AreSets : List Statement → Type 0
+AreSets statements = (statements ≢ []) × All IsSet statements
+
 mutual
   -- the members and paths of one statement, by its parts, are there
   pub data IsSoundStatement (p : Loaded) (me : ℕ) (kinds : List ValueType) : statement.Statement-F Statement → Type 0 where
@@ -138,6 +149,8 @@ mutual
         → LeadsToClass p me kinds path class → IsSoundStatement p me kinds (statement.Delete path)
     later_sound : {path : MetaPath} {class : ℕ}
         → LeadsToClass p me kinds path class → IsSoundStatement p me kinds (statement.Later path)
+    group_sound : {sets : List Statement}
+        → AreSound p me kinds sets → AreSets sets → IsSoundStatement p me kinds (statement.Group sets)
 
   -- .. of the statements of a block
   pub data AreSound (p : Loaded) (me : ℕ) (kinds : List ValueType) : List Statement → Type 0 where

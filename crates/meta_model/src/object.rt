@@ -112,6 +112,8 @@ pub enum Statement {
     Delete(MetaPath),
     /// `later path;`: the path of the object whose deletion is scheduled.
     Later(MetaPath),
+    /// `group { set path.p = e; .. }`: its sets, each a `Set`.
+    Group(Items<Statement>),
 }
 
 /// What a method does.

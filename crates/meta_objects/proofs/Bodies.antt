@@ -28,7 +28,7 @@ use Rattle.meta_model.specs.code.ReadTypes.{IsReadAs}
 use Rattle.meta_model.specs.Conditions.{IsSignalOf}
 use Rattle.meta_model.specs.Ends.{IsSigned}
 use Rattle.meta_model.specs.Literals.{literal}
-use Rattle.meta_objects.specs.code.Bodies.{Scope, IsRoot, this_root, parameter_root, PointsTo, HasMember, IsStep, AreSteps, IsPath, IsExpr, literal_is, path_is, unary_is, binary_is, AreExprs, IsObjectPath, IsReferencePath, IsPropertyOfName, IsCallOf, IsSet, IsEmit, IsCall, AreEnds, IsStatement, set_is, emit_is, call_is, if_is, connect_is, disconnect_is, delete_is, later_is, AreStatements, none_are, next_is, IsStatementOf}
+use Rattle.meta_objects.specs.code.Bodies.{Scope, IsRoot, this_root, parameter_root, PointsTo, HasMember, IsStep, AreSteps, IsPath, IsExpr, literal_is, path_is, unary_is, binary_is, AreExprs, IsObjectPath, IsReferencePath, IsPropertyOfName, IsCallOf, IsSet, IsEmit, IsCall, AreEnds, IsStatement, set_is, emit_is, call_is, if_is, connect_is, disconnect_is, delete_is, later_is, group_is, AreStatements, none_are, next_is, IsStatementOf}
 use Rattle.meta_model.proofs.Searches.{same_first}
 use Rattle.meta_model.proofs.Firsts.{first_item, same_in}
 use Rattle.meta_model.proofs.ReadTypes.{same_read}
@@ -201,6 +201,7 @@ module _ (s : Scope) where
     same_parts x y z (disconnect_is {ends = ends} {found = f} h) (disconnect_is {found = g} k) = ap (λ found. statement.Disconnect found) (same_ends ends f g h k)
     same_parts x y z (delete_is {path = path} {found = f} h) (delete_is {found = g} k) = ap (λ found. statement.Delete found) (same_reference path f g h k)
     same_parts x y z (later_is {path = path} {found = f} h) (later_is {found = g} k) = ap (λ found. statement.Later found) (same_reference path f g h k)
+    same_parts x y z (group_is {sets = sets} {found = a} h all) (group_is {found = b} k all2) = ap (λ found. statement.Group found) (same_statements sets a b h k)
 
     pub same_statements : (xs : List Stmt) (ys zs : List Statement) → AreStatements s xs ys → AreStatements s xs zs → ys ≡ zs
     same_statements xs ys zs none_are none_are = refl

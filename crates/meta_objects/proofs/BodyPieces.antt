@@ -35,10 +35,11 @@ use Rattle.meta_model.specs.declared.outline.Outline.{Outline}
 use Rattle.meta_model.specs.Places.{StandsAt, StandsFirst, Found}
 use Rattle.meta_model.specs.code.ReadTypes.{IsReadAs}
 use Rattle.meta_model.specs.Literals.{literal}
-use Rattle.meta_objects.specs.code.Bodies.{Scope, IsRoot, this_root, parameter_root, PointsTo, PointsToThis, HasMember, AreSteps, IsPath, IsExpr, literal_is, path_is, unary_is, binary_is, AreExprs, IsObjectPath, IsPropertyOfName, IsSet, IsStatement, set_is, if_is, AreStatements, none_are, next_is, IsStatementOf, LacksInBody}
+use Rattle.meta_model.specs.Sound.{AreSets}
+use Rattle.meta_objects.specs.code.Bodies.{Scope, IsRoot, this_root, parameter_root, PointsTo, PointsToThis, HasMember, AreSteps, IsPath, IsExpr, literal_is, path_is, unary_is, binary_is, AreExprs, IsObjectPath, IsPropertyOfName, IsSet, IsStatement, set_is, if_is, group_is, AreStatements, none_are, next_is, IsStatementOf, LacksInBody}
 use Rattle.meta_model.proofs.OutlineSteps.{drop_at, drop_end}
 use Rattle.meta_model.proofs.Firsts.{first_item, same_in}
-use Rattle.meta_objects.proofs.Bodies.{part, same_member, same_root, same_path, same_object}
+use Rattle.meta_objects.proofs.Bodies.{part, same_member, same_root, same_path, same_object, same_statements}
 
 -- ---- members
 module _ (outlines : List Outline) where
@@ -185,6 +186,24 @@ module _ (s : Scope) where
 
   pub no_other : (t : Expr Path) (a b : List Stmt) → LacksInBody s b → (y : Statement) → ¬ IsStatementOf s (stmt_by.If t a b) y
   no_other t a b lacks y is = let r = other_of t a b (out-Statement y) (parts_of _ y _ (stmt_by.outs-If t a b) is) in lacks r.0 r.1
+
+  group_of : (a : List Stmt) (g : statement.Statement-F Statement) → IsStatement s (stmt.Group a) g → (ys : List Statement) × AreStatements s a ys × AreSets ys
+  group_of a g (group_is {found = ys} h all) = (ys, h, all)
+
+  module _ (a : List Stmt) where
+    a_group : (y : Statement) → IsStatementOf s (stmt_by.Group a) y → (ys : List Statement) × AreStatements s a ys × AreSets ys
+    a_group y is = group_of a (out-Statement y) (parts_of _ y _ (stmt_by.outs-Group a) is)
+
+    pub no_group : LacksInBody s a → (y : Statement) → ¬ IsStatementOf s (stmt_by.Group a) y
+    no_group lacks y is = let r = a_group y is in lacks r.0 r.1
+
+    pub no_sets : (c : List Statement) → AreStatements s a c → (¬ AreSets c) → (y : Statement) → ¬ IsStatementOf s (stmt_by.Group a) y
+    no_sets c h other y is =
+        let r = a_group y is in
+        other (subst (λ ys. AreSets ys) (same_statements s a r.0 c r.1 h) r.2)
+
+    pub group_piece : (c : List Statement) → AreStatements s a c → AreSets c → IsStatementOf s (stmt_by.Group a) (statement_by.Group c)
+    group_piece c h all = by_parts _ _ _ _ (stmt_by.outs-Group a) (statement_by.outs-Group c) (group_is h all)
 
   -- ---- paths from their roots
   pub a_parameter : (name : List ℕ) (k : ℕ) (p : Parameter) (start : QType) → Found (λ (p : Parameter). p.name ≡ Some name) s.parameters k p → start ≡ p.kind → IsRoot s (root.Name name) (resolved.Parameter k) start

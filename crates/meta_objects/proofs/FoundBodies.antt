@@ -39,8 +39,8 @@ use Rattle.meta_model.specs.Conditions.{AreOneCall, HasTwoMembers, IsSignalOf}
 use Rattle.meta_model.specs.Ends.{IsSigned}
 use Rattle.meta_objects.specs.declared.body_resolution.work.ResolvedWork.{ResolvedWork}
 use Rattle.meta_objects.specs.declared.body_resolution.work.ResolvedWork.TheVariants as resolved
-use Rattle.meta_objects.specs.code.Bodies.{Scope, IsRoot, this_root, parameter_root, PointsTo, AreSteps, IsPath, IsExpr, literal_is, path_is, unary_is, binary_is, AreExprs, IsObjectPath, IsReferencePath, IsCallOf, IsSet, IsEmit, IsCall, AreEnds, IsStatement, set_is, emit_is, call_is, if_is, connect_is, disconnect_is, delete_is, later_is, AreStatements, none_are, next_is}
-use Rattle.meta_objects.specs.LoadedBodies.{Site, site, IsLoadedRoot, this_loaded, parameter_loaded, AreLoadedSteps, no_steps, step_on, IsLoadedPath, IsLoadedObject, IsLoadedExpr, literal_loaded, path_loaded, unary_loaded, binary_loaded, AreLoadedExprs, IsLoadedSet, IsLoadedEmit, IsLoadedCall, AreLoadedEnds, IsLoadedStatement, set_loaded, emit_loaded, call_loaded, if_loaded, connect_loaded, disconnect_loaded, delete_loaded, later_loaded, AreLoadedStatements, none_loaded, next_loaded}
+use Rattle.meta_objects.specs.code.Bodies.{Scope, IsRoot, this_root, parameter_root, PointsTo, AreSteps, IsPath, IsExpr, literal_is, path_is, unary_is, binary_is, AreExprs, IsObjectPath, IsReferencePath, IsCallOf, IsSet, IsEmit, IsCall, AreEnds, IsStatement, set_is, emit_is, call_is, if_is, connect_is, disconnect_is, delete_is, later_is, group_is, AreStatements, none_are, next_is}
+use Rattle.meta_objects.specs.LoadedBodies.{Site, site, IsLoadedRoot, this_loaded, parameter_loaded, AreLoadedSteps, no_steps, step_on, IsLoadedPath, IsLoadedObject, IsLoadedExpr, literal_loaded, path_loaded, unary_loaded, binary_loaded, AreLoadedExprs, IsLoadedSet, IsLoadedEmit, IsLoadedCall, AreLoadedEnds, IsLoadedStatement, set_loaded, emit_loaded, call_loaded, if_loaded, connect_loaded, disconnect_loaded, delete_loaded, later_loaded, group_loaded, AreLoadedStatements, none_loaded, next_loaded}
 use Rattle.meta_objects.specs.code.Loading.{work_at, found_work, work_of, IsMethodOf, IsPropertyOf, IsObject}
 use Rattle.meta_model.proofs.Once.{once}
 use Rattle.meta_model.proofs.OneMember.{called_by}
@@ -303,6 +303,7 @@ module _ (outlines : List Outline) (works : List (List ResolvedWork)) (p : Loade
       statement_found x y (disconnect_loaded {ends = ends} {found = found} h) = disconnect_is (ends_found ends found h)
       statement_found x y (delete_loaded {path = path} {found = found} {class = c} h) = delete_is (reference_found path found c h)
       statement_found x y (later_loaded {path = path} {found = found} {class = c} h) = later_is (reference_found path found c h)
+      statement_found x y (group_loaded {sets = sets} {found = found} h all) = group_is (statements_found sets found h) all
 
       pub statements_found : (xs : List Stmt) (ys : List Statement) → AreLoadedStatements loaded_site xs ys → AreStatements scope xs ys
       statements_found xs ys none_loaded = none_are

@@ -24,11 +24,11 @@ use Rattle.meta_model.specs.declared.object.Statement.TheViews.{out-Statement}
 use Rattle.meta_model.specs.declared.object.MetaMethod.{MetaMethod}
 use Rattle.meta_model.specs.Loaded.{Loaded}
 use Rattle.meta_model.specs.Members.{IsMethod}
-use Rattle.meta_model.specs.Sound.{HasRoot, this_has, parameter_has, Leads, here, on, LeadsTo, LeadsToClass, IsSoundExpr, literal_sound, path_sound, unary_sound, binary_sound, AreSoundExprs, AreConnectable, AreSoundEnds, IsSoundStatement, set_sound, emit_sound, call_sound, if_sound, connect_sound, disconnect_sound, delete_sound, later_sound, AreSound, none_sound, next_sound}
+use Rattle.meta_model.specs.Sound.{HasRoot, this_has, parameter_has, Leads, here, on, LeadsTo, LeadsToClass, IsSoundExpr, literal_sound, path_sound, unary_sound, binary_sound, AreSoundExprs, AreConnectable, AreSoundEnds, IsSoundStatement, set_sound, emit_sound, call_sound, if_sound, connect_sound, disconnect_sound, delete_sound, later_sound, group_sound, AreSound, none_sound, next_sound}
 use Rattle.meta_model.specs.declared.qobject.TheConstants.{QOBJECT}
 use Rattle.meta_model.specs.Root.{delete_later_body}
 use Rattle.meta_model.specs.Literals.{literal, HoldsNoObject}
-use Rattle.meta_objects.specs.LoadedBodies.{Site, IsLoadedRoot, this_loaded, parameter_loaded, AreLoadedSteps, no_steps, step_on, IsLoadedPath, IsLoadedObject, IsLoadedExpr, literal_loaded, path_loaded, unary_loaded, binary_loaded, AreLoadedExprs, AreLoadedEnds, IsLoadedStatement, set_loaded, emit_loaded, call_loaded, if_loaded, connect_loaded, disconnect_loaded, delete_loaded, later_loaded, AreLoadedStatements, none_loaded, next_loaded}
+use Rattle.meta_objects.specs.LoadedBodies.{Site, IsLoadedRoot, this_loaded, parameter_loaded, AreLoadedSteps, no_steps, step_on, IsLoadedPath, IsLoadedObject, IsLoadedExpr, literal_loaded, path_loaded, unary_loaded, binary_loaded, AreLoadedExprs, AreLoadedEnds, IsLoadedStatement, set_loaded, emit_loaded, call_loaded, if_loaded, connect_loaded, disconnect_loaded, delete_loaded, later_loaded, group_loaded, AreLoadedStatements, none_loaded, next_loaded}
 use Rattle.meta_objects.specs.LoadedEnds.{Connects}
 use Rattle.meta_objects.proofs.Soundness.{zip_length}
 
@@ -129,6 +129,7 @@ module _ (s : Site) (counted : (c m : ℕ) (method : MetaMethod) → IsMethod s.
     statement_sound x y (disconnect_loaded {ends = ends} {found = found} h) = disconnect_sound (ends_sound ends found h)
     statement_sound x y (delete_loaded {path = path} {found = found} h) = delete_sound (object_sound path found _ h)
     statement_sound x y (later_loaded {path = path} {found = found} h) = later_sound (object_sound path found _ h)
+    statement_sound x y (group_loaded {sets = sets} {found = found} h all) = group_sound (statements_sound sets found h) all
 
     pub statements_sound : (xs : List Stmt) (ys : List Statement) → AreLoadedStatements s xs ys → AreSound s.program s.me s.kinds ys
     statements_sound xs ys none_loaded = none_sound

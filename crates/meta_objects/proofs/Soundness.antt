@@ -43,8 +43,8 @@ use Rattle.meta_model.specs.Ends.{IsSigned}
 use Rattle.meta_objects.specs.LoadedEnds.{Connects}
 use Rattle.meta_objects.specs.declared.body_resolution.work.ResolvedWork.{ResolvedWork}
 use Rattle.meta_objects.specs.declared.body_resolution.work.ResolvedWork.TheVariants as resolved
-use Rattle.meta_objects.specs.code.Bodies.{Scope, IsRoot, this_root, parameter_root, PointsTo, HasMember, AreSteps, IsPath, IsExpr, literal_is, path_is, unary_is, binary_is, AreExprs, IsObjectPath, IsReferencePath, IsCallOf, IsSet, IsEmit, IsCall, AreEnds, IsStatement, set_is, emit_is, call_is, if_is, connect_is, disconnect_is, delete_is, later_is, AreStatements, none_are, next_is}
-use Rattle.meta_objects.specs.LoadedBodies.{Site, site, IsLoadedRoot, this_loaded, parameter_loaded, HasProperty, AreLoadedSteps, no_steps, step_on, IsLoadedPath, IsLoadedObject, IsLoadedExpr, literal_loaded, path_loaded, unary_loaded, binary_loaded, AreLoadedExprs, IsLoadedSet, IsLoadedEmit, IsLoadedCall, AreLoadedEnds, IsLoadedStatement, set_loaded, emit_loaded, call_loaded, if_loaded, connect_loaded, disconnect_loaded, delete_loaded, later_loaded, AreLoadedStatements, none_loaded, next_loaded}
+use Rattle.meta_objects.specs.code.Bodies.{Scope, IsRoot, this_root, parameter_root, PointsTo, HasMember, AreSteps, IsPath, IsExpr, literal_is, path_is, unary_is, binary_is, AreExprs, IsObjectPath, IsReferencePath, IsCallOf, IsSet, IsEmit, IsCall, AreEnds, IsStatement, set_is, emit_is, call_is, if_is, connect_is, disconnect_is, delete_is, later_is, group_is, AreStatements, none_are, next_is}
+use Rattle.meta_objects.specs.LoadedBodies.{Site, site, IsLoadedRoot, this_loaded, parameter_loaded, HasProperty, AreLoadedSteps, no_steps, step_on, IsLoadedPath, IsLoadedObject, IsLoadedExpr, literal_loaded, path_loaded, unary_loaded, binary_loaded, AreLoadedExprs, IsLoadedSet, IsLoadedEmit, IsLoadedCall, AreLoadedEnds, IsLoadedStatement, set_loaded, emit_loaded, call_loaded, if_loaded, connect_loaded, disconnect_loaded, delete_loaded, later_loaded, group_loaded, AreLoadedStatements, none_loaded, next_loaded}
 use Rattle.meta_objects.specs.code.Loading.{work_at, found_work, work_of, IsMethodOf, IsPropertyOf, IsObject}
 use Rattle.meta_model.proofs.Zips.{zip_left, zip_right}
 use Rattle.meta_model.proofs.Searches.{same_first}
@@ -286,6 +286,7 @@ module _ (outlines : List Outline) (works : List (List ResolvedWork)) (p : Loade
       statement_loads x y (disconnect_is {ends = ends} {found = found} h) = disconnect_loaded (ends_load ends found h)
       statement_loads x y (delete_is {path = path} {found = found} h) = delete_loaded (reference_loads path found h).1
       statement_loads x y (later_is {path = path} {found = found} h) = later_loaded (reference_loads path found h).1
+      statement_loads x y (group_is {sets = sets} {found = found} h all) = group_loaded (statements_load sets found h) all
 
       pub statements_load : (xs : List Stmt) (ys : List Statement) → AreStatements scope xs ys → AreLoadedStatements loaded_site xs ys
       statements_load xs ys none_are = none_loaded

@@ -34,6 +34,7 @@ use Rattle.meta_model.specs.Loaded.{Loaded}
 use Rattle.meta_model.specs.Places.{StandsFirst}
 use Rattle.meta_model.specs.Members.{IsProperty, IsMethodNamed}
 use Rattle.meta_model.specs.Literals.{literal}
+use Rattle.meta_model.specs.Sound.{AreSets}
 use Rattle.meta_objects.specs.LoadedEnds.{Connects}
 
 -- where a body stands: the loaded program, the number of the class that declares the slot, and the slot's parameters with
@@ -154,6 +155,10 @@ mutual
         → IsLoadedObject s path found class → IsLoadedStatement s (stmt.Delete path) (statement.Delete found)
     later_loaded : {path : Path} {found : MetaPath} {class : ℕ}
         → IsLoadedObject s path found class → IsLoadedStatement s (stmt.Later path) (statement.Later found)
+    -- nothing but a `set` stands in a group
+    group_loaded : {sets : List Stmt} {found : List Statement}
+        → AreLoadedStatements s sets found → AreSets found
+        → IsLoadedStatement s (stmt.Group sets) (statement.Group found)
 
   -- the statements of a block, in their order
   pub data AreLoadedStatements (s : Site) : List Stmt → List Statement → Type 0 where

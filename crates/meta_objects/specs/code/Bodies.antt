@@ -39,6 +39,7 @@ pub use Rattle.meta_model.specs.Indexed.{IsCallOf, IsPropertyOfName}
 use Rattle.meta_model.specs.Outlines.{IsOutlineNamed}
 use Rattle.meta_model.specs.declared.qobject.TheConstants.{OBJECT_NAME_CHANGED}
 use Rattle.meta_model.specs.Literals.{literal}
+use Rattle.meta_model.specs.Sound.{AreSets}
 use Rattle.meta_model.specs.code.ReadTypes.{IsReadAs}
 use Rattle.meta_model.specs.Conditions.{IsSignalOf}
 use Rattle.meta_model.specs.Ends.{IsSigned}
@@ -185,6 +186,8 @@ mutual
         → IsReferencePath s path found → IsStatement s (stmt.Delete path) (statement.Delete found)
     later_is : {path : Path} {found : MetaPath}
         → IsReferencePath s path found → IsStatement s (stmt.Later path) (statement.Later found)
+    group_is : {sets : List Stmt} {found : List Statement}
+        → AreStatements s sets found → AreSets found → IsStatement s (stmt.Group sets) (statement.Group found)
 
   -- the statements of a block, in their order
   pub data AreStatements (s : Scope) : List Stmt → List Statement → Type 0 where

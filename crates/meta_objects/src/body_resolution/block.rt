@@ -1,5 +1,7 @@
 //! The statements of bodies, whose names are resolved.
 
+ghost use Rattle.std.specs.Prelude.{◌↔◌, IsTrue};
+ghost use Rattle.meta_model.specs.Sound.{IsSet, AreSets};
 ghost use Rattle.texts.specs.declared.syntax.Stmt.TheVariants.{Set, Emit, Call};
 ghost use Rattle.meta_objects.specs.code.Bodies.{IsStatementOf, AreStatements};
 ghost use Rattle.meta_objects.specs.code.Resolving.{scope, Resolves};
@@ -10,6 +12,20 @@ use meta_model::{MetaFault, OBJECT_NAME_CHANGED, Statement, find};
 use signatures::Name;
 use sqlite_items::Items;
 use texts::{Expr, Path, Stmt};
+
+/// Whether the statement is a `set`.
+fn is_set(statement: &Statement) -> bool
+    ensures { IsTrue result ↔ IsSet statement.now }
+{
+    matches!(statement, Statement::Set(_, _, _))
+}
+
+/// Whether the statements are one `set` or more.
+fn are_sets(statements: &[Statement]) -> bool
+    ensures { IsTrue result ↔ AreSets statements.now }
+{
+    !statements.is_empty() && statements.iter().all(|statement| is_set(statement))
+}
 
 impl<'a> Scope<'a> {
     /// The statements of a body; `NoMember` where a name in one of them isn't there.
@@ -55,6 +71,14 @@ impl<'a> Scope<'a> {
             Stmt::Later(path) => {
                 let path = self.resolve_reference(path)?;
                 Ok(Statement::Later(path))
+            }
+            Stmt::Group(sets) => {
+                let sets = self.resolve_block(sets.as_slice())?;
+                // the reader of bodies takes nothing else into a group
+                if !are_sets(sets.as_slice()) {
+                    return Err(MetaFault::NoMember);
+                }
+                Ok(Statement::Group(sets))
             }
         }
     }

@@ -1,13 +1,14 @@
-use Rattle.std.proofs.Common.{refl}
+use Rattle.std.proofs.Common.{inr, refl, sym, subst}
 use Rattle.std.proofs.lemmas.Option.{slice_get_read}
 use Rattle.meta_model.specs.declared.object.MetaEndpoints.{MetaEndpoints}
 use Rattle.meta_model.specs.declared.object.MetaPath.{MetaPath}
 use Rattle.meta_model.specs.declared.object.Statement.{Statement}
 use Rattle.meta_model.specs.declared.fault.MetaFault.TheVariants as fault
+use Rattle.meta_model.specs.Sound.{AreSets}
 use Rattle.meta_objects.specs.code.Bodies.{AreEnds, IsReferencePath, IsStatementOf, AreStatements, LacksInBody}
 use Rattle.meta_objects.specs.code.Resolving.{scope}
 use Rattle.meta_model.proofs.OutlineSteps.{failed}
-use Rattle.meta_objects.proofs.BodyPieces.{block_left, block_only, block_stuck, block_end, if_piece, no_other}
+use Rattle.meta_objects.proofs.BodyPieces.{block_left, block_only, block_stuck, block_end, if_piece, no_other, no_group, no_sets, group_piece}
 use Rattle.meta_objects.proofs.BodyEnds.{no_connect, connect_piece, no_disconnect, disconnect_piece}
 use Rattle.meta_objects.proofs.BodyReferences.{no_delete, delete_piece, no_later, later_piece}
 use Rattle.meta_objects.proofs.body_resolution.scope.Scope.+blocks.Goals as goal
@@ -82,3 +83,24 @@ resolve_statement-returns-in_err-path-in-Later t c =
 
 pub resolve_statement-returns-in_ok-path-in-Later : goal.resolve_statement-returns-in_ok-path-in-Later
 resolve_statement-returns-in_ok-path-in-Later t c = rw c.in-Later.is (later_piece _ _ _ c.in_ok-path-in-Later.ensures)
+
+pub resolve_statement-returns-in_err-sets-in-Group : goal.resolve_statement-returns-in_err-sets-in-Group
+resolve_statement-returns-in_err-sets-in-Group t c =
+    let s = scope c.args.self.now in
+    failed fault.NoMember (LacksInBody s c.as_slice-in-Group.result.now) ((y : Statement) → ¬ IsStatementOf s c.args.statement.now y)
+    (λ ys. AreStatements s c.as_slice-in-Group.result.now ys) (λ y. IsStatementOf s c.args.statement.now y) _ c.in_err-sets-in-Group.ensures
+    (λ lacks. rw c.in-Group.is (no_group s _ (rw c.as_slice-in-Group.ensures at lacks))) _ c.from_residual-in_err-sets-in-Group.ensures.0 c.from_residual-in_err-sets-in-Group.ensures.1
+
+pub resolve_statement-returns-then-not-are_sets : goal.resolve_statement-returns-then-not-are_sets
+resolve_statement-returns-then-not-are_sets t c =
+    let s = scope c.args.self.now in
+    let form = rw c.as_slice-in-Group.ensures at c.in_ok-sets-in-Group.ensures in
+    let other : ¬ AreSets c.in_ok-sets-in-Group.sets =
+    λ all. let is = c.if-not-are_sets.ensures.1 (subst (λ ys. AreSets ys) (sym c.as_slice-in-Group-2.ensures) all) in cc in
+    inr (refl, rw c.in-Group.is (no_sets s _ _ form other))
+
+pub resolve_statement-returns-else-not-are_sets : goal.resolve_statement-returns-else-not-are_sets
+resolve_statement-returns-else-not-are_sets t c =
+    let form = rw c.as_slice-in-Group.ensures at c.in_ok-sets-in-Group.ensures in
+    let all = rw c.as_slice-in-Group-2.ensures at (c.if-not-are_sets.ensures.0 refl) in
+    rw c.in-Group.is (group_piece (scope c.args.self.now) _ _ form all)
