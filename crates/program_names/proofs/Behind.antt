@@ -18,7 +18,7 @@ use Rattle.texts.specs.declared.syntax.Root.TheVariants as root
 use Rattle.texts.specs.declared.token.Token.{Token}
 use Rattle.texts.specs.declared.token.Token.TheVariants as token
 use Rattle.slot_lang.specs.Expressions.{expression, no_conjunction, or_else, conjunction, no_comparison, and_also, alone, compared, sum, no_term, signed, term, no_factor, times, prefixed, literal, path, grouped, spell_root, spell_names, spell_path, spell_expression, spell_conjunctions, spell_conjunction, spell_comparisons, spell_comparison, spell_sum, spell_terms, spell_term, spell_factors, spell_factor}
-use Rattle.slot_lang.specs.Grammar.{spell_target, spell_value, spell_arguments, spell_path_ends, spell_how, spell_object, no_more, more, set, emit, call, choice, connect, disconnect, delete, later, no_else, else_block, spell_statements, spell_statement, spell_else, spell_block}
+use Rattle.slot_lang.specs.Grammar.{spell_target, spell_value, spell_set, spell_sets, spell_arguments, spell_path_ends, spell_how, spell_object, no_more, more, set, emit, call, choice, connect, disconnect, delete, later, group, no_else, else_block, spell_statements, spell_statement, spell_else, spell_block}
 use Rattle.class_lang.specs.Declarations.{bare, semicolon, spell_ending as spell_class_ending, spell_base, end, spell_end, wire, spell_wire, owns, spell_owns}
 use Rattle.class_lang.specs.Natives.{effects, spell_effects}
 use Rattle.class_lang.specs.Parameters.{signal_parameter, spell_signal_parameter, slot_parameter, spell_slot_parameter}
@@ -146,6 +146,14 @@ module _ (P : Token → Type 0) where
   behind_value : IsBehind spell_value
   behind_value e after h = (behind_expression e (token.Symbol s.Semicolon ∷ after) h.1).1
 
+  behind_set : IsBehind spell_set
+  behind_set a after h = behind_value a.1 after (behind_target a.0 (spell_value a.1 after) h.1)
+
+  behind_sets : IsBehind spell_sets
+  behind_sets sets after h =
+      let first = behind_set sets.0 _ h in
+      (behind_each spell_set behind_set sets.1 (token.Symbol s.CloseBrace ∷ after) first).1
+
   behind_arguments : IsBehind spell_arguments
   behind_arguments es after h = (behind_listed spell_expression behind_expression es (token.Symbol s.Semicolon ∷ after) h).1
 
@@ -176,7 +184,7 @@ module _ (P : Token → Type 0) where
     behind_statements (more x body) after h = behind_statements body after (behind_statement x (spell_statements body after) h)
 
     behind_statement : IsBehind spell_statement
-    behind_statement (set a) after h = behind_value a.1 after (behind_target a.0 (spell_value a.1 after) h.1)
+    behind_statement (set a) after h = behind_set a after h
     behind_statement (emit e) after h = behind_arguments e.1 after h.1.1
     behind_statement (call c) after h = behind_arguments c.1 after (behind_target c.0 (spell_arguments c.1 after) h.1)
     behind_statement (choice e body other) after h =
@@ -187,6 +195,7 @@ module _ (P : Token → Type 0) where
     behind_statement (disconnect ends) after h = (behind_path_ends ends (token.Symbol s.Semicolon ∷ after) h.1).1
     behind_statement (delete p) after h = behind_object p after h.1
     behind_statement (later p) after h = behind_object p after h.1
+    behind_statement (group sets) after h = behind_sets sets after h.1.1
 
     behind_else : IsBehind spell_else
     behind_else no_else after h = h
