@@ -23,7 +23,7 @@ use Rattle.effect_scan.specs.declared.node.Member.TheVariants.{Method, Property}
 use Rattle.effect_scan.specs.Nodes.{node}
 use Rattle.effect_scan.specs.declared.effect.Reach.TheVariants.{Own}
 use Rattle.effect_scan.specs.declared.effect.Effect.{Effect}
-use Rattle.effect_scan.specs.Effects.{effect_of, Occurs, here, chosen, otherwise, BodyHas, WorkHas}
+use Rattle.effect_scan.specs.Effects.{effect_of, Occurs, here, chosen, otherwise, grouped, BodyHas, WorkHas}
 use Rattle.effect_scan.specs.Edges.{Reaches, ByWork}
 use Rattle.effect_scan.specs.Reasons.{BodyLeads, NativeLeads}
 use Rattle.effect_scan.proofs.Occurring.{occurs_at}
@@ -63,6 +63,16 @@ module _ (p : Loaded) (c : ℕ) (kinds : List ValueType) (y : Node) where
       is = h.is;
       to = h.to;
     }
+
+  -- a set in a group
+  pub leads_grouped : (t : Statement) (sets given : List Statement) → t ≡ whole.Group sets → given ≡ sets → BodyLeads p c kinds given y → BodyLeads p c kinds (t ∷ []) y
+  leads_grouped t sets given is e h = record {
+    statement = h.statement;
+    occurs = grouped (ap out-Statement is ∙ whole.outs-Group sets) (subst (λ (b : List Statement). Occurs h.statement b) e h.occurs);
+    effect = h.effect;
+    is = h.is;
+    to = h.to;
+  }
 
 module _ (p : Loaded) (x y : Node) (m : ℕ) (method : MetaMethod) (is : IsMethod p x.class m method) (from : x.member ≡ Method m) where
   drawn : (e : Effect) → WorkHas method.kinds method.work e → Reaches p x.class e y → ByWork p x y

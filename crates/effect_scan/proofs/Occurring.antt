@@ -12,7 +12,7 @@ use Rattle.meta_model.specs.declared.object.Statement.TheOpen as layer
 use Rattle.meta_model.specs.declared.object.Statement.TheViews.{out-Statement, roll-Statement, roll-out-Statement}
 use Rattle.meta_model.specs.declared.object.Statement.TheVariants as whole
 use Rattle.effect_scan.specs.declared.effect.Effect.{Effect}
-use Rattle.effect_scan.specs.Effects.{effect_of, Occurs, here, after, chosen, otherwise, BodyHas, StatementHas, Gathers}
+use Rattle.effect_scan.specs.Effects.{effect_of, Occurs, here, after, chosen, otherwise, grouped, BodyHas, StatementHas, Gathers}
 
 -- ---- lists
 pub gathers_none : {X : Type 0} (P : X → Type 0) (xs : List X) → ((x : X) → ¬ P x) → Gathers P xs xs
@@ -47,6 +47,7 @@ occurs_left s (x ∷ xs) ys here = here
 occurs_left s (x ∷ xs) ys (after o) = after (occurs_left s xs ys o)
 occurs_left s (x ∷ xs) ys (chosen is o) = chosen is o
 occurs_left s (x ∷ xs) ys (otherwise is o) = otherwise is o
+occurs_left s (x ∷ xs) ys (grouped is o) = grouped is o
 
 pub occurs_right : (s : Statement) (xs ys : List Statement) → Occurs s ys → Occurs s (xs ++ ys)
 occurs_right s [] ys o = o
@@ -58,12 +59,34 @@ occurs_either s (x ∷ xs) ys here = inl here
 occurs_either s (x ∷ xs) ys (after o) = elim (occurs_either s xs ys o) [ inl l ↦ inl (after l) | inr r ↦ inr r ]
 occurs_either s (x ∷ xs) ys (chosen is o) = inl (chosen is o)
 occurs_either s (x ∷ xs) ys (otherwise is o) = inl (otherwise is o)
+occurs_either s (x ∷ xs) ys (grouped is o) = inl (grouped is o)
 
 -- what occurs in a statement of the body occurs in the body
 pub occurs_at : (body : List Statement) (i : ℕ) (t s : Statement) → slice_get body i ≡ Some t → Occurs s (t ∷ []) → Occurs s body
 occurs_at [] i t s e o = absurd (none-some t e)
 occurs_at (x ∷ xs) zero t s e o = occurs_left s (x ∷ []) xs (subst (λ (y : Statement). Occurs s (y ∷ [])) (sym (same_Some _ _ e)) o)
 occurs_at (x ∷ xs) (suc i) t s e o = after (occurs_at xs i t s e o)
+
+-- no statement stands in the statement: it is no `if` and no group
+abbrev pub IsPlain : Statement → Type 0
+IsPlain t =
+    ((x : Expr MetaPath) (block other : List Statement) → ¬ (t ≡ whole.If x block other))
+    × ((sets : List Statement) → ¬ (t ≡ whole.Group sets))
+
+-- .. by its parts
+abbrev pub HasNoBlocks : layer.Statement-F Statement → Type 0
+HasNoBlocks z =
+    ((x : Expr MetaPath) (block other : List Statement) → ¬ (z ≡ layer.If x block other))
+    × ((sets : List Statement) → ¬ (z ≡ layer.Group sets))
+
+rolled : (t u : Statement) (z : layer.Statement-F Statement) → out-Statement t ≡ z → out-Statement u ≡ z → t ≡ u
+rolled t u z a b = sym (roll-out-Statement t) ∙ ap roll-Statement (a ∙ sym b) ∙ roll-out-Statement u
+
+pub no_blocks : (t : Statement) → IsPlain t → HasNoBlocks (out-Statement t)
+no_blocks t bare = (
+  λ x block other at. bare.0 x block other (rolled t (whole.If x block other) (layer.If x block other) at (whole.outs-If x block other)),
+  λ sets at. bare.1 sets (rolled t (whole.Group sets) (layer.Group sets) at (whole.outs-Group sets)),
+)
 
 module _ (kinds : List ValueType) where
   -- the effects of one statement, by its parts
@@ -76,19 +99,24 @@ module _ (kinds : List ValueType) where
   plain (layer.Disconnect ends) e is = is
   plain (layer.Delete path) e is = is
   plain (layer.Later path) e is = is
+  plain (layer.Group sets) e is = absurd (none-some e is)
 
-  pub plain_only : (z : layer.Statement-F Statement) (e : Effect) → ((x : Expr MetaPath) (block other : List Statement) → ¬ (z ≡ layer.If x block other)) → StatementHas kinds z e → effect_of kinds z ≡ Some e
-  plain_only (layer.Set path q x) e no_if has = has
-  plain_only (layer.Emit m xs) e no_if has = has
-  plain_only (layer.Call path m xs) e no_if has = has
-  plain_only (layer.If x block other) e no_if has = absurd (no_if x block other refl)
-  plain_only (layer.Connect ends how) e no_if has = has
-  plain_only (layer.Disconnect ends) e no_if has = has
-  plain_only (layer.Delete path) e no_if has = has
-  plain_only (layer.Later path) e no_if has = has
+  pub plain_only : (z : layer.Statement-F Statement) (e : Effect) → HasNoBlocks z → StatementHas kinds z e → effect_of kinds z ≡ Some e
+  plain_only (layer.Set path q x) e bare has = has
+  plain_only (layer.Emit m xs) e bare has = has
+  plain_only (layer.Call path m xs) e bare has = has
+  plain_only (layer.If x block other) e bare has = absurd (bare.0 x block other refl)
+  plain_only (layer.Connect ends how) e bare has = has
+  plain_only (layer.Disconnect ends) e bare has = has
+  plain_only (layer.Delete path) e bare has = has
+  plain_only (layer.Later path) e bare has = has
+  plain_only (layer.Group sets) e bare has = absurd (bare.1 sets refl)
 
   in_blocks : (z : layer.Statement-F Statement) (x : Expr MetaPath) (block other : List Statement) (e : Effect) → z ≡ layer.If x block other → BodyHas kinds block e ⊎ BodyHas kinds other e → StatementHas kinds z e
   in_blocks z x block other e is has = subst (λ (w : layer.Statement-F Statement). StatementHas kinds w e) (sym is) has
+
+  in_group : (z : layer.Statement-F Statement) (sets : List Statement) (e : Effect) → z ≡ layer.Group sets → BodyHas kinds sets e → StatementHas kinds z e
+  in_group z sets e is has = subst (λ (w : layer.Statement-F Statement). StatementHas kinds w e) (sym is) has
 
   -- a body of one statement
   alone : (t : Statement) (e : Effect) → BodyHas kinds (t ∷ []) e → StatementHas kinds (out-Statement t) e
@@ -99,6 +127,7 @@ module _ (kinds : List ValueType) where
       given s (after o) is = elim o [ ]
       given s (chosen {e = x} {block = block} {other = other} at o) is = in_blocks (out-Statement t) x block other e at (inl (record { statement = s; occurs = o; is = is }))
       given s (otherwise {e = x} {block = block} {other = other} at o) is = in_blocks (out-Statement t) x block other e at (inr (record { statement = s; occurs = o; is = is }))
+      given s (grouped {sets = sets} at o) is = in_group (out-Statement t) sets e at (record { statement = s; occurs = o; is = is })
 
   of_one : (t : Statement) (e : Effect) (z : layer.Statement-F Statement) → out-Statement t ≡ z → StatementHas kinds z e → BodyHas kinds (t ∷ []) e
   of_one t e (layer.Set path q x) at has = record { statement = t; occurs = here; is = ap (effect_of kinds) at ∙ has }
@@ -113,6 +142,7 @@ module _ (kinds : List ValueType) where
   of_one t e (layer.Disconnect ends) at has = record { statement = t; occurs = here; is = ap (effect_of kinds) at ∙ has }
   of_one t e (layer.Delete path) at has = record { statement = t; occurs = here; is = ap (effect_of kinds) at ∙ has }
   of_one t e (layer.Later path) at has = record { statement = t; occurs = here; is = ap (effect_of kinds) at ∙ has }
+  of_one t e (layer.Group sets) at has = record { statement = has.statement; occurs = grouped at has.occurs; is = has.is }
 
   pub body_none : (e : Effect) → ¬ BodyHas kinds [] e
   body_none e has = elim has.occurs [ ]
@@ -149,12 +179,12 @@ module _ (kinds : List ValueType) where
       gathers_then (BodyHas kinds block) (BodyHas kinds other) (StatementHas kinds z) first then last p q
       (λ e. subst (λ (w : layer.Statement-F Statement). StatementHas kinds w e ↔ (BodyHas kinds block e ⊎ BodyHas kinds other e)) (sym is) (λ h. h, λ h. h))
 
-  -- a statement without blocks
-  pub gather_effect : (z : layer.Statement-F Statement) (e : Effect) (xs ys : List Effect) → ((x : Expr MetaPath) (block other : List Statement) → ¬ (z ≡ layer.If x block other)) → effect_of kinds z ≡ Some e → ys ≡ xs ++ e ∷ [] → Gathers (StatementHas kinds z) xs ys
-  gather_effect z e xs ys no_if is eq = gathers_one (StatementHas kinds z) e xs ys eq (plain z e is) (λ f has. same_Some _ _ (sym (plain_only z f no_if has) ∙ is))
+  -- a statement in which none stands
+  gather_effect : (z : layer.Statement-F Statement) (e : Effect) (xs ys : List Effect) → HasNoBlocks z → effect_of kinds z ≡ Some e → ys ≡ xs ++ e ∷ [] → Gathers (StatementHas kinds z) xs ys
+  gather_effect z e xs ys bare is eq = gathers_one (StatementHas kinds z) e xs ys eq (plain z e is) (λ f has. same_Some _ _ (sym (plain_only z f bare has) ∙ is))
 
-  pub gather_nothing : (z : layer.Statement-F Statement) (xs : List Effect) → ((x : Expr MetaPath) (block other : List Statement) → ¬ (z ≡ layer.If x block other)) → effect_of kinds z ≡ None → Gathers (StatementHas kinds z) xs xs
-  gather_nothing z xs no_if is = gathers_none (StatementHas kinds z) xs (λ e has. absurd (none-some e (sym is ∙ plain_only z e no_if has)))
+  gather_nothing : (z : layer.Statement-F Statement) (xs : List Effect) → HasNoBlocks z → effect_of kinds z ≡ None → Gathers (StatementHas kinds z) xs xs
+  gather_nothing z xs bare is = gathers_none (StatementHas kinds z) xs (λ e has. absurd (none-some e (sym is ∙ plain_only z e bare has)))
 
   -- the same of a statement, by what it is
   pub gather_if : {T E : Type 0} (r : Result T E) (t : Statement) (x : Expr MetaPath) (block other left right : List Statement) (first then last : List Effect) → t ≡ whole.If x block other → left ≡ block → right ≡ other
@@ -164,16 +194,17 @@ module _ (kinds : List ValueType) where
       (subst (λ (b : List Statement). Gathers (BodyHas kinds b) first then) l p) (subst (λ (b : List Statement). Gathers (BodyHas kinds b) then last) r q)
   gather_if (Err v) t x block other left right first then last is l r p q = tt
 
-  pub gather_plain : (t : Statement) (e : Effect) (xs ys : List Effect) → ((x : Expr MetaPath) (block other : List Statement) → ¬ (t ≡ whole.If x block other)) → effect_of kinds (out-Statement t) ≡ Some e → ys ≡ xs ++ e ∷ []
-      → Gathers (StatementHas kinds (out-Statement t)) xs ys
-  gather_plain t e xs ys no_if is eq =
-      gather_effect (out-Statement t) e xs ys
-      (λ x block other at. no_if x block other (sym (roll-out-Statement t) ∙ ap roll-Statement (at ∙ sym (whole.outs-If x block other)) ∙ roll-out-Statement (whole.If x block other))) is eq
+  pub gather_group : {T E : Type 0} (r : Result T E) (t : Statement) (sets given : List Statement) (first last : List Effect) → t ≡ whole.Group sets → given ≡ sets → IfOk r (λ _. Gathers (BodyHas kinds given) first last)
+      → IfOk r (λ _. Gathers (StatementHas kinds (out-Statement t)) first last)
+  gather_group (Ok v) t sets given first last is same h =
+      subst (λ (z : layer.Statement-F Statement). Gathers (StatementHas kinds z) first last) (sym (ap out-Statement is ∙ whole.outs-Group sets))
+      (subst (λ (b : List Statement). Gathers (BodyHas kinds b) first last) same h)
+  gather_group (Err v) t sets given first last is same h = tt
 
-  pub gather_pushed : {T E : Type 0} (r : Result T E) (t : Statement) (e : Effect) (xs ys : List Effect) → ((x : Expr MetaPath) (block other : List Statement) → ¬ (t ≡ whole.If x block other)) → effect_of kinds (out-Statement t) ≡ Some e
+  pub gather_pushed : {T E : Type 0} (r : Result T E) (t : Statement) (e : Effect) (xs ys : List Effect) → IsPlain t → effect_of kinds (out-Statement t) ≡ Some e
       → IfOk r (λ _. ys ≡ xs ++ e ∷ []) → IfOk r (λ _. Gathers (StatementHas kinds (out-Statement t)) xs ys)
-  gather_pushed (Ok v) t e xs ys no_if is eq = gather_plain t e xs ys no_if is eq
-  gather_pushed (Err v) t e xs ys no_if is eq = tt
+  gather_pushed (Ok v) t e xs ys bare is eq = gather_effect (out-Statement t) e xs ys (no_blocks t bare) is eq
+  gather_pushed (Err v) t e xs ys bare is eq = tt
 
-  pub gather_silent : (t : Statement) (xs : List Effect) → ((x : Expr MetaPath) (block other : List Statement) → ¬ (t ≡ whole.If x block other)) → effect_of kinds (out-Statement t) ≡ None → Gathers (StatementHas kinds (out-Statement t)) xs xs
-  gather_silent t xs no_if is = gather_nothing (out-Statement t) xs (λ x block other at. no_if x block other (sym (roll-out-Statement t) ∙ ap roll-Statement (at ∙ sym (whole.outs-If x block other)) ∙ roll-out-Statement (whole.If x block other))) is
+  pub gather_silent : (t : Statement) (xs : List Effect) → IsPlain t → effect_of kinds (out-Statement t) ≡ None → Gathers (StatementHas kinds (out-Statement t)) xs xs
+  gather_silent t xs bare is = gather_nothing (out-Statement t) xs (no_blocks t bare) is

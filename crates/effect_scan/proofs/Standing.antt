@@ -26,7 +26,7 @@ use Rattle.meta_model.specs.declared.qobject.TheConstants.{DESTROYED, DESTROYED_
 use Rattle.meta_model.specs.Loaded.{Loaded}
 use Rattle.meta_model.specs.Members.{IsClass, IsMethod, IsProperty, Below, same, under}
 use Rattle.meta_model.specs.Root.{root_methods}
-use Rattle.meta_model.specs.Sound.{IsSound, HasRoot, this_has, parameter_has, Leads, here, on, LeadsToClass, IsSoundStatement, set_sound, emit_sound, call_sound, if_sound, delete_sound, AreSound, next_sound, IsSoundWork, IsPlainProperty, IsPlainSignal, AreSoundEffects, IsSoundMethod, IsSoundSource, IsKind}
+use Rattle.meta_model.specs.Sound.{IsSound, HasRoot, this_has, parameter_has, Leads, here, on, LeadsToClass, IsSoundStatement, set_sound, emit_sound, call_sound, if_sound, delete_sound, group_sound, AreSound, next_sound, IsSoundWork, IsPlainProperty, IsPlainSignal, AreSoundEffects, IsSoundMethod, IsSoundSource, IsKind}
 use Rattle.meta_model.proofs.Searches.{place_in}
 use Rattle.meta_model.specs.Sites.{paths_in}
 use Rattle.meta_model.proofs.Zips.{get_front, zip_right}
@@ -38,7 +38,7 @@ use Rattle.effect_scan.specs.declared.effect.Reach.TheVariants as reach
 use Rattle.effect_scan.specs.declared.effect.Effect.{Effect}
 use Rattle.effect_scan.specs.Nodes.{node, named, shape_of, class_nodes, nodes_from}
 use Rattle.effect_scan.specs.Numbering.{IsPlaceIn}
-use Rattle.effect_scan.specs.Effects.{reach_of_type, reach_of_root, reach_after, reach_of, effect_on, effect_of, Occurs, here as first, after, chosen, otherwise, NativeHas, WorkHas}
+use Rattle.effect_scan.specs.Effects.{reach_of_type, reach_of_root, reach_after, reach_of, effect_on, effect_of, Occurs, here as first, after, chosen, otherwise, grouped, NativeHas, WorkHas}
 use Rattle.effect_scan.specs.Destroying.{Closure, itself, child}
 use Rattle.effect_scan.specs.Edges.{AtOrBelow, ReachedAs, by_work, by_wire, by_notify, by_site, by_destruction}
 use Rattle.effect_scan.specs.Laws.{IsNode, EdgesJoinNodes}
@@ -207,6 +207,7 @@ module _ {p : Loaded} (sound : IsSound p) where
   effect_stands me kinds (layer.Disconnect ends) effect classes s h = absurd (none-some effect h)
   effect_stands me kinds (layer.Delete path) effect classes (delete_sound {class = class} leads) h = on_path me kinds path class member.Destruction effect leads (classes path class leads) h
   effect_stands me kinds (layer.Later path) effect classes s h = absurd (none-some effect h)
+  effect_stands me kinds (layer.Group sets) effect classes s h = absurd (none-some effect h)
 
   tail_of : {me : ℕ} {kinds : List ValueType} {t : Statement} {rest : List Statement} → AreSound p me kinds (t ∷ rest) → AreSound p me kinds rest
   tail_of (next_sound one rest) = rest
@@ -220,11 +221,18 @@ module _ {p : Loaded} (sound : IsSound p) where
       given : IsSoundStatement p me kinds (layer.If e block other) → AreSound p me kinds block × AreSound p me kinds other
       given (if_sound test one two) = (one, two)
 
+  sets_of : (me : ℕ) (kinds : List ValueType) (z : layer.Statement-F Statement) (sets : List Statement) → IsSoundStatement p me kinds z → z ≡ layer.Group sets → AreSound p me kinds sets
+  sets_of me kinds z sets s at = given (subst (IsSoundStatement p me kinds) at s)
+    where
+      given : IsSoundStatement p me kinds (layer.Group sets) → AreSound p me kinds sets
+      given (group_sound are all) = are
+
   occurs_sound : (me : ℕ) (kinds : List ValueType) (s : Statement) (body : List Statement) → AreSound p me kinds body → Occurs s body → IsSoundStatement p me kinds (out-Statement s)
   occurs_sound me kinds s body all first = one_of all
   occurs_sound me kinds s body all (after {rest = rest} o) = occurs_sound me kinds s rest (tail_of all) o
   occurs_sound me kinds s body all (chosen {t = t} {e = e} {block = block} {other = other} at o) = occurs_sound me kinds s block (blocks_of me kinds (out-Statement t) e block other (one_of all) at).0 o
   occurs_sound me kinds s body all (otherwise {t = t} {e = e} {block = block} {other = other} at o) = occurs_sound me kinds s other (blocks_of me kinds (out-Statement t) e block other (one_of all) at).1 o
+  occurs_sound me kinds s body all (grouped {t = t} {sets = sets} at o) = occurs_sound me kinds s sets (sets_of me kinds (out-Statement t) sets (one_of all) at) o
 
   -- a path that leads to a class leads to one of the program
   root_there : (me : ℕ) (kinds : List ValueType) → me < length p.classes → ((k class : ℕ) (constant : Bool) → slice_get kinds k ≡ Some (type.Reference class constant) → class < length p.classes)

@@ -54,8 +54,8 @@ fn reach_of_type(kind: ValueType) -> Option<Reach>
     }
 }
 
-/// What the statement does at once, where the parameters are of these types; nothing, where its blocks do it, or where it
-/// connects or posts.
+/// What the statement does at once, where the parameters are of these types; nothing, where what stands in it does it, or
+/// where it connects or posts.
 pub fn effect_of(kinds: &[ValueType], statement: &Statement) -> Option<Effect>
     ensures { result ≡ effect_of kinds.now (out-Statement statement.now) }
 {
@@ -70,7 +70,8 @@ pub fn effect_of(kinds: &[ValueType], statement: &Statement) -> Option<Effect>
         Statement::If(_, _, _)
         | Statement::Connect(_, _)
         | Statement::Disconnect(_)
-        | Statement::Later(_) => None,
+        | Statement::Later(_)
+        | Statement::Group(_) => None,
     }
 }
 
@@ -82,7 +83,7 @@ fn effect_on(kinds: &[ValueType], path: &MetaPath, member: Member) -> Option<Eff
     Some(Effect { reach, member })
 }
 
-/// What the statements of the body do at once, those in its blocks too.
+/// What the statements of the body do at once, those in its blocks and groups too.
 #[cycle(bodies)]
 pub fn gather(
     kinds: &[ValueType],
@@ -97,7 +98,7 @@ pub fn gather(
     Ok(())
 }
 
-/// What the statement does at once, and those in its blocks.
+/// What the statement does at once, and those that stand in it.
 #[cycle(bodies)]
 fn gather_one(
     kinds: &[ValueType],
@@ -107,13 +108,16 @@ fn gather_one(
     ensures { IfOk result (λ _.
         Gathers (StatementHas kinds.now (out-Statement statement.now)) effects.old effects.new) }
 {
-    if let Statement::If(_, chosen, other) = statement {
-        gather(kinds, chosen.as_slice(), effects)?;
-        return gather(kinds, other.as_slice(), effects);
-    }
-    match effect_of(kinds, statement) {
-        Some(effect) => effects.push(effect),
-        None => Ok(()),
+    match statement {
+        Statement::If(_, chosen, other) => {
+            gather(kinds, chosen.as_slice(), effects)?;
+            gather(kinds, other.as_slice(), effects)
+        }
+        Statement::Group(sets) => gather(kinds, sets.as_slice(), effects),
+        _ => match effect_of(kinds, statement) {
+            Some(effect) => effects.push(effect),
+            None => Ok(()),
+        },
     }
 }
 

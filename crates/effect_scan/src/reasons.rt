@@ -19,8 +19,8 @@ use texts::Expr;
 /// What draws an edge.
 #[derive(Clone, Copy, Debug, PartialEq, Eq)]
 pub enum Reason {
-    /// The statement of this number in the body of the slot, counted from 0 in the order of the text, each `if` before what
-    /// is in its blocks.
+    /// The statement of this number in the body of the slot, counted from 0 in the order of the text, each `if` and each
+    /// group before what is in it.
     Statement(usize),
     /// The effects that the native is declared with.
     Native,
@@ -131,7 +131,7 @@ fn work_reason(meta: &Meta, from: Node, method: usize, to: Node) -> Option<Reaso
     }
 }
 
-/// Whether a statement of the body leads to the node, or of a block in it; `passed` counts those before it.
+/// Whether a statement of the body leads to the node, or of a block or a group in it; `passed` counts those before it.
 #[cycle(bodies)]
 fn leads(search: &Search, body: &[Statement], passed: &mut usize) -> bool
     ensures { IsTrue result →
@@ -145,7 +145,7 @@ fn leads(search: &Search, body: &[Statement], passed: &mut usize) -> bool
     false
 }
 
-/// Whether the statement leads to the node, or one in its blocks.
+/// Whether the statement leads to the node, or one that stands in it.
 #[cycle(bodies)]
 fn whole_leads(search: &Search, statement: &Statement, passed: &mut usize) -> bool
     ensures { IsTrue result →
@@ -159,6 +159,7 @@ fn whole_leads(search: &Search, statement: &Statement, passed: &mut usize) -> bo
         Statement::If(_, chosen, other) => {
             leads(search, chosen.as_slice(), passed) || leads(search, other.as_slice(), passed)
         }
+        Statement::Group(sets) => leads(search, sets.as_slice(), passed),
         _ => false,
     }
 }

@@ -1,5 +1,5 @@
 -- Typed bodies, one statement after another.
-use Rattle.std.proofs.Common.{◌≡◌, inl, inr, ℕ, ◌+◌, ◌<◌, ◌≤◌, List, [], ◌∷◌, ◌++◌, length, get_or, take, Option, None, Some, MatchOption, refl, sym, ap, ◌∙◌, subst}
+use Rattle.std.proofs.Common.{◌≡◌, ◌≢◌, inl, inr, ℕ, ◌+◌, ◌<◌, ◌≤◌, List, [], ◌∷◌, ◌++◌, length, get_or, take, Option, None, Some, MatchOption, refl, sym, ap, ◌∙◌, subst}
 use Rattle.std.proofs.lemmas.List.{take_more, take_all}
 use Rattle.std.proofs.lemmas.Option.{slice_get_read}
 use Rattle.texts.specs.declared.syntax.Expr.{Expr}
@@ -7,11 +7,11 @@ use Rattle.meta_model.specs.declared.object.ValueType.{ValueType}
 use Rattle.meta_model.specs.declared.object.MetaPath.{MetaPath}
 use Rattle.meta_model.specs.declared.object.Statement.{Statement}
 use Rattle.meta_model.specs.declared.object.Statement.TheOpen as layer
-use Rattle.meta_model.specs.declared.object.Statement.TheViews.{out-Statement, roll-Statement, roll-out-Statement}
+use Rattle.meta_model.specs.declared.object.Statement.TheViews.{out-Statement}
 use Rattle.meta_model.specs.declared.object.Statement.TheVariants as whole
 use Rattle.meta_model.specs.Loaded.{Loaded}
-use Rattle.effect_scan.specs.Effects.{Occurs, here, after, chosen, otherwise}
-use Rattle.effect_scan.proofs.Occurring.{occurs_at, occurs_either}
+use Rattle.effect_scan.specs.Effects.{Occurs, here, after, chosen, otherwise, grouped}
+use Rattle.effect_scan.proofs.Occurring.{occurs_at, occurs_either, IsPlain, no_blocks}
 use Rattle.typing.specs.Bodies.{IsTypedStatement, IsTypedBody}
 
 module _ (p : Loaded) (me : ℕ) (kinds : List ValueType) where
@@ -36,16 +36,13 @@ module _ (p : Loaded) (me : ℕ) (kinds : List ValueType) where
   pub whole_of : (t : Statement) → IsTypedBody p me kinds (t ∷ []) → IsTypedStatement p me kinds (out-Statement t)
   whole_of t typed = typed t here
 
-  -- without blocks
-  pub plain : (t : Statement) → ((x : Expr MetaPath) (block other : List Statement) → ¬ (t ≡ whole.If x block other)) → IsTypedStatement p me kinds (out-Statement t) → IsTypedBody p me kinds (t ∷ [])
-  plain t no_if typed s here = typed
-  plain t no_if typed s (after o) = elim o [ ]
-  plain t no_if typed s (chosen {e = x} {block = block} {other = other} at o) = absurd (no_if x block other (rolled t x block other at))
-    where
-      rolled : (t : Statement) (x : Expr MetaPath) (block other : List Statement) → out-Statement t ≡ layer.If x block other → t ≡ whole.If x block other
-      rolled t x block other at = sym (roll-out-Statement t) ∙ ap roll-Statement (at ∙ sym (whole.outs-If x block other)) ∙ roll-out-Statement (whole.If x block other)
-  plain t no_if typed s (otherwise {e = x} {block = block} {other = other} at o) =
-      absurd (no_if x block other (sym (roll-out-Statement t) ∙ ap roll-Statement (at ∙ sym (whole.outs-If x block other)) ∙ roll-out-Statement (whole.If x block other)))
+  -- in which none stands
+  pub plain : (t : Statement) → IsPlain t → IsTypedStatement p me kinds (out-Statement t) → IsTypedBody p me kinds (t ∷ [])
+  plain t bare typed s here = typed
+  plain t bare typed s (after o) = elim o [ ]
+  plain t bare typed s (chosen {e = x} {block = block} {other = other} at o) = absurd ((no_blocks t bare).0 x block other at)
+  plain t bare typed s (otherwise {e = x} {block = block} {other = other} at o) = absurd ((no_blocks t bare).0 x block other at)
+  plain t bare typed s (grouped {sets = sets} at o) = absurd ((no_blocks t bare).1 sets at)
 
   -- an `if`
   module _ (t : Statement) (x : Expr MetaPath) (block other : List Statement) (is : t ≡ whole.If x block other) where
@@ -69,6 +66,40 @@ module _ (p : Loaded) (me : ℕ) (kinds : List ValueType) where
       where
         same_second : (y : Expr MetaPath) (b c : List Statement) → layer.If x block other ≡ layer.If y b c → other ≡ c
         same_second y b c e = cc
+    both_blocks typed first second s (grouped {sets = sets} at o) = absurd (no_group sets (sym open_if ∙ at))
+      where
+        no_group : (sets : List Statement) → layer.If x block other ≢ layer.Group sets
+        no_group sets e = absurd (cc)
+
+  -- a group
+  module _ (t : Statement) (sets : List Statement) (is : t ≡ whole.Group sets) where
+    open_group : out-Statement t ≡ layer.Group sets
+    open_group = ap out-Statement is ∙ whole.outs-Group sets
+
+    its_sets : IsTypedBody p me kinds (t ∷ []) → IsTypedBody p me kinds sets
+    its_sets typed s o = typed s (grouped open_group o)
+
+    in_group : IsTypedStatement p me kinds (out-Statement t) → IsTypedBody p me kinds sets → IsTypedBody p me kinds (t ∷ [])
+    in_group typed inside s here = typed
+    in_group typed inside s (after o) = elim o [ ]
+    in_group typed inside s (chosen {e = y} {block = b} {other = c} at o) = absurd (no_if y b c (sym open_group ∙ at))
+      where
+        no_if : (y : Expr MetaPath) (b c : List Statement) → layer.Group sets ≢ layer.If y b c
+        no_if y b c e = absurd (cc)
+    in_group typed inside s (otherwise {e = y} {block = b} {other = c} at o) = absurd (no_if y b c (sym open_group ∙ at))
+      where
+        no_if : (y : Expr MetaPath) (b c : List Statement) → layer.Group sets ≢ layer.If y b c
+        no_if y b c e = absurd (cc)
+    in_group typed inside s (grouped {sets = others} at o) = inside s (subst (λ (l : List Statement). Occurs s l) (sym (same others (sym open_group ∙ at))) o)
+      where
+        same : (others : List Statement) → layer.Group sets ≡ layer.Group others → sets ≡ others
+        same others e = cc
+
+  -- what the code tells of a group
+  pub group_told : {F : Type 0} (t : Statement) (sets given : List Statement) (r : Option F) → t ≡ whole.Group sets → given ≡ sets → IsTypedStatement p me kinds (out-Statement t)
+      → MatchOption r (IsTypedBody p me kinds given) (λ _. IsTypedBody p me kinds given → ⊥) → MatchOption r (IsTypedBody p me kinds (t ∷ [])) (λ _. IsTypedBody p me kinds (t ∷ []) → ⊥)
+  group_told t sets given None is same typed inside = in_group t sets is typed (subst (λ (b : List Statement). IsTypedBody p me kinds b) same inside)
+  group_told t sets given (Some f) is same typed inside = λ h. inside (subst (λ (b : List Statement). IsTypedBody p me kinds b) (sym same) (its_sets t sets is h))
 
   -- what the code tells of an `if`
   pub if_told : {F : Type 0} (t : Statement) (x : Expr MetaPath) (block other left right : List Statement) (r : Option F) → t ≡ whole.If x block other → left ≡ block → right ≡ other

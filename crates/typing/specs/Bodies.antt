@@ -64,7 +64,7 @@ pub record IsTypedDeletion (me : ℕ) (kinds : List ValueType) (path : MetaPath)
   pub class : ℕ
   pub leads : LeadsToMutable me kinds path class
 
--- one statement; what stands in the blocks of an `if` is looked at on its own
+-- one statement; what stands in the blocks of an `if` and in a group is looked at on its own
 abbrev pub IsTypedStatement : Loaded → ℕ → List ValueType → layer.Statement-F Statement → Type 0
 IsTypedStatement p me kinds (layer.Set path q e) = IsTypedSet p me kinds path q e
 IsTypedStatement p me kinds (layer.Emit m es) = AcceptsArguments p me kinds me m es
@@ -74,7 +74,8 @@ IsTypedStatement p me kinds (layer.Connect ends how) = Unit {0}
 IsTypedStatement p me kinds (layer.Disconnect ends) = Unit {0}
 IsTypedStatement p me kinds (layer.Delete path) = IsTypedDeletion me kinds path
 IsTypedStatement p me kinds (layer.Later path) = IsTypedDeletion me kinds path
+IsTypedStatement p me kinds (layer.Group sets) = Unit {0}
 
--- each statement of the body, in its blocks too
+-- each statement of the body, in its blocks and groups too
 abbrev pub IsTypedBody : Loaded → ℕ → List ValueType → List Statement → Type 0
 IsTypedBody p me kinds body = (s : Statement) → Occurs s body → IsTypedStatement p me kinds (out-Statement s)

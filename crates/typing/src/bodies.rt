@@ -8,8 +8,8 @@ use crate::scope::Scope;
 use meta_model::Statement;
 use std::alloc::AllocError;
 
-/// What isn't typed in the first statement of the body that isn't, in its blocks too; `passed` counts the statements before
-/// it. Its error is that memory was refused.
+/// What isn't typed in the first statement of the body that isn't, in its blocks and groups too; `passed` counts the
+/// statements before it. Its error is that memory was refused.
 #[cycle(bodies)]
 pub fn body_flaw(
     scope: &Scope,
@@ -28,7 +28,7 @@ pub fn body_flaw(
     Ok(None)
 }
 
-/// What isn't typed in the statement, or in its blocks.
+/// What isn't typed in the statement, or in one that stands in it.
 #[cycle(bodies)]
 fn whole_flaw(
     scope: &Scope,
@@ -50,6 +50,7 @@ fn whole_flaw(
             Some(flaw) => Ok(Some(flaw)),
             None => body_flaw(scope, other.as_slice(), passed),
         },
+        Statement::Group(sets) => body_flaw(scope, sets.as_slice(), passed),
         _ => Ok(None),
     }
 }

@@ -41,7 +41,7 @@ impl<'m> Names<MetaPath> for Scope<'m> {
 }
 
 impl<'m> Scope<'m> {
-    /// Whether the statement is typed; of an `if`, whether its condition is.
+    /// Whether the statement is typed; of an `if`, whether its condition is. What stands in it is looked at on its own.
     pub fn is_typed(&self, statement: &Statement) -> Result<bool, AllocError>
         ensures { IfOk result (λ answer. IsTrue answer
             ↔ IsTypedStatement self.now.meta.now self.now.class self.now.kinds.now (out-Statement statement.now)) }
@@ -51,7 +51,7 @@ impl<'m> Scope<'m> {
             Statement::Emit(signal, given) => self.accepts(self.class, *signal, given.as_slice()),
             Statement::Call(path, method, given) => self.may_call(path, *method, given.as_slice()),
             Statement::If(condition, _, _) => self.is_given(ValueType::Bool, condition),
-            Statement::Connect(_, _) | Statement::Disconnect(_) => Ok(true),
+            Statement::Connect(_, _) | Statement::Disconnect(_) | Statement::Group(_) => Ok(true),
             Statement::Delete(path) => Ok(self.is_mutable(path)),
             Statement::Later(path) => Ok(self.is_mutable(path)),
         }

@@ -1,5 +1,5 @@
 use Rattle.std.proofs.lemmas.Result.{IfOk-weaker}
-use Rattle.typing.proofs.Blocks.{body_more, body_at, whole_of, plain, if_told, if_first}
+use Rattle.typing.proofs.Blocks.{body_more, body_at, whole_of, plain, if_told, if_first, group_told}
 use Rattle.typing.proofs.bodies.+bodies.Goals as goal
 
 pub body_flaw-returns-in-Some : goal.body_flaw-returns-in-Some
@@ -14,7 +14,7 @@ whole_flaw-returns-then-not-branch t c = λ h.
     let s = c.in_ok-is_typed.ensures.1 (whole_of c.args.scope.now.meta.now c.args.scope.now.class c.args.scope.now.kinds.now c.args.statement.now h) in cc
 
 pub whole_flaw-returns-in_default : goal.whole_flaw-returns-in_default
-whole_flaw-returns-in_default t c = plain c.args.scope.now.meta.now c.args.scope.now.class c.args.scope.now.kinds.now c.args.statement.now c.in_default.not-If (c.in_ok-is_typed.ensures.0 (cc))
+whole_flaw-returns-in_default t c = plain c.args.scope.now.meta.now c.args.scope.now.class c.args.scope.now.kinds.now c.args.statement.now (c.in_default.not-If, c.in_default.not-Group) (c.in_ok-is_typed.ensures.0 (cc))
 
 pub whole_flaw-returns-in-Some : goal.whole_flaw-returns-in-Some
 whole_flaw-returns-in-Some t c = λ h.
@@ -29,3 +29,11 @@ whole_flaw-returns-in-None t c =
     if_told c.args.scope.now.meta.now c.args.scope.now.class c.args.scope.now.kinds.now c.args.statement.now _ _ _ _ _ found c.in-If.is c.as_slice.ensures c.as_slice-in-None.ensures
     (c.in_ok-is_typed.ensures.0 (cc)) first h)
     c.body_flaw-in-None.ensures
+
+pub whole_flaw-returns-in-Group : goal.whole_flaw-returns-in-Group
+whole_flaw-returns-in-Group t c =
+    IfOk-weaker _ _ _
+    (λ found h.
+    group_told c.args.scope.now.meta.now c.args.scope.now.class c.args.scope.now.kinds.now c.args.statement.now _ _ found c.in-Group.is c.as_slice-in-Group.ensures
+    (c.in_ok-is_typed.ensures.0 (cc)) h)
+    c.body_flaw-in-Group.ensures
