@@ -4,7 +4,7 @@ use Rattle.std.proofs.lemmas.Bool.{false≢true, cases_Bool}
 use Rattle.prop_bindings.specs.declared.place.Place.{Place}
 use Rattle.prop_bindings.specs.declared.binding.Binding.{Binding}
 use Rattle.prop_bindings.specs.Places.{same_place}
-use Rattle.prop_bindings.specs.Bindings.{binding_at, AreApart, without, replaced, Loop}
+use Rattle.prop_bindings.specs.Bindings.{binding_at, AreApart, without, without_all, replaced, Loop}
 use Rattle.prop_bindings.proofs.Places.{decide_place, same_place-refl, different}
 use Rattle.prop_bindings.proofs.Replaced.{push-none, without-at}
 use Rattle.prop_bindings.proofs.Acyclic.{chain-more}
@@ -65,3 +65,12 @@ apart-replaced bs b apart = apart-more (without b.target bs) b (apart-fewer _ bs
 -- fewer bindings close no chain
 pub acyclic-fewer : (keep : Binding → Bool) (bs : List Binding) → AreApart bs → (¬ Loop (binding_at bs)) → ¬ Loop (binding_at (filter keep bs))
 acyclic-fewer keep bs apart acyclic loop = acyclic (loop.0, chain-more (binding_at (filter keep bs)) (binding_at bs) (some-fewer keep bs apart) loop.1)
+
+-- ---- without the bindings of several properties
+pub apart-all : (ps : List Place) (bs : List Binding) → AreApart bs → AreApart (without_all ps bs)
+apart-all [] bs a = a
+apart-all (p ∷ ps) bs a = apart-all ps (without p bs) (apart-fewer _ bs a)
+
+pub acyclic-all : (ps : List Place) (bs : List Binding) → AreApart bs → (¬ Loop (binding_at bs)) → ¬ Loop (binding_at (without_all ps bs))
+acyclic-all [] bs a acyclic = acyclic
+acyclic-all (p ∷ ps) bs a acyclic = acyclic-all ps (without p bs) (apart-fewer _ bs a) (acyclic-fewer _ bs a acyclic)

@@ -1,5 +1,5 @@
 -- What the calls answer, from what was found to follow and what was settled after it.
-use Rattle.std.proofs.Common.{◌≡◌, ◌-◌, true, false, List, [], ◌∷◌, length, take, drop, inl, Some, refl, ap, sym, ◌∙◌, subst}
+use Rattle.std.proofs.Common.{◌≡◌, ◌-◌, ℕ, true, false, All, List, [], ◌∷◌, ◌++◌, map, length, take, drop, Option, Some, refl, ap, sym, ◌∙◌, subst}
 use Rattle.std.proofs.lemmas.List.{take_rest}
 use Rattle.std.proofs.lemmas.List.Elements.{All-filter, All-push}
 use Rattle.std.proofs.lemmas.Option.{same_Some}
@@ -7,81 +7,158 @@ use Rattle.signatures.specs.declared.value.Value.{Value}
 use Rattle.meta_model.specs.Loaded.{Loaded}
 use Rattle.object_tree.specs.declared.object.Object.{Object}
 use Rattle.prop_bindings.specs.declared.place.Place.{Place}
+use Rattle.prop_bindings.specs.declared.assignment.Assignment.{Assignment}
 use Rattle.prop_bindings.specs.declared.binding.Binding.{Binding}
-use Rattle.prop_bindings.specs.Places.{values_in}
-use Rattle.prop_bindings.specs.Bindings.{binding_at, without, replaced, reads_any, value_of, Settled, Loop}
-use Rattle.prop_bindings.specs.Changes.{in_order, DifferInValues, AreChanged, none_changed, one_stayed, IsWritten, IsInstalled, one}
+use Rattle.prop_bindings.specs.declared.planned.Planned.{Planned}
+use Rattle.prop_bindings.specs.Places.{In, values_in}
+use Rattle.prop_bindings.specs.Bindings.{binding_at, without, without_all, replaced, reads_any, value_of, Settled, Loop}
+use Rattle.prop_bindings.specs.Calls.{AllFit}
+use Rattle.prop_bindings.specs.Changes.{in_order, once, places_in, DifferInValues, AreChanged, HaveLasting, none_changed, one_stayed, IsWritten, IsInstalled}
+use Rattle.prop_bindings.specs.Counts.{CountsGroup, CountsReached}
 use Rattle.prop_bindings.specs.Fits.{FitsAt, IsFit, IsInOneLoop, Agree}
-use Rattle.prop_bindings.specs.code.Parts.{AreSound}
+use Rattle.prop_bindings.specs.Plans.{after}
+use Rattle.prop_bindings.specs.code.Parts.{AreSound, PlansThem, wrote}
 use Rattle.prop_bindings.specs.code.Orders.{update, pass, bound, IsAffected, IsLater}
-use Rattle.prop_bindings.proofs.Apart.{apart-fewer, apart-replaced, acyclic-fewer}
+use Rattle.prop_bindings.proofs.Assigned.{ahead-none}
+use Rattle.prop_bindings.proofs.Apart.{apart-all, apart-replaced, acyclic-all}
+use Rattle.prop_bindings.proofs.Counting.{changed-among, counts-affected, counts-same}
+use Rattle.prop_bindings.proofs.Evaluating.{rest-alike}
 use Rattle.prop_bindings.proofs.Fitting.{fit-stays}
 use Rattle.prop_bindings.proofs.Homes.{joined-stays, all-joined}
-use Rattle.prop_bindings.proofs.Replaced.{without-fewer}
+use Rattle.prop_bindings.proofs.Several.{distinct-once, in-once, once-distinct, once-in, without_all-fewer, without_all-once}
+use Rattle.prop_bindings.proofs.Wrote.{lasting-same, wrote-lasting, wrote-other}
 use Rattle.prop_bindings.proofs.Settling.{written-value, written-settled, written-kept, closes-loop, installed-later, installed-acyclic, installed-settled, installed-kept, later-is}
 
 -- all but the first
 pub tail-is : (lent later reached : List Place) (at : Place) → lent ≡ later → later ≡ at ∷ reached → take (length lent - 1) (drop 1 lent) ≡ reached
 tail-is lent later reached at read is = take_rest lent 1 ∙ ap (λ (xs : List Place). drop 1 xs) (read ∙ is)
 
--- ---- a write
-module _ (bs : List Binding) (old new : List Object) (at : Place) (v : Value) (followers : List Place)
-    (before : Settled (binding_at bs) (values_in old)) (affected : IsAffected (binding_at (without at bs)) at followers)
-    (is : (q : Place) → values_in new q ≡ pass (binding_at bs) followers (update (values_in old) at (Some v)) q) where
-  settled : Settled (binding_at (without at bs)) (values_in new)
-  settled = written-settled bs at followers v (values_in old) (values_in new) affected before is
+-- ---- writes
+all-left : (P : Binding → Type 0) (ps : List Place) (bs : List Binding) → All P bs → All P (without_all ps bs)
+all-left P [] bs h = h
+all-left P (p ∷ ps) bs h = all-left P ps (without p bs) (All-filter _ P bs h)
 
-  pub is_written : (changed : List Place) → DifferInValues old new → AreChanged old new (in_order (at ∷ []) bs) changed → IsWritten bs (without at bs) old new (one at v) changed
-  is_written changed differ changes = record {
-    bindings = refl;
-    objects = differ;
-    written = (written-value bs at followers v (values_in old) (values_in new) affected before is, tt);
-    settled = settled;
-    kept = λ q none away. written-kept bs at followers v (values_in old) (values_in new) affected before is q none (λ e. away (inl e));
-    changes = changes;
-  }
+in-order-once : (ps : List Place) (bs : List Binding) → in_order (once ps) bs ≡ in_order ps bs
+in-order-once ps bs =
+    ap (λ (qs : List Place). qs ++ map (λ (b : Binding). b.target) (without_all (once ps) bs)) (distinct-once (once ps) (once-distinct ps))
+    ∙ ap (λ (xs : List Binding). once ps ++ map (λ (b : Binding). b.target) xs) (without_all-once ps bs)
 
-  pub agree_written : (p : Loaded) → DifferInValues old new → Agree p old bs → AreSound p new bs → Agree p new (without at bs)
-  agree_written p differ agree sound = record {
-    typed = sound.0;
-    fit = All-filter _ (IsFit p new) bs sound.1;
-    one_loop = All-filter _ (IsInOneLoop new) bs (all-joined old new differ bs agree.one_loop);
-    apart = apart-fewer _ bs agree.apart;
-    acyclic = acyclic-fewer _ bs agree.apart agree.acyclic;
-    settled = settled;
-  }
+-- mid are the objects once the writes were carried out in turn, and nothing followed
+module _ (p : Loaded) (bs : List Binding) (old mid new : List Object) (writes : List Assignment) (ts followers : List Place)
+    (agree : Agree p old bs) (fits : AllFit p old writes) (targets : ts ≡ once (places_in writes)) (begun : mid ≡ wrote writes old)
+    (affected : IsAffected (binding_at (without_all ts bs)) ts followers)
+    (is : (q : Place) → values_in new q ≡ pass (binding_at bs) followers (values_in mid) q) where
+  abbrev ps : List Place
+  ps = places_in writes
 
--- .. of a value that the property had already
+  left-is : without_all ts bs ≡ without_all ps bs
+  left-is = ap (λ (qs : List Place). without_all qs bs) targets ∙ without_all-once ps bs
+
+  written-in : (q : Place) → In q ps → In q ts
+  written-in q i = subst (λ (qs : List Place). In q qs) (sym targets) (in-once ps q i)
+
+  in-written : (q : Place) → In q ts → In q ps
+  in-written q i = once-in ps q (subst (λ (qs : List Place). In q qs) targets i)
+
+  pub others-kept : (q : Place) → (In q ts → ⊥) → values_in mid q ≡ values_in old q
+  others-kept q out = ap (λ (xs : List Object). values_in xs q) begun ∙ wrote-other writes old q (λ i. out (written-in q i))
+
+  settled : Settled (binding_at (without_all ps bs)) (values_in new)
+  settled = subst (λ (xs : List Binding). Settled (binding_at xs) (values_in new)) left-is
+      (written-settled bs ts followers (values_in old) (values_in mid) (values_in new) affected agree.settled others-kept is)
+
+  have : HaveLasting new writes
+  have = lasting-same mid new writes
+      (λ q i. written-value bs ts followers (values_in old) (values_in mid) (values_in new) affected agree.settled others-kept is q (written-in q i))
+      (subst (λ (xs : List Object). HaveLasting xs writes) (sym begun) (wrote-lasting p writes old agree.typed fits))
+
+  module _ (plan : Planned) (differ : DifferInValues old new) (changes : AreChanged old new (in_order ts bs) plan.changed)
+      (sound : AreSound p new bs) (count : plan.evaluated ≡ length followers) where
+    is_written : IsWritten bs (without_all ps bs) old new writes plan.changed
+    is_written = record {
+      bindings = refl;
+      objects = differ;
+      written = have;
+      settled = settled;
+      kept = λ q none away. written-kept bs ts followers (values_in old) (values_in mid) (values_in new) affected agree.settled others-kept is q
+          (ap (λ (xs : List Binding). binding_at xs q) left-is ∙ none) (λ i. away (in-written q i));
+      changes = subst (λ (qs : List Place). AreChanged old new qs plan.changed) (ap (λ (qs : List Place). in_order qs bs) targets ∙ in-order-once ps bs) changes;
+    }
+
+    agree_written : Agree p new (without_all ps bs)
+    agree_written = record {
+      typed = sound.0;
+      fit = all-left (IsFit p new) ps bs sound.1;
+      one_loop = all-left (IsInOneLoop new) ps bs (all-joined old new differ bs agree.one_loop);
+      apart = apart-all ps bs agree.apart;
+      acyclic = acyclic-all ps bs agree.apart agree.acyclic;
+      settled = settled;
+    }
+
+    counts : CountsReached (binding_at (without_all ps bs)) ps plan.changed plan.evaluated
+    counts = counts-same (binding_at (without_all ps bs)) ts ps plan.changed plan.evaluated in-written written-in
+        (subst (λ (xs : List Binding). CountsReached (binding_at xs) ts plan.changed plan.evaluated) left-is
+        (counts-affected (binding_at (without_all ts bs)) ts followers plan.changed plan.evaluated affected
+        (changed-among old new (in_order ts bs) plan.changed ts followers changes (rest-alike old mid new bs ts followers others-kept is differ)) count))
+
+    pub plans-them : new ≡ after plan old → PlansThem p old bs writes plan
+    plans-them done = record {
+      written = subst (λ (xs : List Object). IsWritten bs (without_all ps bs) old xs writes plan.changed) done is_written;
+      agree = subst (λ (xs : List Object). Agree p xs (without_all ps bs)) done agree_written;
+      counted = counts;
+    }
+
+-- .. of values that the properties had already
 all-stay : (objects : List Object) (ps : List Place) → AreChanged objects objects ps []
 all-stay objects [] = none_changed
 all-stay objects (p ∷ ps) = one_stayed refl (all-stay objects ps)
 
-module _ (bs : List Binding) (objects : List Object) (at : Place) (v : Value) (before : Settled (binding_at bs) (values_in objects)) where
-  left : Settled (binding_at (without at bs)) (values_in objects)
-  left q b some = before q b (without-fewer at bs q b some)
+module _ (bs : List Binding) (objects : List Object) (writes : List Assignment) (before : Settled (binding_at bs) (values_in objects)) where
+  left : Settled (binding_at (without_all (places_in writes) bs)) (values_in objects)
+  left q b some = before q b (without_all-fewer (places_in writes) bs q b some)
 
-  pub is_kept : values_in objects at ≡ Some v → IsWritten bs (without at bs) objects objects (one at v) []
+  is_kept : HaveLasting objects writes → IsWritten bs (without_all (places_in writes) bs) objects objects writes []
   is_kept has = record {
     bindings = refl;
     objects = refl;
-    written = (has, tt);
+    written = has;
     settled = left;
     kept = λ q none away. refl;
-    changes = all-stay objects (in_order (at ∷ []) bs);
+    changes = all-stay objects (in_order (places_in writes) bs);
   }
 
-  pub agree_kept : (p : Loaded) → Agree p objects bs → Agree p objects (without at bs)
+  agree_kept : (p : Loaded) → Agree p objects bs → Agree p objects (without_all (places_in writes) bs)
   agree_kept p agree = record {
     typed = agree.typed;
-    fit = All-filter _ (IsFit p objects) bs agree.fit;
-    one_loop = All-filter _ (IsInOneLoop objects) bs agree.one_loop;
-    apart = apart-fewer _ bs agree.apart;
-    acyclic = acyclic-fewer _ bs agree.apart agree.acyclic;
+    fit = all-left (IsFit p objects) (places_in writes) bs agree.fit;
+    one_loop = all-left (IsInOneLoop objects) (places_in writes) bs agree.one_loop;
+    apart = apart-all (places_in writes) bs agree.apart;
+    acyclic = acyclic-all (places_in writes) bs agree.apart agree.acyclic;
     settled = left;
   }
 
+  -- .. and then nothing is planned
+  module _ (plan : Planned) (none : plan.values.entries ≡ []) (told : plan.changed ≡ []) (counted : plan.evaluated ≡ 0) where
+    same : after plan objects ≡ objects
+    same = ahead-none plan.values objects none
+
+    pub kept-plans : HaveLasting objects writes → IsWritten bs (without_all (places_in writes) bs) objects (after plan objects) writes plan.changed
+    kept-plans has =
+        subst (λ (xs : List Object). IsWritten bs (without_all (places_in writes) bs) objects xs writes plan.changed) (sym same)
+        (subst (λ (qs : List Place). IsWritten bs (without_all (places_in writes) bs) objects objects writes qs) (sym told) (is_kept has))
+
+    pub kept-agrees : (p : Loaded) → Agree p objects bs → Agree p (after plan objects) (without_all (places_in writes) bs)
+    kept-agrees p agree = subst (λ (xs : List Object). Agree p xs (without_all (places_in writes) bs)) (sym same) (agree_kept p agree)
+
+    pub kept-counts : HaveLasting objects writes → CountsGroup (binding_at (without_all (places_in writes) bs)) writes objects plan.changed plan.evaluated
+    kept-counts has = ((λ have. (told, counted)), (λ apart. absurd (apart has)))
+
+-- the count where some property has another value
+pub counts-changed : (F : Place → Option Binding) (objects : List Object) (writes : List Assignment) (changed : List Place) (n : ℕ) → (¬ HaveLasting objects writes) → CountsReached F (places_in writes) changed n → CountsGroup F writes objects changed n
+counts-changed F objects writes changed n apart counts = ((λ have. absurd (apart have)), (λ out. counts))
+
 -- ---- a bind
-module _ (bs : List Binding) (b : Binding) (reached later : List Place) (affected : IsAffected (binding_at (without b.target bs)) b.target reached)
+module _ (bs : List Binding) (b : Binding) (reached later : List Place) (affected : IsAffected (binding_at (without b.target bs)) (b.target ∷ []) reached)
     (all : later ≡ b.target ∷ reached) where
   pub install_loops : reads_any b later ≡ true → Loop (binding_at (replaced bs b))
   install_loops found = closes-loop bs b reached affected (subst (λ (xs : List Place). reads_any b xs ≡ true) all found)

@@ -2,12 +2,12 @@
 use Rattle.std.proofs.Common.{◌≡◌, List, Option, None, Some, ap, sym, ◌∙◌, subst, refl}
 use Rattle.std.specs.Option.{option_map}
 use Rattle.object_tree.specs.Seen.{seen}
-use Rattle.std.proofs.Math.Path.{fun_ext}
 use Rattle.std.proofs.lemmas.Option.{same_Some}
 use Rattle.signatures.specs.declared.value.Value.{Value}
 use Rattle.meta_model.specs.Loaded.{Loaded}
 use Rattle.object_tree.specs.declared.object.Object.{Object}
 use Rattle.object_tree.specs.Objects.{change_life, written}
+use Rattle.object_tree.specs.Typed.{AreTyped}
 use Rattle.object_tree.proofs.TypedObjects.{typed-written}
 use Rattle.prop_bindings.specs.declared.place.Place.{Place}
 use Rattle.prop_bindings.specs.declared.binding.Binding.{Binding}
@@ -16,10 +16,9 @@ use Rattle.prop_bindings.specs.Bindings.{binding_at, value_of}
 use Rattle.prop_bindings.specs.Changes.{DifferInValues, ReadsAlike}
 use Rattle.prop_bindings.specs.Fits.{FitsAt, IsFit}
 use Rattle.prop_bindings.specs.code.Orders.{given, evaluated, pass, update}
-use Rattle.prop_bindings.specs.code.Parts.{AreSound, IsSoundBySome, StaySound, IsSoundWith, StaySoundWith}
+use Rattle.prop_bindings.specs.code.Parts.{AreSound, IsSoundBySome, StaySound}
 use Rattle.prop_bindings.proofs.Staying.{reads-alike}
 use Rattle.prop_bindings.proofs.Passes.{pass-other}
-use Rattle.prop_bindings.proofs.Places.{update-other}
 use Rattle.prop_bindings.proofs.Values.{written-differs, values-updated}
 use Rattle.prop_bindings.proofs.Fitting.{all-stay}
 use Rattle.prop_bindings.proofs.There.{bound-has, has-value}
@@ -30,9 +29,9 @@ given-sound p objects bs at v sound fits =
     let now = typed-written p objects at.object at.property v fits sound.0 in
     (now, all-stay p objects (change_life at.object (written at.property v) objects) sound.0 now (written-differs at.object at.property v objects) bs sound.1)
 
-pub given-values : (objects : List Object) (bs : List Binding) (at : Place) (v : Value) → IsSoundWith objects bs at v → (q : Place) → values_in (change_life at.object (written at.property v) objects) q ≡ update (values_in objects) at (Some v) q
-given-values objects bs at v s q =
-    let found = has-value s.0 objects s.1.0 at v s.2 in
+pub given-values : (p : Loaded) (objects : List Object) (at : Place) (v : Value) → AreTyped p objects → FitsAt p objects at v → (q : Place) → values_in (change_life at.object (written at.property v) objects) q ≡ update (values_in objects) at (Some v) q
+given-values p objects at v typed fits q =
+    let found = has-value p objects typed at v fits in
     values-updated objects at v found.0 found.1 q
 
 -- ---- an evaluation
@@ -63,19 +62,12 @@ module _ (objects : List Object) (bs : List Binding) (at : Place) (b : Binding) 
     pub evaluated-sound : StaySound objects after bs
     evaluated-sound p sound = given-sound p objects bs at v sound (evaluated-fits p sound)
 
--- ---- a write and what follows
-module _ (old new : List Object) (bs : List Binding) (at : Place) (v : Value) (s : IsSoundWith old bs at v) where
-  abbrev mid : List Object
-  mid = change_life at.object (written at.property v) old
-
-  pub settle-values : (followers : List Place) → ((q : Place) → values_in new q ≡ pass (binding_at bs) followers (values_in mid) q) → (q : Place) → values_in new q ≡ pass (binding_at bs) followers (update (values_in old) at (Some v)) q
-  settle-values followers is q = is q ∙ ap (λ (e : Place → Option Value). pass (binding_at bs) followers e q) (fun_ext (given-values old bs at v s))
-
-  pub settle-sound : StaySound mid new bs → StaySoundWith old new bs at v
-  settle-sound stay p sound fits = stay p (given-sound p old bs at v sound fits)
-
+-- ---- writes and what follows
+module _ (old mid new : List Object) (bs : List Binding) (ts followers : List Place)
+    (other : (q : Place) → (In q ts → ⊥) → values_in mid q ≡ values_in old q)
+    (is : (q : Place) → values_in new q ≡ pass (binding_at bs) followers (values_in mid) q) where
   -- what neither is written nor follows reads as it did
-  pub rest-alike : (followers : List Place) → DifferInValues old new → ((q : Place) → values_in new q ≡ pass (binding_at bs) followers (update (values_in old) at (Some v)) q) → (q : Place) → (at ≡ q → ⊥) → (In q followers → ⊥) → ReadsAlike old new q
-  rest-alike followers differ is q apart out =
-      let same : values_in new q ≡ values_in old q = is q ∙ pass-other (binding_at bs) followers (update (values_in old) at (Some v)) q out ∙ update-other (values_in old) at (Some v) q apart in
+  pub rest-alike : DifferInValues old new → (q : Place) → (In q ts → ⊥) → (In q followers → ⊥) → ReadsAlike old new q
+  rest-alike differ q away out =
+      let same : values_in new q ≡ values_in old q = is q ∙ pass-other (binding_at bs) followers (values_in mid) q out ∙ other q away in
       reads-alike old new differ q (values_in old q) refl (ap (option_map (seen new)) same)

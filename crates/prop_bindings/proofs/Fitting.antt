@@ -73,15 +73,19 @@ seen-valueless : (o : ℕ) (there : Option Object) → seen_object (option_map v
 seen-valueless o None = refl
 seen-valueless o (Some x) = seen-life o x.life
 
+-- a reference to this number reads as it did
+pub seen-number : (old new : List Object) → DifferInValues old new → (o : ℕ) → seen_object (slice_get new o) o ≡ seen_object (slice_get old o) o
+seen-number old new differ o =
+    sym (seen-valueless o (slice_get new o))
+    ∙ ap (λ (there : Option Object). seen_object there o) (sym (get-map valueless new o) ∙ ap (λ (zs : List Object). slice_get zs o) differ ∙ get-map valueless old o)
+    ∙ seen-valueless o (slice_get old o)
+
 pub seen-same : (old new : List Object) → DifferInValues old new → (v : Value) → seen new v ≡ seen old v
 seen-same old new differ (variant.Int n) = refl
 seen-same old new differ (variant.Bool b) = refl
 seen-same old new differ (variant.Text t) = refl
 seen-same old new differ (variant.Ref None) = refl
-seen-same old new differ (variant.Ref (Some o)) = ap variant.Ref (
-    sym (seen-valueless o (slice_get new o))
-    ∙ ap (λ (there : Option Object). seen_object there o) (sym (get-map valueless new o) ∙ ap (λ (zs : List Object). slice_get zs o) differ ∙ get-map valueless old o)
-    ∙ seen-valueless o (slice_get old o))
+seen-same old new differ (variant.Ref (Some o)) = ap variant.Ref (seen-number old new differ o)
 
 -- ---- the values stay of their sorts
 module _ (p : Loaded) (old new : List Object) (before : AreTyped p old) (after : AreTyped p new) (differ : DifferInValues old new) where

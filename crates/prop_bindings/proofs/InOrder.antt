@@ -1,6 +1,6 @@
 -- The changed ones of those that follow a property, in the order in which their bindings were installed, are those of all
 -- bound properties.
-use Rattle.std.proofs.Common.{◌≡◌, ℕ, zero, suc, ◌+◌, ◌<◌, ◌⊎◌, Bool, true, false, cond, not, List, [], ◌∷◌, map, inl, inr, None, Some, refl, ap, sym, ◌∙◌, subst, arith}
+use Rattle.std.proofs.Common.{◌≡◌, ℕ, zero, suc, ◌+◌, ◌<◌, ◌⊎◌, Bool, true, false, cond, not, List, [], ◌∷◌, ◌++◌, map, inl, inr, None, Some, refl, ap, sym, ◌∙◌, subst, arith}
 use Rattle.std.specs.Prelude.{◌↔◌, slice_get}
 use Rattle.std.proofs.lemmas.Bool.{false≢true, cases_Bool}
 use Rattle.std.proofs.lemmas.Option.{same_Some}
@@ -8,13 +8,14 @@ use Rattle.object_tree.specs.declared.object.Object.{Object}
 use Rattle.prop_bindings.specs.declared.place.Place.{Place}
 use Rattle.prop_bindings.specs.declared.binding.Binding.{Binding}
 use Rattle.prop_bindings.specs.declared.numbering.Numbered.{Numbered}
-use Rattle.prop_bindings.specs.Places.{In, same_place}
-use Rattle.prop_bindings.specs.Bindings.{binding_at, AreApart, without}
+use Rattle.prop_bindings.specs.Places.{Distinct, In, is_in, same_place}
+use Rattle.prop_bindings.specs.Bindings.{binding_at, AreApart, without_all}
 use Rattle.prop_bindings.specs.Changes.{in_order, ReadsAlike, AreChanged, none_changed, one_changed, one_stayed}
 use Rattle.prop_bindings.specs.code.Graph.{position_of}
 use Rattle.prop_bindings.specs.code.Numbering.{places_of, Above, Rises, AreBy, IsNumbering}
-use Rattle.prop_bindings.proofs.Places.{decide_place, decide_in, same_place-refl}
+use Rattle.prop_bindings.proofs.Places.{decide_in, is_in-false, same_place-refl}
 use Rattle.prop_bindings.proofs.Keyed.{position-target}
+use Rattle.prop_bindings.proofs.Several.{distinct-once, is_in-not, left, without_all-left}
 
 -- each stands at its number among these, which begin at k
 abbrev Stand : ℕ → List Binding → List Numbered → Type 0
@@ -51,36 +52,36 @@ stands-in k bs [] q t j = absurd j
 stands-in k bs (g ∷ gs) q t (inl e) = (t.0.0, t.0.1, t.0.3, t.0.4 ∙ e)
 stands-in k bs (g ∷ gs) q t (inr j) = stands-in k bs gs q t.1 j
 
-module _ (old new : List Object) (p : Place) where
-  abbrev targets : List Binding → List Place
-  targets bs = map (λ (b : Binding). b.target) (without p bs)
+-- the first is changed, or not, and the rest are whatever they are of a longer list
+head-moves : (old new : List Object) (q : Place) (xs ys cs : List Place) → AreChanged old new (q ∷ xs) cs → ((ds : List Place) → AreChanged old new xs ds → AreChanged old new ys ds) → AreChanged old new (q ∷ ys) cs
+head-moves old new q xs ys (d ∷ ds) (one_changed apart h) more = one_changed apart (more ds h)
+head-moves old new q xs ys cs (one_stayed alike h) more = one_stayed alike (more cs h)
 
-  head-out : (b : Binding) (bs : List Binding) (cs : List Place) → (same_place b.target p ≡ true) ⊎ ReadsAlike old new b.target → AreChanged old new (targets bs) cs → AreChanged old new (targets (b ∷ bs)) cs
-  head-out b bs cs alike h = elim (cases_Bool (same_place b.target p)) [
-    | inl t ↦ subst (λ (x : Bool). AreChanged old new (map (λ (z : Binding). z.target) (cond (not x) (b ∷ without p bs) (without p bs))) cs) (sym t) h
-    | inr f ↦ subst (λ (x : Bool). AreChanged old new (map (λ (z : Binding). z.target) (cond (not x) (b ∷ without p bs) (without p bs))) cs) (sym f)
+module _ (old new : List Object) (ps : List Place) where
+  abbrev targets : List Binding → List Place
+  targets bs = map (λ (b : Binding). b.target) (left ps bs)
+
+  head-out : (b : Binding) (bs : List Binding) (cs : List Place) → (is_in ps b.target ≡ true) ⊎ ReadsAlike old new b.target → AreChanged old new (targets bs) cs → AreChanged old new (targets (b ∷ bs)) cs
+  head-out b bs cs alike h = elim (cases_Bool (is_in ps b.target)) [
+    | inl t ↦ subst (λ (x : Bool). AreChanged old new (map (λ (z : Binding). z.target) (cond (not x) (b ∷ left ps bs) (left ps bs))) cs) (sym t) h
+    | inr f ↦ subst (λ (x : Bool). AreChanged old new (map (λ (z : Binding). z.target) (cond (not x) (b ∷ left ps bs) (left ps bs))) cs) (sym f)
         (elim alike [ inl t ↦ absurd (false≢true (sym f ∙ t)) | inr a ↦ one_stayed a h ])
   ]
 
-  head-in : (b : Binding) (bs : List Binding) (cs : List Place) → same_place b.target p ≡ false → AreChanged old new (b.target ∷ targets bs) cs → AreChanged old new (targets (b ∷ bs)) cs
-  head-in b bs cs f h = subst (λ (x : Bool). AreChanged old new (map (λ (z : Binding). z.target) (cond (not x) (b ∷ without p bs) (without p bs))) cs) (sym f) h
+  head-in : (b : Binding) (bs : List Binding) (cs : List Place) → is_in ps b.target ≡ false → AreChanged old new (b.target ∷ targets bs) cs → AreChanged old new (targets (b ∷ bs)) cs
+  head-in b bs cs f h = subst (λ (x : Bool). AreChanged old new (map (λ (z : Binding). z.target) (cond (not x) (b ∷ left ps bs) (left ps bs))) cs) (sym f) h
 
-  -- the first is changed, or not, and the rest are whatever they are of a longer list
-  head-moves : (q : Place) (xs ys cs : List Place) → AreChanged old new (q ∷ xs) cs → ((ds : List Place) → AreChanged old new xs ds → AreChanged old new ys ds) → AreChanged old new (q ∷ ys) cs
-  head-moves q xs ys (d ∷ ds) (one_changed apart h) more = one_changed apart (more ds h)
-  head-moves q xs ys cs (one_stayed alike h) more = one_stayed alike (more cs h)
-
-  none-left : (bs : List Binding) → ((b : Binding) (i : ℕ) → slice_get bs i ≡ Some b → (same_place b.target p ≡ true) ⊎ ReadsAlike old new b.target) → AreChanged old new (targets bs) []
+  none-left : (bs : List Binding) → ((b : Binding) (i : ℕ) → slice_get bs i ≡ Some b → (is_in ps b.target ≡ true) ⊎ ReadsAlike old new b.target) → AreChanged old new (targets bs) []
   none-left [] alike = none_changed
   none-left (b ∷ bs) alike = head-out b bs [] (alike b 0 refl) (none-left bs (λ c i at. alike c (suc i) at))
 
-  lifted : (bs : List Binding) (k : ℕ) (fs : List Numbered) (cs : List Place) → Rises fs → Stand k bs fs → ((q : Place) → In q (places_of fs) → same_place q p ≡ false) → AreApart bs → ((b : Binding) (i : ℕ) → slice_get bs i ≡ Some b → (same_place b.target p ≡ true) ⊎ (In b.target (places_of fs) ⊎ ReadsAlike old new b.target)) → AreChanged old new (places_of fs) cs → AreChanged old new (targets bs) cs
+  lifted : (bs : List Binding) (k : ℕ) (fs : List Numbered) (cs : List Place) → Rises fs → Stand k bs fs → ((q : Place) → In q (places_of fs) → is_in ps q ≡ false) → AreApart bs → ((b : Binding) (i : ℕ) → slice_get bs i ≡ Some b → (is_in ps b.target ≡ true) ⊎ (In b.target (places_of fs) ⊎ ReadsAlike old new b.target)) → AreChanged old new (places_of fs) cs → AreChanged old new (targets bs) cs
   lifted bs k [] cs r s away apart alike none_changed = none-left bs (λ b i at. elim (alike b i at) [ inl t ↦ inl t | inr o ↦ elim o [ inl j ↦ absurd j | inr a ↦ inr a ] ])
   lifted [] k (f ∷ fs) cs r s away apart alike h = absurd (cc (s.0.3))
   lifted (b ∷ bs) k (f ∷ fs) cs r s away apart alike h = by-index (λ gs ds r2 s2 away2 alike2 h2. lifted bs (suc k) gs ds r2 s2 away2 apart.1 alike2 h2) s.0.0 s.0.1 s.0.2 s.0.3 s.0.4
     where
       -- the head isn't one of the rest
-      rest-alike : (c : Binding) (i : ℕ) → slice_get bs i ≡ Some c → f.place ≡ b.target → (same_place c.target p ≡ true) ⊎ (In c.target (places_of fs) ⊎ ReadsAlike old new c.target)
+      rest-alike : (c : Binding) (i : ℕ) → slice_get bs i ≡ Some c → f.place ≡ b.target → (is_in ps c.target ≡ true) ⊎ (In c.target (places_of fs) ⊎ ReadsAlike old new c.target)
       rest-alike c i at to = elim (alike c (suc i) at) [
         | inl e ↦ inl e
         | inr o ↦ elim o [
@@ -92,15 +93,15 @@ module _ (old new : List Object) (p : Place) where
         ]
       ]
 
-      by-index : ((gs : List Numbered) (ds : List Place) → Rises gs → Stand (suc k) bs gs → ((q : Place) → In q (places_of gs) → same_place q p ≡ false) → ((z : Binding) (i : ℕ) → slice_get bs i ≡ Some z → (same_place z.target p ≡ true) ⊎ (In z.target (places_of gs) ⊎ ReadsAlike old new z.target)) → AreChanged old new (places_of gs) ds → AreChanged old new (targets bs) ds) → (i : ℕ) (c : Binding) → f.number ≡ k + i → slice_get (b ∷ bs) i ≡ Some c → c.target ≡ f.place → AreChanged old new (targets (b ∷ bs)) cs
+      by-index : ((gs : List Numbered) (ds : List Place) → Rises gs → Stand (suc k) bs gs → ((q : Place) → In q (places_of gs) → is_in ps q ≡ false) → ((z : Binding) (i : ℕ) → slice_get bs i ≡ Some z → (is_in ps z.target ≡ true) ⊎ (In z.target (places_of gs) ⊎ ReadsAlike old new z.target)) → AreChanged old new (places_of gs) ds → AreChanged old new (targets bs) ds) → (i : ℕ) (c : Binding) → f.number ≡ k + i → slice_get (b ∷ bs) i ≡ Some c → c.target ≡ f.place → AreChanged old new (targets (b ∷ bs)) cs
       by-index again zero c is at to =
           let same : b ≡ c = same_Some b c at in
           let here : b.target ≡ f.place = ap (λ (z : Binding). z.target) same ∙ to in
           let number : f.number ≡ k = omega (arith, is) in
           let above : Above k fs = subst (λ (n : ℕ). Above n fs) number r.0 in
           let tail = stand-tail k b bs fs above s.1 in
-          let out : same_place b.target p ≡ false = subst (λ (q : Place). same_place q p ≡ false) (sym here) (away f.place (inl refl)) in
-          head-in b bs cs out (head-moves b.target (places_of fs) (targets bs) cs (subst (λ (q : Place). AreChanged old new (q ∷ places_of fs) cs) (sym here) h)
+          let out : is_in ps b.target ≡ false = subst (λ (q : Place). is_in ps q ≡ false) (sym here) (away f.place (inl refl)) in
+          head-in b bs cs out (head-moves old new b.target (places_of fs) (targets bs) cs (subst (λ (q : Place). AreChanged old new (q ∷ places_of fs) cs) (sym here) h)
           (λ ds g. again fs ds r.1 tail (λ q i. away q (inr i)) (λ d j at2. rest-alike d j at2 (sym here)) g))
       by-index again (suc i) c is at to =
           let over : k < f.number = omega (arith, is) in
@@ -114,16 +115,22 @@ stands : (bs : List Binding) (fs : List Numbered) → AreBy (position_of bs) fs 
 stands bs [] h = tt
 stands bs (f ∷ fs) h = let found = position-target bs f.place f.number h.0 in let zeroth : f.number ≡ 0 + f.number = omega arith in ((f.number, found.0, zeroth, found.1, found.2), stands bs fs h.1)
 
--- the first changed, or it didn't
-pub lifted-changes : (old new : List Object) (p : Place) (bs : List Binding) (others : List Place) (sorted : List Numbered) (cs : List Place) → AreApart bs → IsNumbering (position_of bs) sorted → ((q : Place) → In q (places_of sorted) ↔ In q others) → (In p others → ⊥) → ((q : Place) → (p ≡ q → ⊥) → (In q others → ⊥) → ReadsAlike old new q) → AreChanged old new (p ∷ places_of sorted) cs → AreChanged old new (in_order (p ∷ []) bs) cs
-lifted-changes old new p bs others sorted cs apart numbered same away alike h =
-    head-moves old new p p (places_of sorted) (map (λ (b : Binding). b.target) (without p bs)) cs h
-    (λ ds g. lifted old new p bs 0 sorted ds numbered.0 (stands bs sorted numbered.1)
-    (λ q i. elim (decide_place q p) [ inl e ↦ absurd (away (subst (λ (r : Place). In r others) e ((same q).0 i))) | inr f ↦ f ]) apart
-    (λ b i at. elim (decide_place b.target p) [
-      | inl e ↦ inl (subst (λ (r : Place). same_place b.target r ≡ true) e (same_place-refl b.target))
+-- the first are changed, or not, and the rest are whatever they are of a longer list
+firsts-move : (old new : List Object) (ts xs ys cs : List Place) → AreChanged old new (ts ++ xs) cs → ((ds : List Place) → AreChanged old new xs ds → AreChanged old new ys ds) → AreChanged old new (ts ++ ys) cs
+firsts-move old new [] xs ys cs h more = more cs h
+firsts-move old new (t ∷ ts) xs ys cs h more = head-moves old new t (ts ++ xs) (ts ++ ys) cs h (λ ds g. firsts-move old new ts xs ys ds g more)
+
+pub lifted-changes : (old new : List Object) (ts : List Place) (bs : List Binding) (others : List Place) (sorted : List Numbered) (cs : List Place) → Distinct ts → AreApart bs → IsNumbering (position_of bs) sorted → ((q : Place) → In q (places_of sorted) ↔ In q others) → ((q : Place) → In q ts → In q others → ⊥) → ((q : Place) → (In q ts → ⊥) → (In q others → ⊥) → ReadsAlike old new q) → AreChanged old new (ts ++ places_of sorted) cs → AreChanged old new (in_order ts bs) cs
+lifted-changes old new ts bs others sorted cs different apart numbered same away alike h =
+    subst (λ (qs : List Place). AreChanged old new (qs ++ map (λ (b : Binding). b.target) (without_all ts bs)) cs) (sym (distinct-once ts different))
+    (firsts-move old new ts (places_of sorted) (map (λ (b : Binding). b.target) (without_all ts bs)) cs h
+    (λ ds g. subst (λ (xs : List Binding). AreChanged old new (map (λ (b : Binding). b.target) xs) ds) (sym (without_all-left ts bs))
+    (lifted old new ts bs 0 sorted ds numbered.0 (stands bs sorted numbered.1)
+    (λ q i. is_in-not ts q (λ j. away q j ((same q).0 i))) apart
+    (λ b i at. elim (cases_Bool (is_in ts b.target)) [
+      | inl t ↦ inl t
       | inr f ↦ elim (decide_in b.target (places_of sorted)) [
         | inl j ↦ inr (inl j)
-        | inr out ↦ inr (inr (alike b.target (λ e. false≢true (sym f ∙ subst (λ (r : Place). same_place b.target r ≡ true) (sym e) (same_place-refl b.target))) (λ j. out ((same b.target).1 j))))
+        | inr out ↦ inr (inr (alike b.target (is_in-false ts b.target f) (λ j. out ((same b.target).1 j))))
       ]
-    ]) g)
+    ]) g)))

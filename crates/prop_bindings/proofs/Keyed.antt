@@ -9,7 +9,7 @@ use Rattle.std.proofs.lemmas.Option.{same_Some}
 use Rattle.prop_bindings.specs.declared.place.Place.{Place}
 use Rattle.prop_bindings.specs.declared.binding.Binding.{Binding}
 use Rattle.prop_bindings.specs.Places.{In, property_of, same_place}
-use Rattle.prop_bindings.specs.code.Groups.{forgotten}
+use Rattle.prop_bindings.specs.code.Lists.{forgotten}
 use Rattle.prop_bindings.specs.code.Keys.{key_of, same_key}
 use Rattle.prop_bindings.specs.Bindings.{binding_at, AreApart, without}
 use Rattle.prop_bindings.specs.code.Graph.{position_of}

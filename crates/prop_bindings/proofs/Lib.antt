@@ -19,6 +19,9 @@ pub mod Once
 pub mod Assigned
 pub mod Staying
 pub mod Evaluating
+pub mod Several
+pub mod Wrote
+pub mod Giving
 pub mod Calling
 pub mod Short
 pub mod Covering

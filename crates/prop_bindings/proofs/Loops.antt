@@ -1,9 +1,9 @@
 -- What has an order of evaluation has no loop.
-use Rattle.std.proofs.Common.{◌≡◌, List, [], ◌∷◌, inl, inr, Option, Some, refl, ap, ◌∙◌, subst}
+use Rattle.std.proofs.Common.{◌≡◌, List, [], ◌∷◌, inl, inr, Option, Some, refl, ap, sym, ◌∙◌, subst}
 use Rattle.prop_bindings.specs.declared.place.Place.{Place}
 use Rattle.prop_bindings.specs.declared.binding.Binding.{Binding}
 use Rattle.prop_bindings.specs.Places.{In}
-use Rattle.prop_bindings.specs.Bindings.{Reads, Chain, direct, further, Loop}
+use Rattle.prop_bindings.specs.Bindings.{Reads, Chain, ChainFrom, direct, further, Loop}
 use Rattle.prop_bindings.specs.code.Orders.{Free, Ordered, Covers, IsLater}
 use Rattle.prop_bindings.proofs.Places.{decide_in}
 
@@ -36,6 +36,13 @@ no_loop_along F (x ∷ xs) o closed p chain i = elim i [
 pub chain-ends : (F : Place → Option Binding) {p q : Place} → Chain F p q → (b : Binding) × (F q ≡ Some b)
 chain-ends F (direct b f r) = (b, f)
 chain-ends F (further b chain f r) = (b, f)
+
+-- a chain from the only one
+pub chain-of-one : (F : Place → Option Binding) (p q : Place) → ChainFrom F (p ∷ []) q → Chain F p q
+chain-of-one F p q some = elim some.1 [
+  | inl e ↦ subst (λ (r : Place). Chain F r q) (sym e) some.2
+  | inr out ↦ absurd out
+]
 
 pub no_loop : (F : Place → Option Binding) (xs : List Place) → Ordered F xs → Covers F xs → Loop F → ⊥
 no_loop F xs o c loop = no_loop_along F xs o (λ q m b f r i. c q b f) loop.0 loop.1 (let e = chain-ends F loop.1 in c loop.0 e.0 e.1)

@@ -2,8 +2,6 @@
 use Rattle.std.proofs.Common.{◌≡◌, ◌≢◌, ℕ, zero, suc, ◌+◌, ◌<◌, ◌≤◌, ◌⊎◌, List, [], ◌∷◌, ◌++◌, length, take, drop, get_or, false, true, eqb, inl, inr, Option, Some, refl, ap, sym, ◌∙◌, subst, arith}
 use Rattle.std.specs.Prelude.{insert}
 use Rattle.std.specs.List.Sorted.{IsNonDecreasingBy}
-use Rattle.std.proofs.Math.ListN.{drop_of_length-le}
-use Rattle.std.proofs.lemmas.List.{append-nil}
 use Rattle.std.proofs.lemmas.Bool.{false≢true, eqb-true}
 use Rattle.std.proofs.lemmas.Bool.Decides.{nat_tests}
 use Rattle.std.proofs.lemmas.Option.{same_Some}
@@ -241,10 +239,6 @@ ordered-numbered F N rises (f ∷ fs) h = (
   ]),
   ordered-numbered F N rises fs (h.0.1, h.1.1),
 )
-
--- the places of all were added, where those of what is left are none
-pub walked-all : (ps whole : List Place) (items : List Numbered) (i : ℕ) → length items ≤ i → ps ++ places_of (drop i items) ≡ whole → ps ≡ whole
-walked-all ps whole items i past is = sym (append-nil ps) ∙ sym (ap (λ (xs : List Numbered). ps ++ places_of xs) (drop_of_length-le items past)) ∙ is
 
 pub taken-all : (fs : List Numbered) (i : ℕ) → length fs ≤ i → take i fs ≡ fs
 taken-all [] zero past = refl

@@ -4,14 +4,15 @@ use Rattle.std.specs.List.{AllByRecursion}
 use Rattle.std.proofs.lemmas.Bool.{cases_Bool}
 use Rattle.object_tree.specs.declared.object.Object.{Object}
 use Rattle.prop_bindings.specs.declared.place.Place.{Place}
+use Rattle.prop_bindings.specs.declared.assignment.Assignment.{Assignment}
 use Rattle.prop_bindings.specs.declared.binding.Binding.{Binding}
 use Rattle.prop_bindings.specs.Places.{Env, In, is_in, values_in}
-use Rattle.prop_bindings.specs.Bindings.{binding_at, AreApart, without, without_all, replaced, Settled, Loop}
-use Rattle.prop_bindings.specs.Changes.{Assignment, DifferInValues, AreChanged, in_order, lasting, places_in}
+use Rattle.prop_bindings.specs.Bindings.{binding_at, AreApart, without_all, replaced, Settled, Loop}
+use Rattle.prop_bindings.specs.Changes.{DifferInValues, AreChanged, in_order, lasting, places_in}
 use Rattle.prop_bindings.specs.Laws.{WrittenOnce, InstalledOnce}
 use Rattle.prop_bindings.proofs.Places.{decide_in, is_in-true}
 use Rattle.prop_bindings.proofs.Acyclic.{acyclic_determine}
-use Rattle.prop_bindings.proofs.Apart.{apart-fewer, apart-replaced, acyclic-fewer}
+use Rattle.prop_bindings.proofs.Apart.{apart-all, apart-replaced, acyclic-all}
 use Rattle.prop_bindings.proofs.Values.{same-objects}
 use Rattle.prop_bindings.proofs.Changed.{changed-once}
 
@@ -21,18 +22,10 @@ objects-once bs old new other apart acyclic d e s t same =
     same-objects new other (e ∙ sym d) (λ q. sym ((acyclic_determine bs apart acyclic).once (values_in new) (values_in other) s t same q))
 
 -- ---- after several writes
-apart-all : (ps : List Place) (bs : List Binding) → AreApart bs → AreApart (without_all ps bs)
-apart-all [] bs a = a
-apart-all (p ∷ ps) bs a = apart-all ps (without p bs) (apart-fewer _ bs a)
-
-acyclic-all : (ps : List Place) (bs : List Binding) → AreApart bs → (¬ Loop (binding_at bs)) → ¬ Loop (binding_at (without_all ps bs))
-acyclic-all [] bs a acyclic = acyclic
-acyclic-all (p ∷ ps) bs a acyclic = acyclic-all ps (without p bs) (apart-fewer _ bs a) (acyclic-fewer _ bs a acyclic)
-
-abbrev Have : Env → List Assignment → Type 0
+abbrev pub Have : Env → List Assignment → Type 0
 Have e writes = AllByRecursion (λ (a : Assignment). e a.place ≡ Some a.value) (lasting writes)
 
-given-once : (e f : Env) (writes : List Assignment) → Have e writes → Have f writes → (q : Place) → In q (places_in writes) → f q ≡ e q
+pub given-once : (e f : Env) (writes : List Assignment) → Have e writes → Have f writes → (q : Place) → In q (places_in writes) → f q ≡ e q
 given-once e f [] he hf q i = absurd i
 given-once e f (a ∷ rest) he hf q i = elim (cases_Bool (is_in (places_in rest) a.place)) [
   | inl t ↦

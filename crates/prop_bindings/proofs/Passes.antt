@@ -79,14 +79,14 @@ none_or_some (Some b) = inr (b, refl)
 pub settled_once : (F : Place → Option Binding) (xs : List Place) (e f : Place → Option Value) → Ordered F xs → Covers F xs → Settled F e → Settled F f → ((p : Place) → F p ≡ None → e p ≡ f p) → (p : Place) → e p ≡ f p
 settled_once F xs e f o c se sf unbound = agree_along F xs e f o se sf unbound (λ p out. elim (none_or_some (F p)) [ inl g ↦ unbound p g | inr s ↦ absurd (out (c p s.0 s.1)) ])
 
--- what reads neither the written place nor an affected one keeps its value
-pub settled_by_affected : (F : Place → Option Binding) (p : Place) (xs : List Place) (e d : Place → Option Value) → IsAffected F p xs → Settled F e → F p ≡ None → ((q : Place) → (p ≡ q → ⊥) → d q ≡ e q) → Settled F (pass F xs d)
-settled_by_affected F p xs e d a s none same q b f = elim (decide_in q xs) [
+-- what reads neither a written place nor an affected one keeps its value
+pub settled_by_affected : (F : Place → Option Binding) (ps xs : List Place) (e d : Place → Option Value) → IsAffected F ps xs → Settled F e → ((q : Place) → In q ps → F q ≡ None) → ((q : Place) → (In q ps → ⊥) → d q ≡ e q) → Settled F (pass F xs d)
+settled_by_affected F ps xs e d a s none same q b f = elim (decide_in q xs) [
   | inl i ↦ pass-settles F xs d a.ordered q b f i
   | inr out ↦
-      let apart : p ≡ q → ⊥ = λ h. let gone : F q ≡ None = subst (λ (y : Place). F y ≡ None) h none in cc in
+      let apart : In q ps → ⊥ = λ j. let gone : F q ≡ None = none q j in cc in
       pass-other F xs d q out ∙ same q apart ∙ s q b f
-      ∙ value-agree b e (pass F xs d) (λ m r. sym (pass-other F xs d m (λ i. out (a.closed q m b f r (inr i))) ∙ same m (λ h. out (a.closed q m b f r (inl h)))))
+      ∙ value-agree b e (pass F xs d) (λ m r. sym (pass-other F xs d m (λ i. out (a.closed q m b f r (inr i))) ∙ same m (λ j. out (a.closed q m b f r (inl j)))))
 ]
 
 pub settled_by_later : (F G : Place → Option Binding) (t : Place) (later : List Place) (e : Place → Option Value) → IsLater F G t later → Settled F e → Settled G (pass G later e)

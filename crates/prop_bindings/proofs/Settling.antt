@@ -5,15 +5,16 @@ use Rattle.signatures.specs.declared.value.Value.{Value}
 use Rattle.prop_bindings.specs.declared.place.Place.{Place}
 use Rattle.prop_bindings.specs.declared.binding.Binding.{Binding}
 use Rattle.prop_bindings.specs.Places.{In, same_place}
-use Rattle.prop_bindings.specs.Bindings.{binding_at, without, replaced, reads_any, value_of, Chain, Settled, Loop}
+use Rattle.prop_bindings.specs.Bindings.{binding_at, without, without_all, replaced, reads_any, value_of, Chain, Settled, Loop}
 use Rattle.prop_bindings.specs.code.Orders.{AreBound, Ordered, update, given, evaluated, pass, bound, IsAffected, IsLater}
 use Rattle.prop_bindings.proofs.Acyclic.{chain-more}
 use Rattle.prop_bindings.proofs.Naming.{reads_any-true}
-use Rattle.prop_bindings.proofs.Places.{decide_place, different, update-same, update-other}
+use Rattle.prop_bindings.proofs.Places.{decide_place, different}
 use Rattle.prop_bindings.proofs.Passes.{pass-unbound, settled_by_affected, settled_by_later}
-use Rattle.prop_bindings.proofs.Loops.{chain-ends, later-acyclic}
+use Rattle.prop_bindings.proofs.Loops.{chain-ends, chain-of-one, later-acyclic}
 use Rattle.prop_bindings.proofs.Walks.{bound-same, bound-other, chain-on, not-reached}
-use Rattle.prop_bindings.proofs.Replaced.{without-at, without-other, without-fewer, installed-is, loop-installed}
+use Rattle.prop_bindings.proofs.Replaced.{without-at, without-other, installed-is, loop-installed}
+use Rattle.prop_bindings.proofs.Several.{bound-out, without_all-at, without_all-fewer, without_all-other}
 
 -- the passes of bindings that agree on the list are one
 pub pass-same : (F G : Place → Option Binding) (xs : List Place) (e : Place → Option Value) → ((q : Place) → In q xs → G q ≡ F q) → pass G xs e ≡ pass F xs e
@@ -21,40 +22,45 @@ pass-same F G [] e h = refl
 pass-same F G (x ∷ xs) e h = ap (λ (o : Option Binding). pass G xs (given o x e)) (h x (inl refl)) ∙ pass-same F G xs (given (F x) x e) (λ q i. h q (inr i))
 
 -- ---- a write
-pub affected-away : (bs : List Binding) (p : Place) (reached : List Place) → IsAffected (binding_at (without p bs)) p reached → In p reached → ⊥
-affected-away bs p reached affected i =
-    let found = chain-ends (binding_at (without p bs)) (affected.reached p i) in
-    let none : binding_at (without p bs) p ≡ None = without-at p bs in
-    let some : binding_at (without p bs) p ≡ Some found.0 = found.1 in
-    cc (none, some)
+pub affected-away : (bs : List Binding) (ps reached : List Place) → IsAffected (binding_at (without_all ps bs)) ps reached → (q : Place) → In q ps → In q reached → ⊥
+affected-away bs ps reached affected q i j =
+    let found = chain-ends (binding_at (without_all ps bs)) (affected.reached q j).2 in
+    bound-out ps bs q found.0 found.1 i
 
-module _ (bs : List Binding) (p : Place) (reached : List Place) (v : Value) (e f : Place → Option Value)
-    (affected : IsAffected (binding_at (without p bs)) p reached)
+-- what follows is bound
+pub affected-bound : (bs : List Binding) (ps reached : List Place) → IsAffected (binding_at (without_all ps bs)) ps reached → AreBound (binding_at bs) reached
+affected-bound bs ps reached affected q i =
+    let found = chain-ends (binding_at (without_all ps bs)) (affected.reached q i).2 in
+    (found.0, without_all-fewer ps bs q found.0 found.1)
+
+-- d are the values once these have theirs, and nothing followed
+module _ (bs : List Binding) (ps reached : List Place) (e d f : Place → Option Value)
+    (affected : IsAffected (binding_at (without_all ps bs)) ps reached)
     (settled : Settled (binding_at bs) e)
-    (is : (q : Place) → f q ≡ pass (binding_at bs) reached (update e p (Some v)) q) where
-  passed : (q : Place) → f q ≡ pass (binding_at (without p bs)) reached (update e p (Some v)) q
-  passed q = is q ∙ sym (ap (λ (d : Place → Option Value). d q) (pass-same (binding_at bs) (binding_at (without p bs)) reached (update e p (Some v)) (λ r i. without-other p bs r (different p r (λ same. affected-away bs p reached affected (subst (λ (y : Place). In y reached) (sym same) i))))))
+    (other : (q : Place) → (In q ps → ⊥) → d q ≡ e q)
+    (is : (q : Place) → f q ≡ pass (binding_at bs) reached d q) where
+  abbrev Left : Place → Option Binding
+  Left = binding_at (without_all ps bs)
 
-  pub written-value : f p ≡ Some v
-  written-value = passed p ∙ pass-unbound (binding_at (without p bs)) reached (update e p (Some v)) p (without-at p bs) ∙ update-same e p (Some v)
+  passed : (q : Place) → f q ≡ pass Left reached d q
+  passed q = is q ∙ sym (ap (λ (g : Place → Option Value). g q) (pass-same (binding_at bs) Left reached d (λ r i. without_all-other ps bs r (λ j. affected-away bs ps reached affected r j i))))
 
-  pub written-settled : Settled (binding_at (without p bs)) f
-  written-settled = subst (λ (d : Place → Option Value). Settled (binding_at (without p bs)) d) (sym (fun_ext passed))
-      (settled_by_affected (binding_at (without p bs)) p reached e (update e p (Some v)) affected (λ q b g. settled q b (without-fewer p bs q b g)) (without-at p bs) (λ q apart. update-other e p (Some v) q apart))
+  pub written-value : (q : Place) → In q ps → f q ≡ d q
+  written-value q i = passed q ∙ pass-unbound Left reached d q (without_all-at ps bs q i)
 
-  pub written-kept : (q : Place) → binding_at (without p bs) q ≡ None → (¬ (p ≡ q)) → f q ≡ e q
-  written-kept q none apart = passed q ∙ pass-unbound (binding_at (without p bs)) reached (update e p (Some v)) q none ∙ update-other e p (Some v) q apart
+  pub written-settled : Settled Left f
+  written-settled = subst (λ (g : Place → Option Value). Settled Left g) (sym (fun_ext passed))
+      (settled_by_affected Left ps reached e d affected (λ q b some. settled q b (without_all-fewer ps bs q b some)) (without_all-at ps bs) other)
+
+  pub written-kept : (q : Place) → Left q ≡ None → (In q ps → ⊥) → f q ≡ e q
+  written-kept q none out = passed q ∙ pass-unbound Left reached d q none ∙ other q out
 
 -- ---- a bind
 ordered-same : (F G : Place → Option Binding) (xs : List Place) → ((q : Place) → In q xs → G q ≡ F q) → Ordered F xs → Ordered G xs
 ordered-same F G [] same o = tt
 ordered-same F G (x ∷ xs) same o = ((λ b g. o.0 b (sym (same x (inl refl)) ∙ g)), ordered-same F G xs (λ q i. same q (inr i)) o.1)
 
--- what follows is bound
-pub affected-bound : (bs : List Binding) (p : Place) (reached : List Place) → IsAffected (binding_at (without p bs)) p reached → AreBound (binding_at bs) reached
-affected-bound bs p reached affected q i = let found = chain-ends (binding_at (without p bs)) (affected.reached q i) in (found.0, without-fewer p bs q found.0 found.1)
-
-module _ (bs : List Binding) (b : Binding) (reached : List Place) (affected : IsAffected (binding_at (without b.target bs)) b.target reached) where
+module _ (bs : List Binding) (b : Binding) (reached : List Place) (affected : IsAffected (binding_at (without b.target bs)) (b.target ∷ []) reached) where
   -- without the target's binding, and with the new one
   abbrev H : Place → Option Binding
   H = binding_at (without b.target bs)
@@ -72,10 +78,10 @@ module _ (bs : List Binding) (b : Binding) (reached : List Place) (affected : Is
   ]
 
   away : (q : Place) → In q reached → same_place b.target q ≡ false
-  away q i = different b.target q (λ e. affected-away bs b.target reached affected (subst (λ (y : Place). In y reached) (sym e) i))
+  away q i = different b.target q (λ e. affected-away bs (b.target ∷ []) reached affected q (inl e) i)
 
   chains : (q : Place) → In q reached → Chain G b.target q
-  chains q i = chain-more H G more (affected.reached q i)
+  chains q i = chain-more H G more (chain-of-one H b.target q (affected.reached q i))
 
   -- one that reads what follows from its target closes a chain
   pub closes-loop : reads_any b (b.target ∷ reached) ≡ true → Loop (binding_at (replaced bs b))
@@ -87,14 +93,14 @@ module _ (bs : List Binding) (b : Binding) (reached : List Place) (affected : Is
     pub later-is : IsLater (binding_at bs) G b.target (b.target ∷ reached)
     later-is = record {
       ordered = (not-reached G b.target (b.target ∷ reached) (Some b) (bound-same (binding_at bs) b.target b) free, ordered-same H G reached (λ q i. kept q (away q i)) affected.ordered);
-      distinct = (affected-away bs b.target reached affected, affected.distinct);
+      distinct = (affected-away bs (b.target ∷ []) reached affected b.target (inl refl), affected.distinct);
       here = inl refl;
       reached = λ q i. elim i [ inl e ↦ inl e | inr j ↦ inr (chains q j) ];
       others = λ q z g out. elim (decide_place b.target q) [
         | inl e ↦ absurd (out (inl e))
         | inr f ↦ (
           sym (bound-other (binding_at bs) b.target b q f) ∙ g,
-          λ m i r. out (inr (affected.closed q m z (sym (kept q f) ∙ g) r i)),
+          λ m i r. out (inr (affected.closed q m z (sym (kept q f) ∙ g) r (elim i [ inl e ↦ inl (inl e) | inr j ↦ inr j ]))),
         )
       ];
     }

@@ -5,16 +5,17 @@ use Rattle.std.specs.Result.{IsErrAnd}
 use Rattle.meta_model.specs.Loaded.{Loaded}
 use Rattle.object_tree.specs.declared.object.Object.{Object}
 use Rattle.prop_bindings.specs.declared.place.Place.{Place}
+use Rattle.prop_bindings.specs.declared.assignment.Assignment.{Assignment}
 use Rattle.prop_bindings.specs.declared.binding.Binding.{Binding}
 use Rattle.prop_bindings.specs.declared.fault.BindFault.{BindFault}
 use Rattle.prop_bindings.specs.declared.fault.BindFault.TheVariants as bind
 use Rattle.prop_bindings.specs.declared.fault.WriteFault.{WriteFault}
 use Rattle.prop_bindings.specs.declared.fault.WriteFault.TheVariants as write
-use Rattle.prop_bindings.specs.declared.planned.Planned.{Planned}
+use Rattle.prop_bindings.specs.declared.planned.PlannedWrite.{PlannedWrite}
+use Rattle.prop_bindings.specs.declared.planned.PlannedGroup.{PlannedGroup}
 use Rattle.prop_bindings.specs.declared.planned.PlannedBind.{PlannedBind}
 use Rattle.prop_bindings.specs.Calls.{IsNotWritten, no_memory, Writes, IsNotBound, Binds}
-use Rattle.prop_bindings.specs.Changes.{Assignment}
-use Rattle.prop_bindings.specs.Plans.{PlansWrite}
+use Rattle.prop_bindings.specs.Plans.{PlansGroup, PlansWrite}
 use Rattle.prop_bindings.specs.code.Parts.{Installs, IsNotInstalled, short}
 
 pub on-err : {T E P : Type 0} (r : Result T E) → P → OnErr r P
@@ -25,9 +26,13 @@ pub if-ok : {T E : Type 0} {P Q : T → Type 0} (r : Result T E) → ((x : T) �
 if-ok (Ok x) f h = f x h
 if-ok (Err e) f h = tt
 
-pub plans-short : (p : Loaded) (writes : List Assignment) (bs : List Binding) (objects : List Object) (r : Result Planned WriteFault) → IsErrAnd r (λ f. f ≡ write.Memory) → PlansWrite p writes bs objects r
+pub plans-short : (p : Loaded) (writes : List Assignment) (bs : List Binding) (objects : List Object) (r : Result PlannedWrite WriteFault) → IsErrAnd r (λ f. f ≡ write.Memory) → PlansWrite p writes bs objects r
 plans-short p writes bs objects (Ok plan) is = absurd is
 plans-short p writes bs objects (Err f) is = subst (λ (g : WriteFault). IsNotWritten p objects writes g) (sym is) no_memory
+
+pub plans-group-short : (p : Loaded) (writes : List Assignment) (bs : List Binding) (objects : List Object) (r : Result PlannedGroup WriteFault) → IsErrAnd r (λ f. f ≡ write.Memory) → PlansGroup p writes bs objects r
+plans-group-short p writes bs objects (Ok plan) is = absurd is
+plans-group-short p writes bs objects (Err f) is = subst (λ (g : WriteFault). IsNotWritten p objects writes g) (sym is) no_memory
 
 pub writes-err : (p : Loaded) (writes : List Assignment) (bs cs : List Binding) (old new : List Object) (fault : WriteFault) (r : Result (List Place) WriteFault) → IsErrAnd r (λ f. f ≡ fault) → IsNotWritten p old writes fault → Writes p writes bs old r cs new
 writes-err p writes bs cs old new fault (Ok changed) is why = absurd is

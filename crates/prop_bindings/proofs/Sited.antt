@@ -137,6 +137,5 @@ module _ (p : Loaded) (objects : List Object) (number target : ℕ) (sources : L
       installs = subst (λ (z : Binding). IsInstalled bs (replaced bs plan.reader) objects (after plan.planned objects) z plan.planned.changed) made.is done.installs;
     };
     binding = done.binding ∙ made.is;
-    at = done.target;
   }
   binds-both bs b v (Err fault) made why = not-installed bs b v fault made why

@@ -98,6 +98,10 @@ pub data Chain (F : Place → Option Binding) : Place → Place → Type 0 where
   direct : {p q : Place} (b : Binding) → F q ≡ Some b → Reads b p → Chain F p q
   further : {p m q : Place} (b : Binding) → Chain F p m → F q ≡ Some b → Reads b m → Chain F p q
 
+-- .. from one of these
+abbrev pub ChainFrom : (Place → Option Binding) → List Place → Place → Type 0
+ChainFrom F ps q = (p : Place) × In p ps × Chain F p q
+
 -- .. from one back to itself
 abbrev pub Loop : (Place → Option Binding) → Type 0
 Loop F = (p : Place) × Chain F p p

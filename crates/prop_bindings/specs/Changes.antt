@@ -7,6 +7,7 @@ use Rattle.object_tree.specs.declared.life.Life.{Life}
 use Rattle.object_tree.specs.declared.object.Object.{Object}
 use Rattle.object_tree.specs.Seen.{seen}
 use Rattle.prop_bindings.specs.declared.place.Place.{Place}
+use Rattle.prop_bindings.specs.declared.assignment.Assignment.{Assignment}
 use Rattle.prop_bindings.specs.declared.binding.Binding.{Binding}
 use Rattle.prop_bindings.specs.Places.{values_in, In, is_in, same_place}
 use Rattle.prop_bindings.specs.Bindings.{binding_at, without_all, replaced, Settled, Loop}
@@ -41,11 +42,6 @@ abbrev pub in_order : List Place → List Binding → List Place
 in_order ps bs = once ps ++ map (λ (b : Binding). b.target) (without_all ps bs)
 
 -- ---- a write
--- a property is to have this value
-pub record Assignment : Type 0 where
-  pub place : Place
-  pub value : Value
-
 -- a write of one property
 abbrev pub one : Place → Value → List Assignment
 one p v = record { place = p; value = v } ∷ []
@@ -59,13 +55,17 @@ abbrev pub lasting : List Assignment → List Assignment
 lasting [] = []
 lasting (a ∷ rest) = cond (is_in (places_in rest) a.place) (lasting rest) (a ∷ lasting rest)
 
+-- each of them has it
+abbrev pub HaveLasting : List Object → List Assignment → Type 0
+HaveLasting objects writes = AllByRecursion (λ (a : Assignment). values_in objects a.place ≡ Some a.value) (lasting writes)
+
 -- The bindings of the written properties go, and each has the value that is written last. All bound properties have their
 -- expressions' values, and every other one keeps its own.
 pub record IsWritten (bs cs : List Binding) (old new : List Object) (writes : List Assignment) (changed : List Place)
     : Type 0 where
   pub bindings : cs ≡ without_all (places_in writes) bs
   pub objects : DifferInValues old new
-  pub written : AllByRecursion (λ (a : Assignment). values_in new a.place ≡ Some a.value) (lasting writes)
+  pub written : HaveLasting new writes
   pub settled : Settled (binding_at cs) (values_in new)
   pub kept : (q : Place) → binding_at cs q ≡ None → (¬ In q (places_in writes)) → values_in new q ≡ values_in old q
   pub changes : AreChanged old new (in_order (places_in writes) bs) changed

@@ -6,9 +6,10 @@ use Rattle.meta_model.specs.Loaded.{Loaded}
 use Rattle.object_tree.specs.declared.object.Object.{Object}
 use Rattle.object_tree.specs.Family.{without_life}
 use Rattle.prop_bindings.specs.declared.place.Place.{Place}
+use Rattle.prop_bindings.specs.declared.assignment.Assignment.{Assignment}
 use Rattle.prop_bindings.specs.declared.binding.Binding.{Binding}
 use Rattle.prop_bindings.specs.Bindings.{binding_at, AreApart, dropped, Settled, Loop}
-use Rattle.prop_bindings.specs.Changes.{Assignment, IsWritten, IsInstalled}
+use Rattle.prop_bindings.specs.Changes.{IsWritten, IsInstalled}
 use Rattle.prop_bindings.specs.Fits.{Agree}
 
 -- the values agree with e on what isn't bound

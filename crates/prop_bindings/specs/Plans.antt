@@ -7,15 +7,18 @@ use Rattle.meta_model.specs.Loaded.{Loaded}
 use Rattle.object_tree.specs.declared.object.Object.{Object}
 use Rattle.object_tree.specs.Objects.{change_life, written}
 use Rattle.prop_bindings.specs.declared.place.Place.{Place}
+use Rattle.prop_bindings.specs.declared.assignment.Assignment.{Assignment}
 use Rattle.prop_bindings.specs.declared.binding.Binding.{Binding}
 use Rattle.prop_bindings.specs.declared.fault.BindFault.{BindFault}
 use Rattle.prop_bindings.specs.declared.fault.WriteFault.{WriteFault}
 use Rattle.prop_bindings.specs.declared.planned.Planned.{Planned}
 use Rattle.prop_bindings.specs.declared.planned.PlannedBind.{PlannedBind}
+use Rattle.prop_bindings.specs.declared.planned.PlannedGroup.{PlannedGroup}
+use Rattle.prop_bindings.specs.declared.planned.PlannedWrite.{PlannedWrite}
 use Rattle.prop_bindings.specs.Places.{values_in}
 use Rattle.prop_bindings.specs.Bindings.{replaced, without_all}
 use Rattle.prop_bindings.specs.Calls.{AllFit, IsNotWritten, IsNotBound, IsBound, new_binding}
-use Rattle.prop_bindings.specs.Changes.{Assignment, IsWritten, places_in}
+use Rattle.prop_bindings.specs.Changes.{IsWritten, places_in}
 
 -- the objects once each property of this object and of this number has this value
 abbrev pub assigned : List ((ℕ × ℕ) × Value) → List Object → List Object
@@ -31,12 +34,21 @@ abbrev pub WillBe : Planned → Place → Option Value → Type 0
 WillBe plan at v = (objects : List Object) → values_in (after plan objects) at ≡ option_map (unwrap_or v) (values_in objects at)
 
 -- ---- write
--- A plan of a write; or why there is none, and nothing changes.
-abbrev pub PlansWrite : Loaded → List Assignment → List Binding → List Object → Result Planned WriteFault → Type 0
-PlansWrite p writes bs objects (Ok plan) =
+-- the plan is of these writes
+abbrev pub IsPlannedWrite : Loaded → List Assignment → List Binding → List Object → Planned → Type 0
+IsPlannedWrite p writes bs objects plan =
     AllFit p objects writes
     × IsWritten bs (without_all (places_in writes) bs) objects (after plan objects) writes plan.changed
+
+-- A plan of a write; or why there is none, and nothing changes.
+abbrev pub PlansWrite : Loaded → List Assignment → List Binding → List Object → Result PlannedWrite WriteFault → Type 0
+PlansWrite p writes bs objects (Ok plan) = IsPlannedWrite p writes bs objects plan.planned
 PlansWrite p writes bs objects (Err fault) = IsNotWritten p objects writes fault
+
+-- .. of a group of writes
+abbrev pub PlansGroup : Loaded → List Assignment → List Binding → List Object → Result PlannedGroup WriteFault → Type 0
+PlansGroup p writes bs objects (Ok plan) = IsPlannedWrite p writes bs objects plan.planned
+PlansGroup p writes bs objects (Err fault) = IsNotWritten p objects writes fault
 
 -- ---- bind
 -- the plan is of this bind
@@ -44,7 +56,6 @@ pub record IsPlannedBind (p : Loaded) (number target : ℕ) (sources : List ℕ)
     (objects : List Object) (plan : PlannedBind) : Type 0 where
   pub bound : IsBound p bs objects number target sources (replaced bs plan.reader) (after plan.planned objects) plan.planned.changed
   pub binding : plan.reader ≡ new_binding bound.may
-  pub at : plan.planned.target ≡ plan.reader.target
 
 -- A plan of a bind; or why there is none, and nothing changes.
 abbrev pub PlansBind : Loaded → ℕ → ℕ → List ℕ → List Binding → List Object → Result PlannedBind BindFault → Type 0

@@ -3,6 +3,8 @@
 ghost use Rattle.std.specs.Prelude.{◌≡◌};
 ghost use Rattle.std.specs.Option.{option_copied};
 ghost use Rattle.expressions.specs.Evaluation.{Evaluates};
+ghost use Rattle.prop_bindings.specs.Places.{values_in};
+ghost use Rattle.prop_bindings.specs.Plans.{assigned};
 ghost use Rattle.prop_bindings.specs.code.Parts.{value_ahead};
 
 use crate::place::Place;
@@ -45,7 +47,9 @@ pub fn value_ahead<'w>(
     values: &'w IndexMap<(usize, usize), Value>,
     place: &Place,
 ) -> Option<&'w Value>
-    ensures { option_copied result ≡ value_ahead values.now objects.now place.now }
+    ensures ahead { option_copied result ≡ value_ahead values.now objects.now place.now }
+    ensures value { option_copied result
+        ≡ values_in (assigned values.now.entries objects.now) place.now }
 {
     let own = objects.value(place.object, place.property)?;
     match values.get(&place.key()) {

@@ -2,16 +2,16 @@
 
 ghost use Rattle.std.specs.Prelude.{◌≡◌, ◌∷◌, slice_get, IfOk, OnOk, OnErr};
 ghost use Rattle.std.specs.Option.{option_copied};
-ghost use Rattle.prop_bindings.specs.Bindings.{binding_at, dropped, lead_out, replaced, without};
+ghost use Rattle.prop_bindings.specs.Bindings.{binding_at, dropped, lead_out, replaced, without, without_all};
 ghost use Rattle.prop_bindings.specs.Calls.{Binds, Writes};
-ghost use Rattle.prop_bindings.specs.Changes.{IsWritten, one};
-ghost use Rattle.prop_bindings.specs.Counts.{CountsBound, CountsFrom, CountsWritten, Kept, nothing_kept};
+ghost use Rattle.prop_bindings.specs.Changes.{once, one, places_in};
+ghost use Rattle.prop_bindings.specs.Counts.{CountsBound, CountsFrom, CountsGroup, CountsWritten, Kept, nothing_kept};
 ghost use Rattle.prop_bindings.specs.Fits.{Agree};
 ghost use Rattle.prop_bindings.specs.Laws.{Determines};
-ghost use Rattle.prop_bindings.specs.Plans.{PlansBind, PlansWrite, after};
-ghost use Rattle.prop_bindings.specs.code.Graph.{IsGraph, bindings_of};
-ghost use Rattle.prop_bindings.specs.code.Parts.{AgreesAt, AgreesWith, Installs, MayInstall, StayAgreeing, StayAgreeingAt};
+ghost use Rattle.prop_bindings.specs.Plans.{PlansBind, PlansGroup, PlansWrite, after};
+ghost use Rattle.prop_bindings.specs.code.Parts.{AgreesWith, Installs, MayInstall, StayAgreeing};
 
+use crate::assignment::Assignment;
 use crate::binding::Binding;
 use crate::changes::plan;
 use crate::fault::{BindFault, WriteFault};
@@ -19,9 +19,9 @@ use crate::followers::followers;
 use crate::graph::Graph;
 use crate::installed::Reader;
 use crate::place::Place;
-use crate::planned::{Planned, PlannedBind, assign};
+use crate::planned::{Planned, PlannedBind, PlannedGroup, PlannedWrite, assign};
 use crate::preparing::{Prepared, fits, has_value, prepare};
-use indexmap::IndexMap;
+use crate::writes::{Given, all_fit, give_all, give_one, have_all, plan_given};
 use meta_objects::Meta;
 use object_tree::Tree;
 use signatures::{ObjectId, Value};
@@ -78,9 +78,10 @@ impl Bindings {
         }
     }
 
-    /// How many expressions the last write or bind evaluated that wasn't refused, 0 at first. A write evaluates the
+    /// How many expressions the last write, group or bind evaluated that wasn't refused, 0 at first. A write evaluates the
     /// bindings to whose targets a chain leads from the property, each once, and none where the property had the value
-    /// already; a bind evaluates the new binding, and those to whose targets a chain leads from its target.
+    /// already; a group those to which one leads from any of its properties; a bind the new binding, and those to whose
+    /// targets a chain leads from its target.
     pub fn last_evaluated(&self) -> usize
         ensures { result ≡ self.now.evaluated }
     {
@@ -103,38 +104,106 @@ impl Bindings {
         tree: &Tree,
         place: &Place,
         value: Value,
-    ) -> Result<Planned, WriteFault>
+    ) -> Result<PlannedWrite, WriteFault>
         requires agree { Agree meta.now tree.now self.now.installed }
         ensures value { PlansWrite meta.now (one place.now value) self.now.installed tree.now result }
         ensures target { IfOk result (λ plan. plan.target ≡ place.now) }
-        ensures agree { IfOk result (λ plan. Agree meta.now (after plan tree.now)
+        ensures agree { IfOk result (λ plan. Agree meta.now (after plan.planned tree.now)
             (without place.now self.now.installed)) }
         ensures counted { IfOk result (λ plan. CountsWritten
             (binding_at (without place.now self.now.installed)) place.now value tree.now
-            plan.changed plan.evaluated) }
+            plan.planned.changed plan.planned.evaluated) }
     {
         if !fits(meta, tree, place, &value) {
             return Err(WriteFault::BadType);
         }
-        let planned = plan_over(self.alloc, &self.graph, tree, place, value)?;
-        Ok(planned)
+        if has_value(tree, place, &value) {
+            return Ok(PlannedWrite {
+                target: *place,
+                planned: Planned::nothing(self.alloc),
+            });
+        }
+        let values = give_one(self.alloc, place, value)?;
+        let planned = plan_given(self.alloc, &self.graph, tree, &[*place], values)?;
+        Ok(PlannedWrite {
+            target: *place,
+            planned,
+        })
     }
 
     /// Carries out a planned write, for the bindings and objects for which it was planned. It takes no memory, and answers
     /// the properties that no longer read as they did, in the order in which they are notified.
-    pub fn carry_out(&mut self, tree: &mut Tree, planned: Planned) -> Items<Place>
-        ensures value { result ≡ planned.changed }
+    pub fn carry_out(&mut self, tree: &mut Tree, planned: PlannedWrite) -> Items<Place>
+        ensures value { result ≡ planned.planned.changed }
         ensures left { self.new.installed ≡ without planned.target self.old.installed }
-        ensures objects { tree.new ≡ after planned tree.old }
-        ensures counted { self.new.evaluated ≡ planned.evaluated }
+        ensures objects { tree.new ≡ after planned.planned tree.old }
+        ensures counted { self.new.evaluated ≡ planned.planned.evaluated }
     {
+        let PlannedWrite { target, planned } = planned;
         let Planned {
-            target,
             values,
             changed,
             evaluated,
         } = planned;
         self.graph.remove(&target);
+        assign(tree, values);
+        self.evaluated = evaluated;
+        changed
+    }
+
+    /// Plans a group of writes, in which a property may be written more than once. All written properties lose their
+    /// bindings, also one that follows another, and each is to have the value that is written last; only then is what
+    /// follows from any of them evaluated, each binding once, and nothing where none of them gets another value. So no
+    /// expression is evaluated over some of the new values and some of the old ones. Refused as `plan_write` is, where one
+    /// of the values isn't of its property's type, also one that another write replaces.
+    pub fn plan_group(
+        &self,
+        meta: &Meta,
+        tree: &Tree,
+        writes: &[Assignment],
+    ) -> Result<PlannedGroup, WriteFault>
+        requires agree { Agree meta.now tree.now self.now.installed }
+        ensures value { PlansGroup meta.now writes.now self.now.installed tree.now result }
+        ensures targets { IfOk result (λ plan. plan.targets ≡ once (places_in writes.now)) }
+        ensures left { IfOk result (λ plan. without_all plan.targets self.now.installed
+            ≡ without_all (places_in writes.now) self.now.installed) }
+        ensures agree { IfOk result (λ plan. Agree meta.now (after plan.planned tree.now)
+            (without_all (places_in writes.now) self.now.installed)) }
+        ensures counted { IfOk result (λ plan. CountsGroup
+            (binding_at (without_all (places_in writes.now) self.now.installed)) writes.now
+            tree.now plan.planned.changed plan.planned.evaluated) }
+    {
+        if !all_fit(meta, tree, writes) {
+            return Err(WriteFault::BadType);
+        }
+        let given = give_all(self.alloc, writes)?;
+        let Given { targets, values } = given;
+        let targets = Items::from_vec(targets);
+        if have_all(tree, targets.as_slice(), &values) {
+            return Ok(PlannedGroup {
+                targets,
+                planned: Planned::nothing(self.alloc),
+            });
+        }
+        let planned = plan_given(self.alloc, &self.graph, tree, targets.as_slice(), values)?;
+        Ok(PlannedGroup { targets, planned })
+    }
+
+    /// Carries out a planned group of writes, for the bindings and objects for which it was planned. It takes no memory, and
+    /// answers the properties that no longer read as they did, in the order in which they are notified.
+    pub fn carry_out_group(&mut self, tree: &mut Tree, planned: PlannedGroup) -> Items<Place>
+        ensures value { result ≡ planned.planned.changed }
+        ensures left { self.new.installed ≡ without_all planned.targets self.old.installed }
+        ensures objects { tree.new ≡ after planned.planned tree.old }
+        ensures counted { self.new.evaluated ≡ planned.planned.evaluated }
+    {
+        let PlannedGroup { targets, planned } = planned;
+        let Planned {
+            values,
+            changed,
+            evaluated,
+        } = planned;
+        self.graph.remove_all(targets.as_slice());
         assign(tree, values);
         self.evaluated = evaluated;
         changed
@@ -189,7 +258,8 @@ impl Bindings {
         let Prepared { binding, value } = prepared;
         let target = binding.target;
         let reader = Reader::new(self.alloc, binding)?;
-        let followers = followers(self.alloc, &self.graph, &target)?;
+        let values = give_one(self.alloc, &target, value)?;
+        let followers = followers(self.alloc, &self.graph, &[target], &values)?;
         let moved = from_target(self.alloc, &target, &followers)?;
         if reader.reads_any(&moved) {
             return Err(BindFault::BindingLoop);
@@ -197,10 +267,10 @@ impl Bindings {
         let planned = plan(
             self.alloc,
             &self.graph.installed,
+            &[target],
             &moved[1..],
             tree,
-            &target,
-            value,
+            values,
             before,
         )?;
         Ok(PlannedBind {
@@ -234,7 +304,6 @@ impl Bindings {
         self.graph.make_room(self.alloc, &reader, moved.len())?;
         self.graph.install(reader, &moved);
         let Planned {
-            target: _,
             values,
             changed,
             evaluated,
@@ -264,6 +333,27 @@ impl Bindings {
     {
         let planned = self.plan_write(meta, tree, place, value)?;
         Ok(self.carry_out(tree, planned))
+    }
+
+    /// Writes a group of properties at once: plans it, and carries the plan out at once. It answers the properties that no
+    /// longer read as they did: the written ones that changed, in the order in which they are written first, then the
+    /// others in the order in which their bindings were installed. Refused as `plan_group` is; then nothing changes.
+    pub fn write_group(
+        &mut self,
+        meta: &Meta,
+        tree: &mut Tree,
+        writes: &[Assignment],
+    ) -> Result<Items<Place>, WriteFault>
+        requires agree { Agree meta.now tree.old self.old.installed }
+        ensures value { Writes meta.now writes.now self.old.installed tree.old result
+            self.new.installed tree.new }
+        ensures agree { Agree meta.now tree.new self.new.installed }
+        ensures counted { IfOk result (λ changed. CountsGroup (binding_at self.new.installed)
+            writes.now tree.old changed self.new.evaluated) }
+        ensures err { OnErr result ((self.new ≡ self.old) × (tree.new ≡ tree.old)) }
+    {
+        let planned = self.plan_group(meta, tree, writes)?;
+        Ok(self.carry_out_group(tree, planned))
     }
 
     /// Installs the binding of a site: plans it, and carries the plan out at once. It answers the properties that no longer
@@ -315,38 +405,4 @@ fn from_target(alloc: Global, target: &Place, followers: &[Place]) -> Result<Vec
     places.push(*target)?;
     places.extend_from_slice(followers)?;
     Ok(places)
-}
-
-/// Plans to give a property a value that is of its type, and what follows from it without its own binding. Its error is that
-/// memory was refused.
-fn plan_over(
-    alloc: Global,
-    graph: &Graph,
-    tree: &Tree,
-    place: &Place,
-    value: Value,
-) -> Result<Planned, AllocError>
-    requires graph { IsGraph graph.now }
-    requires agree { AgreesAt tree.now (bindings_of graph.now) place.now value }
-    ensures target { IfOk result (λ plan. plan.target ≡ place.now) }
-    ensures value { IfOk result (λ plan. IsWritten (bindings_of graph.now)
-        (without place.now (bindings_of graph.now)) tree.now (after plan tree.now)
-        (one place.now value) plan.changed) }
-    ensures agree { IfOk result (λ plan. StayAgreeingAt tree.now (after plan tree.now)
-        (bindings_of graph.now) place.now value) }
-    ensures counted { IfOk result (λ plan.
-        CountsWritten (binding_at (without place.now (bindings_of graph.now))) place.now value
-        tree.now plan.changed plan.evaluated) }
-{
-    if has_value(tree, place, &value) {
-        return Ok(Planned {
-            target: *place,
-            values: IndexMap::new(alloc),
-            changed: Items::from_vec(Vec::new(alloc)),
-            evaluated: 0,
-        });
-    }
-    let followers = followers(alloc, graph, place)?;
-    let planned = plan(alloc, &graph.installed, &followers, tree, place, value, 0)?;
-    Ok(planned)
 }

@@ -1,6 +1,6 @@
-//! A property is to have a value, and what follows from it is to change.
+//! Some properties are to have values, and what follows from them is to change.
 
-ghost use Rattle.std.specs.Prelude.{◌≡◌, ◌↔◌, ◌+◌, ◌<◌, ◌^◌, ◌∷◌, [], length, IfOk, IsTrue, OnOk, Some};
+ghost use Rattle.std.specs.Prelude.{◌≡◌, ◌↔◌, ◌+◌, ◌<◌, ◌^◌, ◌++◌, length, IfOk, IsTrue, OnOk};
 ghost use Rattle.std.specs.Option.{option_map};
 ghost use Rattle.object_tree.specs.Seen.{seen};
 ghost use Rattle.prop_bindings.specs.declared.place.Place.{Place};
@@ -10,8 +10,8 @@ ghost use Rattle.prop_bindings.specs.Changes.{in_order, DifferInValues, AreChang
 ghost use Rattle.prop_bindings.specs.Plans.{after};
 ghost use Rattle.prop_bindings.specs.code.Graph.{AreKeyed, bindings_in, position_of};
 ghost use Rattle.prop_bindings.specs.code.Numbering.{IsNumbering, places_of};
-ghost use Rattle.prop_bindings.specs.code.Orders.{AreBound, pass, update};
-ghost use Rattle.prop_bindings.specs.code.Parts.{AddsChanged, IsSoundWith, StaySoundWith, ahead, value_ahead};
+ghost use Rattle.prop_bindings.specs.code.Orders.{AreBound, pass};
+ghost use Rattle.prop_bindings.specs.code.Parts.{AddsChanged, GivesOnly, IsSoundBySome, StaySound, ahead, value_ahead};
 
 use crate::ahead::value_ahead;
 use crate::evaluation::evaluate_all;
@@ -25,44 +25,44 @@ use signatures::Value;
 use sqlite_items::Items;
 use std::alloc::{AllocError, Global};
 
-/// A property is to have a value, and then each of its followers, in their order, its expression's value, each of which is
-/// one evaluation more. The changed properties are this one, if it changes, then the followers in the order in which their
-/// bindings were installed. Its error is that memory was refused.
+/// Different properties are to have these values, and then each of their followers, in their order, its expression's value,
+/// each of which is one evaluation more. The changed properties are those of the first that change, in their order, then
+/// the followers in the order in which their bindings were installed. Its error is that memory was refused.
 pub fn plan(
     alloc: Global,
     installed: &Installed,
+    targets: &[Place],
     followers: &[Place],
     tree: &Tree,
-    place: &Place,
-    value: Value,
+    given: IndexMap<(usize, usize), Value>,
     before: usize,
 ) -> Result<Planned, AllocError>
     requires keyed { AreKeyed installed.now }
     requires apart { AreApart (bindings_in installed.now) }
-    requires sound { IsSoundWith tree.now (bindings_in installed.now) place.now value }
+    requires different { Distinct targets.now }
+    requires given { GivesOnly targets.now given tree.now }
+    requires sound { IsSoundBySome (ahead given tree.now) (bindings_in installed.now) }
     requires bound { AreBound (binding_at (bindings_in installed.now)) followers.now }
     requires distinct { Distinct followers.now }
-    requires others { In place.now followers.now → ⊥ }
+    requires others { (q : Place) → In q targets.now → In q followers.now → ⊥ }
     requires few { before + length followers.now < 2 ^ 64 }
-    ensures target { IfOk result (λ plan. plan.target ≡ place.now) }
     ensures values { IfOk result (λ plan. (q : Place) → values_in (after plan tree.now) q
         ≡ pass (binding_at (bindings_in installed.now)) followers.now
-        (update (values_in tree.now) place.now (Some value)) q) }
+        (values_in (ahead given tree.now)) q) }
     ensures changed { IfOk result (λ plan. AreChanged tree.now (after plan tree.now)
-        (in_order (place.now ∷ []) (bindings_in installed.now)) plan.changed) }
+        (in_order targets.now (bindings_in installed.now)) plan.changed) }
     ensures objects { IfOk result (λ plan. DifferInValues tree.now (after plan tree.now)) }
-    ensures sound { IfOk result (λ plan. StaySoundWith tree.now (after plan tree.now)
-        (bindings_in installed.now) place.now value) }
+    ensures sound { IfOk result (λ plan. StaySound (ahead given tree.now) (after plan tree.now)
+        (bindings_in installed.now)) }
     ensures counted { IfOk result (λ plan. plan.evaluated ≡ before + length followers.now) }
 {
     let mut count = before;
-    let mut values = IndexMap::with_capacity(alloc, followers.len())?;
-    values.insert(place.key(), value)?;
+    let mut values = given;
+    values.reserve(followers.len())?;
     evaluate_all(alloc, installed, followers, tree, &mut values, &mut count)?;
     let others = by_position(alloc, installed, followers)?;
-    let changed = changed_among(alloc, place, &others, tree, &values)?;
+    let changed = changed_among(alloc, targets, &others, tree, &values)?;
     Ok(Planned {
-        target: *place,
         values,
         changed,
         evaluated: count,
@@ -95,20 +95,22 @@ fn by_position(
     Ok(found)
 }
 
-/// The property, and then those of the others in their order, that no longer read as they did once these have their values.
-/// Its error is that memory was refused.
+/// Those of the first properties, and then of the others, in their order, that no longer read as they did once these have
+/// their values. Its error is that memory was refused.
 fn changed_among(
     alloc: Global,
-    place: &Place,
+    targets: &[Place],
     others: &[Numbered],
     tree: &Tree,
     values: &IndexMap<(usize, usize), Value>,
 ) -> Result<Items<Place>, AllocError>
     ensures { IfOk result (λ changed. AreChanged tree.now (ahead values.now tree.now)
-        (place.now ∷ places_of others.now) changed) }
+        (targets.now ++ places_of others.now) changed) }
 {
     let mut changed = Vec::new(alloc);
-    add_changed(place, tree, values, &mut changed)?;
+    for target in targets {
+        add_changed(target, tree, values, &mut changed)?;
+    }
     for each in others {
         add_changed(&each.place, tree, values, &mut changed)?;
     }

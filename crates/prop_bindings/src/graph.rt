@@ -3,7 +3,7 @@
 ghost use Rattle.std.specs.Prelude.{◌≡◌, ◌<◌, ◌^◌, [], length, eqb, OnOk};
 ghost use Rattle.std.specs.List.{list_any};
 ghost use Rattle.indexmap.specs.IndexSet.{contains};
-ghost use Rattle.prop_bindings.specs.Bindings.{binding_at, dropped, lead_out, replaced, without};
+ghost use Rattle.prop_bindings.specs.Bindings.{binding_at, dropped, lead_out, replaced, without, without_all};
 ghost use Rattle.prop_bindings.specs.code.Graph.{AreKeyed, AreNamed, AreTouched, HasRoom, IsGraph, KeepTouched, LosesReader, RankOfReader, bindings_of};
 ghost use Rattle.prop_bindings.specs.code.Orders.{IsLater};
 ghost use Rattle.prop_bindings.specs.code.Ranks.{HasNumbers};
@@ -112,6 +112,17 @@ impl Graph {
         unlist(&self.installed, &mut self.readers, place, &[]);
         self.installed.remove(place);
         self.ranks.forget(place);
+    }
+
+    /// Removes the bindings of these properties.
+    pub fn remove_all(&mut self, places: &[Place])
+        requires { IsGraph self.old }
+        ensures left { bindings_of self.new ≡ without_all places.now (bindings_of self.old) }
+        ensures graph { IsGraph self.new }
+    {
+        for place in places {
+            self.remove(place);
+        }
     }
 
     /// Whether a binding has one of its objects among these and another that isn't. It looks at the bindings only where they

@@ -1,6 +1,6 @@
 //! Writes and binds that are planned, and not carried out yet.
 
-ghost use Rattle.std.specs.Prelude.{◌≡◌};
+ghost use Rattle.std.specs.Prelude.{◌≡◌, []};
 ghost use Rattle.std.specs.Option.{option_copied};
 ghost use Rattle.prop_bindings.specs.Plans.{WillBe};
 ghost use Rattle.prop_bindings.specs.code.Parts.{ahead};
@@ -11,13 +11,12 @@ use indexmap::IndexMap;
 use object_tree::Tree;
 use signatures::{ObjectId, Value};
 use sqlite_items::Items;
+use std::alloc::Global;
 
 /// What a write or a bind is to change: the values of properties, and which of them then no longer read as they did. It
 /// stands for the objects and bindings for which it was planned, as long as these stay as they are.
 #[derive(Drop)]
 pub struct Planned {
-    /// The property that is written or bound.
-    pub target: Place,
     /// The values, by the numbers of their properties.
     pub values: IndexMap<(usize, usize), Value>,
     /// The properties that will no longer read as they did, in the order in which they are notified.
@@ -27,15 +26,21 @@ pub struct Planned {
 }
 
 impl Planned {
-    /// The property that is written or bound.
-    pub fn target(&self) -> Place
-        ensures { result ≡ self.now.target }
+    /// Nothing is to change, and nothing was evaluated for it. This takes no memory.
+    pub fn nothing(alloc: Global) -> Planned
+        ensures values { result.values.entries ≡ [] }
+        ensures changed { result.changed ≡ [] }
+        ensures evaluated { result.evaluated ≡ 0 }
     {
-        self.target
+        Planned {
+            values: IndexMap::new(alloc),
+            changed: Items::from_vec(Vec::new(alloc)),
+            evaluated: 0,
+        }
     }
 
-    /// The properties that will no longer read as they did, in the order in which they are notified: the one that is
-    /// written or bound, if it changes, then the others in the order in which their bindings were installed.
+    /// The properties that will no longer read as they did, in the order in which they are notified: those that are written
+    /// or bound, if they change, then the others in the order in which their bindings were installed.
     pub fn changed(&self) -> &[Place]
         ensures { result.now ≡ self.now.changed }
     {
@@ -47,6 +52,56 @@ impl Planned {
         ensures { WillBe self.now place.now (option_copied result) }
     {
         self.values.get(&place.key())
+    }
+}
+
+/// A property that is to be written, and what that is to change.
+#[derive(Drop)]
+pub struct PlannedWrite {
+    /// The property.
+    pub target: Place,
+    /// What the write is to change.
+    pub planned: Planned,
+}
+
+impl PlannedWrite {
+    /// The property that is to be written.
+    pub fn target(&self) -> Place
+        ensures { result ≡ self.now.target }
+    {
+        self.target
+    }
+
+    /// What the write is to change.
+    pub fn planned(&self) -> &Planned
+        ensures { result.now ≡ self.now.planned }
+    {
+        &self.planned
+    }
+}
+
+/// Properties that are to be written at once, and what that is to change.
+#[derive(Drop)]
+pub struct PlannedGroup {
+    /// The properties, each once, in the order in which they are written first.
+    pub targets: Items<Place>,
+    /// What the writes are to change.
+    pub planned: Planned,
+}
+
+impl PlannedGroup {
+    /// The properties that are to be written, each once, in the order in which they are written first.
+    pub fn targets(&self) -> &[Place]
+        ensures { result.now ≡ self.now.targets }
+    {
+        self.targets.as_slice()
+    }
+
+    /// What the writes are to change.
+    pub fn planned(&self) -> &Planned
+        ensures { result.now ≡ self.now.planned }
+    {
+        &self.planned
     }
 }
 
@@ -63,6 +118,13 @@ pub struct PlannedBind {
 }
 
 impl PlannedBind {
+    /// The property that is to be bound.
+    pub fn target(&self) -> Place
+        ensures { result ≡ self.now.reader.target }
+    {
+        self.reader.binding().target
+    }
+
     /// What it is to change.
     pub fn planned(&self) -> &Planned
         ensures { result.now ≡ self.now.planned }

@@ -5,8 +5,8 @@ ghost use Rattle.prop_bindings.specs.declared.place.Place.{Place};
 ghost use Rattle.prop_bindings.specs.Places.{In};
 ghost use Rattle.prop_bindings.specs.code.Graph.{AreNamed, KeepReaders, LosesOnly, LosesReader, readers_at};
 
-use crate::groups::{Places, drop_empty, forget_place, make_room, places_of, push_place};
 use crate::installed::Reader;
+use crate::lists::{Places, drop_empty, forget_place, make_room, places_of, push_place};
 use crate::place::{Place, contains};
 use indexmap::IndexMap;
 use std::alloc::{AllocError, Global};

@@ -1,16 +1,17 @@
 //! The installed bindings, without the count of evaluations.
 
 ghost use Rattle.std.specs.Prelude.{◌≡◌, [], IfOk, OnOk, OnErr};
-ghost use Rattle.prop_bindings.specs.Bindings.{dropped, lead_out, replaced, without};
-ghost use Rattle.prop_bindings.specs.Changes.{one};
+ghost use Rattle.prop_bindings.specs.Bindings.{dropped, lead_out, replaced, without, without_all};
+ghost use Rattle.prop_bindings.specs.Changes.{once, one, places_in};
 ghost use Rattle.prop_bindings.specs.Fits.{Agree};
-ghost use Rattle.prop_bindings.specs.Plans.{PlansBind, PlansWrite, after};
+ghost use Rattle.prop_bindings.specs.Plans.{PlansBind, PlansGroup, PlansWrite, after};
 ghost use Rattle.prop_bindings.specs.code.Parts.{MayInstall};
 
+use crate::assignment::Assignment;
 use crate::bindings::Bindings;
 use crate::fault::{BindFault, WriteFault};
 use crate::place::Place;
-use crate::planned::{Planned, PlannedBind};
+use crate::planned::{PlannedBind, PlannedGroup, PlannedWrite};
 use meta_objects::Meta;
 use object_tree::Tree;
 use signatures::{ObjectId, Value};
@@ -62,23 +63,50 @@ impl UncountedBindings {
         tree: &Tree,
         place: &Place,
         value: Value,
-    ) -> Result<Planned, WriteFault>
+    ) -> Result<PlannedWrite, WriteFault>
         requires agree { Agree meta.now tree.now self.now }
         ensures value { PlansWrite meta.now (one place.now value) self.now tree.now result }
         ensures target { IfOk result (λ plan. plan.target ≡ place.now) }
-        ensures agree { IfOk result (λ plan. Agree meta.now (after plan tree.now)
+        ensures agree { IfOk result (λ plan. Agree meta.now (after plan.planned tree.now)
             (without place.now self.now)) }
     {
         self.bindings.plan_write(meta, tree, place, value)
     }
 
     /// Carries out a planned write, as `Bindings::carry_out` does. It takes no memory.
-    pub fn carry_out(&mut self, tree: &mut Tree, planned: Planned) -> Items<Place>
-        ensures value { result ≡ planned.changed }
+    pub fn carry_out(&mut self, tree: &mut Tree, planned: PlannedWrite) -> Items<Place>
+        ensures value { result ≡ planned.planned.changed }
         ensures left { self.new ≡ without planned.target self.old }
-        ensures objects { tree.new ≡ after planned tree.old }
+        ensures objects { tree.new ≡ after planned.planned tree.old }
     {
         self.bindings.carry_out(tree, planned)
+    }
+
+    /// Plans a group of writes, as `Bindings::plan_group` does.
+    pub fn plan_group(
+        &self,
+        meta: &Meta,
+        tree: &Tree,
+        writes: &[Assignment],
+    ) -> Result<PlannedGroup, WriteFault>
+        requires agree { Agree meta.now tree.now self.now }
+        ensures value { PlansGroup meta.now writes.now self.now tree.now result }
+        ensures targets { IfOk result (λ plan. plan.targets ≡ once (places_in writes.now)) }
+        ensures left { IfOk result (λ plan. without_all plan.targets self.now
+            ≡ without_all (places_in writes.now) self.now) }
+        ensures agree { IfOk result (λ plan. Agree meta.now (after plan.planned tree.now)
+            (without_all (places_in writes.now) self.now)) }
+    {
+        self.bindings.plan_group(meta, tree, writes)
+    }
+
+    /// Carries out a planned group of writes, as `Bindings::carry_out_group` does. It takes no memory.
+    pub fn carry_out_group(&mut self, tree: &mut Tree, planned: PlannedGroup) -> Items<Place>
+        ensures value { result ≡ planned.planned.changed }
+        ensures left { self.new ≡ without_all planned.targets self.old }
+        ensures objects { tree.new ≡ after planned.planned tree.old }
+    {
+        self.bindings.carry_out_group(tree, planned)
     }
 
     /// Plans to install the binding of a site, as `Bindings::plan_bind` does.

@@ -8,7 +8,7 @@ use Rattle.prop_bindings.specs.declared.graph.Graph.{Graph}
 use Rattle.prop_bindings.specs.declared.installed.Installed.{Installed}
 use Rattle.prop_bindings.specs.declared.readers.Readers.{Readers}
 use Rattle.prop_bindings.specs.Places.{In}
-use Rattle.prop_bindings.specs.code.Groups.{list_of}
+use Rattle.prop_bindings.specs.code.Lists.{list_of}
 use Rattle.prop_bindings.specs.code.Keys.{key_of, same_key}
 use Rattle.prop_bindings.specs.Bindings.{binding_at, AreApart, Reads, touches}
 use Rattle.prop_bindings.specs.code.Ranks.{RankAll, rank_of}

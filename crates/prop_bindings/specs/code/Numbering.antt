@@ -4,7 +4,7 @@ use Rattle.prop_bindings.specs.declared.place.Place.{Place}
 use Rattle.prop_bindings.specs.declared.binding.Binding.{Binding}
 use Rattle.prop_bindings.specs.declared.numbering.Numbered.{Numbered}
 use Rattle.prop_bindings.specs.Places.{In}
-use Rattle.prop_bindings.specs.Bindings.{Reads, Chain}
+use Rattle.prop_bindings.specs.Bindings.{Reads, ChainFrom}
 
 abbrev pub places_of : List Numbered → List Place
 places_of fs = map (λ (f : Numbered). f.place) fs
@@ -49,11 +49,12 @@ pub record Gains (F : Place → Option Binding) (N : Place → Option ℕ) (sour
   pub front : (i : ℕ) (s : Numbered) → i < length old → get_or old i s ≡ s → s.place ≡ source
       → (i < length new) × (get_or new i s ≡ s) × (take (suc i) new ≡ take (suc i) old)
 
--- the readers of p and of the first so many were found
-pub record IsReach (F : Place → Option Binding) (N : Place → Option ℕ) (p : Place) (front found : List Numbered) : Type 0 where
+-- the readers of these, and of the first so many that were found, were found
+pub record IsReach (F : Place → Option Binding) (N : Place → Option ℕ) (from : List Place) (front found : List Numbered)
+    : Type 0 where
   pub numbered : IsNumbering N found
-  pub reached : (q : Place) → In q (places_of found) → Chain F p q
-  pub closed : (q m : Place) (b : Binding) → F q ≡ Some b → Reads b m → In m (p ∷ places_of front)
+  pub reached : (q : Place) → In q (places_of found) → ChainFrom F from q
+  pub closed : (q m : Place) (b : Binding) → F q ≡ Some b → Reads b m → In m from ⊎ In m (places_of front)
       → In q (places_of found)
 
 -- whether this number stands at this place

@@ -5,7 +5,7 @@ use Rattle.signatures.specs.declared.value.Value.{Value}
 use Rattle.prop_bindings.specs.declared.place.Place.{Place}
 use Rattle.prop_bindings.specs.declared.binding.Binding.{Binding}
 use Rattle.prop_bindings.specs.Places.{same_place, In, Distinct}
-use Rattle.prop_bindings.specs.Bindings.{Reads, value_of, Chain}
+use Rattle.prop_bindings.specs.Bindings.{Reads, value_of, Chain, ChainFrom}
 
 -- the binding of a property reads none of these
 abbrev pub Free : (Place → Option Binding) → Place → List Place → Type 0
@@ -46,12 +46,12 @@ pass F [] e = e
 pass F (p ∷ ps) e = pass F ps (evaluated F p e)
 
 -- ---- what has to be evaluated
--- what chains lead to from p, each once, a source before its reader
-pub record IsAffected (F : Place → Option Binding) (p : Place) (affected : List Place) : Type 0 where
+-- what chains lead to from one of these, each once, a source before its reader
+pub record IsAffected (F : Place → Option Binding) (from affected : List Place) : Type 0 where
   pub ordered : Ordered F affected
   pub distinct : Distinct affected
-  pub reached : (q : Place) → In q affected → Chain F p q
-  pub closed : (q m : Place) (b : Binding) → F q ≡ Some b → Reads b m → In m (p ∷ affected) → In q affected
+  pub reached : (q : Place) → In q affected → ChainFrom F from q
+  pub closed : (q m : Place) (b : Binding) → F q ≡ Some b → Reads b m → In m from ⊎ In m affected → In q affected
 
 -- what has a new binding and all that chains lead to from it, each once, a source before its reader; the others read none
 -- of them and are bound as they were

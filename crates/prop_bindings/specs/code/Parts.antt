@@ -1,22 +1,26 @@
 -- The parts of a write and a bind.
 use Rattle.std.specs.Prelude.{◌≡◌, ℕ, List, [], ◌∷◌, ◌++◌, All, Option, Some, Result, Ok, Err}
-use Rattle.std.specs.Option.{option_map, unwrap_or}
+use Rattle.std.specs.Option.{is_some, option_map, unwrap_or}
 use Rattle.signatures.specs.declared.value.Value.{Value}
 use Rattle.indexmap.specs.IndexMap.{IndexMap, get}
 use Rattle.meta_model.specs.Loaded.{Loaded}
 use Rattle.object_tree.specs.declared.object.Object.{Object}
+use Rattle.object_tree.specs.Objects.{change_life, written}
 use Rattle.object_tree.specs.Typed.{AreTyped}
 use Rattle.prop_bindings.specs.declared.place.Place.{Place}
+use Rattle.prop_bindings.specs.declared.assignment.Assignment.{Assignment}
 use Rattle.prop_bindings.specs.declared.binding.Binding.{Binding}
 use Rattle.prop_bindings.specs.declared.fault.BindFault.{BindFault}
 use Rattle.prop_bindings.specs.declared.fault.BindFault.TheVariants as bind
+use Rattle.prop_bindings.specs.declared.planned.Planned.{Planned}
 use Rattle.prop_bindings.specs.declared.planned.PlannedBind.{PlannedBind}
 use Rattle.prop_bindings.specs.declared.preparing.Prepared.{Prepared}
-use Rattle.prop_bindings.specs.Places.{values_in}
-use Rattle.prop_bindings.specs.Bindings.{binding_at, replaced, without, value_of, Loop}
-use Rattle.prop_bindings.specs.Calls.{MayBind, IsNotBound, new_binding}
-use Rattle.prop_bindings.specs.Changes.{AreChanged, IsInstalled}
-use Rattle.prop_bindings.specs.Fits.{FitsAt, IsFit, IsInOneLoop, Agree}
+use Rattle.prop_bindings.specs.Places.{In, is_in, values_in}
+use Rattle.prop_bindings.specs.Bindings.{binding_at, replaced, without_all, value_of, Loop}
+use Rattle.prop_bindings.specs.Calls.{AllFit, MayBind, IsNotBound, new_binding}
+use Rattle.prop_bindings.specs.Changes.{AreChanged, IsInstalled, IsWritten, once, places_in}
+use Rattle.prop_bindings.specs.Counts.{CountsReached}
+use Rattle.prop_bindings.specs.Fits.{IsFit, IsInOneLoop, Agree}
 use Rattle.prop_bindings.specs.Plans.{assigned, after}
 use Rattle.prop_bindings.specs.code.Keys.{key_of, same_key}
 use Rattle.prop_bindings.specs.code.Orders.{IsLater}
@@ -29,6 +33,14 @@ ahead values objects = assigned values.entries objects
 -- what a property reads then: the value that it is to have, if it is to have one, or its own
 abbrev pub value_ahead : {S : Type 0} → IndexMap (ℕ × ℕ) Value S → List Object → Place → Option Value
 value_ahead values objects q = option_map (unwrap_or (get same_key values (key_of q))) (values_in objects q)
+
+-- no other property is to have another value
+abbrev pub GivesOnly : {S : Type 0} → List Place → IndexMap (ℕ × ℕ) Value S → List Object → Type 0
+GivesOnly targets values objects = (q : Place) → (¬ In q targets) → values_in (ahead values objects) q ≡ values_in objects q
+
+-- each of these properties has the value already that it is to have
+abbrev pub HaveAhead : {S : Type 0} → IndexMap (ℕ × ℕ) Value S → List Object → List Place → Type 0
+HaveAhead values objects ps = (q : Place) → In q ps → values_in (ahead values objects) q ≡ values_in objects q
 
 -- the property is added to those of some that changed, if it did
 abbrev pub AddsChanged : List Object → List Object → Place → List Place → List Place → Type 0
@@ -45,22 +57,42 @@ IsSoundBySome objects bs = (p : Loaded) × AreSound p objects bs
 abbrev pub StaySound : List Object → List Object → List Binding → Type 0
 StaySound old new bs = (p : Loaded) → AreSound p old bs → AreSound p new bs
 
--- .. and the value is of the type of this property
-abbrev pub IsSoundWith : List Object → List Binding → Place → Value → Type 0
-IsSoundWith objects bs at v = (p : Loaded) × AreSound p objects bs × FitsAt p objects at v
+-- ---- writes
+-- the objects once these writes were carried out in turn, and nothing followed from them
+abbrev pub wrote : List Assignment → List Object → List Object
+wrote [] objects = objects
+wrote (a ∷ rest) objects = wrote rest (change_life a.place.object (written a.place.property a.value) objects)
 
-abbrev pub StaySoundWith : List Object → List Object → List Binding → Place → Value → Type 0
-StaySoundWith old new bs at v = (p : Loaded) → AreSound p old bs → FitsAt p old at v → AreSound p new bs
+-- the properties that are written, each once, with the values that are written last
+pub record AreGiven {S : Type 0} (writes : List Assignment) (targets : List Place) (values : IndexMap (ℕ × ℕ) Value S)
+    : Type 0 where
+  pub each : targets ≡ once (places_in writes)
+  pub keyed : (q : Place) → is_some (get same_key values (key_of q)) ≡ is_in targets q
+  pub begun : (objects : List Object) → ahead values objects ≡ wrote writes objects
 
--- ---- what stands before a change and after it
--- where a property is to be given this value
-abbrev pub AgreesAt : List Object → List Binding → Place → Value → Type 0
-AgreesAt objects bs at v = (p : Loaded) × Agree p objects bs × FitsAt p objects at v
+-- the writes may be, and these are their properties and values
+pub record MayGive {S : Type 0} (p : Loaded) (objects : List Object) (bs : List Binding) (writes : List Assignment)
+    (targets : List Place) (values : IndexMap (ℕ × ℕ) Value S) : Type 0 where
+  pub agree : Agree p objects bs
+  pub fits : AllFit p objects writes
+  pub given : AreGiven writes targets values
 
--- .. and once its binding is gone
-abbrev pub StayAgreeingAt : List Object → List Object → List Binding → Place → Value → Type 0
-StayAgreeingAt old new bs at v = (p : Loaded) → Agree p old bs → FitsAt p old at v → Agree p new (without at bs)
+abbrev pub MayGiveSome : {S : Type 0} → List Object → List Binding → List Place → IndexMap (ℕ × ℕ) Value S → Type 0
+MayGiveSome objects bs targets values = (p : Loaded) × (writes : List Assignment) × MayGive p objects bs writes targets values
 
+-- the plan is of these writes, and what follows from them was evaluated
+pub record PlansThem (p : Loaded) (objects : List Object) (bs : List Binding) (writes : List Assignment) (plan : Planned)
+    : Type 0 where
+  pub written : IsWritten bs (without_all (places_in writes) bs) objects (after plan objects) writes plan.changed
+  pub agree : Agree p (after plan objects) (without_all (places_in writes) bs)
+  pub counted : CountsReached (binding_at (without_all (places_in writes) bs)) (places_in writes) plan.changed plan.evaluated
+
+-- .. of whichever writes give these
+abbrev pub PlansGiven : {S : Type 0} → List Object → List Binding → List Place → IndexMap (ℕ × ℕ) Value S → Planned → Type 0
+PlansGiven objects bs targets values plan =
+    (p : Loaded) (writes : List Assignment) → MayGive p objects bs writes targets values → PlansThem p objects bs writes plan
+
+-- ---- what stands before a bind and after it
 -- where a binding is to be installed whose expression has this value
 abbrev pub AgreesWith : List Object → List Binding → Binding → Value → Type 0
 AgreesWith objects bs b v =
@@ -94,7 +126,6 @@ pub data IsNotInstalled (bs : List Binding) (b : Binding) : BindFault → Type 0
 -- the plan is to install this binding
 pub record InstallsIt (b : Binding) (bs : List Binding) (objects : List Object) (plan : PlannedBind) : Type 0 where
   pub binding : plan.reader ≡ b
-  pub target : plan.planned.target ≡ plan.reader.target
   pub installs : IsInstalled bs (replaced bs plan.reader) objects (after plan.planned objects) b plan.planned.changed
 
 abbrev pub Installs : Binding → List Binding → List Object → Result PlannedBind BindFault → Type 0

@@ -1,21 +1,42 @@
-use Rattle.std.proofs.Common.{◌≡◌, ◌∙◌, List, ap, sym, subst}
+use Rattle.std.proofs.Common.{◌≡◌, ◌∙◌, ◌++◌, ◌+◌, ℕ, List, drop, ap, sym, subst}
+use Rattle.std.specs.Option.{is_some}
+use Rattle.indexmap.specs.IndexMap.{get}
 use Rattle.prop_bindings.specs.declared.place.Place.{Place}
-use Rattle.prop_bindings.specs.Bindings.{binding_at, without}
+use Rattle.prop_bindings.specs.Bindings.{binding_at, without_all}
 use Rattle.prop_bindings.specs.code.Graph.{bindings_of}
+use Rattle.prop_bindings.specs.code.Keys.{same_key}
 use Rattle.prop_bindings.specs.code.Ranks.{rank_of}
 use Rattle.prop_bindings.specs.code.Numbering.{places_of}
 use Rattle.prop_bindings.specs.code.Orders.{IsAffected}
 use Rattle.prop_bindings.specs.declared.numbering.Numbered.{Numbered}
-use Rattle.prop_bindings.proofs.Numbers.{walked-all}
 use Rattle.prop_bindings.proofs.Graphs.{rank-rises}
-use Rattle.prop_bindings.proofs.Reaching.{affected-reached}
-use Rattle.prop_bindings.proofs.Replaced.{without-fewer}
+use Rattle.prop_bindings.proofs.Reaching.{affected-reached, outside, walk-all, walk-kept, walk-skipped}
 use Rattle.prop_bindings.proofs.followers.followers.Goals as goal
+
+pub loop-each-init : goal.loop-each-init
+loop-each-init c = ap (λ (ps : List Place). ps ++ outside c.args.from.now (places_of c.deref-each-items.result.now)) c.in_ok-places.ensures.items
+
+pub loop-each-preserved-then-contains_key : goal.loop-each-preserved-then-contains_key
+loop-each-preserved-then-contains_key c =
+    walk-skipped c.args.from.now c.loop-each.places.items (outside c.args.from.now (places_of c.deref-each-items.result.now)) c.deref-each-items.result.now c.loop-each.each-index c.each-item.result c.loop-each-test.true c.each-item.is
+    (sym (c.contains_key.ensures ∙ ap (λ (k : ℕ × ℕ). is_some (get same_key c.args.given.now k)) c.key.ensures ∙ c.requires.given c.each-item.result.place) ∙ c.if-contains_key.true)
+    c.loop-each.invariant
+
+pub loop-each-preserved : goal.loop-each-preserved
+loop-each-preserved c =
+    let rest : List Place = outside c.args.from.now (places_of (drop (c.loop-each.each-index + 1) c.deref-each-items.result.now)) in
+    subst (λ (ps : List Place). ps ++ rest ≡ outside c.args.from.now (places_of c.deref-each-items.result.now)) (sym c.in_ok-push.ensures.items)
+    (walk-kept c.args.from.now c.loop-each.places.items (outside c.args.from.now (places_of c.deref-each-items.result.now)) c.deref-each-items.result.now c.loop-each.each-index c.each-item.result c.loop-each-test.true c.each-item.is
+    (sym (c.contains_key.ensures ∙ ap (λ (k : ℕ × ℕ). is_some (get same_key c.args.given.now k)) c.key.ensures ∙ c.requires.given c.each-item.result.place) ∙ c.if-contains_key.false)
+    c.loop-each.invariant)
 
 pub returns : goal.returns
 returns c =
-    let all : c.loop-each.places.items ≡ places_of c.in_ok-found.found.items = walked-all c.loop-each.places.items (places_of c.deref-each-items.result.now) c.deref-each-items.result.now c.loop-each.each-index c.loop-each-test.false c.loop-each.invariant ∙ ap (λ (fs : List Numbered). places_of fs) c.deref-each-items.ensures.value in
-    subst (λ (ps : List Place). IsAffected (binding_at (without c.args.from.now (bindings_of c.args.graph.now))) c.args.from.now ps) (sym all)
-    (affected-reached (binding_at (without c.args.from.now (bindings_of c.args.graph.now))) (rank_of c.args.graph.now.ranks) c.args.from.now c.in_ok-found.found.items
-    (λ q m b i j some reads x y. rank-rises c.args.graph.now c.requires q m b (without-fewer c.args.from.now (bindings_of c.args.graph.now) q b some) reads j y i x)
+    let F = binding_at (bindings_of c.args.graph.now) in
+    let all : c.loop-each.places.items ≡ outside c.args.from.now (places_of c.in_ok-found.found.items) =
+    walk-all c.args.from.now c.loop-each.places.items (outside c.args.from.now (places_of c.deref-each-items.result.now)) c.deref-each-items.result.now c.loop-each.each-index c.loop-each-test.false c.loop-each.invariant
+    ∙ ap (λ (fs : List Numbered). outside c.args.from.now (places_of fs)) c.deref-each-items.ensures.value in
+    subst (λ (ps : List Place). IsAffected (binding_at (without_all c.args.from.now (bindings_of c.args.graph.now))) c.args.from.now ps) (sym all)
+    (affected-reached (bindings_of c.args.graph.now) c.args.from.now (rank_of c.args.graph.now.ranks) c.in_ok-found.found.items
+    (λ q m b i j some reads x y. rank-rises c.args.graph.now c.requires.graph q m b some reads j y i x)
     c.in_ok-found.ensures)

@@ -1,19 +1,21 @@
 use Rattle.std.proofs.Common.{◌≡◌, ◌∙◌, ◌-◌, ◌∷◌, [], ◌⊎◌, Option, Some, false, suc, List, length, take, drop, ap, sym, subst, refl, arith}
+use Rattle.signatures.specs.declared.value.Value.{Value}
 use Rattle.prop_bindings.specs.declared.place.Place.{Place}
 use Rattle.prop_bindings.specs.declared.binding.Binding.{Binding}
 use Rattle.prop_bindings.specs.declared.fault.BindFault.TheVariants.{BindingLoop}
 use Rattle.prop_bindings.specs.Places.{Distinct, In, values_in}
 use Rattle.prop_bindings.specs.Bindings.{binding_at, Loop, replaced, reads_any, without}
-use Rattle.prop_bindings.specs.Changes.{in_order, IsInstalled}
+use Rattle.prop_bindings.specs.Changes.{in_order, one, IsInstalled}
 use Rattle.prop_bindings.specs.Counts.{Kept, CountsFrom}
 use Rattle.prop_bindings.specs.Fits.{Agree}
 use Rattle.prop_bindings.specs.Plans.{after}
 use Rattle.prop_bindings.specs.code.Graph.{bindings_of}
 use Rattle.prop_bindings.specs.code.Orders.{AreBound, IsAffected, IsLater, bound, pass, update}
-use Rattle.prop_bindings.specs.code.Parts.{IsNotInstalled, IsSoundWith, loops}
+use Rattle.prop_bindings.specs.code.Parts.{IsNotInstalled, IsSoundBySome, ahead, loops}
 use Rattle.prop_bindings.proofs.Calling.{tail-is, install_loops, is_moved, is_installed, is_later, agree_installed, fits-of}
 use Rattle.prop_bindings.proofs.Counting.{changed-among, counts-later}
 use Rattle.prop_bindings.proofs.Evaluating.{rest-alike}
+use Rattle.prop_bindings.proofs.Giving.{given-only, given-update, sound-ahead}
 use Rattle.prop_bindings.proofs.Replaced.{installed-is}
 use Rattle.prop_bindings.proofs.Settling.{affected-away, affected-bound}
 use Rattle.prop_bindings.proofs.Short.{installs-short}
@@ -21,6 +23,9 @@ use Rattle.prop_bindings.proofs.bindings.Bindings.plan_install.Goals as goal
 
 pub returns-in_err-reader-clause-value : goal.returns-in_err-reader-clause-value
 returns-in_err-reader-clause-value c = installs-short c.args.prepared.binding c.args.self.now.installed c.args.tree.now c.from_residual.result c.from_residual.ensures.1
+
+pub returns-in_err-values-clause-value : goal.returns-in_err-values-clause-value
+returns-in_err-values-clause-value c = installs-short c.args.prepared.binding c.args.self.now.installed c.args.tree.now c.from_residual-in_err-values.result c.from_residual-in_err-values.ensures.1
 
 pub returns-in_err-followers-clause-value : goal.returns-in_err-followers-clause-value
 returns-in_err-followers-clause-value c = installs-short c.args.prepared.binding c.args.self.now.installed c.args.tree.now c.from_residual-in_err-followers.result c.from_residual-in_err-followers.ensures.1
@@ -38,7 +43,7 @@ returns-then-reads_any-clause-value c =
     let reached : List Place = c.in_ok-followers.followers.items in
     let later : List Place = c.in_ok-moved.moved.items in
     let same : c.in_ok-reader.reader ≡ b = c.in_ok-reader.ensures in
-    let affected : IsAffected (binding_at (without b.target bs)) b.target reached = c.in_ok-followers.ensures in
+    let affected : IsAffected (binding_at (without b.target bs)) (b.target ∷ []) reached = c.in_ok-followers.ensures in
     let all : later ≡ b.target ∷ reached = c.in_ok-moved.ensures ∙ ap (λ (xs : List Place). b.target ∷ xs) c.deref.ensures.value in
     let view : bs ≡ c.args.self.now.installed = ap (λ (k : Kept). k.installed) c.self.view_is in
     let chain = install_loops bs b reached later affected all (ap (λ (xs : List Place). reads_any b xs) (sym c.deref-2.ensures.value) ∙ ap (λ (z : Binding). reads_any z c.deref-2.result.now) (sym same) ∙ sym c.reads_any.ensures ∙ c.if-reads_any.true) in
@@ -47,12 +52,21 @@ returns-then-reads_any-clause-value c =
 pub plan-requires-clause-apart : goal.plan-requires-clause-apart
 plan-requires-clause-apart c = c.self.invariant.apart
 
+pub followers-requires-clause-given : goal.followers-requires-clause-given
+followers-requires-clause-given c = c.in_ok-values.ensures.keyed
+
+pub plan-requires-clause-given : goal.plan-requires-clause-given
+plan-requires-clause-given c = given-only c.in_ok-values.values (one c.args.prepared.binding.target c.args.prepared.value) (c.args.prepared.binding.target ∷ []) c.in_ok-values.ensures c.args.tree.now
+
 pub plan-requires-clause-sound : goal.plan-requires-clause-sound
 plan-requires-clause-sound c =
-    let read = ap (λ (k : Kept). k.installed) c.self.view_is in
     let agree = c.requires.agree in
-    subst (λ (xs : List Binding). IsSoundWith c.args.tree.now xs c.args.prepared.binding.target c.args.prepared.value) (sym read)
-    (agree.0, (agree.1.typed, agree.1.fit), fits-of agree.0 c.args.tree.now c.args.prepared.binding c.args.prepared.value agree.2 agree.4)
+    let b : Binding = c.args.prepared.binding in
+    subst (λ (xs : List Binding). IsSoundBySome (ahead c.in_ok-values.values c.args.tree.now) xs) (sym (ap (λ (k : Kept). k.installed) c.self.view_is)) (
+      agree.0,
+      sound-ahead c.in_ok-values.values agree.0 c.args.tree.now c.args.self.now.installed (one b.target c.args.prepared.value) (b.target ∷ []) c.in_ok-values.ensures
+          (fits-of agree.0 c.args.tree.now b c.args.prepared.value agree.2 agree.4, tt) (agree.1.typed, agree.1.fit),
+    )
 
 pub plan-requires-clause-bound : goal.plan-requires-clause-bound
 plan-requires-clause-bound c =
@@ -61,11 +75,11 @@ plan-requires-clause-bound c =
     let reached : List Place = c.in_ok-followers.followers.items in
     let later : List Place = c.in_ok-moved.moved.items in
     let same : c.in_ok-reader.reader ≡ b = c.in_ok-reader.ensures in
-    let affected : IsAffected (binding_at (without b.target bs)) b.target reached = c.in_ok-followers.ensures in
+    let affected : IsAffected (binding_at (without b.target bs)) (b.target ∷ []) reached = c.in_ok-followers.ensures in
     let all : later ≡ b.target ∷ reached = c.in_ok-moved.ensures ∙ ap (λ (xs : List Place). b.target ∷ xs) c.deref.ensures.value in
     let followers : List Place = take (length c.deref-3.result.now - 1) (drop 1 c.deref-3.result.now) in
     let rest : followers ≡ reached = tail-is c.deref-3.result.now later reached b.target c.deref-3.ensures.value all in
-    subst (λ (ps : List Place). AreBound (binding_at bs) ps) (sym rest) (affected-bound bs b.target reached affected)
+    subst (λ (ps : List Place). AreBound (binding_at bs) ps) (sym rest) (affected-bound bs (b.target ∷ []) reached affected)
 
 pub plan-requires-clause-distinct : goal.plan-requires-clause-distinct
 plan-requires-clause-distinct c =
@@ -73,7 +87,7 @@ plan-requires-clause-distinct c =
     let bs : List Binding = bindings_of c.self.inside.graph in
     let reached : List Place = c.in_ok-followers.followers.items in
     let later : List Place = c.in_ok-moved.moved.items in
-    let affected : IsAffected (binding_at (without b.target bs)) b.target reached = c.in_ok-followers.ensures in
+    let affected : IsAffected (binding_at (without b.target bs)) (b.target ∷ []) reached = c.in_ok-followers.ensures in
     let all : later ≡ b.target ∷ reached = c.in_ok-moved.ensures ∙ ap (λ (xs : List Place). b.target ∷ xs) c.deref.ensures.value in
     let followers : List Place = take (length c.deref-3.result.now - 1) (drop 1 c.deref-3.result.now) in
     let rest : followers ≡ reached = tail-is c.deref-3.result.now later reached b.target c.deref-3.ensures.value all in
@@ -86,11 +100,11 @@ plan-requires-clause-others c =
     let reached : List Place = c.in_ok-followers.followers.items in
     let later : List Place = c.in_ok-moved.moved.items in
     let same : c.in_ok-reader.reader ≡ b = c.in_ok-reader.ensures in
-    let affected : IsAffected (binding_at (without b.target bs)) b.target reached = c.in_ok-followers.ensures in
+    let affected : IsAffected (binding_at (without b.target bs)) (b.target ∷ []) reached = c.in_ok-followers.ensures in
     let all : later ≡ b.target ∷ reached = c.in_ok-moved.ensures ∙ ap (λ (xs : List Place). b.target ∷ xs) c.deref.ensures.value in
     let followers : List Place = take (length c.deref-3.result.now - 1) (drop 1 c.deref-3.result.now) in
     let rest : followers ≡ reached = tail-is c.deref-3.result.now later reached b.target c.deref-3.ensures.value all in
-    λ i. affected-away bs b.target reached affected (subst (λ (ps : List Place). In b.target ps) rest i)
+    λ q i j. affected-away bs (b.target ∷ []) reached affected q i (subst (λ (ps : List Place). In q ps) rest j)
 
 pub returns-clause-value : goal.returns-clause-value
 returns-clause-value c =
@@ -99,7 +113,7 @@ returns-clause-value c =
     let reached : List Place = c.in_ok-followers.followers.items in
     let later : List Place = c.in_ok-moved.moved.items in
     let same : c.in_ok-reader.reader ≡ b = c.in_ok-reader.ensures in
-    let affected : IsAffected (binding_at (without b.target bs)) b.target reached = c.in_ok-followers.ensures in
+    let affected : IsAffected (binding_at (without b.target bs)) (b.target ∷ []) reached = c.in_ok-followers.ensures in
     let all : later ≡ b.target ∷ reached = c.in_ok-moved.ensures ∙ ap (λ (xs : List Place). b.target ∷ xs) c.deref.ensures.value in
     let free : reads_any b later ≡ false = ap (λ (xs : List Place). reads_any b xs) (sym c.deref-2.ensures.value) ∙ ap (λ (z : Binding). reads_any z c.deref-2.result.now) (sym same) ∙ sym c.reads_any.ensures ∙ c.if-reads_any.false in
     let followers : List Place = take (length c.deref-3.result.now - 1) (drop 1 c.deref-3.result.now) in
@@ -107,12 +121,15 @@ returns-clause-value c =
     let view : bs ≡ c.args.self.now.installed = ap (λ (k : Kept). k.installed) c.self.view_is in
     let agree = subst (λ (xs : List Binding). Agree c.requires.agree.0 c.args.tree.now xs) (sym view) c.requires.agree.1 in
     let plan = c.in_ok-planned.planned in
-    let follows : (q : Place) → values_in (after plan c.args.tree.now) q ≡ pass (binding_at bs) reached (update (values_in c.args.tree.now) b.target (Some c.args.prepared.value)) q = λ q. c.in_ok-planned.ensures.values q ∙ ap (λ (xs : List Place). pass (binding_at bs) xs (update (values_in c.args.tree.now) b.target (Some c.args.prepared.value)) q) rest in
+    let begun = given-update c.requires.agree.0 c.args.tree.now b.target c.args.prepared.value c.in_ok-values.values c.requires.agree.1.typed
+    (fits-of c.requires.agree.0 c.args.tree.now b c.args.prepared.value c.requires.agree.2 c.requires.agree.4) c.in_ok-values.ensures in
+    let follows : (q : Place) → values_in (after plan c.args.tree.now) q ≡ pass (binding_at bs) reached (update (values_in c.args.tree.now) b.target (Some c.args.prepared.value)) q = λ q. c.in_ok-planned.ensures.values q
+    ∙ ap (λ (e : Place → Option Value). pass (binding_at bs) followers e q) begun
+    ∙ ap (λ (xs : List Place). pass (binding_at bs) xs (update (values_in c.args.tree.now) b.target (Some c.args.prepared.value)) q) rest in
     let done = is_installed bs b reached later affected all free c.args.tree.now (after plan c.args.tree.now) c.args.prepared.value agree.settled agree.acyclic c.requires.agree.4 follows
     (replaced bs c.in_ok-reader.reader) plan.changed (ap (λ (z : Binding). replaced bs z) same) c.in_ok-planned.ensures.objects c.in_ok-planned.ensures.changed in
     record {
       binding = same;
-      target = c.in_ok-planned.ensures.target ∙ sym (ap (λ (z : Binding). z.target) same);
       installs = subst (λ (xs : List Binding). IsInstalled xs (replaced xs c.in_ok-reader.reader) c.args.tree.now (after plan c.args.tree.now) b plan.changed) view done;
     }
 
@@ -123,7 +140,7 @@ returns-clause-may c =
     let reached : List Place = c.in_ok-followers.followers.items in
     let later : List Place = c.in_ok-moved.moved.items in
     let same : c.in_ok-reader.reader ≡ b = c.in_ok-reader.ensures in
-    let affected : IsAffected (binding_at (without b.target bs)) b.target reached = c.in_ok-followers.ensures in
+    let affected : IsAffected (binding_at (without b.target bs)) (b.target ∷ []) reached = c.in_ok-followers.ensures in
     let all : later ≡ b.target ∷ reached = c.in_ok-moved.ensures ∙ ap (λ (xs : List Place). b.target ∷ xs) c.deref.ensures.value in
     let free : reads_any b later ≡ false = ap (λ (xs : List Place). reads_any b xs) (sym c.deref-2.ensures.value) ∙ ap (λ (z : Binding). reads_any z c.deref-2.result.now) (sym same) ∙ sym c.reads_any.ensures ∙ c.if-reads_any.false in
     let view : bs ≡ c.args.self.now.installed = ap (λ (k : Kept). k.installed) c.self.view_is in
@@ -139,7 +156,7 @@ returns-clause-agree c = λ p agree fit joined.
     let reached : List Place = c.in_ok-followers.followers.items in
     let later : List Place = c.in_ok-moved.moved.items in
     let same : c.in_ok-reader.reader ≡ b = c.in_ok-reader.ensures in
-    let affected : IsAffected (binding_at (without b.target bs)) b.target reached = c.in_ok-followers.ensures in
+    let affected : IsAffected (binding_at (without b.target bs)) (b.target ∷ []) reached = c.in_ok-followers.ensures in
     let all : later ≡ b.target ∷ reached = c.in_ok-moved.ensures ∙ ap (λ (xs : List Place). b.target ∷ xs) c.deref.ensures.value in
     let free : reads_any b later ≡ false = ap (λ (xs : List Place). reads_any b xs) (sym c.deref-2.ensures.value) ∙ ap (λ (z : Binding). reads_any z c.deref-2.result.now) (sym same) ∙ sym c.reads_any.ensures ∙ c.if-reads_any.false in
     let followers : List Place = take (length c.deref-3.result.now - 1) (drop 1 c.deref-3.result.now) in
@@ -147,10 +164,15 @@ returns-clause-agree c = λ p agree fit joined.
     let view : bs ≡ c.args.self.now.installed = ap (λ (k : Kept). k.installed) c.self.view_is in
     let old = subst (λ (xs : List Binding). Agree p c.args.tree.now xs) (sym view) agree in
     let plan = c.in_ok-planned.planned in
-    let follows : (q : Place) → values_in (after plan c.args.tree.now) q ≡ pass (binding_at bs) reached (update (values_in c.args.tree.now) b.target (Some c.args.prepared.value)) q = λ q. c.in_ok-planned.ensures.values q ∙ ap (λ (xs : List Place). pass (binding_at bs) xs (update (values_in c.args.tree.now) b.target (Some c.args.prepared.value)) q) rest in
+    let begun = given-update c.requires.agree.0 c.args.tree.now b.target c.args.prepared.value c.in_ok-values.values c.requires.agree.1.typed
+    (fits-of c.requires.agree.0 c.args.tree.now b c.args.prepared.value c.requires.agree.2 c.requires.agree.4) c.in_ok-values.ensures in
+    let follows : (q : Place) → values_in (after plan c.args.tree.now) q ≡ pass (binding_at bs) reached (update (values_in c.args.tree.now) b.target (Some c.args.prepared.value)) q = λ q. c.in_ok-planned.ensures.values q
+    ∙ ap (λ (e : Place → Option Value). pass (binding_at bs) followers e q) begun
+    ∙ ap (λ (xs : List Place). pass (binding_at bs) xs (update (values_in c.args.tree.now) b.target (Some c.args.prepared.value)) q) rest in
     let done = agree_installed bs b reached later affected all free c.args.tree.now (after plan c.args.tree.now) c.args.prepared.value old.settled old.acyclic c.requires.agree.4 follows
     p (replaced bs c.in_ok-reader.reader) (ap (λ (z : Binding). replaced bs z) same) c.in_ok-planned.ensures.objects old fit joined
-    (c.in_ok-planned.ensures.sound p (old.typed, old.fit) (fits-of p c.args.tree.now b c.args.prepared.value fit c.requires.agree.4)) in
+    (c.in_ok-planned.ensures.sound p (sound-ahead c.in_ok-values.values p c.args.tree.now bs (one b.target c.args.prepared.value) (b.target ∷ []) c.in_ok-values.ensures
+    (fits-of p c.args.tree.now b c.args.prepared.value fit c.requires.agree.4, tt) (old.typed, old.fit))) in
     subst (λ (xs : List Binding). Agree p (after plan c.args.tree.now) (replaced xs c.in_ok-reader.reader)) view done
 
 pub returns-clause-counted : goal.returns-clause-counted
@@ -160,7 +182,7 @@ returns-clause-counted c =
     let reached : List Place = c.in_ok-followers.followers.items in
     let later : List Place = c.in_ok-moved.moved.items in
     let same : c.in_ok-reader.reader ≡ b = c.in_ok-reader.ensures in
-    let affected : IsAffected (binding_at (without b.target bs)) b.target reached = c.in_ok-followers.ensures in
+    let affected : IsAffected (binding_at (without b.target bs)) (b.target ∷ []) reached = c.in_ok-followers.ensures in
     let all : later ≡ b.target ∷ reached = c.in_ok-moved.ensures ∙ ap (λ (xs : List Place). b.target ∷ xs) c.deref.ensures.value in
     let free : reads_any b later ≡ false = ap (λ (xs : List Place). reads_any b xs) (sym c.deref-2.ensures.value) ∙ ap (λ (z : Binding). reads_any z c.deref-2.result.now) (sym same) ∙ sym c.reads_any.ensures ∙ c.if-reads_any.false in
     let followers : List Place = take (length c.deref-3.result.now - 1) (drop 1 c.deref-3.result.now) in
@@ -171,15 +193,20 @@ returns-clause-counted c =
     let new = after plan c.args.tree.now in
     let values = c.in_ok-planned.ensures.values in
     let F = binding_at bs in
-    let follows : (q : Place) → values_in (after plan c.args.tree.now) q ≡ pass (binding_at bs) reached (update (values_in c.args.tree.now) b.target (Some c.args.prepared.value)) q = λ q. c.in_ok-planned.ensures.values q ∙ ap (λ (xs : List Place). pass (binding_at bs) xs (update (values_in c.args.tree.now) b.target (Some c.args.prepared.value)) q) rest in
+    let begun = given-update c.requires.agree.0 c.args.tree.now b.target c.args.prepared.value c.in_ok-values.values c.requires.agree.1.typed
+    (fits-of c.requires.agree.0 c.args.tree.now b c.args.prepared.value c.requires.agree.2 c.requires.agree.4) c.in_ok-values.ensures in
+    let follows : (q : Place) → values_in (after plan c.args.tree.now) q ≡ pass (binding_at bs) reached (update (values_in c.args.tree.now) b.target (Some c.args.prepared.value)) q = λ q. c.in_ok-planned.ensures.values q
+    ∙ ap (λ (e : Place → Option Value). pass (binding_at bs) followers e q) begun
+    ∙ ap (λ (xs : List Place). pass (binding_at bs) xs (update (values_in c.args.tree.now) b.target (Some c.args.prepared.value)) q) rest in
     let later-is = is_later bs b reached later affected all free in
     let done = is_installed bs b reached later affected all free c.args.tree.now new c.args.prepared.value agree.settled agree.acyclic c.requires.agree.4 follows
     (replaced bs b) plan.changed refl c.in_ok-planned.ensures.objects c.in_ok-planned.ensures.changed in
-    let alike = rest-alike c.args.tree.now new bs b.target c.args.prepared.value (c.requires.agree.0, (agree.typed, agree.fit), fits-of c.requires.agree.0 c.args.tree.now b c.args.prepared.value c.requires.agree.2 c.requires.agree.4) followers c.in_ok-planned.ensures.objects values in
-    let among = changed-among c.args.tree.now new (in_order (b.target ∷ []) bs) plan.changed b.target followers c.in_ok-planned.ensures.changed alike in
+    let only = given-only c.in_ok-values.values (one b.target c.args.prepared.value) (b.target ∷ []) c.in_ok-values.ensures c.args.tree.now in
+    let alike = rest-alike c.args.tree.now (ahead c.in_ok-values.values c.args.tree.now) new bs (b.target ∷ []) followers only values c.in_ok-planned.ensures.objects in
+    let among = changed-among c.args.tree.now new (in_order (b.target ∷ []) bs) plan.changed (b.target ∷ []) followers c.in_ok-planned.ensures.changed alike in
     let count : plan.evaluated ≡ suc (length followers) = omega (arith, c.in_ok-planned.ensures.counted, c.requires.once) in
     let counts : CountsFrom (bound F b.target b) b.target plan.changed plan.evaluated =
-    subst (λ (fs : List Place). plan.evaluated ≡ suc (length fs) → ((q : Place) → In q plan.changed → (b.target ≡ q) ⊎ In q fs) → CountsFrom (bound F b.target b) b.target plan.changed plan.evaluated) (sym rest)
+    subst (λ (fs : List Place). plan.evaluated ≡ suc (length fs) → ((q : Place) → In q plan.changed → In q (b.target ∷ []) ⊎ In q fs) → CountsFrom (bound F b.target b) b.target plan.changed plan.evaluated) (sym rest)
     (λ n some. counts-later F (bound F b.target b) b.target reached plan.changed plan.evaluated later-is (subst (λ (G : Place → Option Binding). ¬ Loop G) (installed-is bs b) done.acyclic) some n) count among in
     subst (λ (z : Binding). CountsFrom (binding_at (replaced c.args.self.now.installed z)) z.target plan.changed plan.evaluated) (sym same)
     (subst (λ (xs : List Binding). CountsFrom (binding_at (replaced xs b)) b.target plan.changed plan.evaluated) view

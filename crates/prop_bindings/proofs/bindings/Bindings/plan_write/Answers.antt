@@ -1,33 +1,59 @@
-use Rattle.std.proofs.Common.{List, ap, sym, subst, ◌∙◌}
+use Rattle.std.proofs.Common.{List, [], ◌∷◌, ap, sym, subst, ◌∙◌}
 use Rattle.std.proofs.lemmas.Bool.{false≢true}
 use Rattle.prop_bindings.specs.declared.binding.Binding.{Binding}
-use Rattle.prop_bindings.specs.Bindings.{binding_at, without}
-use Rattle.prop_bindings.specs.Calls.{bad_type}
-use Rattle.prop_bindings.specs.Changes.{IsWritten, one}
-use Rattle.prop_bindings.specs.Counts.{Kept, CountsWritten}
-use Rattle.prop_bindings.specs.Fits.{Agree}
-use Rattle.prop_bindings.specs.Plans.{after}
+use Rattle.prop_bindings.specs.Calls.{AllFit, bad_type}
+use Rattle.prop_bindings.specs.Changes.{one}
+use Rattle.prop_bindings.specs.Counts.{Kept}
+use Rattle.prop_bindings.specs.code.Parts.{MayGiveSome, PlansGiven}
+use Rattle.prop_bindings.proofs.Calling.{counts-changed, kept-agrees, kept-counts, kept-plans}
 use Rattle.prop_bindings.proofs.Short.{plans-short}
 use Rattle.prop_bindings.proofs.bindings.Bindings.plan_write.Goals as goal
 
 pub returns-then-not-fits-clause-value : goal.returns-then-not-fits-clause-value
 returns-then-not-fits-clause-value c = bad_type (λ fits. false≢true (sym c.if-not-fits.true ∙ c.fits.ensures.1 fits.0))
 
-pub plan_over-requires-clause-agree : goal.plan_over-requires-clause-agree
-plan_over-requires-clause-agree c = (c.args.meta.now, subst (λ (bs : List Binding). Agree c.args.meta.now c.args.tree.now bs) (sym (ap (λ (k : Kept). k.installed) c.self.view_is)) c.requires.agree, c.fits.ensures.0 c.if-not-fits.false)
-
-pub returns-in_err-planned-clause-value : goal.returns-in_err-planned-clause-value
-returns-in_err-planned-clause-value c = plans-short c.args.meta.now (one c.args.place.now c.args.value) c.args.self.now.installed c.args.tree.now c.from_residual.result c.from_residual.ensures.1
-
-pub returns-clause-value : goal.returns-clause-value
-returns-clause-value c = (
+pub returns-then-has_value-clause-value : goal.returns-then-has_value-clause-value
+returns-then-has_value-clause-value c = (
   (c.fits.ensures.0 c.if-not-fits.false, tt),
-  subst (λ (bs : List Binding). IsWritten bs (without c.args.place.now bs) c.args.tree.now (after c.in_ok-planned.planned c.args.tree.now) (one c.args.place.now c.args.value) c.in_ok-planned.planned.changed) (ap (λ (k : Kept). k.installed) c.self.view_is) c.in_ok-planned.ensures.value,
+  kept-plans c.args.self.now.installed c.args.tree.now (one c.args.place.now c.args.value) c.requires.agree.settled c.nothing.result c.nothing.ensures.values c.nothing.ensures.changed c.nothing.ensures.evaluated
+      (c.has_value.ensures.0 c.if-has_value.true, tt),
 )
 
+pub returns-then-has_value-clause-agree : goal.returns-then-has_value-clause-agree
+returns-then-has_value-clause-agree c =
+    kept-agrees c.args.self.now.installed c.args.tree.now (one c.args.place.now c.args.value) c.requires.agree.settled c.nothing.result c.nothing.ensures.values c.nothing.ensures.changed c.nothing.ensures.evaluated
+    c.args.meta.now c.requires.agree
+
+pub returns-then-has_value-clause-counted : goal.returns-then-has_value-clause-counted
+returns-then-has_value-clause-counted c =
+    kept-counts c.args.self.now.installed c.args.tree.now (one c.args.place.now c.args.value) c.requires.agree.settled c.nothing.result c.nothing.ensures.values c.nothing.ensures.changed c.nothing.ensures.evaluated
+    (c.has_value.ensures.0 c.if-has_value.true, tt)
+
+pub returns-in_err-values-clause-value : goal.returns-in_err-values-clause-value
+returns-in_err-values-clause-value c = plans-short c.args.meta.now (one c.args.place.now c.args.value) c.args.self.now.installed c.args.tree.now c.from_residual.result c.from_residual.ensures.1
+
+pub plan_given-requires-clause-given : goal.plan_given-requires-clause-given
+plan_given-requires-clause-given c =
+    subst (λ (bs : List Binding). MayGiveSome c.args.tree.now bs (c.args.place.now ∷ []) c.in_ok-values.values) (sym (ap (λ (k : Kept). k.installed) c.self.view_is))
+    (c.args.meta.now, one c.args.place.now c.args.value, record { agree = c.requires.agree; fits = (c.fits.ensures.0 c.if-not-fits.false, tt); given = c.in_ok-values.ensures })
+
+pub returns-in_err-planned-clause-value : goal.returns-in_err-planned-clause-value
+returns-in_err-planned-clause-value c = plans-short c.args.meta.now (one c.args.place.now c.args.value) c.args.self.now.installed c.args.tree.now c.from_residual-in_err-planned.result c.from_residual-in_err-planned.ensures.1
+
+pub returns-clause-value : goal.returns-clause-value
+returns-clause-value c =
+    let plans = subst (λ (bs : List Binding). PlansGiven c.args.tree.now bs (c.args.place.now ∷ []) c.in_ok-values.values c.in_ok-planned.planned) (ap (λ (k : Kept). k.installed) c.self.view_is) c.in_ok-planned.ensures in
+    let fits : AllFit c.args.meta.now c.args.tree.now (one c.args.place.now c.args.value) = (c.fits.ensures.0 c.if-not-fits.false, tt) in
+    (fits, (plans c.args.meta.now (one c.args.place.now c.args.value) (record { agree = c.requires.agree; fits = fits; given = c.in_ok-values.ensures })).written)
+
 pub returns-clause-agree : goal.returns-clause-agree
-returns-clause-agree c = subst (λ (bs : List Binding). Agree c.args.meta.now (after c.in_ok-planned.planned c.args.tree.now) (without c.args.place.now bs)) (ap (λ (k : Kept). k.installed) c.self.view_is)
-    (c.in_ok-planned.ensures.agree c.args.meta.now (subst (λ (bs : List Binding). Agree c.args.meta.now c.args.tree.now bs) (sym (ap (λ (k : Kept). k.installed) c.self.view_is)) c.requires.agree) (c.fits.ensures.0 c.if-not-fits.false))
+returns-clause-agree c =
+    let plans = subst (λ (bs : List Binding). PlansGiven c.args.tree.now bs (c.args.place.now ∷ []) c.in_ok-values.values c.in_ok-planned.planned) (ap (λ (k : Kept). k.installed) c.self.view_is) c.in_ok-planned.ensures in
+    (plans c.args.meta.now (one c.args.place.now c.args.value) (record { agree = c.requires.agree; fits = (c.fits.ensures.0 c.if-not-fits.false, tt); given = c.in_ok-values.ensures })).agree
 
 pub returns-clause-counted : goal.returns-clause-counted
-returns-clause-counted c = subst (λ (bs : List Binding). CountsWritten (binding_at (without c.args.place.now bs)) c.args.place.now c.args.value c.args.tree.now c.in_ok-planned.planned.changed c.in_ok-planned.planned.evaluated) (ap (λ (k : Kept). k.installed) c.self.view_is) c.in_ok-planned.ensures.counted
+returns-clause-counted c =
+    let plans = subst (λ (bs : List Binding). PlansGiven c.args.tree.now bs (c.args.place.now ∷ []) c.in_ok-values.values c.in_ok-planned.planned) (ap (λ (k : Kept). k.installed) c.self.view_is) c.in_ok-planned.ensures in
+    counts-changed _ c.args.tree.now (one c.args.place.now c.args.value) c.in_ok-planned.planned.changed c.in_ok-planned.planned.evaluated
+    (λ have. false≢true (sym c.if-has_value.false ∙ c.has_value.ensures.1 have.0))
+    (plans c.args.meta.now (one c.args.place.now c.args.value) (record { agree = c.requires.agree; fits = (c.fits.ensures.0 c.if-not-fits.false, tt); given = c.in_ok-values.ensures })).counted

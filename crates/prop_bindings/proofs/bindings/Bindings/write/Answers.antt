@@ -23,8 +23,8 @@ returns-clause-value c =
     let left : c.carry_out.new.self.installed ≡ without c.args.place.now bs = c.carry_out.ensures.left ∙ ap (λ (q : Place). without q bs) c.in_ok-planned.ensures.target in (
       c.in_ok-planned.ensures.value.0,
       subst (λ (told : List Place). IsWritten bs c.carry_out.new.self.installed c.args.tree.now c.carry_out.new.tree (one c.args.place.now c.args.value) told) (sym c.carry_out.ensures.value)
-          (subst (λ (xs : List Object). IsWritten bs c.carry_out.new.self.installed c.args.tree.now xs (one c.args.place.now c.args.value) plan.changed) (sym c.carry_out.ensures.objects)
-          (subst (λ (cs : List Binding). IsWritten bs cs c.args.tree.now (after plan c.args.tree.now) (one c.args.place.now c.args.value) plan.changed) (sym left) c.in_ok-planned.ensures.value.1)),
+          (subst (λ (xs : List Object). IsWritten bs c.carry_out.new.self.installed c.args.tree.now xs (one c.args.place.now c.args.value) plan.planned.changed) (sym c.carry_out.ensures.objects)
+          (subst (λ (cs : List Binding). IsWritten bs cs c.args.tree.now (after plan.planned c.args.tree.now) (one c.args.place.now c.args.value) plan.planned.changed) (sym left) c.in_ok-planned.ensures.value.1)),
     )
 
 pub returns-clause-agree : goal.returns-clause-agree
@@ -32,7 +32,7 @@ returns-clause-agree c =
     let bs : List Binding = c.args.self.now.installed in
     let left : c.carry_out.new.self.installed ≡ without c.args.place.now bs = c.carry_out.ensures.left ∙ ap (λ (q : Place). without q bs) c.in_ok-planned.ensures.target in
     subst (λ (xs : List Object). Agree c.args.meta.now xs c.carry_out.new.self.installed) (sym c.carry_out.ensures.objects)
-    (subst (λ (cs : List Binding). Agree c.args.meta.now (after c.in_ok-planned.planned c.args.tree.now) cs) (sym left) c.in_ok-planned.ensures.agree)
+    (subst (λ (cs : List Binding). Agree c.args.meta.now (after c.in_ok-planned.planned.planned c.args.tree.now) cs) (sym left) c.in_ok-planned.ensures.agree)
 
 pub returns-clause-counted : goal.returns-clause-counted
 returns-clause-counted c =
@@ -40,5 +40,5 @@ returns-clause-counted c =
     let bs : List Binding = c.args.self.now.installed in
     let left : c.carry_out.new.self.installed ≡ without c.args.place.now bs = c.carry_out.ensures.left ∙ ap (λ (q : Place). without q bs) c.in_ok-planned.ensures.target in
     subst (λ (n : ℕ). CountsWritten (binding_at c.carry_out.new.self.installed) c.args.place.now c.args.value c.args.tree.now c.carry_out.result n) (sym c.carry_out.ensures.counted)
-    (subst (λ (told : List Place). CountsWritten (binding_at c.carry_out.new.self.installed) c.args.place.now c.args.value c.args.tree.now told plan.evaluated) (sym c.carry_out.ensures.value)
-    (subst (λ (cs : List Binding). CountsWritten (binding_at cs) c.args.place.now c.args.value c.args.tree.now plan.changed plan.evaluated) (sym left) c.in_ok-planned.ensures.counted))
+    (subst (λ (told : List Place). CountsWritten (binding_at c.carry_out.new.self.installed) c.args.place.now c.args.value c.args.tree.now told plan.planned.evaluated) (sym c.carry_out.ensures.value)
+    (subst (λ (cs : List Binding). CountsWritten (binding_at cs) c.args.place.now c.args.value c.args.tree.now plan.planned.changed plan.planned.evaluated) (sym left) c.in_ok-planned.ensures.counted))

@@ -1,7 +1,7 @@
 use Rattle.std.proofs.Common.{◌∙◌, ℕ, List, sym, subst}
 use Rattle.prop_bindings.specs.declared.place.Place.{Place}
 use Rattle.prop_bindings.specs.Places.{In}
-use Rattle.prop_bindings.specs.code.Groups.{HasRoomAt, list_of}
+use Rattle.prop_bindings.specs.code.Lists.{HasRoomAt, list_of}
 use Rattle.prop_bindings.specs.code.Keys.{key_of, same_key}
 use Rattle.prop_bindings.proofs.Keyed.{kept-in, pushed-here, pushed-in}
 use Rattle.prop_bindings.proofs.Places.{is_in-true}
@@ -11,16 +11,16 @@ pub returns-then-contains-clause-there : goal.returns-then-contains-clause-there
 returns-then-contains-clause-there c = subst (λ (xs : List Place). In c.args.reader.now xs) c.of.ensures (is_in-true c.of.result.now c.args.reader.now (sym c.contains.ensures ∙ c.if-contains.true))
 
 pub returns-in_err-make_room-clause-kept : goal.returns-in_err-make_room-clause-kept
-returns-in_err-make_room-clause-kept c = λ m q i. kept-in (list_of same_key c.args.self.now.by_source) (list_of same_key c.make_room.new.groups) c.key.result c.make_room.ensures.lists (key_of m) q i
+returns-in_err-make_room-clause-kept c = λ m q i. kept-in (list_of same_key c.args.self.now.by_source) (list_of same_key c.make_room.new.lists) c.key.result c.make_room.ensures.lists (key_of m) q i
 
 pub returns-clause-kept : goal.returns-clause-kept
 returns-clause-kept c = λ m q i.
-    pushed-in (list_of same_key c.make_room.new.groups) (list_of same_key c.push_place.new.groups) c.key-2.result c.args.reader.now c.push_place.ensures (key_of m) q
-    (kept-in (list_of same_key c.args.self.now.by_source) (list_of same_key c.make_room.new.groups) c.key.result c.make_room.ensures.lists (key_of m) q i)
+    pushed-in (list_of same_key c.make_room.new.lists) (list_of same_key c.push_place.new.lists) c.key-2.result c.args.reader.now c.push_place.ensures (key_of m) q
+    (kept-in (list_of same_key c.args.self.now.by_source) (list_of same_key c.make_room.new.lists) c.key.result c.make_room.ensures.lists (key_of m) q i)
 
 pub returns-clause-there : goal.returns-clause-there
-returns-clause-there c = subst (λ (k : ℕ × ℕ). In c.args.reader.now (list_of same_key c.push_place.new.groups k)) c.key-2.ensures
-    (pushed-here (list_of same_key c.make_room.new.groups) (list_of same_key c.push_place.new.groups) c.key-2.result c.args.reader.now c.push_place.ensures)
+returns-clause-there c = subst (λ (k : ℕ × ℕ). In c.args.reader.now (list_of same_key c.push_place.new.lists k)) c.key-2.ensures
+    (pushed-here (list_of same_key c.make_room.new.lists) (list_of same_key c.push_place.new.lists) c.key-2.result c.args.reader.now c.push_place.ensures)
 
 pub push_place-requires : goal.push_place-requires
-push_place-requires c = subst (λ (k : ℕ × ℕ). HasRoomAt same_key c.make_room.new.groups k) (c.key.ensures ∙ sym c.key-2.ensures) c.in_ok-make_room.ensures.room
+push_place-requires c = subst (λ (k : ℕ × ℕ). HasRoomAt same_key c.make_room.new.lists k) (c.key.ensures ∙ sym c.key-2.ensures) c.in_ok-make_room.ensures.room

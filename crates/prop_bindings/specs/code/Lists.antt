@@ -3,7 +3,7 @@ use Rattle.std.specs.Prelude.{◌≡◌, ◌<◌, Bool, List, [], ◌∷◌, ◌
 use Rattle.std.specs.Vec.{vec_len, vec_capacity}
 use Rattle.indexmap.specs.IndexMap.{IndexMap, get}
 use Rattle.prop_bindings.specs.declared.place.Place.{Place}
-use Rattle.prop_bindings.specs.declared.groups.Places.{Places}
+use Rattle.prop_bindings.specs.declared.lists.Places.{Places}
 use Rattle.prop_bindings.specs.Places.{same_place}
 
 abbrev pub items_of : Option Places → List Place
@@ -16,26 +16,26 @@ forgotten p qs = filter (λ q. not (same_place q p)) qs
 
 module _ {K S : Type 0} (eq : K → K → Bool) where
   abbrev pub list_of : IndexMap K Places S → K → List Place
-  list_of groups q = items_of (get eq groups q)
+  list_of lists q = items_of (get eq lists q)
 
   -- one more fits under the key with no allocation
   abbrev pub HasRoomAt : IndexMap K Places S → K → Type 0
-  HasRoomAt groups q = IsSomeAnd (get eq groups q) (λ places. vec_len places.items < vec_capacity places.items)
+  HasRoomAt lists q = IsSomeAnd (get eq lists q) (λ places. vec_len places.items < vec_capacity places.items)
 
   -- what is seen stays, under each key
-  abbrev pub SameGroups : IndexMap K Places S → IndexMap K Places S → Type 0
-  SameGroups old new = (q : K) → list_of new q ≡ list_of old q
+  abbrev pub SameLists : IndexMap K Places S → IndexMap K Places S → Type 0
+  SameLists old new = (q : K) → list_of new q ≡ list_of old q
 
-  -- Each of these says what is under a key q, which may be the group's key in another form.
+  -- Each of these says what is under a key q, which may be the key in another form.
 
   -- what is seen stays
   abbrev pub Keeps : IndexMap K Places S → IndexMap K Places S → K → Type 0
-  Keeps old new group = (q : K) → list_of new q ≡ (if eq group q then list_of old group else list_of old q)
+  Keeps old new key = (q : K) → list_of new q ≡ (if eq key q then list_of old key else list_of old q)
 
-  -- the group has a property more
+  -- there is a property more under the key
   abbrev pub Pushes : IndexMap K Places S → IndexMap K Places S → K → Place → Type 0
-  Pushes old new group place = (q : K) → list_of new q ≡ (if eq group q then list_of old group ++ place ∷ [] else list_of old q)
+  Pushes old new key place = (q : K) → list_of new q ≡ (if eq key q then list_of old key ++ place ∷ [] else list_of old q)
 
-  -- the group hasn't the property any more
+  -- the property isn't under the key any more
   abbrev pub Forgets : IndexMap K Places S → IndexMap K Places S → K → Place → Type 0
-  Forgets old new group place = (q : K) → list_of new q ≡ (if eq group q then forgotten place (list_of old group) else list_of old q)
+  Forgets old new key place = (q : K) → list_of new q ≡ (if eq key q then forgotten place (list_of old key) else list_of old q)

@@ -3,7 +3,7 @@
 ghost use Rattle.std.specs.Prelude.{◌≡◌, ◌∷◌, [], ◌++◌, ◌<◌, filter, not, false, if◌then◌else◌, OnOk, IsSomeAnd};
 ghost use Rattle.std.specs.Vec.{vec_len, vec_capacity};
 ghost use Rattle.prop_bindings.specs.Places.{same_place};
-ghost use Rattle.prop_bindings.specs.code.Groups.{list_of, HasRoomAt, Keeps, Pushes, Forgets, SameGroups, forgotten};
+ghost use Rattle.prop_bindings.specs.code.Lists.{list_of, HasRoomAt, Keeps, Pushes, Forgets, SameLists, forgotten};
 
 use crate::place::Place;
 use indexmap::IndexMap;
@@ -50,12 +50,12 @@ impl Places {
 }
 
 /// The properties under a key.
-pub fn places_of<K: Eq + Hash>(groups: &IndexMap<K, Places>, group: K) -> &[Place]
+pub fn places_of<K: Eq + Hash>(lists: &IndexMap<K, Places>, key: K) -> &[Place]
 where
     K: Drop,
-    ensures { result.now ≡ list_of K.eq groups.now group }
+    ensures { result.now ≡ list_of K.eq lists.now key }
 {
-    match groups.get(&group) {
+    match lists.get(&key) {
         None => &[],
         Some(places) => &places.items,
     }
@@ -64,55 +64,55 @@ where
 /// Makes room for one more property under a key.
 pub fn make_room<K: Eq + Hash + Copy>(
     alloc: Global,
-    groups: &mut IndexMap<K, Places>,
-    group: K,
+    lists: &mut IndexMap<K, Places>,
+    key: K,
 ) -> Result<(), AllocError>
 where
     K: Drop,
-    ensures room { OnOk result (HasRoomAt K.eq groups.new group) }
-    ensures lists { Keeps K.eq groups.old groups.new group }
+    ensures room { OnOk result (HasRoomAt K.eq lists.new key) }
+    ensures lists { Keeps K.eq lists.old lists.new key }
 {
-    if let Some(places) = groups.get_mut(&group) {
+    if let Some(places) = lists.get_mut(&key) {
         return places.reserve();
     }
     let mut places = Places::new(alloc);
     places.reserve()?;
-    groups.insert(group, places)?;
+    lists.insert(key, places)?;
     Ok(())
 }
 
 /// One more property under a key, which has room for it.
-pub fn push_place<K: Eq + Hash>(groups: &mut IndexMap<K, Places>, group: K, place: Place)
+pub fn push_place<K: Eq + Hash>(lists: &mut IndexMap<K, Places>, key: K, place: Place)
 where
     K: Drop,
-    requires { HasRoomAt K.eq groups.old group }
-    ensures { Pushes K.eq groups.old groups.new group place }
+    requires { HasRoomAt K.eq lists.old key }
+    ensures { Pushes K.eq lists.old lists.new key place }
 {
-    match groups.get_mut(&group) {
+    match lists.get_mut(&key) {
         None => {}
         Some(places) => places.push(place),
     }
 }
 
 /// One property less under a key.
-pub fn forget_place<K: Eq + Hash>(groups: &mut IndexMap<K, Places>, group: K, place: &Place)
+pub fn forget_place<K: Eq + Hash>(lists: &mut IndexMap<K, Places>, key: K, place: &Place)
 where
     K: Drop,
-    ensures { Forgets K.eq groups.old groups.new group place.now }
+    ensures { Forgets K.eq lists.old lists.new key place.now }
 {
-    match groups.get_mut(&group) {
+    match lists.get_mut(&key) {
         None => {}
         Some(places) => places.forget(place),
     }
 }
 
 /// Drops a key with no properties.
-pub fn drop_empty<K: Eq + Hash + Copy>(groups: &mut IndexMap<K, Places>, group: K)
+pub fn drop_empty<K: Eq + Hash + Copy>(lists: &mut IndexMap<K, Places>, key: K)
 where
     K: Drop,
-    ensures { SameGroups K.eq groups.old groups.new }
+    ensures { SameLists K.eq lists.old lists.new }
 {
-    if places_of(groups, group).is_empty() {
-        groups.swap_remove(&group);
+    if places_of(lists, key).is_empty() {
+        lists.swap_remove(&key);
     }
 }

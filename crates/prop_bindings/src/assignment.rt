@@ -1,0 +1,13 @@
+//! Values that properties are to have.
+
+use crate::place::Place;
+use signatures::Value;
+
+/// A property is to have this value.
+#[derive(Drop)]
+pub struct Assignment {
+    /// The property.
+    pub place: Place,
+    /// The value.
+    pub value: Value,
+}

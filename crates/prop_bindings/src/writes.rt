@@ -1,0 +1,121 @@
+//! Writes of properties, one or several at once, planned.
+
+ghost use Rattle.std.specs.Prelude.{◌≡◌, ◌↔◌, ◌∷◌, [], IfOk, IsTrue};
+ghost use Rattle.prop_bindings.specs.Places.{values_in};
+ghost use Rattle.prop_bindings.specs.Calls.{AllFit};
+ghost use Rattle.prop_bindings.specs.Changes.{one};
+ghost use Rattle.prop_bindings.specs.code.Graph.{IsGraph, bindings_of};
+ghost use Rattle.prop_bindings.specs.code.Parts.{AreGiven, HaveAhead, MayGiveSome, PlansGiven, ahead};
+
+use crate::ahead::value_ahead;
+use crate::assignment::Assignment;
+use crate::changes::plan;
+use crate::followers::followers;
+use crate::graph::Graph;
+use crate::place::Place;
+use crate::planned::Planned;
+use crate::preparing::{fits, has_value};
+use indexmap::IndexMap;
+use meta_objects::Meta;
+use object_tree::Tree;
+use signatures::Value;
+use std::alloc::{AllocError, Global};
+
+/// What writes give: their properties, each once, in the order in which they are written first, and of each the value that
+/// is written last.
+#[derive(Drop)]
+pub struct Given {
+    pub targets: Vec<Place>,
+    pub values: IndexMap<(usize, usize), Value>,
+}
+
+/// Whether each value is of its property's type.
+pub fn all_fit(meta: &Meta, tree: &Tree, writes: &[Assignment]) -> bool
+    ensures { IsTrue result ↔ AllFit meta.now tree.now writes.now }
+{
+    for write in writes {
+        if !fits(meta, tree, &write.place, &write.value) {
+            return false;
+        }
+    }
+    true
+}
+
+/// The value that one write gives. Its error is that memory was refused.
+pub fn give_one(
+    alloc: Global,
+    place: &Place,
+    value: Value,
+) -> Result<IndexMap<(usize, usize), Value>, AllocError>
+    ensures { IfOk result (AreGiven (one place.now value) (place.now ∷ [])) }
+{
+    let mut values = IndexMap::with_capacity(alloc, 1)?;
+    values.insert(place.key(), value)?;
+    Ok(values)
+}
+
+/// What these writes give. Its error is that memory was refused.
+pub fn give_all(alloc: Global, writes: &[Assignment]) -> Result<Given, AllocError>
+    ensures { IfOk result (λ given. AreGiven writes.now given.targets.items given.values) }
+{
+    let mut targets = Vec::new(alloc);
+    let mut values = IndexMap::with_capacity(alloc, writes.len())?;
+    for write in writes {
+        let value = write.value.copy()?;
+        let earlier = values.insert(write.place.key(), value)?;
+        if earlier.is_some() {
+            continue;
+        }
+        targets.push(write.place)?;
+    }
+    Ok(Given { targets, values })
+}
+
+/// Whether each of these properties has the value already that it is to have.
+pub fn have_all(tree: &Tree, targets: &[Place], values: &IndexMap<(usize, usize), Value>) -> bool
+    ensures { IsTrue result ↔ HaveAhead values.now tree.now targets.now }
+{
+    for target in targets {
+        if !keeps(tree, target, values) {
+            return false;
+        }
+    }
+    true
+}
+
+/// Whether the property has the value already that it is to have.
+fn keeps(tree: &Tree, place: &Place, values: &IndexMap<(usize, usize), Value>) -> bool
+    ensures { IsTrue result
+        ↔ (values_in (ahead values.now tree.now) place.now ≡ values_in tree.now place.now) }
+{
+    match value_ahead(tree, values, place) {
+        Some(value) => has_value(tree, place, value),
+        None => true,
+    }
+}
+
+/// Plans to give properties values that are of their types, and what follows from them without their own bindings. Its error
+/// is that memory was refused.
+pub fn plan_given(
+    alloc: Global,
+    graph: &Graph,
+    tree: &Tree,
+    targets: &[Place],
+    values: IndexMap<(usize, usize), Value>,
+) -> Result<Planned, AllocError>
+    requires graph { IsGraph graph.now }
+    requires given { MayGiveSome tree.now (bindings_of graph.now) targets.now values }
+    ensures { IfOk result (PlansGiven tree.now (bindings_of graph.now) targets.now values) }
+{
+    let followers = followers(alloc, graph, targets, &values)?;
+    let planned = plan(
+        alloc,
+        &graph.installed,
+        targets,
+        &followers,
+        tree,
+        values,
+        0,
+    )?;
+    Ok(planned)
+}
