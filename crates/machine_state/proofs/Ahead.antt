@@ -2,7 +2,7 @@
 -- them.
 use Rattle.std.proofs.Common.{◌≡◌, ℕ, List, Option, None, Some, refl, ap, sym, ◌∙◌}
 use Rattle.std.specs.Prelude.{slice_get}
-use Rattle.std.specs.Option.{option_map, option_and_then}
+use Rattle.std.specs.Option.{option_map}
 use Rattle.std.proofs.lemmas.Option.{same_Some}
 use Rattle.signatures.specs.declared.value.Value.{Value}
 use Rattle.signatures.specs.declared.value.Value.TheVariants as value
@@ -13,9 +13,7 @@ use Rattle.object_tree.specs.declared.life.Life.{Life}
 use Rattle.object_tree.specs.declared.object.Object.{Object}
 use Rattle.object_tree.specs.Objects.{Lives, name_of}
 use Rattle.object_tree.specs.Seen.{seen_reference}
-use Rattle.object_tree.proofs.Changing.{life-of-lives}
 use Rattle.prop_bindings.specs.declared.place.Place.{Place}
-use Rattle.prop_bindings.specs.Places.{values_in}
 use Rattle.prop_bindings.specs.Changes.{valueless, DifferInValues}
 use Rattle.prop_bindings.proofs.Fitting.{seen-same}
 use Rattle.machine_state.specs.declared.entry.Entry.{Entry}
@@ -23,7 +21,7 @@ use Rattle.machine_state.specs.declared.entry.Entry.TheVariants.{At}
 use Rattle.machine_state.specs.declared.entry.Shown.{Shown}
 use Rattle.machine_state.specs.declared.telling.Cause.{Cause}
 use Rattle.machine_state.specs.Objects.{shown, shown_name, shown_reference}
-use Rattle.machine_state.specs.Telling.{HasValue, IsTold, entry_kind_of}
+use Rattle.machine_state.specs.Telling.{HasValue, IsToldWith, entry_kind_of}
 use Rattle.machine_state.proofs.Changed.{emptied, get-map}
 
 name-valueless : (there : Option Object) → option_map (λ (x : Object). x.name) (option_map valueless there) ≡ option_map (λ (x : Object). x.name) there
@@ -53,16 +51,14 @@ module _ (old new : List Object) (differ : DifferInValues old new) where
       let same : seen_reference new r ≡ seen_reference old r = cc both in
       reference-alike (seen_reference new r) ∙ ap (shown_reference old) same
 
-  -- a property that will have this value is told with it
-  pub told-ahead : (p : Loaded) (d : ℕ) (cause : Cause) (at : Place) (x : Object) (l : Life) (class : MetaObject) (q : MetaProperty) (v : Value) (entry : Entry) → HasValue p new at → Lives old at.object x l → Some class ≡ slice_get p.classes l.class → Some q ≡ slice_get class.properties at.property → Some v ≡ values_in new at → entry ≡ At d (entry_kind_of cause x.name q.name (shown old v)) → IsTold p new d cause at entry
-  told-ahead p d cause at x l class q v entry has lives is_class is_property is_value is =
+  -- a property that will have a value is told with one
+  pub told-ahead : (p : Loaded) (d : ℕ) (cause : Cause) (at : Place) (x : Object) (l : Life) (class : MetaObject) (q : MetaProperty) (v : Value) (entry : Entry) → HasValue p new at → Lives old at.object x l → Some class ≡ slice_get p.classes l.class → Some q ≡ slice_get class.properties at.property → entry ≡ At d (entry_kind_of cause x.name q.name (shown old v)) → IsToldWith p new d cause at v entry
+  told-ahead p d cause at x l class q v entry has lives is_class is_property is =
       let object : valueless has.object ≡ valueless x = same_Some (valueless has.object) (valueless x) (sym (ap (option_map valueless) has.lives.is) ∙ alike at.object ∙ ap (option_map valueless) lives.is) in
       let name : has.object.name ≡ x.name = ap (λ (z : Object). z.name) object in
       let life : emptied has.life ≡ emptied l = same_Some (emptied has.life) (emptied l) (sym (ap (option_map emptied) has.lives.lives) ∙ ap (λ (z : Object). z.life) object ∙ ap (option_map emptied) lives.lives) in
       let of_class : has.is_property.class ≡ class = same_Some has.is_property.class class (sym has.is_property.is_class.is ∙ ap (λ (m : Life). slice_get p.classes m.class) life ∙ sym is_class) in
       let property : has.property ≡ q = same_Some has.property q (sym has.is_property.is ∙ ap (λ (c : MetaObject). slice_get c.properties at.property) of_class ∙ sym is_property) in
-      let stored : values_in new at ≡ Some has.value = ap (option_and_then (λ (m : Life). slice_get m.values at.property)) (life-of-lives has.lives) ∙ has.is_value in
-      let given : v ≡ has.value = same_Some v has.value (is_value ∙ stored) in
       let line : List ℕ → List ℕ → Shown → Entry = λ object property text. At d (entry_kind_of cause object property text) in
       record {
         has = has;
@@ -70,5 +66,5 @@ module _ (old new : List Object) (differ : DifferInValues old new) where
             is
             ∙ ap (λ (n : List ℕ). line n q.name (shown old v)) (sym name)
             ∙ ap (λ (z : MetaProperty). line has.object.name z.name (shown old v)) (sym property)
-            ∙ ap (line has.object.name has.property.name) (sym (shown-alike v) ∙ ap (shown new) given);
+            ∙ ap (line has.object.name has.property.name) (sym (shown-alike v));
       }

@@ -1,6 +1,5 @@
 -- What a write and the installing of a binding leave of the world.
 use Rattle.std.proofs.Common.{◌≡◌, ℕ, ◌+◌, ◌-◌, List, [], ◌∷◌, ◌++◌, length, take, Result, Ok, Err, IsErrAnd, refl, ap, sym, ◌∙◌, subst}
-use Rattle.signatures.specs.declared.value.Value.{Value}
 use Rattle.meta_model.specs.Loaded.{Loaded}
 use Rattle.object_tree.specs.declared.object.Object.{Object}
 use Rattle.prop_bindings.specs.declared.binding.Binding.{Binding}
@@ -9,52 +8,44 @@ use Rattle.prop_bindings.specs.declared.fault.BindFault.TheVariants as bind
 use Rattle.prop_bindings.specs.declared.place.Place.{Place}
 use Rattle.prop_bindings.specs.declared.planned.Planned.{Planned}
 use Rattle.prop_bindings.specs.declared.planned.PlannedBind.{PlannedBind}
-use Rattle.prop_bindings.specs.Bindings.{without, replaced}
+use Rattle.prop_bindings.specs.Bindings.{without, without_all, replaced}
 use Rattle.prop_bindings.specs.Calls.{IsNotBound, new_binding}
-use Rattle.prop_bindings.specs.Changes.{IsWritten, one}
+use Rattle.prop_bindings.specs.Changes.{IsWritten, places_in}
 use Rattle.prop_bindings.specs.Fits.{Agree}
 use Rattle.prop_bindings.specs.Plans.{after, IsPlannedBind}
 use Rattle.machine_state.specs.declared.entry.Entry.{Entry}
 use Rattle.machine_state.specs.declared.entry.Entry.TheVariants.{Accepted}
-use Rattle.machine_state.specs.declared.telling.Cause.TheVariants.{Write, Bind}
+use Rattle.machine_state.specs.declared.telling.Cause.TheVariants.{Bind}
 use Rattle.machine_state.specs.declared.world.World.{World}
-use Rattle.machine_state.specs.Telling.{AreTold}
+use Rattle.machine_state.specs.Telling.{AreTold, Assigning, IsAssigningTold, writes_of}
 use Rattle.machine_state.specs.Worlds.{with_bound, noted, counted, accepting_entries, HasWritten, HasBound, BindsIn}
 use Rattle.machine_state.specs.code.Planned.{WillWrite}
 
--- ---- a property is written
--- what a write makes of a world whose trace took the lines
-abbrev written_over : Planned → World → World
-written_over plan u = with_bound u (after plan u.store.tree) (without plan.target u.store.bindings)
-
-module _ (p : Loaded) (at : Place) (value : Value) (w v : World) (plan : Planned) (will : WillWrite p w.store.tree w.store.bindings at value plan) (lines : List Entry) where
-  pub has-written : (depth : ℕ) (told : List Entry → World) (changed : List Place) → AreTold p (after plan w.store.tree) depth Write plan.target plan.changed lines → changed ≡ plan.changed → v ≡ with_bound (told lines) (after plan w.store.tree) (without plan.target w.store.bindings) → HasWritten p depth at value w told changed v
+-- ---- properties are written
+module _ (p : Loaded) (what : Assigning) (w v : World) (plan : Planned) (cs : List Binding) (cs_are : cs ≡ without_all (places_in (writes_of what)) w.store.bindings)
+    (will : WillWrite p w.store.tree w.store.bindings (writes_of what) plan) (lines : List Entry) where
+  pub has-written : (depth : ℕ) (told : List Entry → World) (changed : List Place) → IsAssigningTold p (after plan w.store.tree) depth what plan.changed lines → changed ≡ plan.changed → v ≡ with_bound (told lines) (after plan w.store.tree) cs → HasWritten p depth what w told changed v
   has-written depth told changed are_told same is =
       let objects : List Object = after plan w.store.tree in
-      let made : World = with_bound (told lines) objects (without plan.target w.store.bindings) in
-      let writes : IsWritten w.store.bindings (without plan.target w.store.bindings) w.store.tree objects (one at value) plan.changed =
-      subst (λ (q : Place). IsWritten w.store.bindings (without q w.store.bindings) w.store.tree objects (one at value) plan.changed) (sym will.target) will.writes in
-      let has : HasWritten p depth at value w told plan.changed made = record {
-        writes = writes;
-        lines = lines;
-        are_told = subst (λ (q : Place). AreTold p objects depth Write q plan.changed lines) will.target are_told;
-        gives = refl;
-      } in
-      subst (λ (xs : List Place). HasWritten p depth at value w told xs v) (sym same) (subst (HasWritten p depth at value w told plan.changed) (sym is) has)
+      let made : World = with_bound (told lines) objects cs in
+      let writes : IsWritten w.store.bindings cs w.store.tree objects (writes_of what) plan.changed =
+      subst (λ (bs : List Binding). IsWritten w.store.bindings bs w.store.tree objects (writes_of what) plan.changed) (sym cs_are) will.writes in
+      let has : HasWritten p depth what w told plan.changed made = record { writes = writes; lines = lines; are_told = are_told; gives = refl } in
+      subst (λ (xs : List Place). HasWritten p depth what w told xs v) (sym same) (subst (HasWritten p depth what w told plan.changed) (sym is) has)
 
-  pub written-agrees : (told : World) → v ≡ with_bound told (after plan w.store.tree) (without plan.target w.store.bindings) → Agree p v.store.tree v.store.bindings
+  pub written-agrees : (told : World) → v ≡ with_bound told (after plan w.store.tree) cs → Agree p v.store.tree v.store.bindings
   written-agrees told is =
       subst (λ (z : World). Agree p z.store.tree z.store.bindings) (sym is)
-      (subst (λ (q : Place). Agree p (after plan w.store.tree) (without q w.store.bindings)) (sym will.target) will.agree)
+      (subst (λ (bs : List Binding). Agree p (after plan w.store.tree) bs) (sym cs_are) will.agree)
 
 -- a rule is carried out, and the lines of what it does are written down
-pub noted-over : (w v : World) (plan : Planned) (lines trace : List Entry) → trace ≡ w.trace ++ lines → v ≡ written_over plan (record w { trace = trace; left = w.left - 1 }) → v ≡ with_bound (noted w lines) (after plan w.store.tree) (without plan.target w.store.bindings)
-noted-over w v plan lines trace full is = is ∙ ap (λ (s : List Entry). written_over plan (record w { trace = s; left = w.left - 1 })) full
+pub noted-over : (w v : World) (objects : List Object) (cs : List Binding) (lines trace : List Entry) → trace ≡ w.trace ++ lines → v ≡ with_bound (record w { trace = trace; left = w.left - 1 }) objects cs → v ≡ with_bound (noted w lines) objects cs
+noted-over w v objects cs lines trace full is = is ∙ ap (λ (s : List Entry). with_bound (record w { trace = s; left = w.left - 1 }) objects cs) full
 
 -- an event is counted, and so they are
-pub counted-over : (w u v : World) (plan : Planned) (lines trace : List Entry) → trace ≡ w.trace ++ Accepted (w.events + 1) ∷ [] ++ lines → u ≡ counted (record w { trace = trace }) → v ≡ written_over plan u → v ≡ with_bound (accepting_entries w lines) (after plan w.store.tree) (without plan.target w.store.bindings)
-counted-over w u v plan lines trace full counts is =
-    is ∙ ap (written_over plan) (counts ∙ ap (λ (s : List Entry). counted (record w { trace = s })) full)
+pub counted-over : (w u v : World) (plan : Planned) (target : Place) (lines trace : List Entry) → trace ≡ w.trace ++ Accepted (w.events + 1) ∷ [] ++ lines → u ≡ counted (record w { trace = trace }) → v ≡ with_bound u (after plan u.store.tree) (without target u.store.bindings) → v ≡ with_bound (accepting_entries w lines) (after plan w.store.tree) (without target w.store.bindings)
+counted-over w u v plan target lines trace full counts is =
+    is ∙ ap (λ (z : World). with_bound z (after plan z.store.tree) (without target z.store.bindings)) (counts ∙ ap (λ (s : List Entry). counted (record w { trace = s })) full)
 
 -- ---- a binding is installed, or memory was refused
 pub binds-short : (p : Loaded) (site target : ℕ) (sources : List ℕ) (w v : World) (told : List Entry → World) → v ≡ w → (r : Result (List Place) BindFault) → IsErrAnd r (λ fault. fault ≡ bind.Memory) → BindsIn p site target sources w told r v
@@ -79,12 +70,12 @@ lines-lost w event lines full trace told objects bindings count filled kept bind
     ∙ ap (λ (bs : List Binding). with_bound w w.store.tree bs) bindings_are
 
 module _ (p : Loaded) (site target : ℕ) (sources : List ℕ) (w v : World) (plan : PlannedBind) (will : IsPlannedBind p site target sources w.store.bindings w.store.tree plan) where
-  pub has-bound : (lines trace : List Entry) (changed : List Place) (objects : List Object) (bindings : List Binding) → AreTold p (after plan.planned w.store.tree) 1 Bind plan.planned.target plan.planned.changed lines → changed ≡ plan.planned.changed → trace ≡ w.trace ++ Accepted (w.events + 1) ∷ [] ++ lines → objects ≡ after plan.planned w.store.tree → bindings ≡ replaced w.store.bindings plan.reader → v ≡ counted (with_bound (record w { trace = trace }) objects bindings) → HasBound p site target sources w (accepting_entries w) changed v
+  pub has-bound : (lines trace : List Entry) (changed : List Place) (objects : List Object) (bindings : List Binding) → AreTold p (after plan.planned w.store.tree) 1 Bind plan.reader.target plan.planned.changed lines → changed ≡ plan.planned.changed → trace ≡ w.trace ++ Accepted (w.events + 1) ∷ [] ++ lines → objects ≡ after plan.planned w.store.tree → bindings ≡ replaced w.store.bindings plan.reader → v ≡ counted (with_bound (record w { trace = trace }) objects bindings) → HasBound p site target sources w (accepting_entries w) changed v
   has-bound lines trace changed objects bindings are_told same full tree_is bindings_are is =
       let new : List Object = after plan.planned w.store.tree in
       let cs : List Binding = replaced w.store.bindings plan.reader in
       let made : World = with_bound (accepting_entries w lines) new cs in
-      let first : plan.planned.target ≡ (new_binding will.bound.may).target = will.at ∙ ap (λ (b : Binding). b.target) will.binding in
+      let first : plan.reader.target ≡ (new_binding will.bound.may).target = ap (λ (b : Binding). b.target) will.binding in
       let is_made : v ≡ made =
       is
       ∙ ap (λ (os : List Object). counted (with_bound (record w { trace = trace }) os bindings)) tree_is

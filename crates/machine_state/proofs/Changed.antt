@@ -20,14 +20,16 @@ use Rattle.prop_bindings.specs.declared.place.Place.{Place}
 use Rattle.prop_bindings.specs.declared.binding.Binding.{Binding}
 use Rattle.prop_bindings.specs.Places.{values_in}
 use Rattle.prop_bindings.specs.Bindings.{without, replaced}
-use Rattle.prop_bindings.specs.Changes.{valueless, DifferInValues, ReadsAlike, AreChanged, none_changed, one_changed, one_stayed, IsWritten, IsInstalled, one}
+use Rattle.prop_bindings.specs.declared.assignment.Assignment.{Assignment}
+use Rattle.prop_bindings.specs.Changes.{valueless, DifferInValues, ReadsAlike, AreChanged, none_changed, one_changed, one_stayed, IsInstalled, in_order, places_in}
 use Rattle.prop_bindings.specs.declared.planned.Planned.{Planned}
 use Rattle.prop_bindings.specs.declared.planned.PlannedBind.{PlannedBind}
-use Rattle.prop_bindings.specs.Fits.{IsFit, Agree}
-use Rattle.prop_bindings.specs.Calls.{new_binding}
+use Rattle.prop_bindings.specs.Fits.{FitsAt, IsFit, Agree}
+use Rattle.prop_bindings.specs.Calls.{AllFit, new_binding}
 use Rattle.prop_bindings.specs.Plans.{after, IsPlannedBind}
-use Rattle.machine_state.specs.code.Planned.{CanBeTold, WillWrite}
-use Rattle.machine_state.specs.Telling.{HasValue, HaveValues}
+use Rattle.machine_state.specs.code.Planned.{CanBeTold, HaveValues, WillWrite}
+use Rattle.machine_state.specs.Telling.{HasValue}
+use Rattle.machine_state.proofs.Followers.{written-first}
 
 module _ (p : Loaded) (objects : List Object) where
   -- where there is a value there is a property, and the other way round
@@ -125,44 +127,46 @@ module _ (p : Loaded) (old new : List Object) (before : AreTyped p old) (after :
   all-changed-have ps changed (one_stayed {ps = qs} alike rest) = all-changed-have qs changed rest
 
   -- what will have a value has one
-  all-have : (places : List Place) → AllByRecursion (HasValue p old) places → AllByRecursion (HasValue p new) places
-  all-have [] h = tt
-  all-have (at ∷ rest) h = (still-has at h.0, all-have rest h.1)
+  pub still-have : (places : List Place) → HaveValues p old places → HaveValues p new places
+  still-have [] h = tt
+  still-have (at ∷ rest) h = (still-has at h.0, still-have rest h.1)
 
-  pub still-have : (first : Place) (changed : List Place) → HaveValues p old first changed → HaveValues p new first changed
-  still-have first changed h = record { of_first = still-has first h.of_first; of_changed = all-have changed h.of_changed }
+-- ---- writes and a bind
+-- a value that fits there has a property
+fits-has : (p : Loaded) (objects : List Object) → AreTyped p objects → (at : Place) (v : Value) → FitsAt p objects at v → HasValue p objects at
+fits-has p objects typed at v f = property-has p objects typed at f.object f.life f.property f.lives f.is_property
 
--- ---- a write and a bind
-pub written-have : (p : Loaded) (bs cs : List Binding) (old new : List Object) (at : Place) (v : Value) (changed : List Place) → AreTyped p old → AreTyped p new → IsWritten bs cs old new (one at v) changed → HaveValues p new at changed
-written-have p bs cs old new at v changed before after is = record {
-  of_first = value-has p new after at v is.written.0;
-  of_changed = all-changed-have p old new before after is.objects _ changed is.changes;
-}
+pub fit-have : (p : Loaded) (objects : List Object) → AreTyped p objects → (writes : List Assignment) → AllFit p objects writes → HaveValues p objects (places_in writes)
+fit-have p objects typed [] fit = tt
+fit-have p objects typed (a ∷ rest) fit = (fits-has p objects typed a.place a.value fit.0, fit-have p objects typed rest fit.1)
 
-pub installed-have : (p : Loaded) (bs cs : List Binding) (old new : List Object) (b : Binding) (changed : List Place) → AreTyped p old → Agree p new cs → IsInstalled bs cs old new b changed → HaveValues p new b.target changed
-installed-have p bs cs old new b changed before agree is = record {
-  of_first = bound-has p new agree.typed bs cs b is.bindings agree;
-  of_changed = all-changed-have p old new before agree.typed is.objects _ changed is.changes;
-}
+pub installed-has : (p : Loaded) (bs cs : List Binding) (old new : List Object) (b : Binding) (changed : List Place) → Agree p new cs → IsInstalled bs cs old new b changed → HasValue p new b.target
+installed-has p bs cs old new b changed agree is = bound-has p new agree.typed bs cs b is.bindings agree
 
 -- ---- plans
-pub can-be-told : (p : Loaded) (objects : List Object) (plan : Planned) → AreTyped p objects → AreTyped p (after plan objects) → DifferInValues objects (after plan objects) → HaveValues p (after plan objects) plan.target plan.changed → CanBeTold p objects plan
-can-be-told p objects plan before after_it differ will_have = record {
-  have = still-have p (after plan objects) objects after_it before (sym differ) plan.target plan.changed will_have;
-  will_have = will_have;
-  differ = differ;
-}
+can-be-told : (p : Loaded) (objects : List Object) (bs : List Binding) (written : List Place) (plan : Planned) → AreTyped p objects → AreTyped p (after plan objects) → DifferInValues objects (after plan objects) → HaveValues p objects written → AreChanged objects (after plan objects) (in_order written bs) plan.changed → CanBeTold p objects written plan
+can-be-told p objects bs written plan before after_it differ have changes =
+    let new : List Object = after plan objects in
+    let changed : HaveValues p new plan.changed = all-changed-have p objects new before after_it differ (in_order written bs) plan.changed changes in
+    record {
+      have = have;
+      will_have = still-have p objects new before after_it differ written have;
+      changed_have = still-have p new objects after_it before (sym differ) plan.changed changed;
+      changed_will_have = changed;
+      differ = differ;
+      first = written-first objects new bs written plan.changed changes;
+    }
 
-pub written-ahead : (p : Loaded) (objects : List Object) (bs : List Binding) (at : Place) (v : Value) (plan : Planned) → Agree p objects bs → WillWrite p objects bs at v plan → CanBeTold p objects plan
-written-ahead p objects bs at v plan agree will =
-    can-be-told p objects plan agree.typed will.agree.typed will.writes.objects
-    (subst (λ (q : Place). HaveValues p (after plan objects) q plan.changed) (sym will.target)
-    (written-have p bs (without at bs) objects (after plan objects) at v plan.changed agree.typed will.agree.typed will.writes))
+pub written-ahead : (p : Loaded) (objects : List Object) (bs : List Binding) (writes : List Assignment) (plan : Planned) → Agree p objects bs → AllFit p objects writes → WillWrite p objects bs writes plan → CanBeTold p objects (places_in writes) plan
+written-ahead p objects bs writes plan agree fit will =
+    can-be-told p objects bs (places_in writes) plan agree.typed will.agree.typed will.writes.objects (fit-have p objects agree.typed writes fit) will.writes.changes
 
-pub bound-ahead : (p : Loaded) (number target : ℕ) (sources : List ℕ) (objects : List Object) (bs : List Binding) (plan : PlannedBind) → Agree p objects bs → IsPlannedBind p number target sources bs objects plan → Agree p (after plan.planned objects) (replaced bs plan.reader) → CanBeTold p objects plan.planned
+pub bound-ahead : (p : Loaded) (number target : ℕ) (sources : List ℕ) (objects : List Object) (bs : List Binding) (plan : PlannedBind) → Agree p objects bs → IsPlannedBind p number target sources bs objects plan → Agree p (after plan.planned objects) (replaced bs plan.reader) → CanBeTold p objects (plan.reader.target ∷ []) plan.planned
 bound-ahead p number target sources objects bs plan agree is will =
     let b : Binding = new_binding is.bound.may in
-    let same : plan.planned.target ≡ b.target = is.at ∙ ap (λ (x : Binding). x.target) is.binding in
-    can-be-told p objects plan.planned agree.typed will.typed is.bound.installs.objects
-    (subst (λ (q : Place). HaveValues p (after plan.planned objects) q plan.planned.changed) (sym same)
-    (installed-have p bs (replaced bs plan.reader) objects (after plan.planned objects) b plan.planned.changed agree.typed will is.bound.installs))
+    let new : List Object = after plan.planned objects in
+    let same : plan.reader.target ≡ b.target = ap (λ (x : Binding). x.target) is.binding in
+    let differ : DifferInValues objects new = is.bound.installs.objects in
+    let there : HasValue p new plan.reader.target = subst (λ (q : Place). HasValue p new q) (sym same) (installed-has p bs (replaced bs plan.reader) objects new b plan.planned.changed will is.bound.installs) in
+    can-be-told p objects bs (plan.reader.target ∷ []) plan.planned agree.typed will.typed differ (still-have p new objects will.typed agree.typed (sym differ) (plan.reader.target ∷ []) (there, tt))
+    (subst (λ (q : Place). AreChanged objects new (in_order (q ∷ []) bs) plan.planned.changed) (sym same) is.bound.installs.changes)

@@ -1,6 +1,6 @@
 -- What is written down where properties change (docs/machine.md, "Bindings"; Qt 6, "Qt Bindable Properties").
-use Rattle.std.specs.Prelude.{◌≡◌, ℕ, not, List, ◌∷◌, filter, Some, slice_get}
-use Rattle.std.specs.List.{AllByRecursion, AllZip}
+use Rattle.std.specs.Prelude.{◌≡◌, ℕ, not, List, [], ◌∷◌, ◌++◌, filter, filter_map, Option, None, Some, slice_get}
+use Rattle.std.specs.List.{AllZip}
 use Rattle.signatures.specs.declared.value.Value.{Value}
 use Rattle.meta_model.specs.declared.object.MetaProperty.{MetaProperty}
 use Rattle.meta_model.specs.Loaded.{Loaded}
@@ -8,8 +8,10 @@ use Rattle.meta_model.specs.Members.{IsProperty}
 use Rattle.object_tree.specs.declared.life.Life.{Life}
 use Rattle.object_tree.specs.declared.object.Object.{Object}
 use Rattle.object_tree.specs.Objects.{Lives}
+use Rattle.prop_bindings.specs.declared.assignment.Assignment.{Assignment}
 use Rattle.prop_bindings.specs.declared.place.Place.{Place}
-use Rattle.prop_bindings.specs.Places.{same_place}
+use Rattle.prop_bindings.specs.Places.{is_in}
+use Rattle.prop_bindings.specs.Changes.{places_in}
 use Rattle.machine_state.specs.declared.entry.Entry.{Entry}
 use Rattle.machine_state.specs.declared.entry.Entry.TheVariants.{At}
 use Rattle.machine_state.specs.declared.entry.EntryKind.{EntryKind}
@@ -29,25 +31,26 @@ pub record HasValue (p : Loaded) (objects : List Object) (at : Place) : Type 0 w
   pub value : Value
   pub is_value : slice_get life.values at.property ≡ Some value
 
--- the property that is written or bound has a value, and so has each that changed
-pub record HaveValues (p : Loaded) (objects : List Object) (first : Place) (changed : List Place) : Type 0 where
-  pub of_first : HasValue p objects first
-  pub of_changed : AllByRecursion (HasValue p objects) changed
-
 -- a property of this name comes to this value
 abbrev pub entry_kind_of : Cause → List ℕ → List ℕ → Shown → EntryKind
 entry_kind_of Write object property value = entry_kind.Written object property value
 entry_kind_of Bind object property value = entry_kind.Bound object property value
 entry_kind_of Follow object property value = entry_kind.Followed object property value
 
--- it is written down with the value that it has now
+-- it is written down with this value
+pub record IsToldWith (p : Loaded) (objects : List Object) (depth : ℕ) (cause : Cause) (at : Place) (value : Value) (entry : Entry)
+    : Type 0 where
+  pub has : HasValue p objects at
+  pub is : entry ≡ At depth (entry_kind_of cause has.object.name has.property.name (shown objects value))
+
+-- .. with the value that it has now
 pub record IsTold (p : Loaded) (objects : List Object) (depth : ℕ) (cause : Cause) (at : Place) (entry : Entry) : Type 0 where
   pub has : HasValue p objects at
   pub is : entry ≡ At depth (entry_kind_of cause has.object.name has.property.name (shown objects has.value))
 
--- those that change with the one that is written or bound
-abbrev pub others : Place → List Place → List Place
-others first changed = filter (λ q. not (same_place q first)) changed
+-- those that change with the ones that are written or bound
+abbrev pub others : List Place → List Place → List Place
+others written changed = filter (λ q. not (is_in written q)) changed
 
 -- The property that is written or bound is written down, whether it reads as it did or not, and then each other one that
 -- changed, whether it has a notify signal or not, in the order in which their bindings were installed.
@@ -56,5 +59,35 @@ pub record AreTold (p : Loaded) (objects : List Object) (depth : ℕ) (cause : C
   pub line : Entry
   pub lines : List Entry
   pub is_told : IsTold p objects depth cause first line
-  pub others_told : AllZip (IsTold p objects depth Follow) (others first changed) lines
+  pub others_told : AllZip (IsTold p objects depth Follow) (others (first ∷ []) changed) lines
   pub are : entries ≡ line ∷ lines
+
+-- ---- what a rule writes: one property, or those of a group of sets, each of which writes one or, where its path leads to
+-- null, none
+pub data Assigning : Type 0 where
+  Alone : (place : Place) (value : Value) → Assigning
+  Grouped : (sets : List (Option Assignment)) → Assigning
+
+abbrev pub writes_of : Assigning → List Assignment
+writes_of (Alone place value) = record { place = place; value = value } ∷ []
+writes_of (Grouped sets) = filter_map (λ set. set) sets
+
+-- a set of a group is written down with its own value, also where a later one writes the property again
+abbrev pub IsSetTold : Loaded → List Object → ℕ → Option Assignment → Entry → Type 0
+IsSetTold p objects depth None entry = entry ≡ At depth entry_kind.OnNull
+IsSetTold p objects depth (Some set) entry = IsToldWith p objects depth Write set.place set.value entry
+
+-- The group is written down, then its sets in their order, and then each property that changed and wasn't written, in the
+-- order in which their bindings were installed.
+pub record IsGroupTold (p : Loaded) (objects : List Object) (depth : ℕ) (sets : List (Option Assignment)) (changed : List Place)
+    (entries : List Entry) : Type 0 where
+  pub lines : List Entry
+  pub more : List Entry
+  pub sets_told : AllZip (IsSetTold p objects depth) sets lines
+  pub others_told : AllZip (IsTold p objects depth Follow) (others (places_in (writes_of (Grouped sets))) changed) more
+  pub are : entries ≡ At depth entry_kind.Grouped ∷ lines ++ more
+
+-- what is written down of what a rule writes
+abbrev pub IsAssigningTold : Loaded → List Object → ℕ → Assigning → List Place → List Entry → Type 0
+IsAssigningTold p objects depth (Alone place value) changed entries = AreTold p objects depth Write place changed entries
+IsAssigningTold p objects depth (Grouped sets) changed entries = IsGroupTold p objects depth sets changed entries

@@ -1,7 +1,6 @@
 -- What the world's functions do, and what a world says of the machine's state (docs/machine.md, "The state").
 use Rattle.std.specs.Prelude.{◌≡◌, ℕ, Bool, false, ◌+◌, ◌-◌, ◌<◌, List, [], ◌++◌, Option, None, Some, Result, Ok, Err}
 use Rattle.std.specs.List.{find}
-use Rattle.signatures.specs.declared.value.Value.{Value}
 use Rattle.texts.specs.declared.connection.ConnectionType.{ConnectionType}
 use Rattle.connections.specs.declared.connection.Connection.{Connection}
 use Rattle.connections.specs.Connected.{Connected}
@@ -16,7 +15,7 @@ use Rattle.prop_bindings.specs.declared.binding.Binding.{Binding}
 use Rattle.prop_bindings.specs.declared.fault.BindFault.{BindFault}
 use Rattle.prop_bindings.specs.declared.place.Place.{Place}
 use Rattle.prop_bindings.specs.Calls.{IsBound, IsNotBound, new_binding}
-use Rattle.prop_bindings.specs.Changes.{IsWritten, one}
+use Rattle.prop_bindings.specs.Changes.{IsWritten}
 use Rattle.delete_later.specs.declared.store.Store.{Store}
 use Rattle.delete_later.specs.Ending.{died_in, ended_in}
 use Rattle.delete_later.specs.Scheduling.{empty, scheduled_in}
@@ -26,14 +25,14 @@ use Rattle.machine_state.specs.declared.fault.Answer.TheVariants as answer
 use Rattle.machine_state.specs.declared.fault.Fault.{Fault}
 use Rattle.machine_state.specs.declared.fault.Fault.TheVariants.{Steps, Memory}
 use Rattle.machine_state.specs.declared.refusal.Refusal.{Refusal}
-use Rattle.machine_state.specs.declared.telling.Cause.TheVariants.{Write, Bind}
+use Rattle.machine_state.specs.declared.telling.Cause.TheVariants.{Bind}
 use Rattle.machine_state.specs.declared.world.World.{World}
 use Rattle.machine_state.specs.Refusals.{refusal_number}
 use Rattle.machine_state.specs.Connections.{after_use, newly_joined, parted}
 use Rattle.machine_state.specs.Accepting.{accepted, refused, with_entries}
 use Rattle.machine_state.specs.declared.endpoints.Endpoints.{Endpoints}
 use Rattle.machine_state.specs.State.{State, Activation}
-use Rattle.machine_state.specs.Telling.{AreTold}
+use Rattle.machine_state.specs.Telling.{AreTold, Assigning, IsAssigningTold, writes_of}
 
 -- a world's state with a stack
 abbrev pub at : World → List Activation → State
@@ -133,18 +132,18 @@ ending w o = record (ticked w) { store = ended_in o w.store }
 
 -- ---- properties that change
 
--- A property was written, and this is written down, which leads to the world `told lines` but for objects and bindings.
-pub record HasWritten (p : Loaded) (depth : ℕ) (at : Place) (value : Value) (w : World) (told : List Entry → World)
+-- This was written, and it is written down, which leads to the world `told lines` but for objects and bindings.
+pub record HasWritten (p : Loaded) (depth : ℕ) (what : Assigning) (w : World) (told : List Entry → World)
     (changed : List Place) (v : World) : Type 0 where
-  pub writes : IsWritten w.store.bindings v.store.bindings w.store.tree v.store.tree (one at value) changed
+  pub writes : IsWritten w.store.bindings v.store.bindings w.store.tree v.store.tree (writes_of what) changed
   pub lines : List Entry
-  pub are_told : AreTold p v.store.tree depth Write at changed lines
+  pub are_told : IsAssigningTold p v.store.tree depth what changed lines
   pub gives : v ≡ with_bound (told lines) v.store.tree v.store.bindings
 
 -- .. or memory was refused, and nothing changed
-abbrev pub WritesIn : Loaded → ℕ → Place → Value → World → (List Entry → World) → Result (List Place) Fault → World → Type 0
-WritesIn p depth at value w told (Ok changed) v = HasWritten p depth at value w told changed v
-WritesIn p depth at value w told (Err fault) v = (fault ≡ Memory) × (v ≡ w)
+abbrev pub WritesIn : Loaded → ℕ → Assigning → World → (List Entry → World) → Result (List Place) Fault → World → Type 0
+WritesIn p depth what w told (Ok changed) v = HasWritten p depth what w told changed v
+WritesIn p depth what w told (Err fault) v = (fault ≡ Memory) × (v ≡ w)
 
 -- the binding of a site was installed, and this is written down
 pub record HasBound (p : Loaded) (site target : ℕ) (sources : List ℕ) (w : World) (told : List Entry → World)

@@ -1,14 +1,16 @@
 //! Writes and binds, and what changes with them. A change is planned, the lines that tell of it are made, and the trace takes
 //! them, before anything else changes: where memory is refused for one of these, the world is as it was.
 
-ghost use Rattle.std.specs.Prelude.{◌≡◌, ◌<◌, ◌^◌, IfOk, IfErr};
-ghost use Rattle.prop_bindings.specs.Bindings.{without};
+ghost use Rattle.std.specs.Prelude.{◌≡◌, [], ◌∷◌, ◌<◌, ◌^◌, IfOk, IfErr};
+ghost use Rattle.prop_bindings.specs.Bindings.{without, without_all};
+ghost use Rattle.prop_bindings.specs.Calls.{AllFit};
+ghost use Rattle.prop_bindings.specs.Changes.{once, one, places_in};
 ghost use Rattle.prop_bindings.specs.Fits.{Agree, FitsAt};
 ghost use Rattle.prop_bindings.specs.Plans.{after};
 ghost use Rattle.machine_state.specs.declared.fault.Fault.TheVariants.{Memory};
-ghost use Rattle.machine_state.specs.Telling.{AreTold};
+ghost use Rattle.machine_state.specs.Telling.{Alone, AreTold, Grouped, IsGroupTold, writes_of};
 ghost use Rattle.machine_state.specs.Worlds.{noted, accepting_entries, with_bound, WritesIn, BindsIn};
-ghost use Rattle.machine_state.specs.code.Planned.{CanBeTold, WillWrite};
+ghost use Rattle.machine_state.specs.code.Planned.{CanBeTold, WillWrite, WillWriteOne, WillWriteAll};
 
 use crate::entry::Entry;
 use crate::fault::Fault;
@@ -16,10 +18,12 @@ use crate::telling::{Cause, Telling};
 use crate::world::World;
 use delete_later::Store;
 use meta_objects::Meta;
-use prop_bindings::{BindFault, Place, Planned, WriteFault};
+use prop_bindings::{
+    Assignment, BindFault, Place, Planned, PlannedGroup, PlannedWrite, WriteFault,
+};
 use signatures::{ObjectId, Value};
 use sqlite_items::Items;
-use std::alloc::AllocError;
+use std::alloc::{AllocError, Global};
 
 impl World {
     /// A rule that writes a property of a living object, which ends its binding; what follows from it changes with it, and
@@ -35,15 +39,39 @@ impl World {
         requires left { 0 < self.old.left }
         requires agree { Agree meta.now self.old.store.tree self.old.store.bindings }
         requires fits { FitsAt meta.now self.old.store.tree place.now value }
-        ensures value { WritesIn meta.now depth place.now value self.old (noted self.old)
-            result self.new }
+        ensures value { WritesIn meta.now depth (Alone place.now value) self.old
+            (noted self.old) result self.new }
         ensures agree { Agree meta.now self.new.store.tree self.new.store.bindings }
     {
         let planned = self.plan_write(meta, place, value)?;
-        let lines = self.lines(meta, depth, Cause::Write, &planned)?;
+        let lines = self.lines(meta, depth, Cause::Write, place, &planned.planned)?;
         self.trace.append_all(lines)?;
         self.left -= 1;
         Ok(self.carry_out(planned))
+    }
+
+    /// A rule that does the sets of a group, which ends the bindings of the written properties; what follows from them
+    /// changes with them, and all this is written down at this depth. It answers the properties that no longer read as they
+    /// did: of the written ones those that changed, in the order in which they were written first, then the others in the
+    /// order in which their bindings were installed. Without memory nothing changes.
+    pub fn write_group(
+        &mut self,
+        meta: &Meta,
+        depth: usize,
+        sets: &[Option<Assignment>],
+    ) -> Result<Items<Place>, Fault>
+        requires left { 0 < self.old.left }
+        requires agree { Agree meta.now self.old.store.tree self.old.store.bindings }
+        requires fit { AllFit meta.now self.old.store.tree (writes_of (Grouped sets.now)) }
+        ensures value { WritesIn meta.now depth (Grouped sets.now) self.old (noted self.old)
+            result self.new }
+        ensures agree { Agree meta.now self.new.store.tree self.new.store.bindings }
+    {
+        let planned = self.plan_group(meta, sets)?;
+        let lines = self.group_lines(meta, depth, sets, &planned)?;
+        self.trace.append_all(lines)?;
+        self.left -= 1;
+        Ok(self.carry_out_group(planned))
     }
 
     /// Writes a property of a living object for an accepted event, as `write` does, over the empty stack.
@@ -57,12 +85,12 @@ impl World {
         requires few { self.old.events < 2 ^ 63 }
         requires agree { Agree meta.now self.old.store.tree self.old.store.bindings }
         requires fits { FitsAt meta.now self.old.store.tree place.now value }
-        ensures value { WritesIn meta.now 1 place.now value self.old (accepting_entries self.old)
-            result self.new }
+        ensures value { WritesIn meta.now 1 (Alone place.now value) self.old
+            (accepting_entries self.old) result self.new }
         ensures agree { Agree meta.now self.new.store.tree self.new.store.bindings }
     {
         let planned = self.plan_write(meta, place, value)?;
-        let lines = self.lines(meta, 1, Cause::Write, &planned)?;
+        let lines = self.lines(meta, 1, Cause::Write, place, &planned.planned)?;
         self.trace.accept_all(self.events + 1, lines)?;
         self.count_event();
         Ok(self.carry_out(planned))
@@ -91,7 +119,7 @@ impl World {
         let planned = store
             .bindings
             .plan_bind(meta, &store.tree, site, target, sources)?;
-        let lines = self.lines(meta, 1, Cause::Bind, planned.planned())?;
+        let lines = self.lines(meta, 1, Cause::Bind, &planned.target(), planned.planned())?;
         let (told, event) = (self.trace.len(), self.events + 1);
         self.trace.accept_all(event, lines)?;
         let Store { tree, bindings, .. } = &mut self.store;
@@ -108,10 +136,10 @@ impl World {
     }
 
     /// Plans a write of a property of a living object; `Memory` only where a growth was refused.
-    fn plan_write(&self, meta: &Meta, place: &Place, value: Value) -> Result<Planned, Fault>
+    fn plan_write(&self, meta: &Meta, place: &Place, value: Value) -> Result<PlannedWrite, Fault>
         requires agree { Agree meta.now self.now.store.tree self.now.store.bindings }
         requires fits { FitsAt meta.now self.now.store.tree place.now value }
-        ensures ok { IfOk result (WillWrite meta.now self.now.store.tree self.now.store.bindings
+        ensures ok { IfOk result (WillWriteOne meta.now self.now.store.tree self.now.store.bindings
             place.now value) }
         ensures err { IfErr result (λ fault. fault ≡ Memory) }
     {
@@ -123,17 +151,35 @@ impl World {
         }
     }
 
-    /// What is to be written down of a change that is planned.
+    /// Plans the sets of a group; `Memory` only where a growth was refused.
+    fn plan_group(&self, meta: &Meta, sets: &[Option<Assignment>]) -> Result<PlannedGroup, Fault>
+        requires agree { Agree meta.now self.now.store.tree self.now.store.bindings }
+        requires fit { AllFit meta.now self.now.store.tree (writes_of (Grouped sets.now)) }
+        ensures ok { IfOk result (WillWriteAll meta.now self.now.store.tree self.now.store.bindings
+            (writes_of (Grouped sets.now))) }
+        ensures err { IfErr result (λ fault. fault ≡ Memory) }
+    {
+        let writes = writes_of(self.trace.allocator(), sets)?;
+        let store = &self.store;
+        match store.bindings.plan_group(meta, &store.tree, &writes) {
+            Ok(planned) => Ok(planned),
+            Err(WriteFault::Memory) => Err(Fault::Memory),
+            Err(WriteFault::BadType) => unreachable!(),
+        }
+    }
+
+    /// What is to be written down of a change that is planned, of this property first.
     fn lines(
         &self,
         meta: &Meta,
         depth: usize,
         cause: Cause,
+        first: &Place,
         planned: &Planned,
     ) -> Result<Vec<Entry>, AllocError>
-        requires can { CanBeTold meta.now self.now.store.tree planned.now }
+        requires can { CanBeTold meta.now self.now.store.tree (first.now ∷ []) planned.now }
         ensures { IfOk result (λ lines. AreTold meta.now (after planned.now self.now.store.tree)
-            depth cause planned.now.target planned.now.changed lines.items) }
+            depth cause first.now planned.now.changed lines.items) }
     {
         let telling = Telling {
             meta,
@@ -141,16 +187,64 @@ impl World {
             planned,
             depth,
         };
-        telling.change(self.trace.allocator(), cause)
+        telling.change(self.trace.allocator(), cause, first)
+    }
+
+    /// What is to be written down of a group that is planned.
+    fn group_lines(
+        &self,
+        meta: &Meta,
+        depth: usize,
+        sets: &[Option<Assignment>],
+        planned: &PlannedGroup,
+    ) -> Result<Vec<Entry>, AllocError>
+        requires can { CanBeTold meta.now self.now.store.tree
+            (places_in (writes_of (Grouped sets.now))) planned.now.planned }
+        requires targets { planned.now.targets ≡ once (places_in (writes_of (Grouped sets.now))) }
+        ensures { IfOk result (λ lines. IsGroupTold meta.now
+            (after planned.now.planned self.now.store.tree) depth sets.now
+            planned.now.planned.changed lines.items) }
+    {
+        let telling = Telling {
+            meta,
+            tree: &self.store.tree,
+            planned: &planned.planned,
+            depth,
+        };
+        telling.group(self.trace.allocator(), sets, planned.targets())
     }
 
     /// Carries out a planned write, which takes no memory, and answers the properties that no longer read as they did.
-    fn carry_out(&mut self, planned: Planned) -> Items<Place>
-        ensures changed { result ≡ planned.changed }
-        ensures world { self.new ≡ with_bound self.old (after planned self.old.store.tree)
+    fn carry_out(&mut self, planned: PlannedWrite) -> Items<Place>
+        ensures changed { result ≡ planned.planned.changed }
+        ensures world { self.new ≡ with_bound self.old (after planned.planned self.old.store.tree)
             (without planned.target self.old.store.bindings) }
     {
         let Store { tree, bindings, .. } = &mut self.store;
         bindings.carry_out(tree, planned)
     }
+
+    /// Carries out a planned group, which takes no memory, and answers the properties that no longer read as they did.
+    fn carry_out_group(&mut self, planned: PlannedGroup) -> Items<Place>
+        ensures changed { result ≡ planned.planned.changed }
+        ensures world { self.new ≡ with_bound self.old (after planned.planned self.old.store.tree)
+            (without_all planned.targets self.old.store.bindings) }
+    {
+        let Store { tree, bindings, .. } = &mut self.store;
+        bindings.carry_out_group(tree, planned)
+    }
+}
+
+/// What the sets of a group write. Its error is that memory was refused.
+fn writes_of(alloc: Global, sets: &[Option<Assignment>]) -> Result<Vec<Assignment>, AllocError>
+    ensures { IfOk result (λ writes. writes.items ≡ writes_of (Grouped sets.now)) }
+{
+    let mut writes = Vec::new(alloc);
+    for set in sets {
+        if let Some(Assignment { place, value }) = set {
+            let (place, value) = (*place, value.copy()?);
+            writes.push(Assignment { place, value })?;
+        }
+    }
+    Ok(writes)
 }

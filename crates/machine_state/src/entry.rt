@@ -122,8 +122,10 @@ pub enum EntryKind {
         /// Which object.
         object: Name,
     },
-    /// A statement does nothing, since a path leads to null.
+    /// A statement, or a set of a group, does nothing, since a path leads to null.
     OnNull,
+    /// The sets of a group are done at once; each comes next, in their order.
+    Grouped,
     /// A statement makes a connection between the objects of these names, in this way.
     Connected(Endpoints<Name>, ConnectionType),
     /// A statement removes the connections between the objects of these names.

@@ -1,19 +1,19 @@
-//! What a change of a property writes down: the property that is written or bound, and each other one that changes with it.
-//! The change is planned then, and nothing is changed yet.
+//! What a change of properties writes down: those that are written or bound, and each other one that changes with them. The
+//! change is planned then, and nothing is changed yet.
 
-ghost use Rattle.std.specs.Prelude.{◌≡◌, IfOk};
+ghost use Rattle.std.specs.Prelude.{◌≡◌, [], ◌∷◌, IfOk, OnOk};
 ghost use Rattle.std.specs.Option.{option_copied};
-ghost use Rattle.prop_bindings.specs.Changes.{DifferInValues};
+ghost use Rattle.prop_bindings.specs.Changes.{DifferInValues, once, places_in};
 ghost use Rattle.prop_bindings.specs.Places.{values_in};
 ghost use Rattle.prop_bindings.specs.Plans.{after};
-ghost use Rattle.machine_state.specs.Telling.{HasValue, IsTold, AreTold, entry_kind_of};
-ghost use Rattle.machine_state.specs.code.Planned.{CanBeTold};
+ghost use Rattle.machine_state.specs.Telling.{HasValue, IsTold, IsToldWith, IsSetTold, AreTold, IsGroupTold, Grouped, entry_kind_of, others, writes_of};
+ghost use Rattle.machine_state.specs.code.Planned.{CanBeTold, HaveValues, AddsFollowers, AddsSets, StandFirst, behind};
 
 use crate::entry::{Entry, EntryKind, Shown};
 use crate::showing::show;
 use meta_objects::Meta;
 use object_tree::Tree;
-use prop_bindings::{Place, Planned};
+use prop_bindings::{Assignment, Place, Planned};
 use signatures::{Name, Value};
 use std::alloc::{AllocError, Global};
 
@@ -44,23 +44,98 @@ pub struct Telling<'w> {
 impl<'w> Telling<'w> {
     /// The lines of the property that is written or bound, whether it reads as it did or not, and of each other one that
     /// changes, with the values that they will have.
-    pub fn change(&self, alloc: Global, cause: Cause) -> Result<Vec<Entry>, AllocError>
-        requires can { CanBeTold self.now.meta.now self.now.tree.now self.now.planned.now }
+    pub fn change(
+        &self,
+        alloc: Global,
+        cause: Cause,
+        first: &Place,
+    ) -> Result<Vec<Entry>, AllocError>
+        requires can { CanBeTold self.now.meta.now self.now.tree.now (first.now ∷ [])
+            self.now.planned.now }
         ensures { IfOk result (λ lines. AreTold self.now.meta.now
             (after self.now.planned.now self.now.tree.now) self.now.depth cause
-            self.now.planned.now.target self.now.planned.now.changed lines.items) }
+            first.now self.now.planned.now.changed lines.items) }
     {
-        let first = self.planned.target();
-        let changed = self.planned.changed();
         let mut lines = Vec::new(alloc);
-        lines.push(self.line(cause, &first)?)?;
-        for place in changed {
-            if place.is_same(&first) {
-                continue;
-            }
+        lines.push(self.line(cause, first)?)?;
+        let followers = self.followers(&[*first]);
+        self.add_followers(followers, &mut lines)?;
+        Ok(lines)
+    }
+
+    /// The lines of a group of sets, which write these properties, each once: its own, those of the sets, whatever the
+    /// properties will have in the end, and those of each other property that changes.
+    pub fn group(
+        &self,
+        alloc: Global,
+        sets: &[Option<Assignment>],
+        written: &[Place],
+    ) -> Result<Vec<Entry>, AllocError>
+        requires can { CanBeTold self.now.meta.now self.now.tree.now
+            (places_in (writes_of (Grouped sets.now))) self.now.planned.now }
+        requires written { written.now ≡ once (places_in (writes_of (Grouped sets.now))) }
+        ensures { IfOk result (λ lines. IsGroupTold self.now.meta.now
+            (after self.now.planned.now self.now.tree.now) self.now.depth sets.now
+            self.now.planned.now.changed lines.items) }
+    {
+        let mut lines = Vec::new(alloc);
+        lines.push(Entry::At(self.depth, EntryKind::Grouped))?;
+        self.add_sets(sets, &mut lines)?;
+        let followers = self.followers(written);
+        self.add_followers(followers, &mut lines)?;
+        Ok(lines)
+    }
+
+    /// Adds the lines of the sets of a group.
+    fn add_sets(
+        &self,
+        sets: &[Option<Assignment>],
+        lines: &mut Vec<Entry>,
+    ) -> Result<(), AllocError>
+        requires can { CanBeTold self.now.meta.now self.now.tree.now
+            (places_in (writes_of (Grouped sets.now))) self.now.planned.now }
+        ensures { OnOk result (AddsSets self.now.meta.now
+            (after self.now.planned.now self.now.tree.now) self.now.depth sets.now
+            lines.old.items lines.new.items) }
+    {
+        for set in sets {
+            let line = match set {
+                Some(set) => self.told(Cause::Write, &set.place, &set.value)?,
+                None => Entry::At(self.depth, EntryKind::OnNull),
+            };
+            lines.push(line)?;
+        }
+        Ok(())
+    }
+
+    /// The properties that change but for those that are written or bound, which stand before them.
+    fn followers(&self, written: &[Place]) -> &'w [Place]
+        requires first { StandFirst (others written.now self.now.planned.now.changed) written.now
+            self.now.planned.now.changed }
+        ensures { result.now ≡ others written.now self.now.planned.now.changed }
+    {
+        let mut rest = self.planned.changed();
+        for place in written {
+            rest = behind(rest, place);
+        }
+        rest
+    }
+
+    /// Adds the lines of properties that change with those that are written or bound.
+    fn add_followers(&self, followers: &[Place], lines: &mut Vec<Entry>) -> Result<(), AllocError>
+        requires have { HaveValues self.now.meta.now self.now.tree.now followers.now }
+        requires will_have { HaveValues self.now.meta.now
+            (after self.now.planned.now self.now.tree.now) followers.now }
+        requires differ { DifferInValues self.now.tree.now
+            (after self.now.planned.now self.now.tree.now) }
+        ensures { OnOk result (AddsFollowers self.now.meta.now
+            (after self.now.planned.now self.now.tree.now) self.now.depth followers.now
+            lines.old.items lines.new.items) }
+    {
+        for place in followers {
             lines.push(self.line(Cause::Follow, place)?)?;
         }
-        Ok(lines)
+        Ok(())
     }
 
     /// The line of a property with the value that it will have.
@@ -73,16 +148,30 @@ impl<'w> Telling<'w> {
         ensures { IfOk result (IsTold self.now.meta.now
             (after self.now.planned.now self.now.tree.now) self.now.depth cause place.now) }
     {
+        let Some(value) = self.value(place) else {
+            unreachable!()
+        };
+        self.told(cause, place, value)
+    }
+
+    /// The line of a property with this value.
+    fn told(&self, cause: Cause, place: &Place, value: &Value) -> Result<Entry, AllocError>
+        requires has { HasValue self.now.meta.now self.now.tree.now place.now }
+        requires will_have { HasValue self.now.meta.now
+            (after self.now.planned.now self.now.tree.now) place.now }
+        requires differ { DifferInValues self.now.tree.now
+            (after self.now.planned.now self.now.tree.now) }
+        ensures { IfOk result (IsToldWith self.now.meta.now
+            (after self.now.planned.now self.now.tree.now) self.now.depth cause place.now
+            value.now) }
+    {
         let Some((object, life)) = self.tree.get(place.object) else {
             unreachable!()
         };
         let Some(class) = self.meta.object(life.class) else {
             unreachable!()
         };
-        let (Some(property), Some(value)) = (
-            class.properties.get(place.property),
-            self.value(place),
-        ) else {
+        let Some(property) = class.properties.get(place.property) else {
             unreachable!()
         };
         let value = show(self.tree, value)?;
@@ -101,6 +190,16 @@ impl<'w> Telling<'w> {
             Some(value) => Some(value),
             None => Some(own),
         }
+    }
+}
+
+/// What is left of properties behind this one, if it stands first.
+fn behind<'p>(places: &'p [Place], place: &Place) -> &'p [Place]
+    ensures { result.now ≡ behind place.now places.now }
+{
+    match places.split_first() {
+        Some((first, rest)) if first.is_same(place) => rest,
+        _ => places,
     }
 }
 

@@ -1,18 +1,17 @@
-use Rattle.std.proofs.Common.{ℕ, List, ap, ◌∙◌}
-use Rattle.machine_state.specs.declared.entry.Entry.TheVariants.{At}
-use Rattle.machine_state.specs.Telling.{entry_kind_of}
+use Rattle.std.proofs.Common.{sym}
+use Rattle.std.proofs.lemmas.Result.{IfOk-weaker}
 use Rattle.prop_bindings.specs.Plans.{after}
-use Rattle.machine_state.proofs.Ahead.{told-ahead}
+use Rattle.machine_state.specs.declared.entry.Entry.{Entry}
+use Rattle.machine_state.specs.Telling.{IsTold, IsToldWith}
+use Rattle.machine_state.proofs.Told.{told-now}
 use Rattle.machine_state.proofs.telling.Telling.line.Goals as goal
 
 pub returns : goal.returns
 returns c =
     let self = c.args.self.now in
-    let object = c.in-Some.object.now in
-    let property = c.in-Some-Some.property.now in
-    told-ahead self.tree.now (after self.planned.now self.tree.now) c.requires.differ self.meta.now self.depth c.args.cause c.args.place.now object c.in-Some.life.now c.in-Some-object.class.now property c.in-Some-Some.value.now _ c.requires.will_have c.in-Some.ensures.value c.in-Some-object.ensures.value c.in-Some-Some.ensures.value c.in-Some-Some.ensures'
-    (ap (At self.depth) (
-    c.entry_kind-what.ensures
-    ∙ ap (λ (name : List ℕ). entry_kind_of c.args.cause name c.in_ok-copy-2.field-0 c.in_ok-value.value) c.in_ok-copy.ensures
-    ∙ ap (λ (name : List ℕ). entry_kind_of c.args.cause object.name name c.in_ok-value.value) c.in_ok-copy-2.ensures
-    ∙ ap (entry_kind_of c.args.cause object.name property.name) c.in_ok-value.ensures))
+    let new = after self.planned.now self.tree.now in
+    let cause = c.args.cause in
+    let at = c.args.place.now in
+    let v = c.in-Some.value.now in
+    IfOk-weaker c.told.result (IsToldWith self.meta.now new self.depth cause at v) (IsTold self.meta.now new self.depth cause at)
+    (λ (entry : Entry) told. told-now self.meta.now new self.depth cause at v entry (sym c.in-Some.ensures) told) c.told.ensures

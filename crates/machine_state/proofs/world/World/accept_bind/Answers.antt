@@ -1,4 +1,5 @@
-use Rattle.std.proofs.Common.{List, refl, ap, sym, subst}
+use Rattle.std.proofs.Common.{[], ◌∷◌, List, refl, ap, sym, subst}
+use Rattle.prop_bindings.specs.declared.place.Place.{Place}
 use Rattle.prop_bindings.specs.declared.planned.Planned.{Planned}
 use Rattle.prop_bindings.specs.Plans.{after}
 use Rattle.machine_state.specs.declared.telling.Cause.TheVariants.{Bind}
@@ -15,15 +16,16 @@ pub lines-requires : goal.lines-requires
 lines-requires c =
     let store = c.args.self.now.store in
     let can = bound-ahead c.args.meta.now c.args.site c.args.target c.args.sources.now store.tree store.bindings c.in_ok-planned.planned c.requires.agree c.in_ok-planned.ensures.value c.in_ok-planned.ensures.agree in
-    record { can = subst (CanBeTold c.args.meta.now store.tree) (sym c.planned.ensures) can }
+    let At : Place → Planned → Type 0 = λ first plan. CanBeTold c.args.meta.now store.tree (first ∷ []) plan in
+    record { can = subst (λ (first : Place). At first c.planned.result.now) (sym c.target.ensures) (subst (At c.in_ok-planned.planned.reader.target) (sym c.planned.ensures) can) }
 
 pub returns-in-Ok-clause-value : goal.returns-in-Ok-clause-value
 returns-in-Ok-clause-value c =
     let w = c.args.self.now in
     let lines = c.in_ok-lines.lines.items in
-    let Told : Planned → Type 0 = λ plan. AreTold c.args.meta.now (after plan w.store.tree) 1 Bind plan.target plan.changed lines in
+    let Told : Place → Planned → Type 0 = λ first plan. AreTold c.args.meta.now (after plan w.store.tree) 1 Bind first plan.changed lines in
     has-bound c.args.meta.now c.args.site c.args.target c.args.sources.now w c.count_event.new.self c.in_ok-planned.planned c.in_ok-planned.ensures.value lines c.accept_all.new.self c.in-Ok.changed c.carry_out_bind.new.tree c.carry_out_bind.new.self
-    (subst Told c.planned.ensures c.in_ok-lines.ensures)
+    (subst (Told c.in_ok-planned.planned.reader.target) c.planned.ensures (subst (λ (first : Place). Told first c.planned.result.now) c.target.ensures c.in_ok-lines.ensures))
     c.in-Ok.ensures.value c.in_ok-accept_all.ensures.ok c.in-Ok.ensures.objects c.in-Ok.ensures.installed c.count_event.ensures
 
 pub returns-in_err-lines-clause-value : goal.returns-in_err-lines-clause-value

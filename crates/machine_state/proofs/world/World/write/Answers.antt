@@ -1,3 +1,9 @@
+use Rattle.std.proofs.Common.{◌≡◌, ap}
+use Rattle.prop_bindings.specs.declared.place.Place.{Place}
+use Rattle.prop_bindings.specs.Bindings.{without}
+use Rattle.prop_bindings.specs.Changes.{one}
+use Rattle.prop_bindings.specs.Plans.{after}
+use Rattle.machine_state.specs.Telling.{Alone}
 use Rattle.machine_state.specs.Worlds.{noted}
 use Rattle.machine_state.proofs.Bound.{has-written, written-agrees, noted-over}
 use Rattle.machine_state.proofs.Changed.{written-ahead}
@@ -6,20 +12,24 @@ use Rattle.machine_state.proofs.world.World.write.Goals as goal
 pub lines-requires : goal.lines-requires
 lines-requires c =
     let store = c.args.self.now.store in
-    record { can = written-ahead c.args.meta.now store.tree store.bindings c.args.place.now c.args.value c.in_ok-planned.planned c.requires.agree c.in_ok-planned.ensures.ok }
+    record { can = written-ahead c.args.meta.now store.tree store.bindings (one c.args.place.now c.args.value) c.in_ok-planned.planned.planned c.requires.agree (c.requires.fits, tt) c.in_ok-planned.ensures.ok.will }
 
 pub returns-clause-value : goal.returns-clause-value
 returns-clause-value c =
     let w = c.args.self.now in
-    let plan = c.in_ok-planned.planned in
+    let plan = c.in_ok-planned.planned.planned in
+    let target = c.in_ok-planned.planned.target in
     let lines = c.in_ok-lines.lines.items in
-    has-written c.args.meta.now c.args.place.now c.args.value w c.carry_out.new.self plan c.in_ok-planned.ensures.ok lines c.args.depth (noted w) c.carry_out.result c.in_ok-lines.ensures c.carry_out.ensures.changed
-    (noted-over w c.carry_out.new.self plan lines c.append_all.new.self c.in_ok-append_all.ensures.ok c.carry_out.ensures.world)
+    let cs_are : without target w.store.bindings ≡ without c.args.place.now w.store.bindings = ap (λ (q : Place). without q w.store.bindings) c.in_ok-planned.ensures.ok.target in
+    has-written c.args.meta.now (Alone c.args.place.now c.args.value) w c.carry_out.new.self plan (without target w.store.bindings) cs_are c.in_ok-planned.ensures.ok.will lines c.args.depth (noted w) c.carry_out.result c.in_ok-lines.ensures c.carry_out.ensures.changed
+    (noted-over w c.carry_out.new.self (after plan w.store.tree) (without target w.store.bindings) lines c.append_all.new.self c.in_ok-append_all.ensures.ok c.carry_out.ensures.world)
 
 pub returns-clause-agree : goal.returns-clause-agree
 returns-clause-agree c =
     let w = c.args.self.now in
-    let plan = c.in_ok-planned.planned in
+    let plan = c.in_ok-planned.planned.planned in
+    let target = c.in_ok-planned.planned.target in
     let lines = c.in_ok-lines.lines.items in
-    written-agrees c.args.meta.now c.args.place.now c.args.value w c.carry_out.new.self plan c.in_ok-planned.ensures.ok lines (noted w lines)
-    (noted-over w c.carry_out.new.self plan lines c.append_all.new.self c.in_ok-append_all.ensures.ok c.carry_out.ensures.world)
+    let cs_are : without target w.store.bindings ≡ without c.args.place.now w.store.bindings = ap (λ (q : Place). without q w.store.bindings) c.in_ok-planned.ensures.ok.target in
+    written-agrees c.args.meta.now (Alone c.args.place.now c.args.value) w c.carry_out.new.self plan (without target w.store.bindings) cs_are c.in_ok-planned.ensures.ok.will lines (noted w lines)
+    (noted-over w c.carry_out.new.self (after plan w.store.tree) (without target w.store.bindings) lines c.append_all.new.self c.in_ok-append_all.ensures.ok c.carry_out.ensures.world)

@@ -1,0 +1,18 @@
+use Rattle.std.proofs.Common.{ℕ, List, ap, ◌∙◌}
+use Rattle.machine_state.specs.declared.entry.Entry.TheVariants.{At}
+use Rattle.machine_state.specs.Telling.{entry_kind_of}
+use Rattle.prop_bindings.specs.Plans.{after}
+use Rattle.machine_state.proofs.Ahead.{told-ahead}
+use Rattle.machine_state.proofs.telling.Telling.told.Goals as goal
+
+pub returns : goal.returns
+returns c =
+    let self = c.args.self.now in
+    let object = c.in-Some.object.now in
+    let property = c.in-Some-get.property.now in
+    told-ahead self.tree.now (after self.planned.now self.tree.now) c.requires.differ self.meta.now self.depth c.args.cause c.args.place.now object c.in-Some.life.now c.in-Some-object.class.now property c.args.value.now _ c.requires.will_have c.in-Some.ensures.value c.in-Some-object.ensures.value c.in-Some-get.ensures.value
+    (ap (At self.depth) (
+    c.entry_kind-what.ensures
+    ∙ ap (λ (name : List ℕ). entry_kind_of c.args.cause name c.in_ok-copy-2.field-0 c.in_ok-value.value) c.in_ok-copy.ensures
+    ∙ ap (λ (name : List ℕ). entry_kind_of c.args.cause object.name name c.in_ok-value.value) c.in_ok-copy-2.ensures
+    ∙ ap (entry_kind_of c.args.cause object.name property.name) c.in_ok-value.ensures))
