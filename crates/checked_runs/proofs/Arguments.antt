@@ -141,7 +141,7 @@ module _ {p : Loaded} {certificate : Certificate} (valid : IsValid p certificate
   -- ---- bodies
 
   pushes-does : (t : State) (n o m : ℕ) (arguments : List Value) (y : Step) (rest : List Step) (below : List Activation) {x : Node} (b : BodyStands p s.objects o m arguments (y ∷ rest) x) → n ≡ suc (length below) → StepIsPromised p classes o y → AllByRecursion (StepIsPromised p classes o) rest → AllIsPromised p classes below → (d : Operation) → operation_of_step s.objects o arguments y ≡ Some d → Does p natives s o m arguments rest below d t → Pushes p classes n t
-  pushes-does t n o m arguments y rest below b high one left all (Write x q new) is does = pushes-as (does.settles).gives (record { arguments = λ more. tt; promised = (tt, (left, all)) })
+  pushes-does t n o m arguments y rest below b high one left all (Write what) is does = pushes-as (does.settles).gives (record { arguments = λ more. tt; promised = (tt, (left, all)) })
   pushes-does t n o m arguments y rest below b high one left all (Begin x k given) is does =
       let gives = does-give valid sound classes known agree.typed b y (Begin x k given) (b.steps).0 one is in
       pushes-begins does (fit-of does.is (gives does.object does.method does.is)) (left, all)
@@ -155,7 +155,7 @@ module _ {p : Loaded} {certificate : Certificate} (valid : IsValid p certificate
   pushes-does t n o m arguments y rest below b high one left all (Schedule x) is does =
       pushes-schedules s t (Body o m arguments rest ∷ below) x (life_of s.objects x) (omega (arith, high)) (left, all) does
   pushes-does t n o m arguments y rest below b high one left all (TakeAnswer effects) is does =
-      let native = does-led sound agree.typed b y (TakeAnswer effects) (b.steps).0 is in
+      let native = does-led valid sound agree.typed b y (TakeAnswer effects) (b.steps).0 is in
       pushes-as does.gives (pushes-none (omega (arith, high)) (all-append (StepIsPromised p classes o) (map (Act effects) does.actions) rest (answer-promised takes natives sound promises classes known agree.typed b native does) left, all))
   pushes-does t n o m arguments y rest below b high one left all Nothing is does = pushes-as does (pushes-none (omega (arith, high)) (left, all))
 
@@ -228,10 +228,10 @@ module _ {p : Loaded} {certificate : Certificate} (valid : IsValid p certificate
 
   -- ---- all rules
 
-  pushes-at : (t : State) (stack : List Activation) (levels : List (Level p certificate)) → s.stack ≡ stack → AllIsPromised p classes stack → Stacked classes s.objects stack levels → RuleAt p natives s t stack → Pushes p classes (length s.stack) t
+  pushes-at : (t : State) (stack : List Activation) (levels : List (Level certificate)) → s.stack ≡ stack → AllIsPromised p classes stack → Stacked p classes s.objects stack levels → RuleAt p natives s t stack → Pushes p classes (length s.stack) t
   pushes-at t [] levels is all st rule = pushes-turn t (subst (AllIsPromised p classes) (sym is) tt) is s.turn rule
   pushes-at t (a ∷ below) [] is all st rule = absurd st
-  pushes-at t (Body o m arguments left ∷ below) (r ∷ levels) is all st rule = pushes-body t (length s.stack) o m arguments left below st.0 (ap (λ (l : List Activation). length l) is) all.0 all.1 rule
+  pushes-at t (Body o m arguments left ∷ below) (r ∷ levels) is all st rule = pushes-body t (length s.stack) o m arguments left below (st.0).stands (ap (λ (l : List Activation). length l) is) all.0 all.1 rule
   pushes-at t (Emit o g arguments used last ∷ below) (r ∷ levels) is all st rule =
       pushes-emission t (length s.stack) o g arguments used last below (ap (λ (l : List Activation). length l) is) (emitted-on-top is) (heard-on-top is) all.1 (next_used s.objects s.connected.connections o g used last) refl rule
     where

@@ -42,6 +42,8 @@ use Rattle.machine_state.specs.Connections.{joins_these}
 use Rattle.machine_state.specs.State.{State, IsIdle, Activation}
 use Rattle.machine_state.specs.Worlds.{with_store}
 use Rattle.machine_state.proofs.Due.{all-removed}
+use Rattle.machine_state.specs.Telling.{Alone}
+use Rattle.prop_bindings.specs.Places.{property_of}
 use Rattle.machine_rules.specs.declared.ends.FoundEnds.{FoundEnds}
 use Rattle.machine_rules.specs.Good.{IsWell}
 use Rattle.machine_rules.specs.Judgement.{Numbered, found as finds, holds as so, becomes, goes_on}
@@ -56,13 +58,13 @@ use Rattle.machine_events.specs.Events.{may_bind, block, find_ends, invoke}
 use Rattle.machine_events.specs.code.Judgement.{IsLiving}
 use Rattle.checked_runs.proofs.Invariant.{Stacked, AreClasses, AreOwned, IsOwned, IsWired, IsOf, IsSited, IsCovered, Holds}
 use Rattle.checked_runs.proofs.Nodes.{named-node, property-node, end-node}
-use Rattle.checked_runs.proofs.Ladder.{level-at}
+use Rattle.checked_runs.proofs.Ladder.{level-at, level-of}
 use Rattle.machine_events.proofs.Changes.{adopted-by, length-moved}
 use Rattle.machine_events.proofs.Judged.{given-is}
 use Rattle.machine_events.proofs.Judging.Naming.{living-is, living-object}
 use Rattle.machine_events.proofs.Moving.{moved-by}
 use Rattle.checked_runs.proofs.Worlds.{Leaves, classes-left, all-changed, all-left}
-use Rattle.checked_runs.proofs.Rules.{writes-held, settles-held, begun-held, wired-by, deletes-held, schedules-held}
+use Rattle.checked_runs.proofs.Rules.{writes-held, settles-held, alone-low, begun-held, wired-by, deletes-held, schedules-held}
 
 -- ---- objects change
 
@@ -188,11 +190,11 @@ module _ {p : Loaded} {certificate : Certificate} (valid : IsValid p certificate
   abbrev pub HoldsSome : State → Type 0
   HoldsSome s = (classes : ℕ → Option ℕ) × Holds p certificate classes s
 
-  idle-stacked : (classes : ℕ → Option ℕ) (objects : List Object) (stack : List Activation) → stack ≡ [] → Stacked {p = p} {certificate = certificate} classes objects stack []
-  idle-stacked classes objects stack e = subst (λ (l : List Activation). Stacked {p = p} {certificate = certificate} classes objects l []) (sym e) tt
+  idle-stacked : (classes : ℕ → Option ℕ) (objects : List Object) (stack : List Activation) → stack ≡ [] → Stacked p {certificate = certificate} classes objects stack []
+  idle-stacked classes objects stack e = subst (λ (l : List Activation). Stacked p {certificate = certificate} classes objects l []) (sym e) tt
 
   module _ (s : State) (idle : IsIdle s) (classes : ℕ → Option ℕ) (covered : IsCovered p classes s.objects s.connected.connections s.bindings) (agree : Agree p s.objects s.bindings) where
-    stands : Stacked {p = p} {certificate = certificate} classes s.objects s.stack []
+    stands : Stacked p {certificate = certificate} classes s.objects s.stack []
     stands = idle-stacked classes s.objects s.stack idle.empty
 
     -- objects change, and no class or child is new; nor does it matter what waits
@@ -254,8 +256,8 @@ module _ {p : Loaded} {certificate : Certificate} (valid : IsValid p certificate
         let class_is : classes b.target.object ≡ Some life.class = (covered.known).lives b.target.object life.class (class-of-lives s.objects b.target.object (x.is).lives) in
         let r = level-at valid (node life.class (Property b.target.property)) (property-node sound life.class b.target.property x.property (record { class = (x.is).class; is_class = (x.is).is_class; is = (x.is).is_property })) in
         let all = all-snoc (IsSited p classes) (filter_kept b) b (all-filtered (IsSited p classes) _ s.bindings covered.sited) sited in
-        settles-held valid sound classes {s = accepted s} s.stack [] r.0 b.target life.class x.objects (replaced s.bindings b) x.changed covered agree stands tt class_is r.1 x.differ all x.settled
-        (λ q z other e. same-elsewhere q z other e) (λ q other none. x.kept q none) x.changes x.settles
+        settles-held valid sound classes {s = accepted s} s.stack [] (level-of valid r.0) (b.target ∷ []) x.objects (replaced s.bindings b) x.changed covered agree stands tt (alone-low valid sound classes b.target life.class r.0 class_is r.1) x.differ all x.settled
+        (λ q z other e. same-elsewhere q z (λ same. other (inl same)) e) (λ q other none. x.kept q none) x.changes x.settles
       where
         filter_kept : Binding → List Binding
         filter_kept z = without z.target s.bindings
@@ -309,10 +311,11 @@ module _ {p : Loaded} {certificate : Certificate} (valid : IsValid p certificate
           }),
         )
     event-held (Set name property i) well (goes_on o lives (goes_on q _ (goes_on v _ (goes_on _ fits (becomes w))))) =
-        let life = (w.is).life in
-        let class_is : classes o.number ≡ Some life.class = (covered.known).lives o.number life.class (class-of-lives s.objects o.number (w.is).lives) in
-        let r = level-at valid (node life.class (Property q.number)) (property-node sound life.class q.number w.property (record { class = (w.is).class; is_class = (w.is).is_class; is = (w.is).is_property })) in
-        (classes, writes-held valid sound classes {s = accepted s} s.stack [] r.0 o.number q.number life.class v covered agree stands tt class_is r.1 w)
+        let field = (w.there).0 in
+        let life = (field.is).life in
+        let class_is : classes o.number ≡ Some life.class = (covered.known).lives o.number life.class (class-of-lives s.objects o.number (field.is).lives) in
+        let r = level-at valid (node life.class (Property q.number)) (property-node sound life.class q.number field.property (record { class = (field.is).class; is_class = (field.is).is_class; is = (field.is).is_property })) in
+        (classes, writes-held valid sound classes {s = accepted s} s.stack [] (level-of valid r.0) (Alone (property_of o.number q.number) v) covered agree stands tt (alone-low valid sound classes (property_of o.number q.number) life.class r.0 class_is r.1) w)
     event-held {t} (Bind site target sources) well (goes_on b may (becomes x)) = (classes, bound-held t b (binding-sited site target sources b may) x)
     event-held {t} (EmitEvent name signal inputs) well x = (classes, invoked-held t EmitIt name signal inputs well x)
     event-held {t} (CallEvent name slot inputs) well x = (classes, invoked-held t CallIt name slot inputs well x)

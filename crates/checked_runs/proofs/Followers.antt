@@ -1,5 +1,5 @@
 -- A write or a bind notifies only properties that are no higher than the one that is written or bound.
-use Rattle.std.proofs.Common.{◌≡◌, inl, inr, ℕ, ◌<◌, List, Option, Some, None, is_some, refl, sym, ap, ◌∙◌, subst, arith}
+use Rattle.std.proofs.Common.{◌≡◌, inl, inr, ℕ, ◌<◌, List, [], ◌∷◌, Option, Some, None, is_some, refl, sym, ap, ◌∙◌, subst, arith}
 use Rattle.std.specs.List.{AllByRecursion}
 use Rattle.std.specs.Option.{option_map}
 use Rattle.std.proofs.lemmas.Bool.{cases_lt}
@@ -12,7 +12,8 @@ use Rattle.prop_bindings.specs.declared.binding.Binding.{Binding}
 use Rattle.prop_bindings.specs.declared.place.Place.{Place}
 use Rattle.prop_bindings.specs.Bindings.{Settled}
 use Rattle.prop_bindings.specs.Changes.{DifferInValues, ReadsAlike, AreChanged, none_changed, one_changed, one_stayed}
-use Rattle.prop_bindings.specs.Places.{values_in}
+use Rattle.prop_bindings.specs.Places.{In, values_in}
+use Rattle.std.proofs.lemmas.Option.{same_Some}
 use Rattle.prop_bindings.proofs.Fitting.{seen-same}
 use Rattle.effect_scan.specs.declared.node.Node.{Node}
 use Rattle.effect_scan.specs.declared.node.Member.TheVariants.{Property}
@@ -23,8 +24,7 @@ use Rattle.certificate_lang.specs.declared.certificate.Certificate.{Certificate}
 use Rattle.rank_check.specs.Valid.{IsLineOf, Destroys, IsValid}
 use Rattle.machine_rules.proofs.Lists.{all-weaken, all-filtered}
 use Rattle.machine_rules.specs.Settling.{notified, signal_at}
-use Rattle.checked_runs.proofs.Invariant.{IsFollower, IsSited}
-use Rattle.checked_runs.proofs.Ladder.{line-unique}
+use Rattle.checked_runs.proofs.Invariant.{IsFollower, IsNoHigher, IsSited}
 use Rattle.checked_runs.proofs.Sites.{unchanged}
 
 map-alike : (f g : Value → Value) → ((v : Value) → f v ≡ g v) → (found : Option Value) → option_map f found ≡ option_map g found
@@ -48,30 +48,37 @@ IsKnown classes q = (class : ℕ) × (classes q.object ≡ Some class)
 module _ {p : Loaded} {certificate : Certificate} (valid : IsValid p certificate) (sound : IsSound p) (classes : ℕ → Option ℕ)
     (F G : Place → Option Binding) (sited : (q : Place) (b : Binding) → G q ≡ Some b → IsSited p classes b × (b.target ≡ q))
     (old new : List Object) (differ : DifferInValues old new)
-    (first : Place) (class : ℕ) (is_class : classes first.object ≡ Some class) (line : Line) (is_line : IsLineOf p certificate (node class (Property first.property)) line)
+    (written : List Place) (line : Line) (below : AllByRecursion (IsFollower p certificate classes line) written)
     (settled_old : Settled F (values_in old)) (settled_new : Settled G (values_in new))
-    (same : (q : Place) (b : Binding) → ¬ (first ≡ q) → G q ≡ Some b → F q ≡ Some b)
-    (kept : (q : Place) → ¬ (first ≡ q) → G q ≡ None → values_in new q ≡ values_in old q) where
-  first-line : (other : Line) → (c : ℕ) × (classes first.object ≡ Some c) × IsLineOf p certificate (node c (Property first.property)) other → other ≡ line
-  first-line other at =
-      let one : at.0 ≡ class = cc (sym at.1 ∙ is_class) in
-      line-unique _ other line valid (subst (λ (c : ℕ). IsLineOf p certificate (node c (Property first.property)) other) one at.2) is_line
+    (same : (q : Place) (b : Binding) → ¬ In q written → G q ≡ Some b → F q ≡ Some b)
+    (kept : (q : Place) → ¬ In q written → G q ≡ None → values_in new q ≡ values_in old q) where
+  -- the lines of those that are written are no higher
+  written-low : (qs : List Place) → AllByRecursion (IsFollower p certificate classes line) qs → (q : Place) → In q qs → (other : Line) → (c : ℕ) × (classes q.object ≡ Some c) × IsLineOf p certificate (node c (Property q.property)) other → IsNoHigher p line other
+  written-low [] all q here other at = absurd here
+  written-low (r ∷ qs) all q (inr here) other at = written-low qs all.1 q here other at
+  written-low (r ∷ qs) all q (inl e) other at =
+      let low = all.0 in
+      let there : classes r.object ≡ Some at.0 = subst (λ (z : Place). classes z.object ≡ Some at.0) (sym e) at.1 in
+      let one : at.0 ≡ low.class = same_Some _ _ (sym there ∙ low.is) in
+      let here : IsLineOf p certificate (node low.class (Property r.property)) other =
+      subst (λ (c : ℕ). IsLineOf p certificate (node c (Property r.property)) other) one (subst (λ (z : Place). IsLineOf p certificate (node at.0 (Property z.property)) other) (sym e) at.2) in
+      low.no_higher other here
 
   follower : (q : Place) → IsKnown classes q × (¬ ReadsAlike old new q) → IsFollower p certificate classes line q
   follower q changed = record {
     class = (changed.0).0;
     is = (changed.0).1;
     no_higher = λ upper at.
-        let stays : (P : Line → Type 0) → ((x y : Node) (a b : Line) → MayLead p x y → IsLineOf p certificate x a → IsLineOf p certificate y b → P b → P a) → ¬ P line → P upper → ⊥ =
+        let stays : (P : Line → Type 0) → ((x y : Node) (a b : Line) → MayLead p x y → IsLineOf p certificate x a → IsLineOf p certificate y b → P b → P a) → ((other : Line) → IsNoHigher p line other → ¬ P other) → P upper → ⊥ =
         λ P closed none has. changed.1 (reads-alike old new q differ
-        (unchanged valid sound classes G sited F (values_in old) (values_in new) first settled_old settled_new same kept P closed
-        (λ other here held. none (subst P (first-line other here) held)) certificate.bound q upper ((changed.0).0, (changed.0).1, at) has (omega arith))) in
+        (unchanged valid sound classes G sited F (values_in old) (values_in new) written settled_old settled_new same kept P closed
+        (λ r here other there held. none other (written-low written below r here other there) held) certificate.bound q upper ((changed.0).0, (changed.0).1, at) has (omega arith))) in
         record {
           rank = elim (cases_lt line.rank upper.rank) [
-            | inl high ↦ absurd (stays (λ (l : Line). line.rank < l.rank) (λ x y a b leads from to low. let fall = valid.ranks x y a b leads from to in omega (arith, fall, low)) (λ low. omega (arith, low)) high)
+            | inl high ↦ absurd (stays (λ (l : Line). line.rank < l.rank) (λ x y a b leads from to low. let fall = valid.ranks x y a b leads from to in omega (arith, fall, low)) (λ other up low. let most = up.rank in omega (arith, most, low)) high)
             | inr low ↦ omega (arith, low)
           ];
-          set = λ d none held. stays (λ (l : Line). Destroys p l d) (λ x y a b leads from to h. valid.sets.passed_on x y a b d leads from to h) none held;
+          set = λ d none held. stays (λ (l : Line). Destroys p l d) (λ x y a b leads from to h. valid.sets.passed_on x y a b d leads from to h) (λ other up h. up.set d none h) held;
         };
   }
 

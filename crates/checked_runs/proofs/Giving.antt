@@ -22,7 +22,7 @@ use Rattle.meta_model.specs.declared.object.Work.{Work}
 use Rattle.meta_model.specs.declared.object.Work.TheVariants.{Native}
 use Rattle.meta_model.specs.Loaded.{Loaded}
 use Rattle.meta_model.specs.Members.{IsMethod, IsProperty, Below}
-use Rattle.meta_model.specs.Sound.{IsSound, HasRoot, this_has, parameter_has, Leads, here, on, LeadsToClass, IsSoundStatement, set_sound, emit_sound, call_sound, if_sound, connect_sound, disconnect_sound, delete_sound, later_sound, IsSoundWork}
+use Rattle.meta_model.specs.Sound.{IsSound, HasRoot, this_has, parameter_has, Leads, here, on, LeadsToClass, IsSet, IsSoundStatement, set_sound, emit_sound, call_sound, if_sound, connect_sound, disconnect_sound, delete_sound, later_sound, group_sound, IsSoundWork}
 use Rattle.meta_model.specs.Values.{HaveTypes}
 use Rattle.native_slots.specs.declared.action.Action.{Action}
 use Rattle.native_slots.specs.declared.action.Action.TheVariants as action
@@ -35,14 +35,14 @@ use Rattle.object_tree.specs.declared.object.Object.{Object}
 use Rattle.object_tree.specs.Objects.{Lives, class_of}
 use Rattle.object_tree.specs.Typed.{AreTyped, ReadsAs, ReadAs}
 use Rattle.object_tree.proofs.TypedObjects.{has-reads}
-use Rattle.typing.specs.Bodies.{kind_of_root, kind_after, kind_of_path, IsTypedStatement}
+use Rattle.typing.specs.Bodies.{IsTypedStatement}
 use Rattle.typing.specs.Typed.{IsTypedWork}
 use Rattle.typing.proofs.Values.{body_has, arguments_have}
 use Rattle.effect_scan.specs.declared.node.Node.{Node}
 use Rattle.certificate_lang.specs.declared.certificate.Certificate.{Certificate}
 use Rattle.rank_check.specs.Valid.{IsValid}
 use Rattle.machine_state.specs.State.{State, Step, Run, Ask, Act, Activation}
-use Rattle.machine_rules.specs.Operations.{Operation, Write, Begin, Choose, Connect, Disconnect, Delete, Schedule, TakeAnswer, Nothing, on_object, chosen_by, operation, operation_of_action, operation_of_step}
+use Rattle.machine_rules.specs.Operations.{Operation, Write, Begin, Choose, Connect, Disconnect, Delete, Schedule, TakeAnswer, Nothing, on_object, chosen_by, operation, operation_of_set, set_at, sets_in, operation_of_action, operation_of_step}
 use Rattle.machine_rules.specs.Natives.{NativeAnswers}
 use Rattle.machine_rules.specs.Paths.{path_value, value_of, values_of}
 use Rattle.machine_rules.specs.Rules.{Answers}
@@ -55,34 +55,17 @@ use Rattle.machine_rules.proofs.Promised.{declared-at, promised}
 use Rattle.machine_events.proofs.TypedPaths.{Reaches, to_null, to_object}
 use Rattle.checked_runs.proofs.Invariant.{BodyStands, IsStepOf, runs}
 use Rattle.checked_runs.proofs.Promised.{SetsWithin, EmitsWithin, IsWithin, IsPromised, StepIsPromised}
-use Rattle.checked_runs.proofs.Lacking.{paths-typed, reached, body-typed}
-use Rattle.checked_runs.proofs.Leading.{occurs-sound}
+use Rattle.checked_runs.proofs.PathClasses.{same-class}
+use Rattle.checked_runs.proofs.Lacking.{SetsAreTyped, paths-typed, reached, body-typed, typed-set, sets-done}
+use Rattle.checked_runs.proofs.Leading.{occurs-sound, occurs-in}
+use Rattle.machine_events.proofs.Grouped.{IfWrites, within-first}
+use Rattle.machine_state.specs.Telling.{Alone, Grouped, writes_of}
+use Rattle.prop_bindings.specs.declared.assignment.Assignment.{Assignment}
+use Rattle.prop_bindings.specs.Calls.{AllFit}
+use Rattle.prop_bindings.specs.Fits.{FitsAt}
+use Rattle.prop_bindings.specs.Places.{property_of}
+use Rattle.std.proofs.lemmas.List.Elements.{recursion_from_All}
 use Rattle.checked_runs.proofs.Nodes.{body-named}
-
--- ---- the class that a path is declared to lead to
-
-module _ (me : ℕ) (kinds : List ValueType) where
-  root-kind : (root : MetaRoot) (T : ValueType) → HasRoot me kinds root T → kind_of_root me kinds root ≡ Some T
-  root-kind root T this_has = refl
-  root-kind root T (parameter_has at) = at
-
-  last-kind : {p : Loaded} {T U : ValueType} (s : PathStep) (steps : List PathStep) → Leads p T (s ∷ steps) U → (last : PathStep) × (slice_get (s ∷ steps) (length steps) ≡ Some last) × (last.kind ≡ U)
-  last-kind s [] (on is e here) = (s, refl, refl)
-  last-kind s (t ∷ ts) (on is e rest) = last-kind t ts rest
-
-  steps-kind : {p : Loaded} (root : MetaRoot) (steps : List PathStep) (T U : ValueType) → HasRoot me kinds root T → Leads p T steps U → kind_after me kinds root (slice_get steps (length steps - 1)) ≡ Some U
-  steps-kind root [] T U has here = root-kind root T has
-  steps-kind root (s ∷ steps) T U has leads =
-      let last = last-kind s steps leads in
-      let at : slice_get (s ∷ steps) (suc (length steps) - 1) ≡ Some last.0 = ap (slice_get (s ∷ steps)) (omega arith) ∙ last.1 in
-      ap (kind_after me kinds root) at ∙ ap (λ (w : ValueType). Some w) last.2
-
-  -- .. is one
-  same-class : {p : Loaded} (path : MetaPath) (c d : ℕ) → LeadsToClass p me kinds path c → kind_of_path me kinds path ≡ Some (type.Reference d false) → c ≡ d
-  same-class path c d leads at =
-      let mine = steps-kind path.root path.steps leads.leads.root_type (type.Reference c leads.constant) leads.leads.root leads.leads.steps in
-      let both : type.Reference c leads.constant ≡ type.Reference d false = same_Some _ _ (sym mine ∙ at) in
-      cc both
 
 -- ---- values of types
 
@@ -111,9 +94,9 @@ all-plain-read p objects (v ∷ vs) (T ∷ Ts) h =
 
 -- ---- statements
 
--- what is written is of the property's type, and what a method begins with of its parameters' types
+-- what is written fits its properties, and what a method begins with is of its parameters' types
 abbrev pub GivesTyped : Loaded → List Object → Operation → Type 0
-GivesTyped p objects (Write y q new) = (z : Object) (property : MetaProperty) → IsField p objects y q z property → ReadsAs p objects new property.kind
+GivesTyped p objects (Write what) = AllFit p objects (writes_of what)
 GivesTyped p objects (Begin y n given) = (z : Object) (method : MetaMethod) → IsMember p objects y n z method → ReadAs p objects given method.kinds
 GivesTyped p objects (Choose block) = Unit {0}
 GivesTyped p objects (Connect ends how) = Unit {0}
@@ -124,19 +107,9 @@ GivesTyped p objects (TakeAnswer effects) = Unit {0}
 GivesTyped p objects Nothing = Unit {0}
 
 module _ {p : Loaded} {objects : List Object} (sound : IsSound p) where
-  -- a property of an object's class is the one that is meant
-  one-property : (y q : ℕ) (z : Object) (k : Life) (c : ℕ) (declared : MetaProperty) → Lives objects y z k → Below p k.class c → IsProperty p c q declared → (x : Object) (property : MetaProperty) → IsField p objects y q x property → declared ≡ property
-  one-property y q z k c declared lives beneath is x property field =
-      let own = property-below sound beneath is in
-      field-property (record { life = k; lives = lives; class = own.class; is_class = own.is_class; is_property = own.is }) field
-
   one-method : (y n : ℕ) (z : Object) (k : Life) (c : ℕ) (declared : MetaMethod) → Lives objects y z k → Below p k.class c → IsMethod p c n declared → (x : Object) (method : MetaMethod) → IsMember p objects y n x method → declared ≡ method
   one-method y n z k c declared lives beneath is x method member =
       member-method (record { life = k; lives = lives; is_method = method-below sound beneath is }) member
-
-  written-typed : (y q : ℕ) (z : Object) (k : Life) (c : ℕ) (declared : MetaProperty) (new : Value) → Lives objects y z k → Below p k.class c → IsProperty p c q declared → ReadsAs p objects new declared.kind → GivesTyped p objects (Write y q new)
-  written-typed y q z k c declared new lives beneath is reads = λ x property field.
-      subst (λ (w : MetaProperty). ReadsAs p objects new w.kind) (one-property y q z k c declared lives beneath is x property field) reads
 
   begun-typed : (y n : ℕ) (z : Object) (k : Life) (c : ℕ) (declared : MetaMethod) (given : List Value) → Lives objects y z k → Below p k.class c → IsMethod p c n declared → ReadAs p objects given declared.kinds → GivesTyped p objects (Begin y n given)
   begun-typed y n z k c declared given lives beneath is read = λ x method member.
@@ -159,35 +132,40 @@ chosen-typed p objects block other (Some (value.Int n)) = tt
 chosen-typed p objects block other (Some (value.Text n)) = tt
 chosen-typed p objects block other (Some (value.Ref n)) = tt
 
+-- a set alone
+of-set : (p : Loaded) (objects : List Object) (done : Option Assignment) → IfWrites (λ a. FitsAt p objects a.place a.value) done → GivesTyped p objects (operation_of_set done)
+of-set p objects None fits = tt
+of-set p objects (Some a) fits = (fits, tt)
+
 module _ {p : Loaded} {objects : List Object} (sound : IsSound p) (typed : AreTyped p objects) (o me : ℕ) (x : Object) (l : Life) (arguments : List Value) (kinds : List ValueType) (lives : Lives objects o x l) (below : Below p l.class me) (fit : ReadAs p objects arguments kinds) where
-  pub statement-gives : (f : layer.Statement-F Statement) → IsSoundStatement p me kinds f → IsTypedStatement p me kinds f → IfSome (operation objects o arguments f) (GivesTyped p objects)
-  statement-gives f (set_sound {path = path} {q = q} {e = e} is) t =
-      let at = same-class me kinds path is.class t.class is.leads t.leads in
-      let v = body_has p sound (class_of objects) me kinds (path_value objects o arguments) (paths-typed sound typed o me x l arguments kinds lives below fit) (t.property).kind e is.value t.given in
-      on-typed p objects (λ y. option_map (λ (new : Value). Write y q new) (value_of objects o arguments e)) (path_value objects o arguments path) (reached sound typed o me x l arguments kinds lives below fit path is.leads)
-      (λ y z k alive beneath. map-typed p objects (λ (new : Value). Write y q new) (value_of objects o arguments e) v.0 v.1
-      (written-typed sound y q z k t.class t.property v.0 alive (subst (λ (c : ℕ). Below p k.class c) at beneath) t.is (has-reads p objects v.0 (t.property).kind v.2)))
-  statement-gives f (emit_sound {m = g} {es = es} is) t =
+  pub statement-gives : (f : layer.Statement-F Statement) → IsSoundStatement p me kinds f → IsTypedStatement p me kinds f → SetsAreTyped sound typed o me x l arguments kinds lives below fit f → IfSome (operation objects o arguments f) (GivesTyped p objects)
+  statement-gives f (set_sound {path = path} {q = q} {e = e} is) t inner =
+      let done = typed-set sound typed o me x l arguments kinds lives below fit (within-first sound objects o me x l arguments kinds lives below fit typed) path q e is t in
+      map-typed p objects operation_of_set (set_at objects o arguments path q e) done.0 done.1 (of-set p objects done.0 done.2)
+  statement-gives f (group_sound {sets = sets} all only) t inner =
+      let done = sets-done sound typed o me x l arguments kinds lives below fit sets all (recursion_from_All IsSet sets only.1) (inner sets refl) (within-first sound objects o me x l arguments kinds lives below fit typed) in
+      map-typed p objects (λ (found : List (Option Assignment)). Write (Grouped found)) (sets_in objects o arguments sets) done.0 done.1 done.2
+  statement-gives f (emit_sound {m = g} {es = es} is) t inner =
       let vs = arguments_have p sound (class_of objects) me kinds (path_value objects o arguments) (paths-typed sound typed o me x l arguments kinds lives below fit) (t.method).kinds es is.values t.given in
       map-typed p objects (λ (given : List Value). Begin o g given) (values_of objects o arguments es) vs.0 vs.1
       (begun-typed sound o g x l me t.method vs.0 lives below t.is (all-reads p objects vs.0 (t.method).kinds vs.2))
-  statement-gives f (call_sound {path = path} {m = n} {es = es} is) t =
+  statement-gives f (call_sound {path = path} {m = n} {es = es} is) t inner =
       let at = same-class me kinds path is.class t.class is.leads t.leads in
       let to = t.accepts in
       let vs = arguments_have p sound (class_of objects) me kinds (path_value objects o arguments) (paths-typed sound typed o me x l arguments kinds lives below fit) (to.method).kinds es is.values to.given in
       on-typed p objects (λ y. option_map (λ (given : List Value). Begin y n given) (values_of objects o arguments es)) (path_value objects o arguments path) (reached sound typed o me x l arguments kinds lives below fit path is.leads)
       (λ y z k alive beneath. map-typed p objects (λ (given : List Value). Begin y n given) (values_of objects o arguments es) vs.0 vs.1
       (begun-typed sound y n z k t.class to.method vs.0 alive (subst (λ (c : ℕ). Below p k.class c) at beneath) to.is (all-reads p objects vs.0 (to.method).kinds vs.2)))
-  statement-gives f (if_sound {e = e} {chosen = block} {other = other} is one two) t = chosen-typed p objects block other (value_of objects o arguments e)
-  statement-gives f (connect_sound {ends = ends} is) t =
+  statement-gives f (if_sound {e = e} {chosen = block} {other = other} is one two) t inner = chosen-typed p objects block other (value_of objects o arguments e)
+  statement-gives f (connect_sound {ends = ends} is) t inner =
       on-typed p objects _ (path_value objects o arguments ends.sender) (reached sound typed o me x l arguments kinds lives below fit ends.sender is.sender) (λ y z k alive beneath.
       on-typed p objects _ (path_value objects o arguments ends.receiver) (reached sound typed o me x l arguments kinds lives below fit ends.receiver is.receiver) (λ u v w also under. tt))
-  statement-gives f (disconnect_sound {ends = ends} is) t =
+  statement-gives f (disconnect_sound {ends = ends} is) t inner =
       on-typed p objects _ (path_value objects o arguments ends.sender) (reached sound typed o me x l arguments kinds lives below fit ends.sender is.sender) (λ y z k alive beneath.
       on-typed p objects _ (path_value objects o arguments ends.receiver) (reached sound typed o me x l arguments kinds lives below fit ends.receiver is.receiver) (λ u v w also under. tt))
-  statement-gives f (delete_sound {path = path} leads) t =
+  statement-gives f (delete_sound {path = path} leads) t inner =
       on-typed p objects (λ y. Some (Delete y)) (path_value objects o arguments path) (reached sound typed o me x l arguments kinds lives below fit path leads) (λ y z k alive beneath. tt)
-  statement-gives f (later_sound {path = path} leads) t =
+  statement-gives f (later_sound {path = path} leads) t inner =
       on-typed p objects (λ y. Some (Schedule y)) (path_value objects o arguments path) (reached sound typed o me x l arguments kinds lives below fit path leads) (λ y z k alive beneath. tt)
 
 -- ---- bodies
@@ -206,9 +184,8 @@ module _ {p : Loaded} {certificate : Certificate} (valid : IsValid p certificate
       let w = kept.within in
       let class_is : (own.1).class ≡ kept.class = own.3 ∙ own-class kept.class kept.is in
       let is : IsProperty p (own.1).class w.number w.property = subst (λ (c : ℕ). IsProperty p c w.number w.property) (sym class_is) w.is in
-      map-typed p objects (λ (q : ℕ). Write o q v) (slice_get effects.sets place) w.number w.at
-      (λ z property field. subst (λ (k : MetaProperty). ReadsAs p objects v k.kind)
-      (field-property (record { life = own.1; lives = own.2; class = is.class; is_class = is.is_class; is_property = is.is }) field) (plain-reads p objects v (w.property).kind w.typed))
+      map-typed p objects (λ (q : ℕ). Write (Alone (property_of o q) v)) (slice_get effects.sets place) w.number w.at
+      (record { object = own.0; life = own.1; lives = own.2; property = w.property; is_property = is; reads = plain-reads p objects v (w.property).kind w.typed }, tt)
   action-gives effects (action.Emit place given) kept =
       let w = kept.within in
       let class_is : (own.1).class ≡ kept.class = own.3 ∙ own-class kept.class kept.is in
@@ -224,7 +201,7 @@ module _ {p : Loaded} {certificate : Certificate} (valid : IsValid p certificate
       let whole = body-typed b.class m work.declaring b.method valid sound b.is work.below work.declares (body-named sound b.class m b.method b.is b.bodied) in
       let all = subst (λ (w : Work). IsTypedWork p work.declaring kinds w) slot whole in
       statement-gives sound typed o work.declaring own.0 own.1 arguments kinds own.2 (subst (λ (k : ℕ). Below p k work.declaring) (sym own.3) work.below) b.typed (out-Statement s)
-      (occurs-sound sound work.declaring kinds s body work.sound occurs) (all s occurs)
+      (occurs-sound sound work.declaring kinds s body work.sound occurs) (all s occurs) (λ sets at u i. all u (occurs-in s sets body occurs at u i))
 
   step-gives : (y : Step) → IsStepOf (b.method).work y → StepIsPromised p classes o y → IfSome (operation_of_step objects o arguments y) (GivesTyped p objects)
   step-gives (Run s) of kept = slot-gives s of

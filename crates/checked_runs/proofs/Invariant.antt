@@ -1,5 +1,5 @@
--- What a run of a checked program keeps (docs/certificate.md, "The check"): each activation stands at a node, and rank and
--- destroy set fall from each to the one above it; connections are covered by wires, bindings by sites, adoptions by `owns`.
+-- What a run of a checked program keeps (docs/certificate.md, "The check"): each activation but an update stands at a node,
+-- and rank and destroy set fall from each to the one above it; connections are covered by wires, bindings by sites, adoptions by `owns`.
 use Rattle.std.specs.Prelude.{◌≡◌, ◌≢◌, ℕ, ◌<◌, ◌≤◌, List, [], ◌∷◌, length, Option, None, Some, slice_get}
 use Rattle.std.specs.List.{AllByRecursion, AllZip}
 use Rattle.signatures.specs.declared.value.Value.{Value}
@@ -42,16 +42,27 @@ pub record IsNoHigher (p : Loaded) (lower upper : Line) : Type 0 where
   pub rank : upper.rank ≤ lower.rank
   pub set : (d : ℕ) → ¬ Destroys p lower d → ¬ Destroys p upper d
 
+-- a rank below the bound, and a destroy set, as a line would have them
+pub record Level (certificate : Certificate) : Type 0 where
+  pub line : Line
+  pub low : line.rank < certificate.bound
+
 -- a node with its line
-pub record Level (p : Loaded) (certificate : Certificate) : Type 0 where
+pub record NodeLevel (p : Loaded) (certificate : Certificate) : Type 0 where
   pub node : Node
   pub line : Line
   pub is : IsLineOf p certificate node line
 
+-- the level is that of a node of which this stands
+pub record AtNode (p : Loaded) (certificate : Certificate) (level : Level certificate) (P : Node → Type 0) : Type 0 where
+  pub node : Node
+  pub is : IsLineOf p certificate node level.line
+  pub stands : P node
+
 -- it falls to this line from what is on top, if anything is
-abbrev pub FallsTo : {p : Loaded} {certificate : Certificate} → List (Level p certificate) → Line → Type 0
-FallsTo [] line = Unit {0}
-FallsTo {p} (level ∷ levels) line = Falls p level.line line
+abbrev pub FallsTo : (p : Loaded) {certificate : Certificate} → List (Level certificate) → Line → Type 0
+FallsTo p [] line = Unit {0}
+FallsTo p (level ∷ levels) line = Falls p level.line line
 
 -- ---- what activations stand at. `classes` are the classes of all objects that were ever created.
 
@@ -78,7 +89,7 @@ pub record EmitStands (classes : ℕ → Option ℕ) (o g : ℕ) (x : Node) : Ty
   pub is : classes o ≡ Some class
   pub at : x ≡ node class (Method (named g))
 
--- a property that is still to be notified is no higher than the one that was written
+-- a property that is still to be notified is no higher than what was written
 pub record IsFollower (p : Loaded) (certificate : Certificate) (classes : ℕ → Option ℕ) (written : Line) (place : Place) : Type 0 where
   pub class : ℕ
   pub is : classes place.object ≡ Some class
@@ -102,18 +113,19 @@ pub record DestroyStands (p : Loaded) (classes : ℕ → Option ℕ) (next : Opt
   pub coming : IsTornIf p classes class next
   pub gone : AllByRecursion (IsTorn p classes class) torn
 
-abbrev pub Stands : {p : Loaded} {certificate : Certificate} → (ℕ → Option ℕ) → List Object → Activation → Level p certificate → Type 0
-Stands {p} classes objects (Body o m arguments left) level = BodyStands p objects o m arguments left level.node
-Stands classes objects (Emit o g arguments used last) level = EmitStands classes o g level.node
-Stands {p} {certificate} classes objects (Update places) level = AllByRecursion (IsFollower p certificate classes level.line) places
-Stands {p} classes objects (Destroy next torn) level = DestroyStands p classes next torn level.node
+-- .. each at a level; an update at one that is no lower than the properties that it is to notify
+abbrev pub Stands : (p : Loaded) {certificate : Certificate} → (ℕ → Option ℕ) → List Object → Activation → Level certificate → Type 0
+Stands p {certificate} classes objects (Body o m arguments left) level = AtNode p certificate level (BodyStands p objects o m arguments left)
+Stands p {certificate} classes objects (Emit o g arguments used last) level = AtNode p certificate level (EmitStands classes o g)
+Stands p {certificate} classes objects (Update places) level = AllByRecursion (IsFollower p certificate classes level.line) places
+Stands p {certificate} classes objects (Destroy next torn) level = AtNode p certificate level (DestroyStands p classes next torn)
 
--- the activations of a stack stand at these nodes, which fall from each to the one above it
-abbrev pub Stacked : {p : Loaded} {certificate : Certificate} → (ℕ → Option ℕ) → List Object → List Activation → List (Level p certificate) → Type 0
-Stacked classes objects [] [] = Unit {0}
-Stacked classes objects [] (level ∷ levels) = ⊥
-Stacked classes objects (a ∷ stack) [] = ⊥
-Stacked classes objects (a ∷ stack) (level ∷ levels) = Stands classes objects a level × FallsTo levels level.line × Stacked classes objects stack levels
+-- the activations of a stack stand at these levels, which fall from each to the one above it
+abbrev pub Stacked : (p : Loaded) {certificate : Certificate} → (ℕ → Option ℕ) → List Object → List Activation → List (Level certificate) → Type 0
+Stacked p classes objects [] [] = Unit {0}
+Stacked p classes objects [] (level ∷ levels) = ⊥
+Stacked p classes objects (a ∷ stack) [] = ⊥
+Stacked p classes objects (a ∷ stack) (level ∷ levels) = Stands p classes objects a level × FallsTo p levels level.line × Stacked p classes objects stack levels
 
 -- ---- the world
 
@@ -173,5 +185,5 @@ pub record IsCovered (p : Loaded) (classes : ℕ → Option ℕ) (objects : List
 -- what a run keeps
 pub record Holds (p : Loaded) (certificate : Certificate) (classes : ℕ → Option ℕ) (s : State) : Type 0 where
   pub covered : IsCovered p classes s.objects s.connected.connections s.bindings
-  pub levels : List (Level p certificate)
-  pub stacked : Stacked classes s.objects s.stack levels
+  pub levels : List (Level certificate)
+  pub stacked : Stacked p classes s.objects s.stack levels

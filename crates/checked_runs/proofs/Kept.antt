@@ -46,7 +46,7 @@ use Rattle.object_tree.specs.declared.object.Object.{Object}
 use Rattle.object_tree.specs.Typed.{AreTyped}
 use Rattle.machine_rules.specs.Operations.{operation}
 use Rattle.checked_runs.proofs.Invariant.{IsStepOf, runs}
-use Rattle.checked_runs.proofs.Leading.{occurs-sound}
+use Rattle.checked_runs.proofs.Leading.{occurs-sound, occurs-in}
 
 -- ---- the start
 
@@ -95,7 +95,7 @@ body-does {p} {objects = objects} {o = o} {m = m} {arguments = arguments} {state
     let all = subst (λ (w : Work). IsTypedWork p work.declaring kinds w) slot whole in
     let own = lives-of-class objects o b.class b.lives in
     typed-does sound typed o work.declaring own.0 own.1 arguments kinds own.2 (subst (λ (k : ℕ). Below p k work.declaring) (sym own.3) work.below) b.typed (out-Statement statement)
-    (occurs-sound sound work.declaring kinds statement body work.sound occurs) (all statement occurs) none
+    (occurs-sound sound work.declaring kinds statement body work.sound occurs) (all statement occurs) (λ sets at u i. all u (occurs-in statement sets body occurs at u i)) none
 
 -- ---- runs
 
@@ -146,13 +146,14 @@ module _ {p : Loaded} {certificate : Certificate} (valid : IsValid p certificate
   writes-low {s} kept w =
       let n = w.next in
       let held = (kept.0).1 in
-      room held.levels (subst (λ (l : List Activation). Stacked (kept.0).0 s.objects l held.levels) n.is_next held.stacked) (subst (λ (l : List Activation). certificate.bound ≤ length l) n.is_next w.deep)
+      room held.levels (subst (λ (l : List Activation). Stacked p (kept.0).0 s.objects l held.levels) n.is_next held.stacked) (subst (λ (l : List Activation). certificate.bound ≤ length l) n.is_next w.deep)
     where
-      room : (levels : List (Level p certificate)) → Stacked (kept.0).0 s.objects (Body (w.next).object (w.next).method (w.next).arguments ((w.next).step ∷ (w.next).rest) ∷ (w.next).below) levels → certificate.bound ≤ suc (length (w.next).below) → ⊥
+      room : (levels : List (Level certificate)) → Stacked p (kept.0).0 s.objects (Body (w.next).object (w.next).method (w.next).arguments ((w.next).step ∷ (w.next).rest) ∷ (w.next).below) levels → certificate.bound ≤ suc (length (w.next).below) → ⊥
       room [] st deep = absurd st
       room (r ∷ levels) st deep =
-          let led = does-led sound ((kept.1).sound).agree.typed st.0 (w.next).step (Write w.object w.number w.value) ((st.0).steps).0 (w.next).does in
-          let up = falls-to valid sound (node ((w.is).life).class (Property w.number)) r.is (led w.it (w.is).life (w.is).lives) in
+          let b = (st.0).stands in
+          let led = does-led valid sound ((kept.1).sound).agree.typed b (w.next).step (Write w.what) (b.steps).0 (w.next).does in
+          let up = falls-to valid sound (led.0).0 (st.0).is (led.0).1 in
           let low = climbs valid (kept.0).0 s.objects r.line r levels (w.next).below refl st.1 st.2 in
           let fall = (up.2).rank in
           omega (arith, low, fall, deep)
@@ -181,8 +182,8 @@ module _ {p : Loaded} {certificate : Certificate} (valid : IsValid p certificate
   pub lacks-not : {s : State} → Kept s → LacksValue s → ⊥
   lacks-not {s} kept lacking =
       let held = (kept.0).1 in
-      first-does lacking held.levels (subst (λ (l : List Activation). Stacked (kept.0).0 s.objects l held.levels) lacking.is_next held.stacked)
+      first-does lacking held.levels (subst (λ (l : List Activation). Stacked p (kept.0).0 s.objects l held.levels) lacking.is_next held.stacked)
     where
-      first-does : (w : LacksValue s) → (levels : List (Level p certificate)) → Stacked (kept.0).0 s.objects (Body w.object w.method w.arguments (Run w.statement ∷ w.rest) ∷ w.below) levels → ⊥
+      first-does : (w : LacksValue s) → (levels : List (Level certificate)) → Stacked p (kept.0).0 s.objects (Body w.object w.method w.arguments (Run w.statement ∷ w.rest) ∷ w.below) levels → ⊥
       first-does w [] st = absurd st
-      first-does w (r ∷ levels) st = body-does valid sound ((kept.1).sound).agree.typed st.0 ((st.0).steps).0 w.lacks
+      first-does w (r ∷ levels) st = body-does valid sound ((kept.1).sound).agree.typed (st.0).stands (((st.0).stands).steps).0 w.lacks

@@ -13,7 +13,7 @@ use Rattle.certificate_lang.specs.declared.certificate.Line.{Line}
 use Rattle.certificate_lang.specs.declared.certificate.Certificate.{Certificate}
 use Rattle.rank_check.specs.Valid.{IsLineOf, IsValid}
 use Rattle.machine_state.specs.State.{Activation}
-use Rattle.checked_runs.proofs.Invariant.{Falls, IsNoHigher, Level, FallsTo, Stacked}
+use Rattle.checked_runs.proofs.Invariant.{AtNode, NodeLevel, Falls, IsNoHigher, Level, FallsTo, Stacked}
 
 pub higher-none : {p : Loaded} {a b c : Line} → IsNoHigher p a b → Falls p b c → Falls p a c
 higher-none {c = c} up f = record { rank = omega (arith, up.rank, f.rank); set = λ d none. f.set d (up.set d none) }
@@ -30,15 +30,20 @@ module _ {p : Loaded} {certificate : Certificate} (valid : IsValid p certificate
   }
 
   -- each node has a line
-  pub level-at : (x : Node) → IsNode p x → (r : Level p certificate) × (r.node ≡ x)
+  pub level-at : (x : Node) → IsNode p x → (r : NodeLevel p certificate) × (r.node ≡ x)
   level-at x is = let found = valid.each_node x is in (record { node = x; line = found.0; is = found.1 }, refl)
 
-  pub below-bound : (r : Level p certificate) → r.line.rank < certificate.bound
-  below-bound r = valid.bounded.ranks r.line r.is.stands
+  -- the level of a node
+  abbrev pub level-of : NodeLevel p certificate → Level certificate
+  level-of r = record { line = r.line; low = valid.bounded.ranks r.line r.is.stands }
+
+  -- .. of which this stands
+  pub at-node : {P : Node → Type 0} (r : NodeLevel p certificate) → P r.node → AtNode p certificate (level-of r) P
+  at-node r stands = record { node = r.node; is = r.is; stands = stands }
 
   -- so many ranks are below the one on top as activations stand below it
-  pub climbs : (classes : ℕ → Option ℕ) (objects : List Object) (line : Line) (r : Level p certificate) (levels : List (Level p certificate)) (stack : List Activation) → r.line ≡ line → FallsTo levels line → Stacked classes objects stack levels → line.rank + length stack < certificate.bound
-  climbs classes objects line r [] [] e falls st = let low = below-bound r in omega (arith, low, ap (λ (l : Line). l.rank) e)
+  pub climbs : (classes : ℕ → Option ℕ) (objects : List Object) (line : Line) (r : Level certificate) (levels : List (Level certificate)) (stack : List Activation) → r.line ≡ line → FallsTo p levels line → Stacked p classes objects stack levels → line.rank + length stack < certificate.bound
+  climbs classes objects line r [] [] e falls st = let low = r.low in omega (arith, low, ap (λ (l : Line). l.rank) e)
   climbs classes objects line r [] (a ∷ stack) e falls st = absurd st
   climbs classes objects line r (s ∷ levels) [] e falls st = absurd st
   climbs classes objects line r (s ∷ levels) (a ∷ stack) e falls st =
@@ -47,7 +52,7 @@ module _ {p : Loaded} {certificate : Certificate} (valid : IsValid p certificate
       omega (arith, rest, fall)
 
   -- the stack is no longer than the bound
-  pub no-deeper : (classes : ℕ → Option ℕ) (objects : List Object) (levels : List (Level p certificate)) (stack : List Activation) → Stacked classes objects stack levels → length stack ≤ certificate.bound
+  pub no-deeper : (classes : ℕ → Option ℕ) (objects : List Object) (levels : List (Level certificate)) (stack : List Activation) → Stacked p classes objects stack levels → length stack ≤ certificate.bound
   no-deeper classes objects levels [] st = omega arith
   no-deeper classes objects [] (a ∷ stack) st = absurd st
   no-deeper classes objects (s ∷ levels) (a ∷ stack) st =
@@ -56,7 +61,7 @@ module _ {p : Loaded} {certificate : Certificate} (valid : IsValid p certificate
 
   module _ (sound : IsSound p) where
     -- what an edge leads to has a line, and it falls to it
-    pub falls-to : {x : Node} {a : Line} (y : Node) → IsLineOf p certificate x a → MayLead p x y → (r : Level p certificate) × (r.node ≡ y) × Falls p a r.line
+    pub falls-to : {x : Node} {a : Line} (y : Node) → IsLineOf p certificate x a → MayLead p x y → (r : NodeLevel p certificate) × (r.node ≡ y) × Falls p a r.line
     falls-to {x} {a} y from leads =
         let found = valid.each_node y (join_nodes sound x y leads).1 in
         (record { node = y; line = found.0; is = found.1 }, refl, falls-along leads from found.1)

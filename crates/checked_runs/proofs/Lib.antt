@@ -5,10 +5,11 @@ pub mod Ladder
 pub mod Sites
 pub mod Worlds
 pub mod Followers
+pub mod PathClasses
+pub mod Lacking
 pub mod Leading
 pub mod Rules
 pub mod Events
-pub mod Lacking
 pub mod Giving
 pub mod Kept
 pub mod Arguments

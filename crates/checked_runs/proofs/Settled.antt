@@ -18,8 +18,10 @@ use Rattle.object_tree.proofs.Changing.{life-of-lives}
 use Rattle.object_tree.proofs.TypedObjects.{reads-still}
 use Rattle.prop_bindings.specs.declared.binding.Binding.{Binding}
 use Rattle.prop_bindings.specs.declared.place.Place.{Place}
-use Rattle.prop_bindings.specs.Bindings.{place_of, read_by, Reads, value_of, binding_at, AreApart, without, replaced, Settled, Loop}
-use Rattle.prop_bindings.specs.Changes.{DifferInValues}
+use Rattle.prop_bindings.specs.declared.assignment.Assignment.{Assignment}
+use Rattle.prop_bindings.specs.Calls.{AllFit}
+use Rattle.prop_bindings.specs.Bindings.{place_of, read_by, Reads, value_of, binding_at, AreApart, without, without_all, replaced, Settled, Loop}
+use Rattle.prop_bindings.specs.Changes.{DifferInValues, lasting, places_in}
 use Rattle.prop_bindings.specs.Fits.{IsFit, IsInOneLoop, Agree}
 use Rattle.prop_bindings.specs.code.Orders.{Free, Ordered, IsOrder}
 use Rattle.prop_bindings.specs.Places.{property_of, same_place, is_in, In, values_in}
@@ -33,6 +35,8 @@ use Rattle.prop_bindings.proofs.Naming.{value-agree}
 use Rattle.prop_bindings.proofs.Places.{decide_place, decide_in, is_in-true, is_in-false, same_place-refl}
 use Rattle.prop_bindings.proofs.There.{bound-has}
 use Rattle.machine_state.specs.State.{State, Activation}
+use Rattle.machine_state.specs.Telling.{Assigning, writes_of}
+use Rattle.std.specs.List.{AllByRecursion}
 use Rattle.machine_rules.specs.Settling.{Writes, Installs}
 use Rattle.machine_rules.specs.There.{IsField}
 use Rattle.machine_rules.proofs.Differing.{differ-stay}
@@ -224,20 +228,39 @@ module _ {p : Loaded} (old new : List Object) (typed : AreTyped p old) (differ :
 pub agree-at : {p : Loaded} {t : State} (u : State) → t ≡ u → Agree p u.objects u.bindings → Agree p t.objects t.bindings
 agree-at {p} u e before = let Family : State → Type 0 = λ v. Agree p v.objects v.bindings in subst Family (sym e) before
 
--- what the write leaves unbound keeps its value, but for the property that is written
-written-own : {p : Loaded} {s t : State} {below : List Activation} {o q : ℕ} {v : Value} (w : Writes p s below o q v t) → ReadsAs p s.objects v (w.property).kind → (r : Place) → binding_at (without (property_of o q) s.bindings) r ≡ None → HasOwn p s.objects w.objects r
-written-own {p} {s} {o = o} {q = q} {v = v} w fits r none = elim (decide_place (property_of o q) r) [
-  | inl e ↦ subst (λ (z : Place). HasOwn p s.objects w.objects z) e (gets w.is (w.written).written.0 fits)
-  | inr f ↦ keeps ((w.written).kept r none (λ here. elim here [ inl e ↦ false≢true (sym f ∙ subst (λ (z : Place). same_place (property_of o q) z ≡ true) e (same_place-refl (property_of o q))) | inr never ↦ never ]))
+-- what is left of the bindings agrees with the old values
+left-agrees : {p : Loaded} {objects : List Object} (places : List Place) (bs : List Binding) → Agree p objects bs → Agree p objects (without_all places bs)
+left-agrees [] bs agree = agree
+left-agrees {p} {objects} (at ∷ places) bs agree = left-agrees places (without at bs) (agree-fewer p objects (λ (b : Binding). not (same_place b.target at)) bs agree)
+
+-- a property that is written last with a value of its type gets it
+last-own : {p : Loaded} {old new : List Object} (writes : List Assignment) → AllFit p old writes → AllByRecursion (λ (a : Assignment). values_in new a.place ≡ Some a.value) (lasting writes) → (r : Place) → In r (places_in writes) → HasOwn p old new r
+last-own [] fit written r here = absurd here
+last-own {p} {old} {new} (a ∷ rest) fit written r here = by_last (λ is here. last-own rest fit.1 is r here) (is_in (places_in rest) a.place) refl written here
+  where
+    by_last : (AllByRecursion (λ (c : Assignment). values_in new c.place ≡ Some c.value) (lasting rest) → In r (places_in rest) → HasOwn p old new r) → (b : Bool) → is_in (places_in rest) a.place ≡ b → AllByRecursion (λ (c : Assignment). values_in new c.place ≡ Some c.value) (cond b (lasting rest) (a ∷ lasting rest)) → In r (a.place ∷ places_in rest) → HasOwn p old new r
+    by_last later true again is (inr more) = later is more
+    by_last later true again is (inl e) = later is (is_in-true (places_in rest) r (subst (λ (z : Place). is_in (places_in rest) z ≡ true) e again))
+    by_last later false last is (inr more) = later is.1 more
+    by_last later false last is (inl e) =
+        let f = fit.0 in
+        let field : IsField p old a.place.object a.place.property f.object f.property = record { life = f.life; lives = f.lives; class = (f.is_property).class; is_class = (f.is_property).is_class; is_property = (f.is_property).is } in
+        subst (λ (z : Place). HasOwn p old new z) e (gets field is.0 f.reads)
+
+-- what the writes leave unbound keeps its value, but for the properties that are written
+written-own : {p : Loaded} {s t : State} {below : List Activation} {what : Assigning} (w : Writes p s below what t) → AllFit p s.objects (writes_of what) → (r : Place) → binding_at (without_all (places_in (writes_of what)) s.bindings) r ≡ None → HasOwn p s.objects w.objects r
+written-own {p} {s} {what = what} w fit r none = elim (decide_in r (places_in (writes_of what))) [
+  | inl here ↦ last-own (writes_of what) fit (w.written).written r here
+  | inr other ↦ keeps ((w.written).kept r none other)
 ]
 
--- a value of the property's type is written
-pub writes-agree : {p : Loaded} {s t : State} {below : List Activation} {o q : ℕ} {v : Value} → Agree p s.objects s.bindings → (w : Writes p s below o q v t) → ReadsAs p s.objects v (w.property).kind → Agree p t.objects t.bindings
-writes-agree {p} {s} {o = o} {q = q} agree w fits =
-    let at : Place = property_of o q in
-    let left : Agree p s.objects (without at s.bindings) = agree-fewer p s.objects (λ (b : Binding). not (same_place b.target at)) s.bindings agree in
+-- values of the properties' types are written
+pub writes-agree : {p : Loaded} {s t : State} {below : List Activation} {what : Assigning} → Agree p s.objects s.bindings → (w : Writes p s below what t) → AllFit p s.objects (writes_of what) → Agree p t.objects t.bindings
+writes-agree {p} {s} {what = what} agree w fit =
+    let places : List Place = places_in (writes_of what) in
+    let left : Agree p s.objects (without_all places s.bindings) = left-agrees places s.bindings agree in
     agree-at _ (w.settles).gives
-    (settled-agree s.objects w.objects left.typed (w.written).objects (without at s.bindings) left.fit left.one_loop left.apart left.acyclic (w.written).settled (written-own w fits))
+    (settled-agree s.objects w.objects left.typed (w.written).objects (without_all places s.bindings) left.fit left.one_loop left.apart left.acyclic (w.written).settled (written-own w fit))
 
 -- a binding is installed that fits and closes no chain
 pub installs-agree : {p : Loaded} {s t : State} {below : List Activation} {b : Binding} → Agree p s.objects s.bindings → IsFit p s.objects b → (¬ Loop (binding_at (replaced s.bindings b))) → IsInOneLoop s.objects b → Installs p s below b t → Agree p t.objects t.bindings

@@ -19,7 +19,7 @@ use Rattle.prop_bindings.specs.declared.place.Place.{Place}
 use Rattle.prop_bindings.specs.Bindings.{named_in, named_step, place_of, Reads, Settled, Chain, direct, further, Loop}
 use Rattle.prop_bindings.specs.Places.{property_of, same_place, In}
 use Rattle.prop_bindings.proofs.Naming.{value-agree}
-use Rattle.prop_bindings.proofs.Places.{decide_place, same_place-refl}
+use Rattle.prop_bindings.proofs.Places.{decide_in}
 use Rattle.rank_check.proofs.Elements.{element_at}
 use Rattle.effect_scan.specs.declared.node.Node.{Node}
 use Rattle.effect_scan.specs.declared.node.Member.TheVariants.{Property}
@@ -127,29 +127,28 @@ module _ {p : Loaded} {certificate : Certificate} (valid : IsValid p certificate
       subst (λ (c : ℕ). IsLineOf p certificate (node c (Property b.target.property)) line) same_class (subst (λ (z : Place). IsLineOf p certificate (node at.0 (Property z.property)) line) (sym found.1) at.2) in
       (above.0, (leads.0, leads.1, above.1), (_, _, leads.2, above.1, here))
 
-  module _ (F : Place → Option Binding) (old new : Place → Option Value) (first : Place)
+  module _ (F : Place → Option Binding) (old new : Place → Option Value) (written : List Place)
       (settled_old : Settled F old) (settled_new : Settled G new)
-      (same : (q : Place) (b : Binding) → ¬ (first ≡ q) → G q ≡ Some b → F q ≡ Some b)
-      (kept : (q : Place) → ¬ (first ≡ q) → G q ≡ None → new q ≡ old q) where
+      (same : (q : Place) (b : Binding) → ¬ In q written → G q ≡ Some b → F q ≡ Some b)
+      (kept : (q : Place) → ¬ In q written → G q ≡ None → new q ≡ old q) where
     module _ (P : Line → Type 0) (closed : (x y : Node) (a b : Line) → MayLead p x y → IsLineOf p certificate x a → IsLineOf p certificate y b → P b → P a)
-        (none : (line : Line) → IsLineAt first line → ¬ P line) where
-      -- a property with P, which the first one doesn't have, keeps its value
+        (none : (q : Place) → In q written → (line : Line) → IsLineAt q line → ¬ P line) where
+      -- a property with P, which those that are written don't have, keeps its value
       pub unchanged : (n : ℕ) (q : Place) (line : Line) → IsLineAt q line → P line → certificate.bound ≤ line.rank + n → new q ≡ old q
       unchanged zero q line at has fuel = let low = valid.bounded.ranks line at.2.stands in absurd (omega (arith, low, fuel))
-      unchanged (suc n) q line at has fuel = by_place (decide_place first q) (λ b m is reads.
+      unchanged (suc n) q line at has fuel = by_place (decide_in q written) (λ b m is reads.
           let r = read-line q m b line is reads at in
           let fall = valid.ranks r.2.0 r.2.1 r.0 line r.2.2 r.2.3 r.2.4 in
           unchanged n m r.0 r.1 (closed r.2.0 r.2.1 r.0 line r.2.2 r.2.3 r.2.4 has) (omega (arith, fall, fuel)))
         where
-          by_binding : ¬ (first ≡ q) → (found : Option Binding) → G q ≡ found → ((b : Binding) (m : Place) → G q ≡ Some b → Reads b m → new m ≡ old m) → new q ≡ old q
+          by_binding : ¬ In q written → (found : Option Binding) → G q ≡ found → ((b : Binding) (m : Place) → G q ≡ Some b → Reads b m → new m ≡ old m) → new q ≡ old q
           by_binding other None is more = kept q other is
           by_binding other (Some b) is more =
               settled_new q b is ∙ value-agree b new old (λ m reads. more b m is reads) ∙ sym (settled_old q b (same q b other is))
 
-          by_place : (first ≡ q) ⊎ (same_place first q ≡ false) → ((b : Binding) (m : Place) → G q ≡ Some b → Reads b m → new m ≡ old m) → new q ≡ old q
-          by_place (inl e) more = absurd (none line (subst (λ (z : Place). IsLineAt z line) (sym e) at) has)
-          by_place (inr f) more =
-              by_binding (λ (e : first ≡ q). false≢true (sym f ∙ subst (λ (z : Place). same_place first z ≡ true) e (same_place-refl first))) (G q) refl more
+          by_place : In q written ⊎ (¬ In q written) → ((b : Binding) (m : Place) → G q ≡ Some b → Reads b m → new m ≡ old m) → new q ≡ old q
+          by_place (inl here) more = absurd (none q here line at has)
+          by_place (inr other) more = by_binding other (G q) refl more
 
   -- ---- chains of bindings
   -- the rank falls along each

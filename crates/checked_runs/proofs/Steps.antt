@@ -13,6 +13,8 @@ use Rattle.rank_check.specs.Valid.{IsValid}
 use Rattle.machine_state.specs.declared.fault.Answer.{Answer}
 use Rattle.machine_state.specs.State.{State, Activation, Body}
 use Rattle.machine_state.specs.Worlds.{at, untouched}
+use Rattle.machine_state.specs.Telling.{Assigning, writes_of}
+use Rattle.prop_bindings.specs.Calls.{AllFit}
 use Rattle.machine_rules.specs.Operations.{Write}
 use Rattle.machine_rules.specs.Good.{IsWell, IsGood}
 use Rattle.machine_rules.specs.Natives.{NativeAnswers}
@@ -46,15 +48,15 @@ module _ {p : Loaded} {certificate : Certificate} (valid : IsValid p certificate
   as-kept natives stood = ((stood.classes, stood.held), stood.up)
 
   -- what the next step writes is of its property's type
-  pub writes-fit : {s : State} → Stood p certificate s → (o q : ℕ) (v : Value) → WritesNext s o q v → (x : Object) (property : MetaProperty) → IsField p s.objects o q x property → ReadsAs p s.objects v property.kind
-  writes-fit {s} stood o q v n x property field =
+  pub writes-fit : {s : State} → Stood p certificate s → (what : Assigning) → WritesNext s what → AllFit p s.objects (writes_of what)
+  writes-fit {s} stood what n =
       let held = stood.held in
-      on-top held.levels (subst (λ (l : List Activation). Stacked stood.classes s.objects l held.levels) n.is_next held.stacked) (subst (AllIsPromised p stood.classes) n.is_next stood.promised)
+      on-top held.levels (subst (λ (l : List Activation). Stacked p stood.classes s.objects l held.levels) n.is_next held.stacked) (subst (AllIsPromised p stood.classes) n.is_next stood.promised)
     where
-      on-top : (levels : List (Level p certificate)) → Stacked stood.classes s.objects (Body n.object n.method n.arguments (n.step ∷ n.rest) ∷ n.below) levels → AllIsPromised p stood.classes (Body n.object n.method n.arguments (n.step ∷ n.rest) ∷ n.below) → ReadsAs p s.objects v property.kind
+      on-top : (levels : List (Level certificate)) → Stacked p stood.classes s.objects (Body n.object n.method n.arguments (n.step ∷ n.rest) ∷ n.below) levels → AllIsPromised p stood.classes (Body n.object n.method n.arguments (n.step ∷ n.rest) ∷ n.below) → AllFit p s.objects (writes_of what)
       on-top [] st all = absurd st
       on-top (r ∷ levels) st all =
-          does-give valid sound stood.classes (((stood.held).covered).known).lives ((stood.up).sound).agree.typed st.0 n.step (Write o q v) ((st.0).steps).0 (all.0).0 n.does x property field
+          does-give valid sound stood.classes (((stood.held).covered).known).lives ((stood.up).sound).agree.typed (st.0).stands n.step (Write what) (((st.0).stands).steps).0 (all.0).0 n.does
 
   module _ (accepts : Takes) (natives : NativeAnswers) (promises : Promises p accepts natives) where
     -- what follows is well, and its values are settled

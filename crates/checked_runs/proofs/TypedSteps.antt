@@ -50,6 +50,8 @@ use Rattle.machine_state.specs.Accepting.{accepted}
 use Rattle.machine_state.specs.Connections.{is_living, next_used}
 use Rattle.machine_state.specs.State.{Step, State, IsIdle, Activation, Body, Emit, Update, Destroy}
 use Rattle.machine_state.specs.Turns.{running, reaches_at_once}
+use Rattle.machine_state.specs.Telling.{Assigning, writes_of}
+use Rattle.prop_bindings.specs.Calls.{AllFit}
 use Rattle.machine_rules.specs.Connecting.{kept_ends, names_of}
 use Rattle.machine_rules.specs.Destroying.{Dies, NextRule, ChildRule, DestroyRule, living_child, Schedules}
 use Rattle.machine_rules.specs.Operations.{Operation, Write, Begin, Choose, Connect, Disconnect, Delete, Schedule, TakeAnswer, Nothing, operation_of_step}
@@ -80,9 +82,9 @@ use Rattle.checked_runs.proofs.Settled.{agree-at, writes-agree, installs-agree}
 use Rattle.checked_runs.proofs.Sites.{no-loop}
 use Rattle.machine_rules.proofs.Scheduling.{schedule-cases}
 
--- every value that the next step writes is of its property's type
+-- every value that the next step writes fits its property
 abbrev pub WritesFit : Loaded → State → Type 0
-WritesFit p s = (o q : ℕ) (v : Value) → WritesNext s o q v → (x : Object) (property : MetaProperty) → IsField p s.objects o q x property → ReadsAs p s.objects v property.kind
+WritesFit p s = (what : Assigning) → WritesNext s what → AllFit p s.objects (writes_of what)
 
 -- ---- rules
 
@@ -124,9 +126,9 @@ module _ {p : Loaded} (s t : State) (agree : Agree p s.objects s.bindings) where
   ]
 
   does-agrees : (natives : NativeAnswers) (o m : ℕ) (arguments : List Value) (step : Step) (rest : List Step) (below : List Activation) (d : Operation) → s.stack ≡ Body o m arguments (step ∷ rest) ∷ below → operation_of_step s.objects o arguments step ≡ Some d → WritesFit p s → Does p natives s o m arguments rest below d t → Agree p t.objects t.bindings
-  does-agrees natives o m arguments step rest below (Write x q new) at is fit does =
-      let next : WritesNext s x q new = record { object = o; method = m; arguments = arguments; step = step; rest = rest; below = below; is_next = at; does = is } in
-      writes-agree agree does (fit x q new next does.object does.property does.is)
+  does-agrees natives o m arguments step rest below (Write what) at is fit does =
+      let next : WritesNext s what = record { object = o; method = m; arguments = arguments; step = step; rest = rest; below = below; is_next = at; does = is } in
+      writes-agree agree does (fit what next)
   does-agrees natives o m arguments step rest below (Begin x n given) at is fit does = begun-agrees s (Body o m arguments rest ∷ below) x does.object n does.method given (does.method).work agree does.gives
   does-agrees natives o m arguments step rest below (Choose chosen) at is fit does = agree-at _ does agree
   does-agrees natives o m arguments step rest below (Connect ends how) at is fit does = linked-agrees (Body o m arguments rest ∷ below) (kept_ends ends) how (names_of does.kept) does.answer does.gives
@@ -252,9 +254,7 @@ module _ {p : Loaded} {certificate : Certificate} (valid : IsValid p certificate
   event-agrees t (DisconnectEvent e) held idle (goes_on f both (goes_on _ may given)) = agree-at _ (given-is given) agree
   event-agrees t (Set name property i) held idle (goes_on o lives (goes_on q (finds asked) (goes_on v _ (goes_on _ (so fits) (becomes w))))) =
       let it = living-object o (living-is lives) in
-      let field : IsField p s.objects o.number q.number it.0 q.it = record { life = o.it; lives = it.1; class = (asked.is).class; is_class = (asked.is).is_class; is_property = (asked.is).is } in
-      let one : q.it ≡ w.property = field-property field w.is in
-      writes-agree {s = accepted s} agree w (subst (λ (k : MetaProperty). ReadsAs p s.objects v k.kind) one fits)
+      writes-agree {s = accepted s} agree w (record { object = it.0; life = o.it; lives = it.1; property = q.it; is_property = asked.is; reads = fits }, tt)
   event-agrees t (Bind site target sources) held idle (goes_on b may (becomes x)) =
       let sited = binding-sited valid sound s idle held.0 (held.1).covered agree site target sources b may in
       installs-agree {s = accepted s} agree (may-fit valid sound s agree site target sources b may) (bind-closes-none held.0 (held.1).covered b sited) (bound-within s site target sources may) x

@@ -157,14 +157,14 @@ spared-below old new (Emit o g arguments used last) below spared k body gone = s
 spared-below old new (Update places) below spared k body gone = spared k body gone
 spared-below old new (Destroy next torn) below spared k body gone = spared k body gone
 
-module _ {p : Loaded} {certificate : Certificate} (classes : ℕ → Option ℕ) (old new : List Object) (stay : StayThere old new) where
-  stands-still : (a : Activation) (below : List Activation) (level : Level p certificate) → SparedIn (a ∷ below) old new → Stands classes old a level → Stands classes new a level
-  stands-still (Body o m arguments left) below level spared st = body-still stay (spared o (own-body o (has_body o below))) st
+module _ (p : Loaded) {certificate : Certificate} (classes : ℕ → Option ℕ) (old new : List Object) (stay : StayThere old new) where
+  stands-still : (a : Activation) (below : List Activation) (level : Level certificate) → SparedIn (a ∷ below) old new → Stands p classes old a level → Stands p classes new a level
+  stands-still (Body o m arguments left) below level spared st = record { node = st.node; is = st.is; stands = body-still stay (spared o (own-body o (has_body o below))) st.stands }
   stands-still (Emit o g arguments used last) below level spared st = st
   stands-still (Update places) below level spared st = st
   stands-still (Destroy next torn) below level spared st = st
 
-  pub stacked-still : (stack : List Activation) (levels : List (Level p certificate)) → SparedIn stack old new → Stacked classes old stack levels → Stacked classes new stack levels
+  pub stacked-still : (stack : List Activation) (levels : List (Level certificate)) → SparedIn stack old new → Stacked p classes old stack levels → Stacked p classes new stack levels
   stacked-still [] [] spared st = tt
   stacked-still [] (r ∷ levels) spared st = absurd st
   stacked-still (a ∷ stack) [] spared st = absurd st

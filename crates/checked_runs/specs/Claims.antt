@@ -13,14 +13,13 @@ use Rattle.machine_state.specs.declared.fault.Fault.TheVariants.{Steps, Memory}
 use Rattle.machine_state.specs.State.{State, IsIdle}
 use Rattle.machine_state.specs.Worlds.{at, untouched}
 use Rattle.machine_rules.specs.Good.{HasArguments, Spares, IsAcyclic, AreSettled}
-use Rattle.machine_rules.specs.Faults.{LacksValue, DoesNext, WritesNext}
+use Rattle.machine_rules.specs.Faults.{LacksValue, LacksFirst, DoesNext, WritesNext}
 use Rattle.machine_rules.specs.Natives.{NativeAnswers}
 use Rattle.machine_events.specs.Causes.{StopsFor}
 use Rattle.machine_events.specs.Runs.{Run, Each, GoodRun, Follows}
 use Rattle.machine_rules.specs.Rules.{Rule}
-use Rattle.machine_rules.specs.There.{LacksField}
+use Rattle.machine_state.specs.Telling.{Assigning, writes_of}
 use Rattle.machine_rules.specs.Operations.{TakeAnswer}
-use Rattle.signatures.specs.declared.value.Value.{Value}
 use Rattle.meta_model.specs.declared.effects.MetaEffects.{MetaEffects}
 
 -- ---- every step of every run
@@ -100,12 +99,12 @@ NeverStops fault natives = (next : List Event) → Never natives (λ p certifica
 abbrev pub NeverLacksValue : NativeAnswers → Type 0
 NeverLacksValue natives = Never natives (λ p certificate s left. LacksValue s)
 
--- something goes on, and no rule follows; a step that writes, only where its property isn't there. What a native is to
+-- something goes on, and no rule follows; a step that writes, only where a property isn't there. What a native is to
 -- answer is not asked.
 pub record LacksRule (p : Loaded) (natives : NativeAnswers) (s : State) : Type 0 where
   pub goes_on : ¬ IsIdle s
   pub none : (t : State) → ¬ Rule p natives s t
-  pub writes_none : (o q : ℕ) (new : Value) → WritesNext s o q new → LacksField p s.objects o q
+  pub writes_none : (what : Assigning) → WritesNext s what → LacksFirst p s.objects (writes_of what)
   pub asks_none : (effects : MetaEffects) → ¬ DoesNext s (TakeAnswer effects)
 
 -- .. which is never so

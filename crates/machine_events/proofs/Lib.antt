@@ -12,6 +12,7 @@ pub mod OneRun
 pub mod Inherited
 pub mod TypedPaths
 pub mod Standing
+pub mod Grouped
 pub mod Possible
 mod Homes
 pub mod Moving

@@ -1,5 +1,5 @@
 -- What a step of a body that stands does is possible: what it names is there.
-use Rattle.std.proofs.Common.{◌≡◌, ℕ, true, false, List, ◌∷◌, Option, Some, None, subst, sym, ap, ◌∙◌}
+use Rattle.std.proofs.Common.{◌≡◌, ℕ, true, false, List, [], ◌∷◌, ◌++◌, Option, Some, None, refl, subst, sym, ap, ◌∙◌}
 use Rattle.std.specs.Prelude.{IfSome}
 use Rattle.std.specs.Option.{option_map}
 use Rattle.signatures.specs.declared.value.Value.{Value}
@@ -13,7 +13,7 @@ use Rattle.meta_model.specs.declared.object.ValueType.{ValueType}
 use Rattle.meta_model.specs.Loaded.{Loaded}
 use Rattle.meta_model.specs.Members.{Below}
 use Rattle.meta_model.specs.declared.object.MetaPath.{MetaPath}
-use Rattle.meta_model.specs.Sound.{LeadsToClass, IsSound, AreSound, AreSoundEnds, IsSoundStatement, set_sound, emit_sound, call_sound, if_sound, connect_sound, disconnect_sound, delete_sound, later_sound}
+use Rattle.meta_model.specs.Sound.{LeadsToClass, IsSound, AreSound, AreSoundEnds, IsSoundStatement, set_sound, emit_sound, call_sound, if_sound, connect_sound, disconnect_sound, delete_sound, later_sound, group_sound}
 use Rattle.object_tree.specs.declared.life.Life.{Life}
 use Rattle.object_tree.specs.declared.object.Object.{Object}
 use Rattle.object_tree.specs.Objects.{Lives}
@@ -24,17 +24,23 @@ use Rattle.meta_model.specs.declared.effects.MetaEffects.{MetaEffects}
 use Rattle.native_slots.specs.declared.action.Action.{Action}
 use Rattle.native_slots.specs.declared.action.Action.TheVariants as action
 use Rattle.machine_rules.specs.Connecting.{AreThere}
-use Rattle.machine_rules.specs.Operations.{Operation, Write, Begin, Choose, Connect, Disconnect, Delete, Schedule, TakeAnswer, Nothing, on_object, on_ends, chosen_by, operation, operation_of_action, operation_of_step}
+use Rattle.prop_bindings.specs.declared.assignment.Assignment.{Assignment}
+use Rattle.prop_bindings.specs.Calls.{AllFit}
+use Rattle.prop_bindings.specs.Places.{property_of}
+use Rattle.machine_state.specs.Telling.{Alone, Grouped, writes_of}
+use Rattle.machine_events.proofs.Grouped.{IfWrites, within-first, set-possible, sets-possible}
+use Rattle.machine_rules.specs.Operations.{set_at, sets_in, operation_of_set, Operation, Write, Begin, Choose, Connect, Disconnect, Delete, Schedule, TakeAnswer, Nothing, on_object, on_ends, chosen_by, operation, operation_of_action, operation_of_step}
 use Rattle.object_tree.specs.Typed.{AreTyped}
 use Rattle.machine_rules.specs.Paths.{path_value, value_of, values_of}
-use Rattle.machine_rules.specs.There.{IsMember, IsField}
+use Rattle.machine_rules.specs.There.{HasField, IsMember}
 use Rattle.machine_events.proofs.Inherited.{method-below, property-below}
 use Rattle.machine_events.proofs.Standing.{ActionStands, StepStands, BodyStands}
 use Rattle.machine_events.proofs.TypedPaths.{Reaches, to_null, to_object, path-reaches}
 
--- the members that are named are there, and a block that is chosen is sound for the body
+-- the members that are named are there, of writes as long as those before them fit, and a block that is chosen is sound for
+-- the body
 abbrev pub IsPossible : Loaded → List Object → ℕ → List ValueType → Operation → Type 0
-IsPossible p objects me kinds (Write x q new) = (object : Object) × (property : MetaProperty) × IsField p objects x q object property
+IsPossible p objects me kinds (Write what) = (front back : List Assignment) (a : Assignment) → writes_of what ≡ front ++ a ∷ back → AllFit p objects front → HasField p objects a.place
 IsPossible p objects me kinds (Begin x n given) = (object : Object) × (method : MetaMethod) × IsMember p objects x n object method
 IsPossible p objects me kinds (Choose block) = AreSound p me kinds block
 IsPossible p objects me kinds (Connect ends how) = AreThere p objects ends
@@ -94,12 +100,27 @@ module _ {p : Loaded} {objects : List Object} (sound : IsSound p) (typed : AreTy
         let reaches = path-reaches objects o body.declaring body.object body.life arguments body.kinds path sound typed body.lives body.below body.typed leads in
         object-so Possible (λ y. Some (act y)) (path_value objects o arguments path) reaches tt (λ y z l lives beneath. so y)
 
+    -- a set alone writes a property that is there, or does nothing
+    alone-so : (found : Option (Option Assignment)) → IfSome found (IfWrites (λ a. HasField p objects a.place)) → IfSome (option_map operation_of_set found) Possible
+    alone-so None has = tt
+    alone-so (Some None) has = tt
+    alone-so (Some (Some b)) has = λ front back a are before. first-of a back front are
+      where
+        first-of : (a : Assignment) (back front : List Assignment) → b ∷ [] ≡ front ++ a ∷ back → HasField p objects a.place
+        first-of a back [] are = let same : b ≡ a = cc are in subst (λ (c : Assignment). HasField p objects c.place) same has
+        first-of a back (f ∷ []) are = absurd (cc are)
+        first-of a back (f ∷ g ∷ front) are = absurd (cc are)
+
+    map-found : {X : Type 0} (act : X → Operation) (found : Option X) → ((v : X) → found ≡ Some v → Possible (act v)) → IfSome (option_map act found) Possible
+    map-found act None all = tt
+    map-found act (Some v) all = all v refl
+
     statement-so : (f : layer.Statement-F Statement) → IsSoundStatement p body.declaring body.kinds f → IfSome (operation objects o arguments f) Possible
     statement-so f (set_sound {path = path} {q = q} {e = e} is) =
-        let reaches = path-reaches objects o body.declaring body.object body.life arguments body.kinds path sound typed body.lives body.below body.typed is.leads in
-        object-so Possible (λ y. option_map (λ (new : Value). Write y q new) (value_of objects o arguments e)) (path_value objects o arguments path) reaches tt
-        (λ y z l lives beneath. map-so Possible (λ (new : Value). Write y q new) (value_of objects o arguments e)
-        (λ new. let own = property-below sound beneath is.is in (z, _, record { life = l; lives = lives; class = own.class; is_class = own.is_class; is_property = own.is })))
+        alone-so (set_at objects o arguments path q e) (set-possible sound objects o body.declaring body.object body.life arguments body.kinds body.lives body.below body.typed (within-first sound objects o body.declaring body.object body.life arguments body.kinds body.lives body.below body.typed typed) f (set_sound is))
+    statement-so f (group_sound {sets = sets} all only) =
+        map-found (λ (found : List (Option Assignment)). Write (Grouped found)) (sets_in objects o arguments sets)
+        (λ found is front back a are before. sets-possible sound objects o body.declaring body.object body.life arguments body.kinds body.lives body.below body.typed sets all (within-first sound objects o body.declaring body.object body.life arguments body.kinds body.lives body.below body.typed typed) found is front back a are before)
     statement-so f (emit_sound {m = g} {es = es} is) =
         map-so Possible (λ (given : List Value). Begin o g given) (values_of objects o arguments es)
         (λ given. (body.object, _, record { life = body.life; lives = body.lives; is_method = method-below sound body.below is.is }))
@@ -118,8 +139,9 @@ module _ {p : Loaded} {objects : List Object} (sound : IsSound p) (typed : AreTy
     -- the property or the signal that an action names is there
     action-so : (effects : MetaEffects) (it : Action) → ActionStands p body.life.class effects it → IfSome (operation_of_action o effects it) Possible
     action-so effects (action.Set k v) is =
-        let Found : Option ℕ → Type 0 = λ found. IfSome (option_map (λ (q : ℕ). Write o q v) found) Possible in
-        subst Found (sym is.2) (body.object, is.1, record { life = body.life; lives = body.lives; class = is.3.class; is_class = is.3.is_class; is_property = is.3.is })
+        let there : HasField p objects (property_of o is.0) = record { object = body.object; property = is.1; is = record { life = body.life; lives = body.lives; class = is.3.class; is_class = is.3.is_class; is_property = is.3.is } } in
+        let Found : Option ℕ → Type 0 = λ found. IfSome (option_map (λ (q : ℕ). Write (Alone (property_of o q) v)) found) Possible in
+        subst Found (sym is.2) (alone-so (Some (Some (record { place = property_of o is.0; value = v }))) there)
     action-so effects (action.Emit k given) is =
         let Found : Option ℕ → Type 0 = λ found. IfSome (option_map (λ (g : ℕ). Begin o g given) found) Possible in
         subst Found (sym is.2) (body.object, is.1, record { life = body.life; lives = body.lives; is_method = is.3 })
@@ -141,6 +163,6 @@ acts {p} {o = o} {effects = effects} {it = it} body is = by_action body.life.cla
   where
     by_action : (c : ℕ) (a : Action) → ActionStands p c effects a → operation_of_action o effects a ≡ None → ⊥
     by_action c (action.Set k v) there none =
-        let same : Some (Write o there.0 v) ≡ None = sym (ap (option_map (λ (q : ℕ). Write o q v)) there.2) ∙ none in absurd (cc same)
+        let same : Some (Write (Alone (property_of o there.0) v)) ≡ None = sym (ap (option_map (λ (q : ℕ). Write (Alone (property_of o q) v))) there.2) ∙ none in absurd (cc same)
     by_action c (action.Emit k given) there none =
         let same : Some (Begin o there.0 given) ≡ None = sym (ap (option_map (λ (g : ℕ). Begin o g given)) there.2) ∙ none in absurd (cc same)

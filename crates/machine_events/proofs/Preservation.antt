@@ -41,7 +41,8 @@ use Rattle.machine_rules.specs.Operations.{Operation, Write, Begin, Choose, Conn
 use Rattle.machine_rules.specs.Destroying.{Dies, NextRule, ChildRule, DestroyRule, living_child, Schedules}
 use Rattle.machine_events.proofs.Possible.{possible}
 use Rattle.machine_events.proofs.Standing.{ActionStands, StepStands, BodyStands, Stands, Invariant, AllStand, SparedIn, all-stand-still}
-use Rattle.machine_state.specs.declared.telling.Cause.{Cause}
+use Rattle.machine_state.specs.Telling.{Assigning}
+use Rattle.machine_state.specs.declared.entry.Entry.{Entry}
 use Rattle.machine_state.specs.State.{Step, Run, Ask, Act, State, IsIdle, Activation, Body, Emit, Update, Destroy}
 use Rattle.machine_rules.specs.Rules.{Rule, RuleAt, BodyRule, Does, EmitRule, UpdateRule, Begins, begun, with_used, linked, unlinked, TurnRule, Serves, Delivers, Arrives, BeginsIf, NotifiesIf}
 use Rattle.machine_rules.specs.Settling.{Settles, Writes, Installs}
@@ -167,11 +168,11 @@ module _ {p : Loaded} {s t : State} (sound : IsSound p) (well : IsWell p s t) wh
   as-is e lower = let Family : State → Type 0 = λ v. AllStand p v in subst Family (sym e) lower
 
   -- values change, and those that changed may be notified
-  settles-stands : {below : List Activation} {cause : Cause} {place : Place} {objects : List Object} {bindings : List Binding} {changed : List Place} → DifferInValues s.objects objects → Settles p s below cause place objects bindings changed t → AllByRecursion (Stands p s.objects) below → AllStand p t
+  settles-stands : {below : List Activation} {Tells : List Entry → Type 0} {objects : List Object} {bindings : List Binding} {changed : List Place} → DifferInValues s.objects objects → Settles p s below Tells objects bindings changed t → AllByRecursion (Stands p s.objects) below → AllStand p t
   settles-stands {below} {objects = objects} {changed = changed} differ x lower =
       as-is x.gives (all-notified p objects changed sound, all-stand-still p s.objects objects below (differ-stay s.objects objects differ) (λ o body gone. differ-spared s.objects objects differ o gone) lower)
 
-  writes-stands : {below : List Activation} {o q : ℕ} {new : Value} → Writes p s below o q new t → AllByRecursion (Stands p s.objects) below → AllStand p t
+  writes-stands : {below : List Activation} {what : Assigning} → Writes p s below what t → AllByRecursion (Stands p s.objects) below → AllStand p t
   writes-stands w lower = settles-stands w.written.objects w.settles lower
 
   installs-stands : {below : List Activation} {b : Binding} → Installs p s below b t → AllByRecursion (Stands p s.objects) below → AllStand p t
@@ -195,7 +196,7 @@ module _ {p : Loaded} {s t : State} (sound : IsSound p) (well : IsWell p s t) wh
 
   -- what a step does, over what stands
   does-stands : (natives : NativeAnswers) → AreTyped p s.objects → (o m : ℕ) (arguments : List Value) (x : Step) (rest : List Step) (below : List Activation) (d : Operation) → BodyStands p s.objects o arguments (x ∷ rest) → operation_of_step s.objects o arguments x ≡ Some d → AllByRecursion (Stands p s.objects) below → length s.stack ≡ suc (length below) → Does p natives s o m arguments rest below d t → AllStand p t
-  does-stands natives typed o m arguments x rest below (Write y q new) body is lower high does = writes-stands does (body-rest body, lower)
+  does-stands natives typed o m arguments x rest below (Write what) body is lower high does = writes-stands does (body-rest body, lower)
   does-stands natives typed o m arguments x rest below (Begin y n given) body is lower high does = begins-stands does (omega (arith, high)) (body-rest body, lower)
   does-stands natives typed o m arguments x rest below (Choose block) body is lower high does =
       let Stood : Step → Type 0 = StepStands p body.life.class body.declaring body.kinds in

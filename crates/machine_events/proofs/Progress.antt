@@ -39,8 +39,9 @@ use Rattle.prop_bindings.specs.declared.place.Place.{Place}
 use Rattle.machine_state.specs.declared.turn.Turn.{Turn}
 use Rattle.machine_state.specs.Turns.{running, reaches_at_once}
 use Rattle.machine_state.specs.Connections.{is_living, next_used}
-use Rattle.machine_rules.specs.Faults.{DoesNext, LacksValue}
+use Rattle.machine_rules.specs.Faults.{DoesNext, LacksValue, LacksFirst}
 use Rattle.machine_rules.specs.code.Going.{IsStuck, RulesStop}
+use Rattle.machine_state.specs.Telling.{Assigning, writes_of}
 use Rattle.machine_events.specs.Causes.{StopsFor, spent, short, brings, lacks_value, writes_ill, goes_ill, goes_fatal, writes_deep, goes_deep}
 use Rattle.machine_rules.specs.There.{IsField, LacksField}
 use Rattle.machine_rules.specs.code.Writing.{MayNotify}
@@ -127,8 +128,11 @@ module _ {p : Loaded} {s : State} (sound : IsSound p) (up : Invariant p s) where
           none _ (record { lines = _; told = scheduled_now unmarked named.1 (ap (option_map (λ (y : Object). y.name)) there.1.is); gives = refl })
 
   -- what is possible is done by some rule
-  possible-goes : (natives : NativeAnswers) (o m : ℕ) (arguments : List Value) (rest : List Step) (below : List Activation) (me : ℕ) (kinds : List ValueType) (d : Operation) → IsPossible p s.objects me kinds d → ((x q : ℕ) (new : Value) → d ≡ Write x q new → LacksField p s.objects x q) → ((effects : MetaEffects) → d ≡ TakeAnswer effects → ⊥) → ((t : State) → ¬ Does p natives s o m arguments rest below d t) → ⊥
-  possible-goes natives o m arguments rest below me kinds (Write x q new) may lacks asks none = lacks x q new refl may.0 may.1 may.2
+  possible-goes : (natives : NativeAnswers) (o m : ℕ) (arguments : List Value) (rest : List Step) (below : List Activation) (me : ℕ) (kinds : List ValueType) (d : Operation) → IsPossible p s.objects me kinds d → ((what : Assigning) → d ≡ Write what → LacksFirst p s.objects (writes_of what)) → ((effects : MetaEffects) → d ≡ TakeAnswer effects → ⊥) → ((t : State) → ¬ Does p natives s o m arguments rest below d t) → ⊥
+  possible-goes natives o m arguments rest below me kinds (Write what) may lacks asks none =
+      let lack = lacks what refl in
+      let field = may lack.after.front lack.after.back lack.set lack.after.are lack.after.fit in
+      lack.lacks field.object field.property field.is
   possible-goes natives o m arguments rest below me kinds (Begin x n given) may lacks asks none = none _ (record { object = may.0; method = may.1; is = may.2; gives = refl })
   possible-goes natives o m arguments rest below me kinds (Choose block) may lacks asks none = none _ refl
   possible-goes natives o m arguments rest below me kinds (Connect ends how) may lacks asks none = no-connect may none
@@ -147,7 +151,7 @@ module _ {p : Loaded} {s : State} (sound : IsSound p) (up : Invariant p s) where
       by_found (Some d) is =
           let next : (k : Operation) → d ≡ k → DoesNext s k = λ k same. record { object = o; method = m; arguments = arguments; step = x; rest = rest; below = below; is_next = e; does = is ∙ ap (λ (k : Operation). Some k) same } in
           absurd (possible-goes natives o m arguments rest below body.declaring body.kinds d (possible sound up.sound.agree.typed body d is)
-          (λ y q new same. halts.lacks y q new (next (Write y q new) same)) (λ effects same. halts.asks_none effects (next (TakeAnswer effects) same))
+          (λ what same. halts.lacks what (next (Write what) same)) (λ effects same. halts.asks_none effects (next (TakeAnswer effects) same))
           (λ t does. stuck t (record { what = d; is = is; does = does })))
 
   -- .. so it is a statement that lacks a value

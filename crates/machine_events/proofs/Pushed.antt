@@ -8,6 +8,7 @@ use Rattle.meta_model.specs.declared.object.Work.{Work}
 use Rattle.meta_model.specs.declared.object.Work.TheVariants.{Signal, Slot, Native}
 use Rattle.meta_model.specs.Loaded.{Loaded}
 use Rattle.object_tree.specs.declared.object.Object.{Object}
+use Rattle.machine_state.specs.Telling.{Alone}
 use Rattle.machine_state.specs.declared.entry.Entry.{Entry}
 use Rattle.machine_state.specs.declared.fault.Answer.{Answer}
 use Rattle.machine_state.specs.declared.fault.Answer.TheVariants.{Done}
@@ -73,13 +74,11 @@ told-so : (w v : World) (lines : List Entry) (stack : List Activation) {bindings
 told-so w v lines stack same gives =
     ap (λ (z : World). at z stack) gives ∙ ap (λ (bs : List Binding). at (with_bound (accepting_entries w lines) v.store.tree bs) stack) same
 
-pub judged-written : {p : Loaded} {v : World} {value : Value} {place : Place} {changed : List Place} (w : World) (e : Event) → WritesTo p w place.object place.property value e → FitsAt p w.store.tree place value → HasWritten p 1 place value w (accepting_entries w) changed v → judged p (at w []) e (Ok (at v (updates p v changed)))
+pub judged-written : {p : Loaded} {v : World} {value : Value} {place : Place} {changed : List Place} (w : World) (e : Event) → WritesTo p w place value e → FitsAt p w.store.tree place value → HasWritten p 1 (Alone place value) w (accepting_entries w) changed v → judged p (at w []) e (Ok (at v (updates p v changed)))
 judged-written {p} {v} {value} {place} {changed} w e writes fits has =
     let Family : List Binding → Type 0 = λ cs. IsWritten w.store.bindings cs w.store.tree v.store.tree (one place value) changed in
     writes.effect (at v (updates p v changed)) (record {
-      object = fits.object;
-      property = fits.property;
-      is = field-of fits;
+      there = (record { object = fits.object; property = fits.property; is = field-of fits }, tt);
       objects = v.store.tree;
       changed = changed;
       written = subst Family has.writes.bindings has.writes;

@@ -25,6 +25,7 @@ use Rattle.event_loops.specs.Queues.{IsTaken, with_loop, IsNamed as IsLoop, Loop
 use Rattle.prop_bindings.specs.declared.binding.Binding.{Binding}
 use Rattle.prop_bindings.specs.Calls.{CoversBinding, binding_of}
 use Rattle.prop_bindings.specs.Fits.{InOneLoop}
+use Rattle.prop_bindings.specs.Places.{property_of}
 use Rattle.delete_later.specs.declared.store.Store.{Store}
 use Rattle.delete_later.specs.Moving.{IsMoved, IsBoundOut}
 use Rattle.script_lang.specs.declared.event.Input.{Input}
@@ -39,6 +40,7 @@ use Rattle.machine_rules.specs.Judgement.{Numbered, numbered, Find, Gives, ◌>>
 use Rattle.machine_rules.specs.declared.ends.FoundEnds.{FoundEnds}
 use Rattle.machine_rules.specs.Connecting.{named_signal, may_connect, may_disconnect}
 use Rattle.machine_rules.specs.Settling.{Writes, Installs}
+use Rattle.machine_state.specs.Telling.{Alone}
 use Rattle.machine_rules.specs.Rules.{Begins}
 use Rattle.machine_rules.specs.Destroying.{deleting, Schedules}
 use Rattle.machine_events.specs.declared.events.invoke.Invocation.{Invocation}
@@ -201,7 +203,7 @@ assign p s name property i =
     Find NoMember (IsPropertyOf p o.it.class property) >>= λ q.
     value s.objects i >>= λ v.
     Check BadArgs (ReadsAs p s.objects v q.it.kind) >>= λ _.
-    Becomes (Writes p (accepted s) s.stack o.number q.number v)
+    Becomes (Writes p (accepted s) s.stack (Alone (property_of o.number q.number) v))
 
 -- ---- `bind N O X ..` (Qt 6, "Qt Bindable Properties")
 

@@ -23,9 +23,11 @@ use Rattle.object_tree.specs.Typed.{AreTyped}
 use Rattle.object_tree.proofs.Changing.{life-of-lives}
 use Rattle.prop_bindings.specs.declared.binding.Binding.{Binding}
 use Rattle.prop_bindings.specs.declared.place.Place.{Place}
-use Rattle.prop_bindings.specs.Bindings.{binding_at, without, replaced}
+use Rattle.prop_bindings.specs.Bindings.{binding_at, without, without_all, replaced}
+use Rattle.prop_bindings.specs.Changes.{places_in}
+use Rattle.machine_state.specs.Telling.{Assigning, writes_of}
 use Rattle.prop_bindings.specs.Fits.{IsFit, IsInOneLoop, Agree}
-use Rattle.prop_bindings.specs.Places.{property_of, same_place}
+use Rattle.prop_bindings.specs.Places.{same_place}
 use Rattle.prop_bindings.proofs.Apart.{apart-replaced}
 use Rattle.prop_bindings.proofs.Fitting.{all-stay, lives-on}
 use Rattle.prop_bindings.proofs.Replaced.{without-at, push-none}
@@ -66,16 +68,23 @@ module _ {p : Loaded} {s t : State} (agree : Agree p s.objects s.bindings) (well
   begun-agrees u below o x m method arguments (Slot statements) before e = agree-at _ e before
   begun-agrees u below o x m method arguments (Native effects) before e = agree-at _ e before
 
+  -- what is left of the bindings agrees with the old values
+  left-agrees : (places : List Place) (bs : List Binding) → Agree p s.objects bs → Agree p s.objects (without_all places bs)
+  left-agrees [] bs before = before
+  left-agrees (at ∷ places) bs before =
+      let keep : Binding → Bool = λ b. not (same_place b.target at) in
+      left-agrees places (without at bs) (agree-fewer p s.objects keep bs before)
+
   -- a write settles the values
-  pub writes-agrees : {below : List Activation} {o q : ℕ} {new : Value} → Writes p s below o q new t → Agree p t.objects t.bindings
-  writes-agrees {o = o} {q = q} x =
-      let keep : Binding → Bool = λ b. not (same_place b.target (property_of o q)) in
+  pub writes-agrees : {below : List Activation} {what : Assigning} → Writes p s below what t → Agree p t.objects t.bindings
+  writes-agrees {what = what} x =
+      let cs : List Binding = without_all (places_in (writes_of what)) s.bindings in
       let typed : AreTyped p x.objects = subst (λ (v : State). AreTyped p v.objects) x.settles.gives well.values in
-      let left : Agree p s.objects (without (property_of o q) s.bindings) = agree-fewer p s.objects keep s.bindings agree in
+      let left : Agree p s.objects cs = left-agrees (places_in (writes_of what)) s.bindings agree in
       agree-at _ x.settles.gives (record {
         typed = typed;
-        fit = all-stay p s.objects x.objects agree.typed typed x.written.objects (without (property_of o q) s.bindings) left.fit;
-        one_loop = all-joined s.objects x.objects x.written.objects (without (property_of o q) s.bindings) left.one_loop;
+        fit = all-stay p s.objects x.objects agree.typed typed x.written.objects cs left.fit;
+        one_loop = all-joined s.objects x.objects x.written.objects cs left.one_loop;
         apart = left.apart;
         acyclic = left.acyclic;
         settled = x.written.settled;
@@ -155,7 +164,7 @@ module _ {p : Loaded} {s t : State} (agree : Agree p s.objects s.bindings) (well
   ]
 
   does-agrees : (natives : NativeAnswers) (o m : ℕ) (arguments : List Value) (rest : List Step) (below : List Activation) (d : Operation) → Does p natives s o m arguments rest below d t → Agree p t.objects t.bindings
-  does-agrees natives o m arguments rest below (Write x q new) does = writes-agrees does
+  does-agrees natives o m arguments rest below (Write what) does = writes-agrees does
   does-agrees natives o m arguments rest below (Begin x n given) does = begun-agrees s (Body o m arguments rest ∷ below) x does.object n does.method given does.method.work agree does.gives
   does-agrees natives o m arguments rest below (Choose block) does = agree-at _ does agree
   does-agrees natives o m arguments rest below (Connect ends how) does = linked-agrees (Body o m arguments rest ∷ below) (kept_ends ends) how (names_of does.kept) does.answer does.gives

@@ -123,7 +123,7 @@ stops-barred over calls fit agree some why = elim why [
 pub stops-no-member : {p : Loaded} {natives : NativeAnswers} {d o m : ℕ} {h : List (Option ℕ)} {w : World} {from to : List Activation} {arguments : List Value} →
     Calls p natives w from to o m arguments → OnlyCalls p natives w from to o m arguments → ((x : Object) (method : MetaMethod) → ¬ IsMember p w.store.tree o m x method) → 0 < w.left → StopsIn p natives d h w from w BadType
 stops-no-member {o = o} {m = m} {arguments = arguments} calls only none some =
-    stops-stuck calls.goes_on some (λ below t r. let b = only.begins below t r in none b.object b.method b.is) (λ below x q new next. let same : Write x q new ≡ Begin o m arguments = only.next below (Write x q new) next in absurd (cc same))
+    stops-stuck calls.goes_on some (λ below t r. let b = only.begins below t r in none b.object b.method b.is) (λ below what next. let same : Write what ≡ Begin o m arguments = only.next below (Write what) next in absurd (cc same))
     (λ below effects next. let same : TakeAnswer effects ≡ Begin o m arguments = only.next below (TakeAnswer effects) next in absurd (cc same))
 
 -- the arguments that fit are of the method's types

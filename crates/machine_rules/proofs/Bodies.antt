@@ -1,4 +1,5 @@
 -- What a body's steps do.
+use Rattle.machine_state.specs.Telling.{Assigning}
 use Rattle.std.proofs.Common.{◌≡◌, ◌≢◌, ℕ, suc, ◌+◌, ◌-◌, ◌<◌, List, [], ◌∷◌, ◌++◌, length, map, Result, Ok, Err, MatchResult, inl, inr, Option, Some, None, refl, sym, ap, ◌∙◌, subst, arith, append-nil}
 use Rattle.std.specs.Result.{IsErrAnd}
 use Rattle.std.proofs.lemmas.List.{map-append}
@@ -76,14 +77,14 @@ does-call {p} {natives} {w} {o} {arguments} {x} m rest {y} {n} {given} is = reco
 pub does-call-alone : {p : Loaded} {natives : NativeAnswers} {w : World} {o : ℕ} {arguments : List Value} {x : Step} (m : ℕ) (rest : List Step) {y n : ℕ} {given : List Value} → operation_of_step w.store.tree o arguments x ≡ Some (Begin y n given) → OnlyCalls p natives w (Body o m arguments (x ∷ rest) ∷ []) (Body o m arguments rest ∷ []) y n given
 does-call-alone {p} {natives} {w} {o} {arguments} {x} m rest {y} {n} {given} is = record { next = λ below what does. let both : Some what ≡ Some (Begin y n given) = sym (next-does w does) ∙ is in cc both; begins = λ below t r. rule-does p natives w o m arguments x rest (Begin y n given) below t is r }
 
--- a property is written
-pub does-set : {p : Loaded} {natives : NativeAnswers} {w : World} {o : ℕ} {arguments : List Value} {x : Step} (m : ℕ) (rest : List Step) {y q : ℕ} {new : Value} → operation_of_step w.store.tree o arguments x ≡ Some (Write y q new) → Sets p natives w (Body o m arguments (x ∷ rest) ∷ []) (Body o m arguments rest ∷ []) y q new
-does-set {p} {natives} {w} {o} {arguments} {x} m rest {y} {q} {new} is = record {
+-- this is written
+pub does-set : {p : Loaded} {natives : NativeAnswers} {w : World} {o : ℕ} {arguments : List Value} {x : Step} (m : ℕ) (rest : List Step) {what : Assigning} → operation_of_step w.store.tree o arguments x ≡ Some (Write what) → Sets p natives w (Body o m arguments (x ∷ rest) ∷ []) (Body o m arguments rest ∷ []) what
+does-set {p} {natives} {w} {o} {arguments} {x} m rest {what} is = record {
   as_high = refl;
   next = λ below. record { object = o; method = m; arguments = arguments; step = x; rest = rest; below = below; is_next = refl; does = is };
   goes_on = λ below. not-idle w _ below;
-  gives = λ below t b. does-rule p natives w o m arguments x rest (Write y q new) below t is b;
-  only = λ below t r. rule-does p natives w o m arguments x rest (Write y q new) below t is r;
+  gives = λ below t b. does-rule p natives w o m arguments x rest (Write what) below t is b;
+  only = λ below t r. rule-does p natives w o m arguments x rest (Write what) below t is r;
 }
 
 -- nothing is done
@@ -117,7 +118,7 @@ does-answer {p} {natives} {w} {o = o} {m = m} {arguments = arguments} effects ac
 
 -- what this relation tells of is done, and nothing is pushed
 does-told : {p : Loaded} {natives : NativeAnswers} {w v : World} {o : ℕ} {arguments : List Value} {x : Step} (m : ℕ) (rest : List Step) {d : ℕ} {h : List (Option ℕ)} (what : Operation) (What : State → List Activation → State → Type 0) (n : ℕ) (r : Result (Unit {0}) Fault) → operation_of_step w.store.tree o arguments x ≡ Some what →
-    ((a b : ℕ) (new : Value) → what ≢ Write a b new) → ((effects : MetaEffects) → what ≢ TakeAnswer effects) →
+    ((other : Assigning) → what ≢ Write other) → ((effects : MetaEffects) → what ≢ TakeAnswer effects) →
     ((below : List Activation) (t : State) → What (next w o m arguments x rest below) (Body o m arguments rest ∷ below) t → Does p natives (next w o m arguments x rest below) o m arguments rest below what t) →
     ((below : List Activation) (t : State) → Does p natives (next w o m arguments x rest below) o m arguments rest below what t → What (next w o m arguments x rest below) (Body o m arguments rest ∷ below) t) →
     length h < d → AgreeIn p w → 0 < w.left → n ≡ length h + 1 → MatchResult r (λ _. Went What w n v) (Stalls What w v) → RunsTo p natives d h w (Body o m arguments (x ∷ rest) ∷ []) v (Body o m arguments rest ∷ []) r
@@ -129,7 +130,7 @@ does-told {p} {natives} {w} {v} {o} {arguments} {x} m rest {d} {h} what What n (
 does-told {p} {natives} {w} {v} {o} {arguments} {x} m rest {d} {h} what What n (Err f) is other unasked does told_by room agree some n_is stays =
     let At : World → Type 0 = λ u. StopsIn p natives d h w (Body o m arguments (x ∷ rest) ∷ []) u f in
     let stops : StopsIn p natives d h w (Body o m arguments (x ∷ rest) ∷ []) w f = elim stays.why [
-      | inl none ↦ stops-as none.1 (stops-stuck (not-idle w (Body o m arguments (x ∷ rest))) some (λ below t rule. none.0 (Body o m arguments (x ∷ rest) ∷ below) (Body o m arguments rest ∷ below) t (told_by below t (rule-does p natives w o m arguments x rest what below t is rule))) (λ below a b new writes. let both : Some what ≡ Some (Write a b new) = sym is ∙ next-does w writes in let same : what ≡ Write a b new = cc both in absurd (other a b new same)) (λ below effects asks. let both : Some what ≡ Some (TakeAnswer effects) = sym is ∙ next-does w asks in let same : what ≡ TakeAnswer effects = cc both in absurd (unasked effects same)))
+      | inl none ↦ stops-as none.1 (stops-stuck (not-idle w (Body o m arguments (x ∷ rest))) some (λ below t rule. none.0 (Body o m arguments (x ∷ rest) ∷ below) (Body o m arguments rest ∷ below) t (told_by below t (rule-does p natives w o m arguments x rest what below t is rule))) (λ below written writes. let both : Some what ≡ Some (Write written) = sym is ∙ next-does w writes in let same : what ≡ Write written = cc both in absurd (other written same)) (λ below effects asks. let both : Some what ≡ Some (TakeAnswer effects) = sym is ∙ next-does w asks in let same : what ≡ TakeAnswer effects = cc both in absurd (unasked effects same)))
       | inr short ↦ stops-as short (stops-memory (not-idle w (Body o m arguments (x ∷ rest))) some)
     ] in
     record { cases = subst At (sym stays.same) stops }
@@ -137,17 +138,17 @@ does-told {p} {natives} {w} {v} {o} {arguments} {x} m rest {d} {h} what What n (
 -- a connection is made
 pub does-connect : {p : Loaded} {natives : NativeAnswers} {w v : World} {o : ℕ} {arguments : List Value} {x : Step} (m : ℕ) (rest : List Step) {d : ℕ} {h : List (Option ℕ)} (ends : Endpoints) (how : ConnectionType) (n : ℕ) (r : Result (Unit {0}) Fault) → operation_of_step w.store.tree o arguments x ≡ Some (Connect ends how) → length h < d → AgreeIn p w → 0 < w.left → n ≡ length h + 1 → ConnectsIn p w n ends how v r → RunsTo p natives d h w (Body o m arguments (x ∷ rest) ∷ []) v (Body o m arguments rest ∷ []) r
 does-connect {p} {natives} m rest ends how n r is room agree some n_is went =
-    does-told m rest (Connect ends how) (λ s stack t. Connects p s stack ends how t) n r is (λ a b new e. absurd (cc e)) (λ effects e. absurd (cc e)) (λ below t does. does) (λ below t does. does) room agree some n_is went
+    does-told m rest (Connect ends how) (λ s stack t. Connects p s stack ends how t) n r is (λ other e. absurd (cc e)) (λ effects e. absurd (cc e)) (λ below t does. does) (λ below t does. does) room agree some n_is went
 
 -- .. or removed
 pub does-disconnect : {p : Loaded} {natives : NativeAnswers} {w v : World} {o : ℕ} {arguments : List Value} {x : Step} (m : ℕ) (rest : List Step) {d : ℕ} {h : List (Option ℕ)} (ends : Endpoints) (n : ℕ) (r : Result (Unit {0}) Fault) → operation_of_step w.store.tree o arguments x ≡ Some (Disconnect ends) → length h < d → AgreeIn p w → 0 < w.left → n ≡ length h + 1 → DisconnectsIn p w n ends v r → RunsTo p natives d h w (Body o m arguments (x ∷ rest) ∷ []) v (Body o m arguments rest ∷ []) r
 does-disconnect {p} {natives} m rest ends n r is room agree some n_is went =
-    does-told m rest (Disconnect ends) (λ s stack t. Disconnects p s stack ends t) n r is (λ a b new e. absurd (cc e)) (λ effects e. absurd (cc e)) (λ below t does. does) (λ below t does. does) room agree some n_is went
+    does-told m rest (Disconnect ends) (λ s stack t. Disconnects p s stack ends t) n r is (λ other e. absurd (cc e)) (λ effects e. absurd (cc e)) (λ below t does. does) (λ below t does. does) room agree some n_is went
 
 -- an object is scheduled for deletion
 pub does-schedule : {p : Loaded} {natives : NativeAnswers} {w v : World} {o : ℕ} {arguments : List Value} {x : Step} (m : ℕ) (rest : List Step) {d : ℕ} {h : List (Option ℕ)} (y : ℕ) (n : ℕ) (r : Result (Unit {0}) Fault) → operation_of_step w.store.tree o arguments x ≡ Some (Schedule y) → length h < d → AgreeIn p w → 0 < w.left → n ≡ length h + 1 → SchedulesIn w n y v r → RunsTo p natives d h w (Body o m arguments (x ∷ rest) ∷ []) v (Body o m arguments rest ∷ []) r
 does-schedule m rest y n r is room agree some n_is went =
-    does-told m rest (Schedule y) (λ s stack t. Schedules s stack y t (life_of s.objects y)) n r is (λ a b new e. absurd (cc e)) (λ effects e. absurd (cc e)) (λ below t does. does) (λ below t does. does) room agree some n_is went
+    does-told m rest (Schedule y) (λ s stack t. Schedules s stack y t (life_of s.objects y)) n r is (λ other e. absurd (cc e)) (λ effects e. absurd (cc e)) (λ below t does. does) (λ below t does. does) room agree some n_is went
 
 -- .. or deleted
 pub does-delete : {p : Loaded} {natives : NativeAnswers} {w : World} {o : ℕ} {arguments : List Value} {x : Step} (m : ℕ) (rest : List Step) {y : ℕ} → operation_of_step w.store.tree o arguments x ≡ Some (Delete y) → Deletes p natives w (Body o m arguments (x ∷ rest) ∷ []) (Body o m arguments rest ∷ []) y
@@ -167,7 +168,7 @@ lacks-rule {p} {natives} {w} {o} {arguments} {x} m rest some none =
     let r : StepRule p natives (next w o m arguments x rest below) o m arguments x rest below t = rule in
     let both : None ≡ Some r.what = sym none ∙ r.is in
     absurd (cc both))
-    (λ below a b new writes. let both : None ≡ Some (Write a b new) = sym none ∙ next-does w writes in absurd (cc both))
+    (λ below what writes. let both : None ≡ Some (Write what) = sym none ∙ next-does w writes in absurd (cc both))
     (λ below effects asks. let both : None ≡ Some (TakeAnswer effects) = sym none ∙ next-does w asks in absurd (cc both))
 
 pub lacks-read : {p : Loaded} {natives : NativeAnswers} {d o : ℕ} {h : List (Option ℕ)} {w : World} {arguments : List Value} {x : Statement} {f : EvalFault} {a : List Object} {i : ℕ} {l : List Value} (m : ℕ) (rest : List Step) → 0 < w.left → a ≡ w.store.tree → i ≡ o → l ≡ arguments → Yields (operation a i l (out-Statement x)) (Err f) → f ≡ eval.BadType → StopsIn p natives d h w (Body o m arguments (Run x ∷ rest) ∷ []) w BadType

@@ -34,7 +34,7 @@ module _ (old new : List Object) (differ : DifferInValues old new) where
   differ-part part same o =
       sym (emptied-part part same (life_of new o)) ∙ ap (option_map part) (lives-alike old new differ o) ∙ emptied-part part same (life_of old o)
 
-  differ-class : (o : ℕ) → class_of new o ≡ class_of old o
+  pub differ-class : (o : ℕ) → class_of new o ≡ class_of old o
   differ-class o = differ-part (λ (l : Life). l.class) (λ l. refl) o
 
   -- objects live where they lived

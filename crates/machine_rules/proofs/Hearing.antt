@@ -1,5 +1,7 @@
 -- A dead object's emissions: once its deletion is over, no connection leads from it, and before that none but its
 -- `destroyed` goes on (`specs/code/Sound.antt`, `MayBeHeard`).
+use Rattle.machine_state.specs.Telling.{Assigning}
+use Rattle.machine_state.specs.declared.entry.Entry.{Entry}
 use Rattle.std.proofs.Common.{◌≡◌, ◌≢◌, ◌⊎◌, inl, inr, ⊎_elim, ℕ, eqb, ◌||◌, not, Bool, true, false, cond, List, [], ◌∷◌, ◌++◌, length, filter, take, Result, Ok, Err, Option, None, Some, refl, sym, ◌∙◌, subst}
 use Rattle.std.specs.List.{find}
 use Rattle.std.proofs.lemmas.Bool.{cases_eq, eqb-false}
@@ -32,7 +34,6 @@ use Rattle.machine_state.proofs.Due.{all-removed, all-used}
 use Rattle.prop_bindings.specs.declared.binding.Binding.{Binding}
 use Rattle.prop_bindings.specs.declared.place.Place.{Place}
 use Rattle.prop_bindings.specs.Changes.{DifferInValues}
-use Rattle.machine_state.specs.declared.telling.Cause.{Cause}
 use Rattle.machine_rules.specs.Connecting.{AreThere, kept_ends, names_of}
 use Rattle.machine_rules.specs.Destroying.{Dies, forgotten, NextRule, ChildRule, DestroyRule, living_child, Schedules}
 use Rattle.machine_rules.specs.Natives.{NativeAnswers}
@@ -156,14 +157,14 @@ module _ (p : Loaded) (s t : State) where
   abbrev In : List Activation → Type 0
   In stack = AllHeard s.objects s.connected.connections nobody stack
 
-  settles-heard : {below : List Activation} {cause : Cause} {at : Place} {objects : List Object} {bindings : List Binding} {changed : List Place} → DifferInValues s.objects objects → Settles p s below cause at objects bindings changed t → In below → Heard t
+  settles-heard : {below : List Activation} {Tells : List Entry → Type 0} {objects : List Object} {bindings : List Binding} {changed : List Place} → DifferInValues s.objects objects → Settles p s below Tells objects bindings changed t → In below → Heard t
   settles-heard {below} {objects = objects} differ x lower =
       heard-as x.gives (still-heard s.objects objects s.connected.connections s.connected.connections (differ-spared s.objects objects differ) (λ o gone none. none) below lower)
 
   pub begins-heard : {below : List Activation} {o m : ℕ} {arguments : List Value} → Begins p s below o m arguments t → In below → Heard t
   begins-heard {below} {o} {m} {arguments} b lower = begun-heard s below o b.object m b.method arguments b.method.work b.is b.gives lower
 
-  pub writes-heard : {below : List Activation} {o q : ℕ} {new : Value} → Writes p s below o q new t → In below → Heard t
+  pub writes-heard : {below : List Activation} {what : Assigning} → Writes p s below what t → In below → Heard t
   writes-heard w lower = settles-heard w.written.objects w.settles lower
 
   pub installs-heard : {below : List Activation} {b : Binding} → Installs p s below b t → In below → Heard t
@@ -186,7 +187,7 @@ module _ (p : Loaded) (s t : State) where
   ]
 
   does-heard : (natives : NativeAnswers) (o m : ℕ) (arguments : List Value) (rest : List Step) (below : List Activation) (d : Operation) → In below → Does p natives s o m arguments rest below d t → Heard t
-  does-heard natives o m arguments rest below (Write y q new) lower does = writes-heard does lower
+  does-heard natives o m arguments rest below (Write what) lower does = writes-heard does lower
   does-heard natives o m arguments rest below (Begin y n given) lower does = begins-heard does lower
   does-heard natives o m arguments rest below (Choose block) lower does = heard-as does lower
   does-heard natives o m arguments rest below (Connect ends how) lower does = heard-as does.gives (linked-heard (Body o m arguments rest ∷ below) does.kept how (names_of does.kept) does.answer lower)

@@ -1,4 +1,5 @@
 -- What each rule leaves as it was.
+use Rattle.machine_state.specs.Telling.{Assigning}
 use Rattle.std.proofs.Common.{◌≡◌, ◌⊎◌, inl, inr, ℕ, suc, ◌+◌, List, [], ◌∷◌, ◌++◌, Option, Some, None, refl, sym, ap, ◌∙◌, subst, arith, Result, Ok, Err, append_assoc, append-nil, ◌<◌, ◌≤◌, Bool, true, false, length, map}
 use Rattle.signatures.specs.declared.value.Value.{Value}
 use Rattle.meta_model.specs.Loaded.{Loaded}
@@ -51,7 +52,6 @@ use Rattle.machine_rules.specs.code.Reaches.{Reaches}
 use Rattle.machine_rules.specs.Settling.{Settles, Writes, Installs}
 use Rattle.machine_rules.proofs.Agreeing.{rules-settled}
 use Rattle.machine_rules.proofs.Differing.{differ-stay, differ-home}
-use Rattle.machine_state.specs.declared.telling.Cause.{Cause}
 use Rattle.prop_bindings.specs.declared.binding.Binding.{Binding}
 use Rattle.prop_bindings.specs.Changes.{DifferInValues}
 use Rattle.machine_rules.specs.code.Keeps.{StayThere, AllJoined, Grows, Keeps, KeepsWorld}
@@ -212,7 +212,7 @@ pub begins-kept : {p : Loaded} {s : State} {below : List Activation} {o m : ℕ}
 begins-kept {p = p} {s = s} {below = below} {o = o} {m = m} {arguments = arguments} {t = t} x = begun-kept p s below o x.object m x.method arguments x.method.work t x.gives
 
 -- properties change, and nothing else of the objects
-settles-kept : {p : Loaded} {s : State} {below : List Activation} {cause : Cause} {at : Place} {objects : List Object} {bindings : List Binding} {changed : List Place} {t : State} → DifferInValues s.objects objects → Settles p s below cause at objects bindings changed t → Keeps p s 1 t 0
+settles-kept : {p : Loaded} {s : State} {below : List Activation} {Tells : List Entry → Type 0} {objects : List Object} {bindings : List Binding} {changed : List Place} {t : State} → DifferInValues s.objects objects → Settles p s below Tells objects bindings changed t → Keeps p s 1 t 0
 settles-kept {p = p} {s = s} {objects = objects} differ x =
     let stay : StayThere s.objects objects = differ-stay s.objects objects differ in
     keeps-is x.gives (record {
@@ -228,7 +228,7 @@ settles-kept {p = p} {s = s} {objects = objects} differ x =
       grows = grows-by x.lines;
     })
 
-pub writes-kept : {p : Loaded} {s : State} {below : List Activation} {o q : ℕ} {new : Value} {t : State} → Writes p s below o q new t → Keeps p s 1 t 0
+pub writes-kept : {p : Loaded} {s : State} {below : List Activation} {what : Assigning} {t : State} → Writes p s below what t → Keeps p s 1 t 0
 writes-kept x = settles-kept x.written.objects x.settles
 
 pub installs-kept : {p : Loaded} {s : State} {below : List Activation} {b : Binding} {t : State} → Installs p s below b t → Keeps p s 1 t 0
@@ -343,7 +343,7 @@ schedules-kept p s stack x t life r = elim (schedule-cases life r) [
 -- ---- bodies
 
 does-kept : (p : Loaded) (natives : NativeAnswers) (s : State) (o m : ℕ) (arguments : List Value) (rest : List Step) (below : List Activation) (d : Operation) (t : State) → Does p natives s o m arguments rest below d t → Keeps p s 1 t 0
-does-kept p natives s o m arguments rest below (Write x q new) t does = writes-kept does
+does-kept p natives s o m arguments rest below (Write what) t does = writes-kept does
 does-kept p natives s o m arguments rest below (Begin x n given) t does = begins-kept does
 does-kept p natives s o m arguments rest below (Choose block) t does = keeps-is does (keeps-all _ (grows-same s.trace))
 does-kept p natives s o m arguments rest below (Connect ends how) t does =

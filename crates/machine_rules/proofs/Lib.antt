@@ -18,6 +18,7 @@ pub mod Bodies
 pub mod Hearing
 pub mod Reading
 pub mod Yielding
+pub mod Overlaid
 pub mod Blocks
 pub mod Deleting
 pub mod Soundness

@@ -16,13 +16,12 @@ use Rattle.object_tree.specs.declared.object.Object.{Object}
 use Rattle.object_tree.specs.Objects.{life_of}
 use Rattle.connections.specs.declared.connection.Connection.{Connection}
 use Rattle.machine_state.specs.declared.entry.Entry.{Entry}
-use Rattle.machine_state.specs.declared.telling.Cause.{Cause}
-use Rattle.machine_state.specs.Telling.{AreTold}
-use Rattle.machine_state.proofs.Told.{told-once}
+use Rattle.machine_state.specs.declared.telling.Cause.TheVariants.{Bind}
+use Rattle.machine_state.specs.Telling.{AreTold, Assigning, IsAssigningTold, writes_of}
+use Rattle.machine_state.proofs.Told.{assigning-once, told-once}
 use Rattle.prop_bindings.specs.declared.binding.Binding.{Binding}
-use Rattle.prop_bindings.specs.Places.{property_of}
-use Rattle.prop_bindings.specs.Bindings.{binding_at, without, replaced, Loop}
-use Rattle.prop_bindings.specs.Changes.{IsInstalled, one}
+use Rattle.prop_bindings.specs.Bindings.{binding_at, without_all, replaced, Loop}
+use Rattle.prop_bindings.specs.Changes.{IsInstalled, places_in}
 use Rattle.prop_bindings.specs.Fits.{Agree}
 use Rattle.prop_bindings.proofs.Once.{written_once, installed_once}
 use Rattle.machine_state.specs.Connections.{is_living, next_used}
@@ -67,12 +66,13 @@ begins-one {s = s} {below = below} {o = o} {m = m} {arguments = arguments} a b =
     ∙ ap (λ (k : MetaMethod). begun s below o b.object m k arguments k.work) method_is
     ∙ sym b.gives
 
--- what changes with a property is written down in one way
-settles-one : {p : Loaded} {s t u : State} {below : List Activation} {cause : Cause} {at : Place} {bindings : List Binding} {objects others : List Object} {changed more : List Place} → objects ≡ others → changed ≡ more → Settles p s below cause at objects bindings changed t → Settles p s below cause at others bindings more u → t ≡ u
-settles-one {p} {s} {below = below} {cause} {at} {bindings} {objects} {others} {changed} {more} objects_are changed_are a b =
-    let Told : List Object → List Place → Type 0 = λ xs places. AreTold p xs (suc (length below)) cause at places b.lines in
-    let told : Told objects changed = subst (λ (xs : List Object). Told xs changed) (sym objects_are) (subst (λ (places : List Place). Told others places) (sym changed_are) b.told) in
-    let lines_are : a.lines ≡ b.lines = told-once p objects (suc (length below)) cause at changed a.lines b.lines a.told told in
+-- what changes is written down in one way, where each list of lines that tells of it is one
+settles-one : {p : Loaded} {s t u : State} {below : List Activation} {bindings : List Binding} {objects others : List Object} {changed more : List Place} (Tells : List Object → List Place → List Entry → Type 0) →
+    ((xs : List Object) (places : List Place) (k l : List Entry) → Tells xs places k → Tells xs places l → k ≡ l) →
+    objects ≡ others → changed ≡ more → Settles p s below (Tells objects changed) objects bindings changed t → Settles p s below (Tells others more) others bindings more u → t ≡ u
+settles-one {p} {s} {below = below} {bindings} {objects} {others} {changed} {more} Tells once objects_are changed_are a b =
+    let told : Tells objects changed b.lines = subst (λ (xs : List Object). Tells xs changed b.lines) (sym objects_are) (subst (λ (places : List Place). Tells others places b.lines) (sym changed_are) b.told) in
+    let lines_are : a.lines ≡ b.lines = once objects changed a.lines b.lines a.told told in
     let state_of : List Object → List Place → List Entry → State = λ xs places lines.
     record s { objects = xs; bindings = bindings; stack = Update (notified p xs places) ∷ below; trace = s.trace ++ lines } in
     a.gives
@@ -81,21 +81,21 @@ settles-one {p} {s} {below = below} {cause} {at} {bindings} {objects} {others} {
     ∙ ap (λ (lines : List Entry). state_of others more lines) lines_are
     ∙ sym b.gives
 
-pub writes-one : {p : Loaded} {s t u : State} {below : List Activation} {o q : ℕ} {new : Value} → Agree p s.objects s.bindings → Writes p s below o q new t → Writes p s below o q new u → t ≡ u
-writes-one {p} {s} {o = o} {q = q} {new = new} agree a b =
-    let cs : List Binding = without (property_of o q) s.bindings in
-    let same = written_once p s.bindings s.objects (one (property_of o q) new) agree cs cs a.objects b.objects a.changed b.changed a.written b.written in
-    settles-one same.1 same.2 a.settles b.settles
+pub writes-one : {p : Loaded} {s t u : State} {below : List Activation} {what : Assigning} → Agree p s.objects s.bindings → Writes p s below what t → Writes p s below what u → t ≡ u
+writes-one {p} {s} {below = below} {what = what} agree a b =
+    let cs : List Binding = without_all (places_in (writes_of what)) s.bindings in
+    let same = written_once p s.bindings s.objects (writes_of what) agree cs cs a.objects b.objects a.changed b.changed a.written b.written in
+    settles-one (λ xs places lines. IsAssigningTold p xs (suc (length below)) what places lines) (λ xs places k l. assigning-once p xs (suc (length below)) what places k l) same.1 same.2 a.settles b.settles
 
 -- .. and so it is with a binding that is installed, unless it closes a chain
 abbrev installed-is : {p : Loaded} {s t : State} {below : List Activation} {b : Binding} → (¬ Loop (binding_at (replaced s.bindings b))) → (x : Installs p s below b t) → IsInstalled s.bindings (replaced s.bindings b) s.objects x.objects b x.changed
 installed-is acyclic x = record { bindings = refl; acyclic = acyclic; objects = x.differ; settled = x.settled; kept = x.kept; changes = x.changes }
 
 pub installs-one : {p : Loaded} {s t u : State} {below : List Activation} {b : Binding} → Agree p s.objects s.bindings → (¬ Loop (binding_at (replaced s.bindings b))) → Installs p s below b t → Installs p s below b u → t ≡ u
-installs-one {p} {s} {b = b} agree acyclic x y =
+installs-one {p} {s} {below = below} {b = b} agree acyclic x y =
     let cs : List Binding = replaced s.bindings b in
     let same = installed_once p s.bindings s.objects b agree cs cs x.objects y.objects x.changed y.changed (installed-is acyclic x) (installed-is acyclic y) in
-    settles-one same.1 same.2 x.settles y.settles
+    settles-one (λ xs places lines. AreTold p xs (suc (length below)) Bind b.target places lines) (λ xs places k l. told-once p xs (suc (length below)) Bind b.target places k l) same.1 same.2 x.settles y.settles
 
 -- the names at two ends
 names-one : {p : Loaded} {objects : List Object} {ends : Endpoints} (a b : AreThere p objects ends) → names_of a ≡ names_of b
@@ -159,7 +159,7 @@ schedules-one s t u stack x life a b =
 -- ---- bodies
 
 does-one : (p : Loaded) (natives : NativeAnswers) → AnswersOnce natives → (s : State) (o m : ℕ) (arguments : List Value) (rest : List Step) (below : List Activation) (d : Operation) (t u : State) → Agree p s.objects s.bindings → Does p natives s o m arguments rest below d t → Does p natives s o m arguments rest below d u → t ≡ u
-does-one p natives once s o m arguments rest below (Write x q new) t u agree a b = writes-one agree a b
+does-one p natives once s o m arguments rest below (Write what) t u agree a b = writes-one agree a b
 does-one p natives once s o m arguments rest below (Begin x n given) t u agree a b = begins-one a b
 does-one p natives once s o m arguments rest below (Choose block) t u agree a b = a ∙ sym b
 does-one p natives once s o m arguments rest below (Connect ends how) t u agree a b = connects-one a b

@@ -1,4 +1,5 @@
 -- How runs are put together.
+use Rattle.machine_state.specs.Telling.{Assigning, writes_of}
 use Rattle.std.proofs.Common.{◌≡◌, ℕ, suc, ◌+◌, ◌-◌, ◌<◌, ◌≤◌, inl, inr, Option, IsTrue, List, [], ◌∷◌, ◌++◌, length, Result, Ok, Err, refl, sym, subst, arith, length-append}
 use Rattle.std.specs.Prelude.{OnOk}
 use Rattle.std.specs.Result.{IsErrAnd}
@@ -15,10 +16,10 @@ use Rattle.meta_model.specs.declared.effects.MetaEffects.{MetaEffects}
 use Rattle.signatures.specs.declared.value.Value.{Value}
 use Rattle.prop_bindings.specs.Fits.{Agree}
 use Rattle.object_tree.specs.declared.object.Object.{Object}
-use Rattle.machine_rules.specs.There.{IsDead, NoneDied, LacksField}
+use Rattle.machine_rules.specs.There.{IsDead, NoneDied}
 use Rattle.machine_rules.specs.code.Sound.{AgreeIn}
 use Rattle.machine_rules.specs.Good.{has_body, IsWell, Spares, IsGood, TopFits, shows}
-use Rattle.machine_rules.specs.Faults.{DoesNext, WritesNext, WritesIll, WritesDeep, GoesIll, GoesFatal, GoesDeep}
+use Rattle.machine_rules.specs.Faults.{DoesNext, WritesNext, WritesIll, WritesDeep, GoesIll, GoesFatal, GoesDeep, LacksFirst}
 use Rattle.machine_rules.specs.code.Going.{GoodRules, done, then, IsStuck}
 use Rattle.machine_state.specs.Worlds.{at, Ticks, GoesTo}
 use Rattle.machine_rules.specs.code.Reaches.{Reaches, StopsIn, RunsTo}
@@ -93,7 +94,7 @@ module _ {p : Loaded} {natives : NativeAnswers} {d : ℕ} {h : List (Option ℕ)
   stops-memory = record { stops = λ below e. (from ++ below, done, (some, goes_on below)) }
 
   -- no rule leads on
-  pub stops-stuck : ((below : List Activation) (t : State) → ¬ Rule p natives (at w (from ++ below)) t) → ((below : List Activation) (o q : ℕ) (new : Value) → WritesNext (at w (from ++ below)) o q new → LacksField p w.store.tree o q) → ((below : List Activation) (effects : MetaEffects) → ¬ DoesNext (at w (from ++ below)) (TakeAnswer effects)) → StopsIn p natives d h w from w BadType
+  pub stops-stuck : ((below : List Activation) (t : State) → ¬ Rule p natives (at w (from ++ below)) t) → ((below : List Activation) (what : Assigning) → WritesNext (at w (from ++ below)) what → LacksFirst p w.store.tree (writes_of what)) → ((below : List Activation) (effects : MetaEffects) → ¬ DoesNext (at w (from ++ below)) (TakeAnswer effects)) → StopsIn p natives d h w from w BadType
   stops-stuck stuck lacks asks = record {
     stops = λ below e.
         let is : IsStuck p natives (at w (from ++ below)) = record { goes_on = goes_on below; stuck = stuck below; lacks = lacks below; asks_none = asks below } in

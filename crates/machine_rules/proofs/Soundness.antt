@@ -1,4 +1,5 @@
 -- What stays sound: items that wait and emissions have arguments that fit.
+use Rattle.machine_state.specs.Telling.{Assigning}
 use Rattle.std.proofs.Common.{◌≡◌, ℕ, suc, ◌+◌, ◌<◌, Bool, true, false, List, [], ◌∷◌, ◌++◌, length, take, Result, Ok, Err, Option, Some, None, slice_get, refl, sym, subst, arith, inl, inr}
 use Rattle.std.specs.List.{AllByRecursion, find}
 use Rattle.std.specs.Option.{option_map}
@@ -20,7 +21,6 @@ use Rattle.object_tree.specs.Objects.{life_of, name_of, change_life, scheduled}
 use Rattle.prop_bindings.specs.declared.binding.Binding.{Binding}
 use Rattle.prop_bindings.specs.Changes.{DifferInValues}
 use Rattle.prop_bindings.specs.Fits.{Agree}
-use Rattle.machine_state.specs.declared.telling.Cause.{Cause}
 use Rattle.machine_state.specs.declared.entry.Entry.{Entry}
 use Rattle.machine_state.specs.declared.turn.Turn.{Turn}
 use Rattle.machine_state.specs.declared.world.World.{World}
@@ -133,13 +133,13 @@ module _ {p : Loaded} {s t : State} (program : IsSound p) (well : IsWell p s t) 
   pub begins-fair : {below : List Activation} {o m : ℕ} {arguments : List Value} → Begins p s below o m arguments t → length s.stack < suc (length below) → AllFit p s.objects below → Fair p t
   begins-fair {below} {o} {m} {arguments} b higher lower = begun-fair p program s t (length s.stack) below o b.object m b.method arguments b.method.work b.gives higher well.arguments waiting lower
 
-  pub settles-fair : {below : List Activation} {cause : Cause} {at : Place} {objects : List Object} {bindings : List Binding} {changed : List Place} → DifferInValues s.objects objects → Settles p s below cause at objects bindings changed t → AllFit p s.objects below → Fair p t
+  pub settles-fair : {below : List Activation} {Tells : List Entry → Type 0} {objects : List Object} {bindings : List Binding} {changed : List Place} → DifferInValues s.objects objects → Settles p s below Tells objects bindings changed t → AllFit p s.objects below → Fair p t
   settles-fair {below} {objects = objects} differ x lower =
       let stay : StayThere s.objects objects = differ-stay s.objects objects differ in
       let Family : State → Type 0 = λ v. Fair p v in
       subst Family (sym x.gives) (record { waiting = all-wait-still p s.objects objects s.queues.loops stay waiting; emitted = (tt, all-fit-still p s.objects objects below stay lower) })
 
-  pub writes-fair : {below : List Activation} {o q : ℕ} {new : Value} → Writes p s below o q new t → AllFit p s.objects below → Fair p t
+  pub writes-fair : {below : List Activation} {what : Assigning} → Writes p s below what t → AllFit p s.objects below → Fair p t
   writes-fair w lower = settles-fair w.written.objects w.settles lower
 
   pub installs-fair : {below : List Activation} {b : Binding} → Installs p s below b t → AllFit p s.objects below → Fair p t
@@ -209,7 +209,7 @@ module _ {p : Loaded} {s t : State} (program : IsSound p) (well : IsWell p s t) 
   ]
 
   does-fair : (natives : NativeAnswers) (o m : ℕ) (arguments : List Value) (rest : List Step) (below : List Activation) (d : Operation) → AllFit p s.objects below → length s.stack ≡ suc (length below) → Does p natives s o m arguments rest below d t → Fair p t
-  does-fair natives o m arguments rest below (Write y q new) lower high does = writes-fair does (tt, lower)
+  does-fair natives o m arguments rest below (Write what) lower high does = writes-fair does (tt, lower)
   does-fair natives o m arguments rest below (Begin y n given) lower high does = begins-fair does (omega (arith, high)) (tt, lower)
   does-fair natives o m arguments rest below (Choose block) lower high does = quiet-fair does (tt, lower)
   does-fair natives o m arguments rest below (Connect ends how) lower high does =
@@ -341,7 +341,7 @@ sound-settled {p} {old} {new} after {connections} {loops} differ agree sound =
     }
 
 -- .. in a world
-pub sound-set : {p : Loaded} {d : ℕ} {place : Place} {new : Value} {changed : List Place} {v : World} (w : World) → HasWritten p d place new w (noted w) changed v → AgreeIn p v → IsSoundWorld p w → IsSoundWorld p v
+pub sound-set : {p : Loaded} {d : ℕ} {what : Assigning} {changed : List Place} {v : World} (w : World) → HasWritten p d what w (noted w) changed v → AgreeIn p v → IsSoundWorld p w → IsSoundWorld p v
 sound-set {p} {v = v} w written agree sound =
     let Family : World → Type 0 = λ u. IsSoundWorld p u in
     subst Family (sym written.gives) (record {

@@ -1,15 +1,19 @@
 -- What comes next where a run stops, and why it stops (docs/machine.md, "Faults").
-use Rattle.std.specs.Prelude.{◌≡◌, ℕ, ◌<◌, ◌≤◌, List, ◌∷◌, length, None, Some}
+use Rattle.std.specs.Prelude.{◌≡◌, ℕ, ◌<◌, ◌≤◌, List, ◌∷◌, ◌++◌, length, None, Some}
 use Rattle.signatures.specs.declared.value.Value.{Value}
+use Rattle.std.specs.List.{Contains}
 use Rattle.meta_model.specs.declared.object.MetaProperty.{MetaProperty}
 use Rattle.meta_model.specs.declared.object.Statement.{Statement}
 use Rattle.meta_model.specs.declared.object.Statement.TheViews.{out-Statement}
 use Rattle.meta_model.specs.Loaded.{Loaded}
 use Rattle.object_tree.specs.declared.object.Object.{Object}
 use Rattle.object_tree.specs.Typed.{ReadsAs}
+use Rattle.prop_bindings.specs.declared.assignment.Assignment.{Assignment}
+use Rattle.prop_bindings.specs.Calls.{AllFit}
 use Rattle.machine_state.specs.State.{Step, Run, State, Activation, Body}
+use Rattle.machine_state.specs.Telling.{Assigning, writes_of}
 use Rattle.machine_rules.specs.Operations.{Operation, Write, operation, operation_of_step}
-use Rattle.machine_rules.specs.There.{IsField}
+use Rattle.machine_rules.specs.There.{IsField, LacksField}
 use Rattle.machine_rules.specs.Good.{IsWell, Spares, IsAcyclic}
 
 -- ---- what comes next
@@ -25,33 +29,41 @@ pub record DoesNext (s : State) (what : Operation) : Type 0 where
   pub is_next : s.stack ≡ Body object method arguments (step ∷ rest) ∷ below
   pub does : operation_of_step s.objects object arguments step ≡ Some what
 
--- .. it writes this value to a property
-abbrev pub WritesNext : State → ℕ → ℕ → Value → Type 0
-WritesNext s o q new = DoesNext s (Write o q new)
+-- .. it writes this
+abbrev pub WritesNext : State → Assigning → Type 0
+WritesNext s what = DoesNext s (Write what)
 
--- .. of an object's property, and the value is not of its type. What follows from the property need have no values then, so
+-- .. a value for an object's property that is not of its type. What follows from the property need have no values then, so
 -- this is told of the step, and not of what it makes.
 pub record WritesIll (p : Loaded) (s : State) : Type 0 where
-  pub object : ℕ
-  pub number : ℕ
-  pub value : Value
-  pub next : WritesNext s object number value
+  pub what : Assigning
+  pub next : WritesNext s what
+  pub set : Assignment
+  pub among : Contains (writes_of what) set
   pub it : Object
   pub property : MetaProperty
-  pub is : IsField p s.objects object number it property
-  pub ill : ¬ ReadsAs p s.objects value property.kind
+  pub is : IsField p s.objects set.place.object set.place.property it property
+  pub ill : ¬ ReadsAs p s.objects set.value property.kind
 
--- .. which is of its type, and one more activation is too many
+-- .. values which are of their properties' types, and one more activation is too many
 pub record WritesDeep (p : Loaded) (depth : ℕ) (s : State) : Type 0 where
-  pub object : ℕ
-  pub number : ℕ
-  pub value : Value
-  pub next : WritesNext s object number value
-  pub it : Object
-  pub property : MetaProperty
-  pub is : IsField p s.objects object number it property
-  pub fits : ReadsAs p s.objects value property.kind
+  pub what : Assigning
+  pub next : WritesNext s what
+  pub fit : AllFit p s.objects (writes_of what)
   pub deep : depth ≤ length s.stack
+
+-- this one of the writes comes after such as fit
+pub record IsAfterFit (p : Loaded) (objects : List Object) (writes : List Assignment) (set : Assignment) : Type 0 where
+  pub front : List Assignment
+  pub back : List Assignment
+  pub are : writes ≡ front ++ set ∷ back
+  pub fit : AllFit p objects front
+
+-- .. and its property isn't there
+pub record LacksFirst (p : Loaded) (objects : List Object) (writes : List Assignment) : Type 0 where
+  pub set : Assignment
+  pub after : IsAfterFit p objects writes set
+  pub lacks : LacksField p objects set.place.object set.place.property
 
 -- What is going on is a body whose next statement lacks a value: an expression has none, a condition is no truth value, or
 -- a path leads to no object.

@@ -138,7 +138,7 @@ pub record Answers (p : Loaded) (natives : NativeAnswers) (s : State) (o m : ℕ
 
 -- this is done by a step of the body of method m of object o, over what is left of the body and what is below it
 abbrev pub Does : Loaded → NativeAnswers → State → ℕ → ℕ → List Value → List Step → List Activation → Operation → State → Type 0
-Does p natives s o m arguments rest below (Write x q new) t = Writes p s (Body o m arguments rest ∷ below) x q new t
+Does p natives s o m arguments rest below (Write what) t = Writes p s (Body o m arguments rest ∷ below) what t
 Does p natives s o m arguments rest below (Begin x n given) t = Begins p s (Body o m arguments rest ∷ below) x n given t
 Does p natives s o m arguments rest below (Choose block) t = t ≡ record s { stack = Body o m arguments (map Run block ++ rest) ∷ below }
 Does p natives s o m arguments rest below (Connect ends how) t = Connects p s (Body o m arguments rest ∷ below) ends how t

@@ -2,8 +2,8 @@
 -- (docs/machine.md, "Rules" and "Bindings"; Qt 6, "The Property System": a notify signal is emitted when the value has
 -- changed; "Qt Bindable Properties").
 use Rattle.std.specs.Prelude.{◌≡◌, ℕ, suc, is_some, List, [], ◌∷◌, ◌++◌, length, filter, Option, None, slice_get}
+use Rattle.std.specs.List.{AllByRecursion}
 use Rattle.std.specs.Option.{option_and_then}
-use Rattle.signatures.specs.declared.value.Value.{Value}
 use Rattle.meta_model.specs.declared.object.MetaObject.{MetaObject}
 use Rattle.meta_model.specs.declared.object.MetaProperty.{MetaProperty}
 use Rattle.meta_model.specs.Loaded.{Loaded}
@@ -11,15 +11,14 @@ use Rattle.object_tree.specs.declared.object.Object.{Object}
 use Rattle.object_tree.specs.Objects.{class_of}
 use Rattle.prop_bindings.specs.declared.binding.Binding.{Binding}
 use Rattle.prop_bindings.specs.declared.place.Place.{Place}
-use Rattle.prop_bindings.specs.Bindings.{binding_at, without, replaced, Settled}
-use Rattle.prop_bindings.specs.Changes.{DifferInValues, AreChanged, in_order, IsWritten, one}
-use Rattle.prop_bindings.specs.Places.{property_of, values_in}
+use Rattle.prop_bindings.specs.Bindings.{binding_at, without_all, replaced, Settled}
+use Rattle.prop_bindings.specs.Changes.{DifferInValues, AreChanged, in_order, IsWritten, places_in}
+use Rattle.prop_bindings.specs.Places.{values_in}
 use Rattle.machine_state.specs.declared.entry.Entry.{Entry}
-use Rattle.machine_state.specs.declared.telling.Cause.{Cause}
-use Rattle.machine_state.specs.declared.telling.Cause.TheVariants.{Write, Bind}
+use Rattle.machine_state.specs.declared.telling.Cause.TheVariants.{Bind}
 use Rattle.machine_state.specs.State.{State, Activation, Update}
-use Rattle.machine_state.specs.Telling.{AreTold}
-use Rattle.machine_rules.specs.There.{IsField}
+use Rattle.machine_state.specs.Telling.{AreTold, Assigning, IsAssigningTold, writes_of}
+use Rattle.machine_rules.specs.There.{HasField, IsField}
 
 -- ---- what is notified
 
@@ -39,12 +38,12 @@ notified p objects changed = filter (λ at. is_some (signal_at p objects at)) ch
 
 -- ---- what changes
 
--- Objects and bindings are these from now on. The property that is written or bound is written down, and each other one
--- that changed; those that have a notify signal are still to be notified.
-pub record Settles (p : Loaded) (s : State) (below : List Activation) (cause : Cause) (at : Place)
+-- Objects and bindings are these from now on. What changed is written down as `Tells` says, and those of the changed
+-- properties that have a notify signal are still to be notified.
+pub record Settles (p : Loaded) (s : State) (below : List Activation) (Tells : List Entry → Type 0)
     (objects : List Object) (bindings : List Binding) (changed : List Place) (t : State) : Type 0 where
   pub lines : List Entry
-  pub told : AreTold p objects (suc (length below)) cause at changed lines
+  pub told : Tells lines
   pub gives : t ≡ record s {
     objects = objects;
     bindings = bindings;
@@ -52,15 +51,14 @@ pub record Settles (p : Loaded) (s : State) (below : List Activation) (cause : C
     trace = s.trace ++ lines;
   }
 
--- a property is written, which ends its binding
-pub record Writes (p : Loaded) (s : State) (below : List Activation) (o q : ℕ) (new : Value) (t : State) : Type 0 where
-  pub object : Object
-  pub property : MetaProperty
-  pub is : IsField p s.objects o q object property
+-- Properties that are there are written, which ends their bindings: one, or those of a group, all by one rule.
+pub record Writes (p : Loaded) (s : State) (below : List Activation) (what : Assigning) (t : State) : Type 0 where
+  pub there : AllByRecursion (HasField p s.objects) (places_in (writes_of what))
   pub objects : List Object
   pub changed : List Place
-  pub written : IsWritten s.bindings (without (property_of o q) s.bindings) s.objects objects (one (property_of o q) new) changed
-  pub settles : Settles p s below Write (property_of o q) objects (without (property_of o q) s.bindings) changed t
+  pub written : IsWritten s.bindings (without_all (places_in (writes_of what)) s.bindings) s.objects objects (writes_of what) changed
+  pub settles : Settles p s below (IsAssigningTold p objects (suc (length below)) what changed) objects
+      (without_all (places_in (writes_of what)) s.bindings) changed t
 
 -- A binding is installed in place of its target's old one, and stands last. Whether it closes a chain of bindings is not
 -- asked: that is a bad moment, and not forbidden.
@@ -74,4 +72,5 @@ pub record Installs (p : Loaded) (s : State) (below : List Activation) (b : Bind
   pub settled : Settled (binding_at (replaced s.bindings b)) (values_in objects)
   pub kept : (q : Place) → binding_at (replaced s.bindings b) q ≡ None → values_in objects q ≡ values_in s.objects q
   pub changes : AreChanged s.objects objects (in_order (b.target ∷ []) s.bindings) changed
-  pub settles : Settles p s below Bind b.target objects (replaced s.bindings b) changed t
+  pub settles : Settles p s below (AreTold p objects (suc (length below)) Bind b.target changed) objects
+      (replaced s.bindings b) changed t

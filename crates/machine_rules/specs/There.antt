@@ -9,6 +9,7 @@ use Rattle.object_tree.specs.declared.life.Life.{Life}
 use Rattle.object_tree.specs.declared.object.Object.{Object}
 use Rattle.object_tree.specs.Objects.{Lives}
 use Rattle.object_tree.specs.Seen.{seen_reference}
+use Rattle.prop_bindings.specs.declared.place.Place.{Place}
 
 -- a living object and one of its methods
 pub record IsMember (p : Loaded) (objects : List Object) (o m : ℕ) (x : Object) (method : MetaMethod) : Type 0 where
@@ -27,6 +28,12 @@ pub record IsField (p : Loaded) (objects : List Object) (o q : ℕ) (x : Object)
   pub class : MetaObject
   pub is_class : IsClass p life.class class
   pub is_property : slice_get class.properties q ≡ Some property
+
+-- .. at a place
+pub record HasField (p : Loaded) (objects : List Object) (at : Place) : Type 0 where
+  pub object : Object
+  pub property : MetaProperty
+  pub is : IsField p objects at.object at.property object property
 
 -- no such object lives, or it has no such property
 abbrev pub LacksField : Loaded → List Object → ℕ → ℕ → Type 0

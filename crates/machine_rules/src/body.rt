@@ -1,9 +1,11 @@
 //! Bodies of slots.
 
-ghost use Rattle.std.specs.Prelude.{◌≡◌, ◌<◌, length, map};
+ghost use Rattle.std.specs.Prelude.{◌≡◌, ◌<◌, length, map, None};
 ghost use Rattle.machine_rules.specs.code.Sound.{IsSoundWorld};
 ghost use Rattle.machine_state.specs.State.{Run, Body};
 ghost use Rattle.machine_rules.specs.code.Coded.{meant};
+ghost use Rattle.machine_rules.specs.code.Scope.{objects_in};
+ghost use Rattle.std.specs.Option.{option_copied};
 ghost use Rattle.machine_rules.specs.code.Calls.{Finishes, CarriesOut};
 ghost use Rattle.machine_rules.specs.Natives.{KeepPromises};
 
@@ -65,6 +67,7 @@ impl<N: Answering> Interpreter<N> {
         let over = (&*active).over(Some(object));
         match done {
             Operation::Write(place, new) => self.write(world, &over, &place, new),
+            Operation::WriteGroup(sets) => self.write_group(world, &over, sets.as_slice()),
             Operation::Begin(target, method, given) => {
                 let call = MethodCall {
                     object: target,
@@ -87,13 +90,15 @@ impl<N: Answering> Interpreter<N> {
 
     /// What the body of a call reads.
     fn scope<'w>(&self, world: &'w World, call: &'w MethodCall<'_>) -> Scope<'w>
-        ensures objects { result.objects.now ≡ world.now.store.tree }
+        ensures objects { objects_in result ≡ world.now.store.tree }
+        ensures outside { option_copied result.written ≡ None }
         ensures this { result.this ≡ call.now.object }
         ensures arguments { result.arguments.now ≡ call.now.arguments.now }
     {
         Scope {
             alloc: self.alloc,
             objects: &world.store.tree,
+            written: None,
             this: call.object,
             arguments: call.arguments,
         }

@@ -1,17 +1,21 @@
 //! What the statements of a body do.
 
-ghost use Rattle.std.specs.Prelude.{◌≡◌};
-ghost use Rattle.meta_model.specs.declared.object.Statement.TheOpen.{Set, Emit, Call, If, Connect, Disconnect, Delete, Later};
+ghost use Rattle.std.specs.Prelude.{◌≡◌, None, OnOk};
+ghost use Rattle.std.specs.Option.{option_copied};
+ghost use Rattle.meta_model.specs.declared.object.Statement.TheOpen.{Set, Emit, Call, If, Connect, Disconnect, Delete, Later, Group};
 ghost use Rattle.meta_model.specs.declared.object.Statement.TheViews.{out-Statement};
-ghost use Rattle.machine_rules.specs.code.Scope.{operation_in};
-ghost use Rattle.machine_rules.specs.code.Coded.{Yields, FindsBetween, chosen_of};
+ghost use Rattle.machine_rules.specs.code.Scope.{operation_in, set_of, sets_of, KeepsSet};
+ghost use Rattle.machine_rules.specs.code.Coded.{Obtains, Yields, FindsBetween, chosen_of};
 
 use crate::paths::Scope;
 use expressions::EvalFault;
+use indexmap::IndexMap;
 use machine_state::Endpoints;
 use meta_objects::{MetaEndpoints, MetaPath, Statement};
-use prop_bindings::Place;
+use prop_bindings::{Assignment, Place};
 use signatures::{Arguments, ObjectId, Value};
+use sqlite_items::Items;
+use std::alloc::AllocError;
 use texts::{ConnectionType, Expr};
 
 /// What one statement does.
@@ -19,6 +23,8 @@ use texts::{ConnectionType, Expr};
 pub enum Operation<'p> {
     /// A property of an object is written.
     Write(Place, Value),
+    /// The sets of a group are done at once; on null one writes nothing.
+    WriteGroup(Items<Option<Assignment>>),
     /// A method of an object begins with these arguments.
     Begin(ObjectId, usize, Arguments),
     /// These statements come next.
@@ -38,6 +44,7 @@ pub enum Operation<'p> {
 impl<'w> Scope<'w> {
     /// What a statement does; `BadType` where it lacks a value that it needs.
     pub fn operation_of<'p>(&self, statement: &'p Statement) -> Result<Operation<'p>, EvalFault>
+        requires outside { option_copied self.now.written ≡ None }
         ensures { Yields (operation_in self.now (out-Statement statement.now)) result }
     {
         match statement {
@@ -51,6 +58,7 @@ impl<'w> Scope<'w> {
             Statement::Disconnect(ends) => self.disconnection(ends),
             Statement::Delete(path) => self.deletion(path),
             Statement::Later(path) => self.later_deletion(path),
+            Statement::Group(sets) => self.group(sets.as_slice()),
         }
     }
 
@@ -63,15 +71,63 @@ impl<'w> Scope<'w> {
     ) -> Result<Operation<'p>, EvalFault>
         ensures { Yields (operation_in self.now (Set path.now property value.now)) result }
     {
-        let Some(target) = self.object_at(path)? else {
-            return Ok(Operation::Nothing);
+        match self.set(path, property, value)? {
+            Some(Assignment { place, value }) => Ok(Operation::Write(place, value)),
+            None => Ok(Operation::Nothing),
+        }
+    }
+
+    /// The sets of a group are done in their order; each reads what those before it wrote.
+    fn group<'p>(&self, sets: &[Statement]) -> Result<Operation<'p>, EvalFault>
+        requires outside { option_copied self.now.written ≡ None }
+        ensures { Yields (operation_in self.now (Group sets.now)) result }
+    {
+        let found = self.sets(sets)?;
+        Ok(Operation::WriteGroup(found))
+    }
+
+    /// What the sets of a group write.
+    fn sets(&self, sets: &[Statement]) -> Result<Items<Option<Assignment>>, EvalFault>
+        requires outside { option_copied self.now.written ≡ None }
+        ensures { Obtains (sets_of self.now sets.now) result }
+    {
+        let mut written = IndexMap::new(self.alloc);
+        let mut found = Items::new(self.alloc);
+        for set in sets {
+            let (objects, this, arguments) = (self.objects, self.this, self.arguments);
+            let scope = Scope::in_group(self.alloc, objects, &written, this, arguments);
+            let done = scope.set_of(set)?;
+            keep(&mut written, &done)?;
+            found.push(done)?;
+        }
+        Ok(found)
+    }
+
+    /// What a set writes; `BadType` for any other statement.
+    fn set_of(&self, statement: &Statement) -> Result<Option<Assignment>, EvalFault>
+        ensures { Obtains (set_of self.now (out-Statement statement.now)) result }
+    {
+        match statement {
+            Statement::Set(path, property, value) => self.set(path, *property, value),
+            _ => Err(EvalFault::BadType),
+        }
+    }
+
+    /// What a set writes; nothing where its path leads to null.
+    fn set(
+        &self,
+        path: &MetaPath,
+        property: usize,
+        value: &Expr<MetaPath>,
+    ) -> Result<Option<Assignment>, EvalFault>
+        ensures { Obtains (set_of self.now (Set path.now property value.now)) result }
+    {
+        let Some(object) = self.object_at(path)? else {
+            return Ok(None);
         };
-        let new = self.value_of(value)?;
-        let place = Place {
-            object: target,
-            property,
-        };
-        Ok(Operation::Write(place, new))
+        let value = self.value_of(value)?;
+        let place = Place { object, property };
+        Ok(Some(Assignment { place, value }))
     }
 
     /// A signal of the body's object is emitted.
@@ -183,4 +239,18 @@ fn choose<'p>(holds: bool, block: &'p [Statement], other: &'p [Statement]) -> &'
     ensures { result.now ≡ chosen_of holds block.now other.now }
 {
     if holds { block } else { other }
+}
+
+/// Keeps what a set writes with what those before it wrote.
+fn keep(
+    written: &mut IndexMap<(usize, usize), Value>,
+    set: &Option<Assignment>,
+) -> Result<(), AllocError>
+    ensures { OnOk result (KeepsSet written.old set.now written.new) }
+{
+    if let Some(set) = set {
+        let value = set.value.copy()?;
+        written.insert(set.place.key(), value)?;
+    }
+    Ok(())
 }

@@ -1,14 +1,20 @@
 //! What the paths and expressions of a body give.
 
+ghost use Rattle.std.specs.Prelude.{◌≡◌};
 ghost use Rattle.std.specs.Option.{option_copied};
 ghost use Rattle.expressions.specs.Evaluation.{Evaluates, EvaluatesAll};
 ghost use Rattle.machine_rules.specs.code.Reaches.{Finds, Judges};
 ghost use Rattle.machine_rules.specs.Paths.{root_value, step_value};
-ghost use Rattle.machine_rules.specs.code.Scope.{path_in, value_in, values_in};
+ghost use Rattle.machine_rules.specs.code.Scope.{objects_in, path_in, value_in, values_in};
+ghost use Rattle.object_tree.specs.Objects.{stored};
+ghost use Rattle.object_tree.specs.Seen.{seen};
+ghost use Rattle.prop_bindings.specs.Plans.{assigned};
 
 use expressions::{self, EvalFault};
+use indexmap::IndexMap;
 use meta_objects::{MetaPath, MetaRoot, Step};
 use object_tree::Tree;
+use prop_bindings::{Place, value_ahead};
 use signatures::{Arguments, ObjectId, Value};
 use std::alloc::Global;
 use texts::Expr;
@@ -18,17 +24,19 @@ use texts::Expr;
 pub struct Scope<'w> {
     pub alloc: Global,
     pub objects: &'w Tree,
+    /// Within a group: the values that its sets have written so far, by the numbers of their properties.
+    pub written: Option<&'w IndexMap<(usize, usize), Value>>,
     pub this: ObjectId,
     pub arguments: &'w [Value],
 }
 
 impl<'w> expressions::World<MetaPath> for Scope<'w> {
-    ghost use Rattle.machine_rules.specs.Paths.{path_value};
+    ghost use Rattle.machine_rules.specs.code.Scope.{path_in};
 
-    ghost read = { λ scope path. path_value scope.objects.now scope.this scope.arguments.now path };
+    ghost read = { λ scope path. path_in scope path };
 
     fn value(&self, path: &MetaPath) -> Result<Value, EvalFault> {
-        let mut found = self.objects.seen(self.root(path.root)?);
+        let mut found = self.seen(self.root(path.root)?);
         for step in path.steps.as_slice() {
             found = self.step(step, &found)?;
         }
@@ -37,6 +45,28 @@ impl<'w> expressions::World<MetaPath> for Scope<'w> {
 }
 
 impl<'w> Scope<'w> {
+    /// What a set of a group reads, where those before it have written these values.
+    pub fn in_group(
+        alloc: Global,
+        objects: &'w Tree,
+        written: &'w IndexMap<(usize, usize), Value>,
+        this: ObjectId,
+        arguments: &'w [Value],
+    ) -> Scope<'w>
+        ensures objects { objects_in result ≡ assigned written.now.entries objects.now }
+        ensures this { result.this ≡ this }
+        ensures arguments { result.arguments.now ≡ arguments.now }
+    {
+        let written = Some(written);
+        Scope {
+            alloc,
+            objects,
+            written,
+            this,
+            arguments,
+        }
+    }
+
     /// The value of an expression; `BadType` where it has none.
     pub fn value_of(&self, expression: &Expr<MetaPath>) -> Result<Value, EvalFault>
         ensures { Evaluates (value_in self.now expression.now) result }
@@ -84,7 +114,7 @@ impl<'w> Scope<'w> {
 
     /// The property of what a path has led to so far, as it reads.
     fn step(&self, step: &Step, from: &Value) -> Result<Value, EvalFault>
-        ensures { Evaluates (step_value self.now.objects.now step.now from.now) result }
+        ensures { Evaluates (step_value (objects_in self.now) step.now from.now) result }
     {
         match from {
             Value::Ref(None) => {
@@ -92,10 +122,27 @@ impl<'w> Scope<'w> {
                 Ok(value)
             }
             Value::Ref(Some(object)) => {
-                let found = copy_found(self.objects.value(*object, step.property))?;
-                Ok(self.objects.seen(found))
+                let found = copy_found(self.stored(*object, step.property))?;
+                Ok(self.seen(found))
             }
             _ => Err(EvalFault::BadType),
+        }
+    }
+
+    /// A value as it reads: a reference to a dead object reads as null.
+    fn seen(&self, value: Value) -> Value
+        ensures { result ≡ seen (objects_in self.now) value }
+    {
+        self.objects.seen(value)
+    }
+
+    /// The value of a living object's property.
+    fn stored(&self, object: ObjectId, property: usize) -> Option<&'w Value>
+        ensures { option_copied result ≡ stored (objects_in self.now) object property }
+    {
+        match self.written {
+            Some(values) => value_ahead(self.objects, values, &Place { object, property }),
+            None => self.objects.value(object, property),
         }
     }
 }

@@ -5,7 +5,9 @@ ghost use Rattle.machine_rules.specs.code.Sound.{IsSoundWorld};
 ghost use Rattle.machine_state.specs.State.{Update};
 ghost use Rattle.machine_rules.specs.code.Calls.{Finishes, NotifiesFirst, RunsWrite};
 ghost use Rattle.machine_rules.specs.Settling.{signal_at, notified};
-ghost use Rattle.machine_rules.specs.code.Writing.{MayWrite, IsUnwritten, MayNotify, Announces};
+ghost use Rattle.machine_rules.specs.code.Writing.{MayWrite, IsUnwritten, FitsOrNot, MayNotify, Announces};
+ghost use Rattle.machine_state.specs.Telling.{Alone, Grouped, writes_of};
+ghost use Rattle.prop_bindings.specs.Changes.{one};
 ghost use Rattle.machine_rules.specs.Natives.{KeepPromises};
 
 use crate::active::Active;
@@ -14,7 +16,7 @@ use crate::method_call::{MethodCall, front};
 use machine_state::{Fault, World};
 use native_slots::Answering;
 use object_tree::Tree;
-use prop_bindings::Place;
+use prop_bindings::{Assignment, Place};
 use signatures::Value;
 use std::alloc::AllocError;
 
@@ -33,10 +35,30 @@ impl<N: Answering> Interpreter<N> {
         requires sound { IsSoundWorld self.now.meta world.old }
         requires left { 0 < world.old.left }
         ensures ends { RunsWrite self.now.meta (N.gives self.now.natives) self.now.depth active.now
-            place.now value world.old world.new result }
+            (Alone place.now value) world.old world.new result }
     {
         self.may_write(world, active, place, &value)?;
         let changed = world.write(&self.meta, active.count() + 1, place, value)?;
+        self.run_update(world, active, changed.as_slice())
+    }
+
+    /// Does the sets of a group, over what is left of the top of the stack, and notifies what changes with the properties
+    /// that they write; `BadType` where one of them has no such property, or its value isn't of the type.
+    #[cycle(machine)]
+    pub fn write_group(
+        &self,
+        world: &mut World,
+        active: &Active<'_>,
+        sets: &[Option<Assignment>],
+    ) -> Result<(), Fault>
+        requires promises { KeepPromises N.takes N.gives self.now.meta self.now.natives }
+        requires sound { IsSoundWorld self.now.meta world.old }
+        requires left { 0 < world.old.left }
+        ensures ends { RunsWrite self.now.meta (N.gives self.now.natives) self.now.depth active.now
+            (Grouped sets.now) world.old world.new result }
+    {
+        self.may_write_group(world, active, sets)?;
+        let changed = world.write_group(&self.meta, active.count() + 1, sets)?;
         self.run_update(world, active, changed.as_slice())
     }
 
@@ -50,17 +72,48 @@ impl<N: Answering> Interpreter<N> {
         value: &Value,
     ) -> Result<(), Fault>
         ensures ok { IfOk result (λ may. MayWrite self.now.meta self.now.depth active.now
-            world.now.store.tree place.now value.now) }
+            world.now.store.tree (one place.now value.now)) }
         ensures err { IfErr result (IsUnwritten self.now.meta self.now.depth active.now
-            world.now.store.tree place.now value.now) }
+            world.now.store.tree (one place.now value.now)) }
     {
-        let Some((_, declared)) = self.field(world, place.object, place.property) else {
-            return Err(Fault::BadType);
-        };
-        if !world.store.tree.has_type(&self.meta, value, declared.kind) {
+        if !self.fits(world, place, value) {
             return Err(Fault::BadType);
         }
         self.may_nest(active)
+    }
+
+    /// Whether the sets of a group may be done over these activations: `BadType` where one of them writes no property of a
+    /// living object, or a value that isn't of its type, also where a later set writes the property again; else `TooDeep`
+    /// where no activation may stand over these.
+    fn may_write_group(
+        &self,
+        world: &World,
+        active: &Active<'_>,
+        sets: &[Option<Assignment>],
+    ) -> Result<(), Fault>
+        ensures ok { IfOk result (λ may. MayWrite self.now.meta self.now.depth active.now
+            world.now.store.tree (writes_of (Grouped sets.now))) }
+        ensures err { IfErr result (IsUnwritten self.now.meta self.now.depth active.now
+            world.now.store.tree (writes_of (Grouped sets.now))) }
+    {
+        for set in sets {
+            if let Some(set) = set {
+                if !self.fits(world, &set.place, &set.value) {
+                    return Err(Fault::BadType);
+                }
+            }
+        }
+        self.may_nest(active)
+    }
+
+    /// Whether the object lives and has the property, and the value is of its type.
+    fn fits(&self, world: &World, place: &Place, value: &Value) -> bool
+        ensures { FitsOrNot self.now.meta world.now.store.tree place.now value.now result }
+    {
+        match self.field(world, place.object, place.property) {
+            Some((_, declared)) => world.store.tree.has_type(&self.meta, value, declared.kind),
+            None => false,
+        }
     }
 
     /// Notifies those of the changed properties that have a notify signal, one after the other, and ends the update.

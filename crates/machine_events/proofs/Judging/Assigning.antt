@@ -8,6 +8,7 @@ use Rattle.object_tree.specs.declared.object.Object.{Object}
 use Rattle.object_tree.specs.Typed.{ReadsAs}
 use Rattle.prop_bindings.specs.declared.place.Place.{Place}
 use Rattle.prop_bindings.specs.Fits.{FitsAt}
+use Rattle.prop_bindings.specs.Places.{property_of}
 use Rattle.script_lang.specs.declared.event.Event.TheVariants.{Set}
 use Rattle.script_lang.specs.declared.event.Input.{Input}
 use Rattle.machine_state.specs.declared.refusal.Refusal.TheVariants.{NoMember, BadArgs}
@@ -42,5 +43,5 @@ module _ (p : Loaded) (w : World) (name property : List ℕ) (i : Input) (o : Nu
       pub bad-value : (¬ ReadsAs p w.store.tree v q.it.kind) → assign p (at w []) name property i (Err BadArgs)
       bad-value ill = goes_on o (living-ok o lives) (goes_on q (found has) (goes_on v is (ends (fails ill))))
 
-      pub writes-to : ReadsAs p w.store.tree v q.it.kind → WritesTo p w o.number q.number v (Set name property i)
+      pub writes-to : ReadsAs p w.store.tree v q.it.kind → WritesTo p w (property_of o.number q.number) v (Set name property i)
       writes-to fits = record { effect = λ t writes. goes_on o (living-ok o lives) (goes_on q (found has) (goes_on v is (goes_on tt (holds fits) (becomes writes)))) }

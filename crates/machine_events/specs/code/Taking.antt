@@ -33,6 +33,8 @@ use Rattle.machine_rules.specs.Judgement.{numbered}
 use Rattle.machine_rules.specs.Natives.{NativeAnswers}
 use Rattle.machine_rules.specs.Rules.{Begins}
 use Rattle.machine_rules.specs.Settling.{Writes}
+use Rattle.machine_state.specs.Telling.{Alone}
+use Rattle.prop_bindings.specs.declared.place.Place.{Place}
 use Rattle.machine_rules.specs.code.Sound.{IsSoundWorld}
 use Rattle.machine_events.specs.declared.events.invoke.Invocation.{Invocation}
 use Rattle.machine_events.specs.declared.events.invoke.Invocation.TheVariants.{Emit, Call}
@@ -105,8 +107,8 @@ pub record AsksFor (p : Loaded) (w : World) (o m : ℕ) (values : List Value) (e
   pub effect : (t : State) → Begins p (accepted (at w [])) [] o m values t → judged p (at w []) e (Ok t)
 
 -- .. that the property is written
-pub record WritesTo (p : Loaded) (w : World) (o q : ℕ) (value : Value) (e : Event) : Type 0 where
-  pub effect : (t : State) → Writes p (accepted (at w [])) [] o q value t → judged p (at w []) e (Ok t)
+pub record WritesTo (p : Loaded) (w : World) (place : Place) (value : Value) (e : Event) : Type 0 where
+  pub effect : (t : State) → Writes p (accepted (at w [])) [] (Alone place value) t → judged p (at w []) e (Ok t)
 
 -- .. that the objects and methods of these numbers are connected
 abbrev pub ConnectsThese : Loaded → World → Named (List ℕ) → ConnectionType → Endpoints → Type 0

@@ -18,16 +18,9 @@ use machine_rules::{Active, Interpreter};
 use machine_state::{Answer, Fault, Refusal, World};
 use meta_objects::{Meta, MetaProperty};
 use native_slots::Answering;
-use prop_bindings::Place;
+use prop_bindings::{Assignment, Place};
 use script_lang::Input;
 use signatures::{Name, ObjectId, Value};
-
-/// A property of an object, and its new value.
-#[derive(Drop)]
-struct Assignment {
-    place: Place,
-    value: Value,
-}
 
 /// Writes a property, and runs what it notifies.
 pub fn assign<N: Answering>(
@@ -60,7 +53,7 @@ fn judge<N: Answering>(
     input: &Input,
 ) -> Result<Assignment, NotAccepted>
     ensures accepted { IfOk result (λ a. WritesTo interpreter.now.meta world.now
-        a.place.object a.place.property a.value (Set name.now property.now input.now)) }
+        a.place a.value (Set name.now property.now input.now)) }
     ensures fits { IfOk result
         (λ a. FitsAt interpreter.now.meta world.now.store.tree a.place a.value) }
     ensures refused { IfErr result (IsNotAccepted
@@ -113,7 +106,7 @@ fn write<N: Answering>(
     requires keeps { WorldInvariant interpreter.now.meta world.old }
     requires fits { FitsAt interpreter.now.meta world.old.store.tree place.now value }
     ensures { (e : AnEvent) →
-        WritesTo interpreter.now.meta world.old place.now.object place.now.property value e →
+        WritesTo interpreter.now.meta world.old place.now value e →
         Answers N.gives interpreter.now e world.old world.new result }
 {
     let changed = world.accept_write(&interpreter.meta, place, value)?;

@@ -11,6 +11,7 @@ use Rattle.machine_state.specs.Worlds.{having_used}
 use Rattle.meta_model.specs.declared.effects.MetaEffects.{MetaEffects}
 use Rattle.native_slots.specs.declared.action.Action.{Action}
 use Rattle.machine_state.specs.State.{Step, Run, Act, Activation, Body, Emit, Update, Destroy}
+use Rattle.machine_state.specs.Telling.{Assigning}
 use Rattle.machine_rules.specs.Operations.{Operation, operation_of_step}
 use Rattle.machine_rules.specs.code.Reaches.{RunsTo, Advances, CallsIn, Calls, OnlyCalls, Sets, Deletes, Kills}
 use Rattle.machine_rules.specs.declared.method_call.MethodCall.{MethodCall}
@@ -53,12 +54,12 @@ CarriesOutAction p natives depth active o effects action w v result =
     (m : ℕ) (arguments : List Value) (rest : List Step) →
     Advances p natives depth active w (Body o m arguments (Act effects action ∷ rest) ∷ []) v (Body o m arguments rest ∷ []) result
 
--- a property is written, and what that notifies is carried out: from every top of the stack whose next rule is this
--- write, to what is left of it
-abbrev pub RunsWrite : Loaded → NativeAnswers → ℕ → List (Option ℕ) → Place → Value → World → World → Result (Unit {0}) Fault → Type 0
-RunsWrite p natives depth active place new w v result =
+-- this is written, and what that notifies is carried out: from every top of the stack whose next rule is this write, to
+-- what is left of it
+abbrev pub RunsWrite : Loaded → NativeAnswers → ℕ → List (Option ℕ) → Assigning → World → World → Result (Unit {0}) Fault → Type 0
+RunsWrite p natives depth active what w v result =
     (from to : List Activation) (shown : List (Option ℕ)) → active ≡ shows to ++ shown →
-    Sets p natives w from to place.object place.property new → RunsTo p natives depth shown w from v to result
+    Sets p natives w from to what → RunsTo p natives depth shown w from v to result
 
 -- a method begins and is carried out: from every top of the stack from which it may, to what is left of it
 abbrev pub RunsCall : Loaded → NativeAnswers → ℕ → List (Option ℕ) → MethodCall → World → World → Result (Unit {0}) Fault → Type 0

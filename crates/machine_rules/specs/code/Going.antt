@@ -1,17 +1,16 @@
 -- Rules that the code carries out, one after the other, and why it stops (docs/machine.md, "Runs").
 use Rattle.std.specs.Prelude.{◌≡◌, ℕ, suc, ◌<◌, ◌⊎◌}
-use Rattle.signatures.specs.declared.value.Value.{Value}
 use Rattle.meta_model.specs.declared.effects.MetaEffects.{MetaEffects}
 use Rattle.meta_model.specs.Loaded.{Loaded}
 use Rattle.machine_state.specs.declared.fault.Fault.{Fault}
 use Rattle.machine_state.specs.declared.fault.Fault.TheVariants.{BadType, TooDeep, BindingLoop, InUse, Steps, Memory, Stopped}
 use Rattle.machine_state.specs.State.{State, IsIdle}
 use Rattle.machine_rules.specs.Operations.{TakeAnswer}
-use Rattle.machine_rules.specs.Faults.{DoesNext, WritesNext, WritesIll, WritesDeep, GoesIll, GoesFatal, GoesDeep}
+use Rattle.machine_rules.specs.Faults.{DoesNext, WritesNext, LacksFirst, WritesIll, WritesDeep, GoesIll, GoesFatal, GoesDeep}
 use Rattle.machine_rules.specs.Good.{IsGood}
 use Rattle.machine_rules.specs.Natives.{NativeAnswers}
 use Rattle.machine_rules.specs.Rules.{Rule}
-use Rattle.machine_rules.specs.There.{LacksField}
+use Rattle.machine_state.specs.Telling.{Assigning, writes_of}
 
 -- From s, with so many rules left, to t, with so many left: the code tests what each rule would bring before it carries it
 -- out, so each state follows the one before it by one rule, and none of them is a bad moment.
@@ -20,12 +19,12 @@ pub data GoodRules (p : Loaded) (natives : NativeAnswers) (depth : ℕ) : State 
   then : {s m t : State} {n k : ℕ} →
       Rule p natives s m → IsGood p depth s m → GoodRules p natives depth m n t k → GoodRules p natives depth s (suc n) t k
 
--- What is going on has no next rule; a step that writes, only where its property isn't there. A native that is to answer
+-- What is going on has no next rule; a step that writes, only where a property isn't there. A native that is to answer
 -- isn't stuck, whatever it may answer.
 pub record IsStuck (p : Loaded) (natives : NativeAnswers) (s : State) : Type 0 where
   pub goes_on : ¬ IsIdle s
   pub stuck : (t : State) → ¬ Rule p natives s t
-  pub lacks : (o q : ℕ) (new : Value) → WritesNext s o q new → LacksField p s.objects o q
+  pub lacks : (what : Assigning) → WritesNext s what → LacksFirst p s.objects (writes_of what)
   pub asks_none : (effects : MetaEffects) → ¬ DoesNext s (TakeAnswer effects)
 
 -- Why rules stop in a state, none of which binds a property: nothing follows, or what follows would give a value of a wrong

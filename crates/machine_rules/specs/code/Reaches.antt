@@ -23,6 +23,7 @@ use Rattle.machine_state.specs.declared.world.World.{World}
 use Rattle.machine_state.specs.Connections.{is_living}
 use Rattle.machine_state.specs.State.{State, Activation, Destroy, IsIdle}
 use Rattle.machine_state.specs.Objects.{all_shown}
+use Rattle.machine_state.specs.Telling.{Assigning}
 use Rattle.texts.specs.declared.connection.ConnectionType.{ConnectionType}
 use Rattle.texts.specs.declared.connection.Endpoints.{Endpoints as Named}
 use Rattle.machine_state.specs.declared.endpoints.Endpoints.{Endpoints}
@@ -112,17 +113,17 @@ pub record OnlyCalls (p : Loaded) (natives : NativeAnswers) (w : World) (from to
       (below : List Activation) (t : State) →
       Rule p natives (at w (from ++ below)) t → Begins p (at w (from ++ below)) (to ++ below) o m arguments t
 
--- the next rule is that a property of an object is written, by a statement or an action of a native
-pub record Sets (p : Loaded) (natives : NativeAnswers) (w : World) (from to : List Activation) (o q : ℕ) (new : Value) : Type 0 where
+-- the next rule is that this is written, by a statement or an action of a native
+pub record Sets (p : Loaded) (natives : NativeAnswers) (w : World) (from to : List Activation) (what : Assigning) : Type 0 where
   pub as_high : length from ≡ length to
   pub goes_on : (below : List Activation) → ¬ IsIdle (at w (from ++ below))
-  pub next : (below : List Activation) → WritesNext (at w (from ++ below)) o q new
+  pub next : (below : List Activation) → WritesNext (at w (from ++ below)) what
   pub gives :
       (below : List Activation) (t : State) →
-      Writes p (at w (from ++ below)) (to ++ below) o q new t → Rule p natives (at w (from ++ below)) t
+      Writes p (at w (from ++ below)) (to ++ below) what t → Rule p natives (at w (from ++ below)) t
   pub only :
       (below : List Activation) (t : State) →
-      Rule p natives (at w (from ++ below)) t → Writes p (at w (from ++ below)) (to ++ below) o q new t
+      Rule p natives (at w (from ++ below)) t → Writes p (at w (from ++ below)) (to ++ below) what t
 
 -- by the next rule the deletion of an object begins
 pub record Deletes (p : Loaded) (natives : NativeAnswers) (w : World) (from to : List Activation) (x : ℕ) : Type 0 where

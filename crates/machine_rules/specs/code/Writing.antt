@@ -1,6 +1,5 @@
 -- When a property may be written, and what may be notified (docs/machine.md, "Rules").
-use Rattle.std.specs.Prelude.{◌≡◌, ℕ, ◌<◌, ◌≤◌, List, length, Option, Some, slice_get}
-use Rattle.signatures.specs.declared.value.Value.{Value}
+use Rattle.std.specs.Prelude.{◌≡◌, ℕ, ◌<◌, ◌≤◌, Bool, true, false, List, ◌∷◌, ◌++◌, length, Option, Some, slice_get}
 use Rattle.meta_model.specs.declared.object.MetaObject.{MetaObject}
 use Rattle.meta_model.specs.declared.object.MetaProperty.{MetaProperty}
 use Rattle.meta_model.specs.Loaded.{Loaded}
@@ -10,28 +9,38 @@ use Rattle.object_tree.specs.declared.life.Life.{Life}
 use Rattle.object_tree.specs.declared.object.Object.{Object}
 use Rattle.object_tree.specs.Objects.{Lives}
 use Rattle.object_tree.specs.Typed.{ReadsAs}
+use Rattle.prop_bindings.specs.declared.assignment.Assignment.{Assignment}
 use Rattle.prop_bindings.specs.declared.place.Place.{Place}
+use Rattle.prop_bindings.specs.Calls.{AllFit}
+use Rattle.prop_bindings.specs.Fits.{FitsAt}
+use Rattle.signatures.specs.declared.value.Value.{Value}
 use Rattle.machine_state.specs.declared.fault.Fault.{Fault}
 use Rattle.machine_state.specs.declared.fault.Fault.TheVariants.{BadType, TooDeep}
+use Rattle.machine_rules.specs.Faults.{IsAfterFit}
 use Rattle.machine_rules.specs.There.{IsField, LacksField}
 
--- ---- a property is written
+-- ---- properties are written
 
--- the property is there, the value is of its type, and an activation may stand over a stack that shows this
-pub record MayWrite (p : Loaded) (depth : ℕ) (active : List (Option ℕ)) (objects : List Object) (at : Place) (new : Value) : Type 0 where
-  pub object : Object
-  pub property : MetaProperty
-  pub is : IsField p objects at.object at.property object property
-  pub fits : ReadsAs p objects new property.kind
+-- the properties are there, the values are of their types, and an activation may stand over a stack that shows this
+pub record MayWrite (p : Loaded) (depth : ℕ) (active : List (Option ℕ)) (objects : List Object) (writes : List Assignment) : Type 0 where
+  pub fit : AllFit p objects writes
   pub room : length active < depth
 
--- why a property isn't written: it isn't there, the value isn't of its type, or activations would nest too deep
-pub data IsUnwritten (p : Loaded) (depth : ℕ) (active : List (Option ℕ)) (objects : List Object) (at : Place) (new : Value) : Fault → Type 0 where
-  missing : LacksField p objects at.object at.property → IsUnwritten p depth active objects at new BadType
-  ill : {x : Object} {property : MetaProperty} → IsField p objects at.object at.property x property →
-      (¬ ReadsAs p objects new property.kind) → IsUnwritten p depth active objects at new BadType
-  deep : {x : Object} {property : MetaProperty} → IsField p objects at.object at.property x property →
-      ReadsAs p objects new property.kind → depth ≤ length active → IsUnwritten p depth active objects at new TooDeep
+-- why a value may not be a property's: it isn't there, or the value isn't of its type
+pub data IsUnfit (p : Loaded) (objects : List Object) (set : Assignment) : Type 0 where
+  missing : LacksField p objects set.place.object set.place.property → IsUnfit p objects set
+  ill : {x : Object} {property : MetaProperty} → IsField p objects set.place.object set.place.property x property →
+      (¬ ReadsAs p objects set.value property.kind) → IsUnfit p objects set
+
+-- whether it may be
+abbrev pub FitsOrNot : Loaded → List Object → Place → Value → Bool → Type 0
+FitsOrNot p objects at value true = FitsAt p objects at value
+FitsOrNot p objects at value false = IsUnfit p objects (record { place = at; value = value })
+
+-- why properties aren't written: the first of the writes that isn't fit, or activations would nest too deep
+pub data IsUnwritten (p : Loaded) (depth : ℕ) (active : List (Option ℕ)) (objects : List Object) (writes : List Assignment) : Fault → Type 0 where
+  unfit : {set : Assignment} → IsAfterFit p objects writes set → IsUnfit p objects set → IsUnwritten p depth active objects writes BadType
+  deep : AllFit p objects writes → depth ≤ length active → IsUnwritten p depth active objects writes TooDeep
 
 -- ---- a property is notified
 

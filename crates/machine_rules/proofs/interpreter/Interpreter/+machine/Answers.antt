@@ -5,6 +5,8 @@ use Rattle.machine_state.specs.declared.world.World.{World}
 use Rattle.machine_rules.proofs.Reaching.{not-idle, reaches-same, reaches-then, stops-after, stops-as, ends-after, ends-lifted, ends-left, ends-undue, ends-short, ends-unchanged, ends-faulted, ends-ticked, stops-ticked, ok-err, ok-map}
 use Rattle.machine_state.specs.Connections.{is_living}
 use Rattle.machine_state.specs.State.{Run, Act}
+use Rattle.machine_state.specs.Telling.{Alone}
+use Rattle.prop_bindings.specs.Places.{property_of}
 use Rattle.std.specs.Option.{option_map}
 use Rattle.machine_rules.specs.Operations.{Write, Begin, operation_of_action}
 use Rattle.machine_rules.specs.Good.{ArgumentsFit}
@@ -14,7 +16,7 @@ use Rattle.machine_rules.proofs.Keeps.{keeps-same, keeps-then, reaches-keeps}
 use Rattle.machine_rules.proofs.Declared.{fit-sends}
 use Rattle.machine_rules.proofs.Soundness.{emitted-still, reaches-sound, sound-used, sound-noted, sound-set}
 use Rattle.machine_rules.proofs.Beginning.{begun-work, work-at, ends-begun, stops-barred, stops-no-member, stops-ill-typed, fit-of, next-delivered, delivered-fits, delivery-calls, begun-used, ends-posted, no-home, not-true}
-use Rattle.machine_rules.proofs.Writes.{ends-written, stops-unwritten, may-fits}
+use Rattle.machine_rules.proofs.Writes.{ends-written, stops-unwritten}
 use Rattle.machine_rules.proofs.Notifying.{no-places, all-notified, all-may-still, announces-signal, dead-rule, announced-member, announced-value, announced-fits, announcement-calls}
 use Rattle.machine_rules.proofs.Bodies.{does-call, does-call-alone, does-set, does-answer, does-nothing, does-connect, does-disconnect, does-delete, does-schedule, does-choose, lacks-read, advances-one, advances-ticked, advances-left}
 use Rattle.machine_rules.proofs.Deleting.{ends-deleting, stops-deleting, reaches-died, stops-in-use, stops-announcing, living-name, died-as, died-emits, died-gone, dead-after, kills-first, kills-next, reaches-latest, reaches-next, stops-forgetting, forgets-fewer, nonempty, none-left}
@@ -198,10 +200,13 @@ run_body-returns g t c =
 pub carry_out-returns-in-Write : goal.carry_out-returns-in-Write
 carry_out-returns-in-Write g t c = record { advances = λ m arguments x is. advances-one _ (c.write.ensures.ends _ _ _ c.over-over.ensures (does-set m (map Run c.args.left.now) (rw c.in-Write.is at is))) }
 
+pub carry_out-returns-in-WriteGroup : goal.carry_out-returns-in-WriteGroup
+carry_out-returns-in-WriteGroup g t c = record { advances = λ m arguments x is. advances-one _ (c.write_group.ensures.ends _ _ _ c.over-over.ensures (does-set m (map Run c.args.left.now) (rw (c.in-WriteGroup.is, ← c.as_slice.ensures) at is))) }
+
 pub carry_out-returns-in-Begin : goal.carry_out-returns-in-Begin
 carry_out-returns-in-Begin g t c = record {
   advances = λ m arguments x is.
-      let begins = rw (c.in-Begin.is, ← c.as_slice.ensures) at is in
+      let begins = rw (c.in-Begin.is, ← c.as_slice-in-Begin.ensures) at is in
       advances-one _ (c.begin_typed.ensures.ends _ _ _ c.over-over.ensures (does-call m (map Run c.args.left.now) begins) (does-call-alone m (map Run c.args.left.now) begins));
 }
 
@@ -246,7 +251,7 @@ write-returns-in_err-may_write g t c = record {
 }
 
 pub write-write-requires-clause-fits : goal.write-write-requires-clause-fits
-write-write-requires-clause-fits g t c = may-fits c.in_ok-may_write.ensures.ok
+write-write-requires-clause-fits g t c = (c.in_ok-may_write.ensures.ok).fit.0
 
 pub write-returns-in_err-changed : goal.write-returns-in_err-changed
 write-returns-in_err-changed g t c = record { ends = λ from to shown over sets. ends-unchanged _ sets.goes_on c.requires.left c.in_err-changed.ensures.value c.from_residual-in_err-changed.ensures.1 }
@@ -261,6 +266,29 @@ write-returns g t c = record {
   ends = λ from to shown over sets.
       let went = rw c.count.ensures at c.in_ok-changed.ensures.value in
       ends-written over sets c.requires.left c.in_ok-may_write.ensures.ok went c.in_ok-changed.ensures.agree (rw c.as_slice.ensures at c.run_update.ensures.ends);
+}
+
+pub write_group-returns-in_err-may_write_group : goal.write_group-returns-in_err-may_write_group
+write_group-returns-in_err-may_write_group g t c = record {
+  ends = λ from to shown over sets. ends-left _ (stops-unwritten over sets c.requires.left c.in_err-may_write_group.ensures.err) c.from_residual.ensures.1;
+}
+
+pub write_group-write_group-requires-clause-fit : goal.write_group-write_group-requires-clause-fit
+write_group-write_group-requires-clause-fit g t c = (c.in_ok-may_write_group.ensures.ok).fit
+
+pub write_group-returns-in_err-changed : goal.write_group-returns-in_err-changed
+write_group-returns-in_err-changed g t c = record { ends = λ from to shown over sets. ends-unchanged _ sets.goes_on c.requires.left c.in_err-changed.ensures.value c.from_residual-in_err-changed.ensures.1 }
+
+pub write_group-run_update-requires : goal.write_group-run_update-requires
+write_group-run_update-requires g t c = λ κs lives.
+    let went = c.in_ok-changed.ensures.value in
+    (omega (arith, ap (λ (w : World). w.left) went.gives, c.requires.left), (lives, (c.requires.promises, (c.in_ok-may_write_group.ensures.ok.room, sound-set c.args.world.now went c.in_ok-changed.ensures.agree c.requires.sound))))
+
+pub write_group-returns : goal.write_group-returns
+write_group-returns g t c = record {
+  ends = λ from to shown over sets.
+      let went = rw c.count.ensures at c.in_ok-changed.ensures.value in
+      ends-written over sets c.requires.left c.in_ok-may_write_group.ensures.ok went c.in_ok-changed.ensures.agree (rw c.as_slice.ensures at c.run_update.ensures.ends);
 }
 
 -- ---- updates
@@ -511,7 +539,7 @@ run_callee-run_native-requires g t c = λ κs lives. (omega arith, (lives, (c.re
 pub carry_out_action-returns-in-Some : goal.carry_out_action-returns-in-Some
 carry_out_action-returns-in-Some g t c = record {
   advances = λ m arguments rest.
-      let is = ap (operation_of_action c.args.object c.args.effects.now) c.in-Set.is ∙ ap (option_map (λ (q : ℕ). Write c.args.object q c.in-Set.value)) (sym c.in-Some.ensures.value) in
+      let is = ap (operation_of_action c.args.object c.args.effects.now) c.in-Set.is ∙ ap (option_map (λ (q : ℕ). Write (Alone (property_of c.args.object q) c.in-Set.value))) (sym c.in-Some.ensures.value) in
       advances-one _ (c.write.ensures.ends _ _ _ c.over-over.ensures (does-set m rest is));
 }
 

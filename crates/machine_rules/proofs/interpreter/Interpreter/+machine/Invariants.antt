@@ -44,6 +44,9 @@ decreases-carry_out_action g l = 6 * l.world.now.left + 2
 abbrev pub decreases-write : goal.decreases-write
 decreases-write g l = 6 * l.world.now.left + 0
 
+abbrev pub decreases-write_group : goal.decreases-write_group
+decreases-write_group g l = 6 * l.world.now.left + 0
+
 abbrev pub decreases-run_update : goal.decreases-run_update
 decreases-run_update g l = 6 * l.world.now.left + 3
 
