@@ -20,14 +20,15 @@ pub fn active(alloc: Global, trace: &[Entry]) -> Result<Vec<usize>, AllocError> 
     Ok(active)
 }
 
-/// Whether an activation begins with it, which is the innermost one then.
+/// Whether an activation begins with it, which is the innermost one then. A set of a group takes the group's place.
 fn begins(kind: &EntryKind) -> bool {
     match kind {
         EntryKind::Emitted { .. }
         | EntryKind::Called { .. }
         | EntryKind::Written { .. }
         | EntryKind::Bound { .. }
-        | EntryKind::Died { .. } => true,
+        | EntryKind::Died { .. }
+        | EntryKind::Grouped => true,
         EntryKind::Answered { .. }
         | EntryKind::Followed { .. }
         | EntryKind::Posted { .. }

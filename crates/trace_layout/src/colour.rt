@@ -32,5 +32,6 @@ fn colour_of_kind(kind: EntryKind) -> &'static [u8]
         EntryKind::Disconnect => b"\x1b[95m",
         EntryKind::Refused(_) => b"\x1b[31m",
         EntryKind::Null => b"\x1b[90m",
+        EntryKind::Group => b"\x1b[34m",
     }
 }

@@ -15,7 +15,7 @@ use Rattle.machine_state.specs.declared.entry.ShownAction.TheVariants as action
 use Rattle.machine_state.specs.declared.entry.Entry.{Entry}
 use Rattle.machine_state.specs.declared.entry.Entry.TheVariants.{Accepted, Refused, At}
 use Rattle.machine_state.specs.declared.entry.EntryKind.{EntryKind}
-use Rattle.machine_state.specs.declared.entry.EntryKind.TheVariants.{Emitted, Called, Answered, Written, Bound, Followed, OnNull, Connected, Disconnected, Refused as RefusedStatement, Posted, Scheduled, Died}
+use Rattle.machine_state.specs.declared.entry.EntryKind.TheVariants.{Emitted, Called, Answered, Written, Bound, Followed, OnNull, Grouped, Connected, Disconnected, Refused as RefusedStatement, Posted, Scheduled, Died}
 
 abbrev pub newline : List ℕ
 newline = codes "\n"
@@ -134,6 +134,7 @@ entry_kind_text (Written object property value) = property_text (codes "set ") o
 entry_kind_text (Bound object property value) = property_text (codes "bind ") object property value
 entry_kind_text (Followed object property value) = property_text (codes "follow ") object property value
 entry_kind_text OnNull = codes "null"
+entry_kind_text Grouped = codes "group"
 entry_kind_text (Connected ends how) = connected_text ends how
 entry_kind_text (Disconnected ends) = codes "disconnect " ++ ends_text ends
 entry_kind_text (RefusedStatement refusal) = codes "refused " ++ decimal refusal

@@ -249,6 +249,7 @@ impl<W: Write> Output<'_, W> {
                 value,
             } => self.changed(b"follow ", object, property, value),
             EntryKind::OnNull => self.put(b"null"),
+            EntryKind::Grouped => self.put(b"group"),
             EntryKind::Connected(ends, how) => self.connected(ends, *how),
             EntryKind::Disconnected(ends) => self.disconnected(ends),
             EntryKind::Refused(refusal) => self.refused_statement(*refusal),

@@ -21,6 +21,7 @@ begins text word rest kind.Connect e w p = (rest, goes_on text word rest kind.Co
 begins text word rest kind.Disconnect e w p = (rest, goes_on text word rest kind.Disconnect e w)
 begins text word rest (kind.Refused reason) e w p = absurd p
 begins text word rest kind.Null e w p = absurd p
+begins text word rest kind.Group e w p = absurd p
 
 pub begins_if : (text word rest : List ℕ) (found : Option EntryKind) → text ≡ word ++ 32 ∷ rest → IfSome found (λ k. word ≡ kind_word k) → IfSome found IsPlain → IfSome found (BeginsAsKind text)
 begins_if text word rest None e w p = tt

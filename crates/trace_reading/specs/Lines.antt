@@ -20,11 +20,13 @@ kind_word kind.Connect = codes "connect"
 kind_word kind.Disconnect = codes "disconnect"
 kind_word (kind.Refused reason) = codes "refused"
 kind_word kind.Null = codes "null"
+kind_word kind.Group = codes "group"
 
 -- whatever may follow the word
 abbrev pub IsPlain : EntryKind → Type 0
 IsPlain (kind.Refused reason) = ⊥
 IsPlain kind.Null = ⊥
+IsPlain kind.Group = ⊥
 IsPlain _ = Unit {0}
 
 -- the word, a blank, and whatever follows
@@ -49,6 +51,7 @@ BeginsAsKind text kind.Connect = GoesOn text (kind_word kind.Connect)
 BeginsAsKind text kind.Disconnect = GoesOn text (kind_word kind.Disconnect)
 BeginsAsKind text (kind.Refused reason) = GivesNumber text (codes "refused") reason
 BeginsAsKind text kind.Null = text ≡ kind_word kind.Null
+BeginsAsKind text kind.Group = text ≡ kind_word kind.Group
 
 -- what follows the word `event` and a blank
 abbrev pub EndsEvent : List ℕ → TraceLine → Type 0

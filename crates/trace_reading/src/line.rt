@@ -53,6 +53,8 @@ pub enum EntryKind {
     Refused(u8),
     /// `null`
     Null,
+    /// `group`, before the sets of a group.
+    Group,
 }
 
 impl TraceLine {
@@ -118,6 +120,7 @@ impl EntryKind {
         let Some(rest) = rest else {
             return match word {
                 b"null" => Some(EntryKind::Null),
+                b"group" => Some(EntryKind::Group),
                 b"native" => Some(EntryKind::Native),
                 _ => None,
             };
@@ -136,7 +139,8 @@ impl EntryKind {
             | EntryKind::Call
             | EntryKind::Dead
             | EntryKind::Set
-            | EntryKind::Bind => true,
+            | EntryKind::Bind
+            | EntryKind::Group => true,
             EntryKind::Native
             | EntryKind::Post
             | EntryKind::Follow
