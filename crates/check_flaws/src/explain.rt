@@ -17,7 +17,7 @@ pub fn broken_condition(
     number: u8,
 ) -> Result<Option<String>, AllocError> {
     match declarations_of(alloc, program)? {
-        Some(tree) => broken_in(alloc, program, &tree, certificate, number),
+        Some(tree) => broken_in(alloc, &tree, certificate, number),
         None => Ok(None),
     }
 }
@@ -25,7 +25,6 @@ pub fn broken_condition(
 /// What the number is about, for the declarations of a program.
 fn broken_in(
     alloc: Global,
-    text: &[u8],
     program: &Program,
     certificate: &[u8],
     number: u8,
@@ -34,7 +33,6 @@ fn broken_in(
         Some(meta) => {
             let source = Source {
                 alloc,
-                text,
                 program,
                 meta: &meta,
             };

@@ -87,6 +87,11 @@ impl<'a> Uses<'a> {
             Stmt::Delete(path) | Stmt::Later(path) => {
                 self.add(Use::Reference(path), names_of_path(path))
             }
+            Stmt::Group(sets) => {
+                // `group` is a name of the text, too.
+                self.names = self.names.saturating_add(1);
+                self.add_block(sets.as_slice())
+            }
         }
     }
 

@@ -1,12 +1,12 @@
 //! An edge, in words.
 
-use crate::cause::{Cause, cause_of};
 use crate::names::{class_text, node_text, text_of};
+use crate::numbers::statement_at;
 use crate::source::Source;
 use crate::statement::Body;
 use crate::wire::wire_text;
-use effect_scan::{Member, Node};
-use meta_objects::Statement;
+use effect_scan::{Member, Node, Reason, reason_for};
+use meta_objects::Work;
 use std::alloc::AllocError;
 
 /// Adds a line that says what draws the edge from one node to the other.
@@ -19,45 +19,50 @@ pub fn push_edge(
     let first = node_text(source.alloc, source.meta, from)?;
     let second = node_text(source.alloc, source.meta, to)?;
     write!(text, "  `{first}` leads to `{second}`: ")?;
-    match cause_of(source.meta, from, to) {
-        Some(cause) => push_cause(text, source, cause, from, to)?,
-        None => {}
+    if let Some(reason) = reason_for(source.meta, from, to) {
+        push_reason(text, source, reason, from, to)?;
     }
     text.push_str("\n")
 }
 
 /// Adds what draws an edge.
-fn push_cause(
+fn push_reason(
     text: &mut String,
     source: Source<'_>,
-    cause: Cause<'_>,
+    reason: Reason,
     from: Node,
     to: Node,
 ) -> Result<(), AllocError> {
-    match cause {
-        Cause::Statement(statement) => push_statement(text, source, statement, from),
-        Cause::Native => text.push_str("the native is declared to do so"),
-        Cause::Wire(place) => {
+    match reason {
+        Reason::Statement(number) => push_statement(text, source, number, from),
+        Reason::Native => text.push_str("the native is declared to do so"),
+        Reason::Wire(place) => {
             let wire = wire_text(source, place)?;
             write!(text, "`{wire}`")
         }
-        Cause::Notify => text.push_str("its `notify` signal"),
-        Cause::Binding(place) => push_binding(text, source, place),
-        Cause::Deletion => push_deletion(text, source, from, to),
+        Reason::Notify => text.push_str("its `notify` signal"),
+        Reason::Binding(place) => push_binding(text, source, place),
+        Reason::Deletion => push_deletion(text, source, from, to),
     }
 }
 
-/// Adds a statement of the body of the slot that the node is.
+/// Adds the statement of this number in the body of the slot that the node is.
 fn push_statement(
     text: &mut String,
     source: Source<'_>,
-    statement: &Statement,
+    number: usize,
     from: Node,
 ) -> Result<(), AllocError> {
     let Member::Method(method) = from.member else {
         return Ok(());
     };
     let Some(found) = source.meta.method_at(from.class, method) else {
+        return Ok(());
+    };
+    let Work::Slot(body) = &found.work else {
+        return Ok(());
+    };
+    let Some(numbered) = statement_at(body.as_slice(), number) else {
         return Ok(());
     };
     let slot = match source.slot_place(from.class, method) {
@@ -70,7 +75,7 @@ fn push_statement(
         kinds: found.kinds.as_slice(),
         slot,
     };
-    let statement = body.statement_text(statement)?;
+    let statement = body.statement_text(numbered.statement)?;
     write!(text, "its body has `{statement}`")
 }
 

@@ -1,13 +1,14 @@
 //! Literals, bodies and bindings that aren't typed.
 
-use crate::fronts::is_typed_front;
 use crate::names::{class_text, node_text, property_text, text_of, type_text};
-use crate::source::{SlotPlace, Source};
+use crate::numbers::{Numbered, statement_at};
+use crate::source::Source;
 use crate::statement::Body;
 use effect_scan::{Member, Node};
-use meta_objects::{MetaMethod, Statement, Work};
+use meta_objects::{Statement, Work};
 use std::alloc::AllocError;
-use typing::Spot;
+use texts::Slot;
+use typing::{Spot, flaw_at};
 
 /// What isn't typed, and what has to be of which type.
 pub fn untyped_text(source: Source<'_>, spot: Spot) -> Result<String, AllocError> {
@@ -56,67 +57,61 @@ fn binding_text(source: Source<'_>, place: usize) -> Result<String, AllocError> 
     )
 }
 
-/// A slot whose body isn't typed: the first statement of it that isn't, or that has such a statement in a block.
+/// A slot whose body isn't typed: the first statement of it that isn't, in its blocks and groups too.
 fn body_text(source: Source<'_>, node: Node, method: usize) -> Result<String, AllocError> {
-    let alloc = source.alloc;
-    let name = node_text(alloc, source.meta, node)?;
-    if let Some(place) = source.slot_place(node.class, method) {
-        if let Some(found) = source.meta.method_at(node.class, method) {
-            return statement_text(source, node, place, found, name.as_str());
+    if let Some(found) = source.meta.method_at(node.class, method) {
+        if let Work::Slot(body) = &found.work {
+            if let Some(flawed) = flawed_in(source, node, body.as_slice())? {
+                let body = Body {
+                    source,
+                    class: node.class,
+                    kinds: found.kinds.as_slice(),
+                    slot: slot_of(source, node, method),
+                };
+                return statement_text(body, node, flawed);
+            }
         }
     }
-    format!(in alloc; "the body of `{name}` isn't typed\n")
+    let name = node_text(source.alloc, source.meta, node)?;
+    format!(in source.alloc; "the body of `{name}` isn't typed\n")
 }
 
-/// The first statement of the method's body that isn't typed, or that has such a statement in a block.
-fn statement_text(
+/// The declaration of the method, if it is a slot's.
+fn slot_of(source: Source<'_>, node: Node, method: usize) -> Option<&Slot> {
+    let place = source.slot_place(node.class, method)?;
+    source.slot(place)
+}
+
+/// The first statement that isn't typed of this body, which is the node's.
+fn flawed_in<'m>(
     source: Source<'_>,
     node: Node,
-    place: SlotPlace,
-    method: &MetaMethod,
-    name: &str,
-) -> Result<String, AllocError> {
-    let statements: &[Statement] = match &method.work {
-        Work::Slot(body) => body.as_slice(),
-        _ => &[],
+    body: &'m [Statement],
+) -> Result<Option<Numbered<'m>>, AllocError> {
+    let Some(flaw) = flaw_at(source.alloc, source.meta, Spot::Node(node))? else {
+        return Ok(None);
     };
-    let before = typed_before(source, node, place, statements.len())?;
-    let number = before.saturating_add(1);
-    let Some(statement) = statements.get(before) else {
-        return format!(in source.alloc; "the body of `{name}` isn't typed\n");
-    };
-    let body = Body {
-        source,
-        class: node.class,
-        kinds: method.kinds.as_slice(),
-        slot: source.slot(place),
-    };
-    let spelled = body.statement_text(statement)?;
-    let advice = advice_for(statement);
-    format!(in source.alloc;
+    match flaw.statement {
+        Some(number) => Ok(statement_at(body, number)),
+        None => Ok(None),
+    }
+}
+
+/// That the statement isn't typed, which is one of the node's body.
+fn statement_text(body: Body<'_>, node: Node, flawed: Numbered<'_>) -> Result<String, AllocError> {
+    let alloc = body.source.alloc;
+    let name = node_text(alloc, body.source.meta, node)?;
+    let number = flawed.place.saturating_add(1);
+    let spelled = body.statement_text(flawed.statement)?;
+    let advice = advice_for(flawed.statement);
+    if flawed.is_inner {
+        return format!(in alloc;
+            "`{spelled}` in statement {number} of the body of `{name}` isn't typed\nhelp: {advice}\n"
+        );
+    }
+    format!(in alloc;
         "statement {number} of the body of `{name}`, `{spelled}`, isn't typed\nhelp: {advice}\n"
     )
-}
-
-/// How many statements of the body stand before the first that isn't typed, which is one of so many.
-fn typed_before(
-    source: Source<'_>,
-    node: Node,
-    place: SlotPlace,
-    count: usize,
-) -> Result<usize, AllocError> {
-    let mut low = 0usize;
-    let mut high = count;
-    while high.saturating_sub(low) > 1 {
-        let half = high.saturating_sub(low) / 2;
-        let middle = high.saturating_sub(half);
-        if is_typed_front(source, node, place, middle)? {
-            low = middle;
-        } else {
-            high = middle;
-        }
-    }
-    Ok(low)
 }
 
 /// What to write in a statement of this sort.
@@ -127,10 +122,9 @@ fn advice_for(statement: &Statement) -> &'static str {
         Statement::Emit(_, _) => "each argument has to be of its parameter's type",
         Statement::Call(_, _, _) =>
             "each argument has to be of its parameter's type, and the path not behind a `const` pointer",
-        Statement::If(_, _, _) =>
-            "the condition has to be a truth value, and the statements in the blocks typed",
+        Statement::If(_, _, _) => "the condition has to be a truth value",
         Statement::Delete(_) | Statement::Later(_) =>
             "an object behind a `const` pointer can't be deleted",
-        Statement::Connect(_, _) | Statement::Disconnect(_) => "",
+        Statement::Connect(_, _) | Statement::Disconnect(_) | Statement::Group(_) => "",
     }
 }

@@ -2,11 +2,10 @@
 //! name; what leads from one member to the next; and what to write instead.
 #![tactic(auto)]
 
-mod cause;
 mod edge;
-mod fronts;
 mod ill_typed;
 mod names;
+mod numbers;
 mod reasons;
 mod source;
 mod statement;

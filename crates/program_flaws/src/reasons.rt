@@ -1,12 +1,11 @@
 //! Why a program has no certificate, from its text.
 
-use crate::cause::{Cause, cause_of};
 use crate::edge::push_edge;
 use crate::ill_typed::untyped_text;
 use crate::names::class_text;
 use crate::source::{Source, declarations_of, meta_of};
 use crate::wire::unfit_text;
-use effect_scan::Node;
+use effect_scan::{Node, Reason, reason_for};
 use rank_make::{Why, make};
 use std::alloc::{AllocError, Global};
 use texts::Program;
@@ -19,17 +18,16 @@ const MOST_EDGES: usize = 12;
 /// `None` where the program doesn't load, or has a certificate.
 pub fn missing_certificate(alloc: Global, program: &[u8]) -> Result<Option<String>, AllocError> {
     match declarations_of(alloc, program)? {
-        Some(tree) => missing_in(alloc, program, &tree),
+        Some(tree) => missing_in(alloc, &tree),
         None => Ok(None),
     }
 }
 
 /// What the reason is about, for the declarations of a program.
-fn missing_in(alloc: Global, text: &[u8], program: &Program) -> Result<Option<String>, AllocError> {
+fn missing_in(alloc: Global, program: &Program) -> Result<Option<String>, AllocError> {
     match meta_of(alloc, program)? {
         Some(meta) => reason_text(Source {
             alloc,
-            text,
             program,
             meta: &meta,
         }),
@@ -116,11 +114,11 @@ fn breaking(source: Source<'_>, nodes: &[Node]) -> &'static str {
     let mut before: Option<Node> = None;
     for node in nodes {
         if let Some(from) = before {
-            match cause_of(source.meta, from, *node) {
-                Some(Cause::Wire(_)) => {
+            match reason_for(source.meta, from, *node) {
+                Some(Reason::Wire(_)) => {
                     return "help: make one of these wires `queued`: then its slot runs later, when the event loop turns, and the chain ends there\n";
                 }
-                Some(Cause::Binding(_)) => is_bound = true,
+                Some(Reason::Binding(_)) => is_bound = true,
                 _ => {}
             }
         }

@@ -1,4 +1,4 @@
-//! A program, as it is written and as it is loaded.
+//! A program, as it is declared and as it is loaded.
 
 use class_lang::{TextFault, read_program};
 use meta_model::MetaFault;
@@ -11,8 +11,6 @@ use texts::{Class, Program, Slot};
 pub struct Source<'s> {
     /// What memory is taken from.
     pub alloc: Global,
-    /// Its text.
-    pub text: &'s [u8],
     /// Its declarations, with the names of parameters.
     pub program: &'s Program,
     /// The same with its names resolved.

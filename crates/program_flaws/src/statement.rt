@@ -27,7 +27,7 @@ struct Spelled {
 }
 
 impl<'s> Body<'s> {
-    /// The statement as it is written, with `..` in the place of its expressions and blocks.
+    /// The statement as it is written, with `..` in the place of its expressions and of what stands in it.
     pub fn statement_text(&self, statement: &Statement) -> Result<String, AllocError> {
         let alloc = self.source.alloc;
         match statement {
@@ -51,6 +51,7 @@ impl<'s> Body<'s> {
                 let path = self.path_text(path)?.text;
                 format!(in alloc; "later {path};")
             }
+            Statement::Group(_) => String::from_str(alloc, "group { .. }"),
         }
     }
 

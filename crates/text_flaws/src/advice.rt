@@ -7,10 +7,16 @@ use crate::expressions::{
 use crate::lines::VALUE;
 use crate::misfit::Misfit;
 use crate::part::{ASSIGN, CLOSE_BRACE, COMMA, DOT, NAME, OPEN, OPEN_BRACE, Part, SEMICOLON};
-use crate::statements::STATEMENTS;
+use crate::statements::{MORE_SETS, SETS, STATEMENTS};
 use crate::terminal::Terminal;
 use crate::types::{MORE_SLOT_PARAMETERS, MORE_TYPES};
 use texts::{Symbol, Word};
+
+/// What C++ has no words for.
+const SET_OR_CALL: &str = "an assignment is `set this.p = ..;`, a call `call this.f(..);`";
+
+/// What stands in a group.
+const SETS_ALONE: &str = "a group holds sets alone, each as `set this.p = ..;`";
 
 /// What to write instead, if this is one of the known slips.
 pub fn advice(misfit: &Misfit) -> Option<&'static str> {
@@ -20,7 +26,7 @@ pub fn advice(misfit: &Misfit) -> Option<&'static str> {
         Some(Terminal::Deepest) => Some("2147483648 stands in a literal alone, behind a `-`"),
         Some(Terminal::TooLong) => Some("a text has at most 255 bytes"),
         Some(Terminal::Word(word)) => at_word(misfit, word),
-        Some(Terminal::Name) => at_name(misfit),
+        Some(Terminal::Name | Terminal::Group) => at_name(misfit),
         Some(Terminal::Number | Terminal::Text) => at_value(misfit),
         Some(Terminal::Symbol(symbol)) => at_symbol(misfit, symbol),
     }
@@ -45,6 +51,12 @@ fn at_word(misfit: &Misfit, word: Word) -> Option<&'static str> {
         return Some(
             "`emit` takes the signal's name alone, and `this` emits it: write `emit s(..);`",
         );
+    }
+    if misfit.behind() == Some(SETS) {
+        return Some("the sets of a group stand in braces: write `group { set ..; }`");
+    }
+    if wants_set(misfit) {
+        return Some(SETS_ALONE);
     }
     if misfit.wants(SOURCE_OPERAND) {
         return Some("a binding reads its formal sources alone, and has no `this` and no `null`");
@@ -78,13 +90,26 @@ fn at_name(misfit: &Misfit) -> Option<&'static str> {
             "a member begins with `property`, `signal`, `slot` or `native`, and has no result type",
         );
     }
+    if wants_set(misfit) {
+        return Some(SETS_ALONE);
+    }
     if misfit.wants(STATEMENTS) && misfit.before(1) != Some(Terminal::Symbol(Symbol::Close)) {
-        return Some("an assignment is `set this.p = ..;`, a call `call this.f(..);`");
+        return Some(at_statement(misfit.name()));
     }
     if misfit.wants(LITERAL) {
         return Some("a property's first value is a literal");
     }
     missing_semicolon(misfit)
+}
+
+/// A name that begins no statement.
+fn at_statement(name: &[u8]) -> &'static str {
+    match name {
+        b"Qt" | b"QScopedPropertyUpdateGroup" => {
+            "properties are updated together by `group { set ..; }`"
+        }
+        _ => SET_OR_CALL,
+    }
 }
 
 fn at_value(misfit: &Misfit) -> Option<&'static str> {
@@ -96,6 +121,9 @@ fn at_value(misfit: &Misfit) -> Option<&'static str> {
 
 fn at_symbol(misfit: &Misfit, symbol: Symbol) -> Option<&'static str> {
     match symbol {
+        Symbol::Assign | Symbol::Open | Symbol::Dot if misfit.behind() == Some(SETS) => {
+            Some(SET_OR_CALL)
+        }
         Symbol::Assign => at_assign(misfit),
         Symbol::Semicolon => at_semicolon(misfit),
         Symbol::Comma | Symbol::Close => at_comma(misfit),
@@ -180,6 +208,9 @@ fn at_close_brace(misfit: &Misfit) -> Option<&'static str> {
     if misfit.wants(PROGRAM) {
         return Some("this `}` closes nothing");
     }
+    if misfit.required() == Some(SETS) {
+        return Some("a group has one `set` at least");
+    }
     missing_semicolon(misfit)
 }
 
@@ -200,6 +231,11 @@ fn at_comparison(misfit: &Misfit) -> Option<&'static str> {
         return Some("comparisons don't chain: join two of them by `&&`");
     }
     None
+}
+
+/// Whether a set of a group has to come, or may come.
+fn wants_set(misfit: &Misfit) -> bool {
+    misfit.wants(SETS) || misfit.wants(MORE_SETS)
 }
 
 /// A `;` has to come, and another statement or member does.

@@ -70,7 +70,7 @@ pub fn eighth_comma(tokens: &[Mark]) -> Option<usize> {
 
 /// Whether a `(` behind these two tokens begins arguments: behind `emit` and a name, behind a path, or in an expression.
 fn is_call(second: Terminal, last: Terminal) -> bool {
-    last != Terminal::Name
+    last.plain() != Terminal::Name
         || second == Terminal::Word(Word::Emit)
         || second == Terminal::Symbol(Symbol::Dot)
 }

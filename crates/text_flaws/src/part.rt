@@ -22,13 +22,14 @@ pub enum Part {
 impl Part {
     /// What has to follow this token where the part begins with it, or `None` where it doesn't.
     pub fn after(self, next: Terminal) -> Option<&'static [Part]> {
+        let plain = next.plain();
         match self {
-            Part::Token(token) => { if token == next { Some(&[]) } else { None } }
-            Part::Declaration(rule) => rule.after(next),
-            Part::Type(rule) => rule.after(next),
+            Part::Token(token) => { if token == plain { Some(&[]) } else { None } }
+            Part::Declaration(rule) => rule.after(plain),
+            Part::Type(rule) => rule.after(plain),
             Part::Statement(rule) => rule.after(next),
-            Part::Expression(rule) => rule.after(next),
-            Part::Line(rule) => rule.after(next),
+            Part::Expression(rule) => rule.after(plain),
+            Part::Line(rule) => rule.after(plain),
         }
     }
 

@@ -54,12 +54,13 @@ fn type_words(rule: TypeRule) -> Option<&'static str> {
 fn statement_words(rule: StatementRule) -> Option<&'static str> {
     match rule {
         StatementRule::Statements => Some(
-            "a statement (`set`, `emit`, `call`, `if`, `connect`, `disconnect`, `delete` or `later`)",
+            "a statement (`set`, `emit`, `call`, `if`, `connect`, `disconnect`, `delete`, `later` or `group`)",
         ),
         StatementRule::Else => Some("`else`"),
         StatementRule::Options => Some("`,`"),
         StatementRule::FirstOption => Some("`unique` or `single`"),
         StatementRule::LastOption => Some("`,`"),
+        StatementRule::Sets | StatementRule::MoreSets => Some("`set`"),
     }
 }
 

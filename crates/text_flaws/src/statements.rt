@@ -22,6 +22,10 @@ pub enum StatementRule {
     FirstOption,
     /// `["," "single"]`
     LastOption,
+    /// `set {set}`, in a group
+    Sets,
+    /// `{set}`, in a group
+    MoreSets,
 }
 
 pub const STATEMENTS: Part = Part::Statement(StatementRule::Statements);
@@ -34,12 +38,17 @@ const FIRST_OPTION: Part = Part::Statement(StatementRule::FirstOption);
 
 const LAST_OPTION: Part = Part::Statement(StatementRule::LastOption);
 
+pub const SETS: Part = Part::Statement(StatementRule::Sets);
+
+pub const MORE_SETS: Part = Part::Statement(StatementRule::MoreSets);
+
 impl StatementRule {
     /// What has to follow this token where the rule begins with it.
     pub fn after(self, next: Terminal) -> Option<&'static [Part]> {
         match self {
             StatementRule::Statements => match next {
                 Terminal::Word(word) => after_statement_word(word),
+                Terminal::Group => Some(&[OPEN_BRACE, SETS, CLOSE_BRACE, STATEMENTS]),
                 _ => None,
             },
             StatementRule::Else => match next {
@@ -59,12 +68,21 @@ impl StatementRule {
                 Terminal::Symbol(Symbol::Comma) => Some(&[SINGLE]),
                 _ => None,
             },
+            StatementRule::Sets | StatementRule::MoreSets => match next {
+                Terminal::Word(Word::Set) => Some(&[
+                    ROOT, DOT, NAME, STEPS, ASSIGN, OPERAND, MORE, SEMICOLON, MORE_SETS,
+                ]),
+                _ => None,
+            },
         }
     }
 
     /// Whether it may be left out.
     pub fn is_optional(self) -> bool {
-        self != StatementRule::FirstOption
+        match self {
+            StatementRule::FirstOption | StatementRule::Sets => false,
+            _ => true,
+        }
     }
 }
 

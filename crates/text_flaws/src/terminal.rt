@@ -1,5 +1,6 @@
 //! What a grammar tells apart among tokens.
 
+use signatures::Name;
 use texts::{Symbol, Token, Word};
 
 /// The most bytes of a text.
@@ -9,6 +10,8 @@ const MOST_BYTES: usize = 255;
 #[derive(Clone, Copy, Debug, PartialEq, Eq)]
 pub enum Terminal {
     Name,
+    /// The name `group`, with which a statement may begin.
+    Group,
     Word(Word),
     /// A number up to 2147483647.
     Number,
@@ -27,7 +30,7 @@ impl Terminal {
     /// What this token is.
     pub fn of(token: &Token) -> Terminal {
         match token {
-            Token::Name(_) => Terminal::Name,
+            Token::Name(name) => of_name(name),
             Token::Word(word) => Terminal::Word(*word),
             Token::Number(digits) => of_number(digits.as_slice()),
             Token::Text(bytes) => {
@@ -39,6 +42,23 @@ impl Terminal {
             }
             Token::Symbol(symbol) => Terminal::Symbol(*symbol),
         }
+    }
+
+    /// What it is where no statement begins: `group` is a name there.
+    pub fn plain(self) -> Terminal {
+        match self {
+            Terminal::Group => Terminal::Name,
+            _ => self,
+        }
+    }
+}
+
+/// What the name is.
+fn of_name(name: &Name) -> Terminal {
+    if name.bytes() == b"group".as_slice() {
+        Terminal::Group
+    } else {
+        Terminal::Name
     }
 }
 
