@@ -303,10 +303,11 @@ class Reading:
             if self.has(b"else"):
                 self.block()
             return
+        if word == b"group":
+            self.group()
+            return
         if word == b"set":
-            self.path(least=2)
-            self.need(b"=")
-            self.expression(self.value_or_path)
+            self.assignment()
         elif word == b"emit":
             self.name()
             self.in_brackets(self.argument)
@@ -320,6 +321,22 @@ class Reading:
         else:
             raise Refused
         self.need(b";")
+
+    def assignment(self):
+        """What follows `set`, up to the `;`."""
+        self.path(least=2)
+        self.need(b"=")
+        self.expression(self.value_or_path)
+
+    def group(self):
+        """What follows `group`: its sets, of which there is one at least."""
+        self.need(b"{", b"set")
+        self.assignment()
+        self.need(b";")
+        while not self.has(b"}"):
+            self.need(b"set")
+            self.assignment()
+            self.need(b";")
 
     def ends_of_connection(self, word):
         for comma in (b"", b","):

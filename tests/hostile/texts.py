@@ -148,6 +148,8 @@ def programs(nine, eight):
     yield "bindings without end", repeated(b"binding b A.p (A a) = a.p;\n", b"class A { property int p; }")
     yield "a body of many statements", repeated(b"emit s(); ", b"class A { signal s(); slot f() { ", b"} }")
     yield "a body of many writes", repeated(b"set this.p = this.p + 1; ", b"class A { property int p; slot f() { ", b"} }")
+    group = b"class A { property int p; slot f() { group { "
+    yield "a group of many writes", repeated(b"set this.p = this.p + 1; ", group, b"} } }")
     blocks = b"class A { slot f() { " + b"if (true) { " * 29
     yield "nested blocks", repeated(b"if (true) { } else { } ", blocks, b"} " * 31)
     yield "long expressions", repeated(b"set this.p = " + b"-" * 180 + b"1; ", b"class A { property int p; slot f() { ", b"} }")

@@ -1,4 +1,4 @@
-//! How many expressions a bind and a write evaluate: those that follow, each once, and no others.
+//! How many expressions a bind, a write and a group of writes evaluate: those that follow, each once, and no others.
 
 ghost use Rattle.std.specs.Prelude.{IfOk};
 ghost use Rattle.object_tree.specs.Typed.{AreTyped};
@@ -8,7 +8,7 @@ use crate::loading::loaded;
 use anyhow::{Result, anyhow};
 use meta_objects::Meta;
 use object_tree::Tree;
-use prop_bindings::{Bindings, Place};
+use prop_bindings::{Assignment, Bindings, Place};
 use signatures::{LoopId, Name, ObjectId, Value};
 use std::alloc::{AllocError, Global};
 
@@ -16,7 +16,7 @@ use std::alloc::{AllocError, Global};
 pub const FOLLOWERS: &str =
     "class X { property int x; } class Y { property int y; } class Z { property int z; } class W { property int w; } class U { property int u; property int v; } binding by Y.y (X a) = a.x + 1; binding bz Z.z (X a) = a.x * 2; binding bw W.w (Y a, Z b) = a.y + b.z; binding bu U.u (U e) = e.v;";
 
-/// A bind or a write.
+/// A bind, a write or a group of writes.
 enum Step {
     /// The binding of a site, of an object to others.
     Bind {
@@ -29,6 +29,10 @@ enum Step {
         object: usize,
         property: usize,
         number: i32,
+    },
+    /// Numbers for properties of objects, at once: of each the object, the property and the number.
+    Group {
+        writes: &'static [(usize, usize, i32)],
     },
 }
 
@@ -98,6 +102,25 @@ const STEPS: &[(&str, Step)] = &[
             sources: &[0],
         },
     ),
+    (
+        "write 6 to x and 20 to z, which follows x",
+        Step::Group {
+            writes: &[(0, 1, 6), (2, 1, 20)],
+        },
+    ),
+    (
+        "write both again",
+        Step::Group {
+            writes: &[(0, 1, 6), (2, 1, 20)],
+        },
+    ),
+    ("write nothing", Step::Group { writes: &[] }),
+    (
+        "write 7 to x and 21 to z, which w follows",
+        Step::Group {
+            writes: &[(0, 1, 7), (2, 1, 21)],
+        },
+    ),
 ];
 
 /// Creates an object of a class, under the class's name.
@@ -131,6 +154,23 @@ fn objects(alloc: Global, numbers: &[usize]) -> Result<Vec<ObjectId>, AllocError
         objects.push(ObjectId::new(*number))?;
     }
     Ok(objects)
+}
+
+/// The writes of these numbers: of each the object, the property and the number.
+fn assignments(
+    alloc: Global,
+    numbers: &[(usize, usize, i32)],
+) -> Result<Vec<Assignment>, AllocError> {
+    let mut writes = Vec::new(alloc);
+    for (object, property, number) in numbers {
+        let place = Place {
+            object: ObjectId::new(*object),
+            property: *property,
+        };
+        let value = Value::Int(*number);
+        writes.push(Assignment { place, value })?;
+    }
+    Ok(writes)
 }
 
 /// Takes a step, and answers how many properties it changes.
@@ -167,6 +207,11 @@ fn take(
             let changed = bindings.write(meta, tree, &place, Value::Int(*number))?;
             Ok(changed.len())
         }
+        Step::Group { writes } => {
+            let writes = assignments(alloc, writes)?;
+            let changed = bindings.write_group(meta, tree, &writes)?;
+            Ok(changed.len())
+        }
     }
 }
 
@@ -194,11 +239,11 @@ pub fn tell_following<R: Print + AllocGlobal>(rt: &R) -> Result<()> {
     let mut tree = stocked(rt.alloc(), &meta)?;
     let mut bindings = Bindings::new(rt.alloc());
     tell_steps(rt, &meta, &mut tree, &mut bindings)?;
-    let is_16 = match tree.value(ObjectId::new(3), 1) {
-        Some(value) => value.is_same(&Value::Int(16)),
+    let is_29 = match tree.value(ObjectId::new(3), 1) {
+        Some(value) => value.is_same(&Value::Int(29)),
         None => false,
     };
-    println!(rt; "w is 16: {is_16}")?;
+    println!(rt; "w is 29: {is_29}")?;
     tell_dropped(rt, &mut bindings)
 }
 

@@ -30,13 +30,14 @@ fn a_body_sets_a_property(rt: HostRuntime) -> Result<(), Fail> {
 }
 
 /// The word of a statement, the name of its member, and how many arguments or properties of its path it has; of an `if` how
-/// many statements are in its first block.
+/// many statements are in its first block, and of a `group` how many sets are in it.
 fn parts(statement: &Stmt) -> (&'static str, &[u8], usize) {
     match statement {
         Stmt::Set(path, name, _) => ("set", name.bytes(), path.properties.len()),
         Stmt::Emit(name, arguments) => ("emit", name.bytes(), arguments.len()),
         Stmt::Call(_, name, arguments) => ("call", name.bytes(), arguments.len()),
         Stmt::If(_, yes, _) => ("if", b"", yes.len()),
+        Stmt::Group(sets) => ("group", b"", sets.len()),
         _ => ("another", b"", 0),
     }
 }
@@ -56,6 +57,11 @@ fn statements_have_their_parts(rt: HostRuntime) -> Result<(), Fail> {
     for (statement, parted) in body.as_slice().iter().zip(expected) {
         assert_eq!(rt; parts(statement), parted);
     }
+    let body = body_of(rt.alloc(), "{ group { set p.q = 1; set this.r = 2; } }")?;
+    let Some(statement) = body.get(0) else {
+        return Err("a group is a statement".into());
+    };
+    assert_eq!(rt; parts(statement), ("group", b"".as_slice(), 2));
     Ok(())
 }
 
