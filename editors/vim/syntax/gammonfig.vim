@@ -12,6 +12,8 @@ syntax keyword gammonfigModifier const auto direct queued unique single
 syntax keyword gammonfigType int bool QString QObject
 " Words that begin the other events of a script, or a line of a certificate, and are names elsewhere.
 syntax match gammonfigEvent /^\s*\zs\(loop\|turn\|new\|adopt\|move\|bind\|block\|unblock\|certificate\|bound\)\>/
+" A name, with which a statement may begin.
+syntax match gammonfigGroup /\(^\|[;{}]\)\s*\zs\(group\)\ze\s*{/
 syntax match gammonfigNumber /\<\d\+\>/
 syntax match gammonfigText /"[^"]*"/
 syntax match gammonfigComment /\/\/.*$/ contains=gammonfigTodo
@@ -26,6 +28,7 @@ highlight default link gammonfigConstant Constant
 highlight default link gammonfigModifier StorageClass
 highlight default link gammonfigType Type
 highlight default link gammonfigEvent Statement
+highlight default link gammonfigGroup Statement
 highlight default link gammonfigNumber Number
 highlight default link gammonfigText String
 highlight default link gammonfigComment Comment
