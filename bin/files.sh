@@ -37,8 +37,8 @@ join_files() {
     done
 }
 
-# Names the files and their lines, in place of the input's and the texts', in what is said on standard error. The arguments
-# are pairs: a text's name, and its file.
+# Names the files and their lines, in place of the input's and the texts', in what is said of them. The arguments are pairs: a
+# text's name, and its file.
 name_files() {
     pairs=$(printf '%s\n' "$@") awk '
         function say(text) { print text; fflush() }
@@ -56,6 +56,12 @@ name_files() {
         /^line [0-9]+ of the certificate/ && ("certificate" in file) {
             rest = $0; sub(/^line [0-9]+ of the certificate/, "", rest)
             say(file["certificate"] ":" $2 rest)
+            next
+        }
+        /^(qt_tools: )?line [0-9]+ of the script/ && ("script" in file) {
+            sub(/^qt_tools: /, "")
+            rest = $0; sub(/^line [0-9]+ of the script,? /, "", rest)
+            say(file["script"] ":" $2 ": " rest)
             next
         }
         /^qt_tools: text [0-9]+, line [0-9]+, column [0-9]+:/ {

@@ -6,7 +6,7 @@ import tempfile
 
 import built
 
-PROGRAMS = ["gammonfig", "qt_tools"]
+PROGRAMS = ["gammonfig", "qt_tools", "trace_view"]
 
 
 class Place:

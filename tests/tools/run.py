@@ -25,6 +25,12 @@ TOKEN = re.compile(rb'"[^"]*"|[0-9a-z]+|[][{}:,]')
 ODD = [b"", b"\n", b'""', b'"int"', b'"class"', b'"QObject"', b'"a::b"', b'"x\\ny"', b"3", b"null", b"true", b"[]", b"{}", b"[", b"}", b"\xff"]
 
 
+def text_of(case):
+    """What a case gives the program: a whole input, or the texts that it has, with a line `%%` between two of them."""
+    texts = [case.text(it) for it in ("program", "certificate", "script")]
+    return case.text("input") or case_files.joined([it for it in texts if it is not None])
+
+
 def changed(rng, text):
     """The text with a few tokens changed, exchanged or left out, or cut off."""
     tokens = TOKEN.findall(text)
@@ -88,7 +94,7 @@ def main():
         for case in case_files.cases_of(f"{FOLDER}/{name}"):
             for words in case.words:
                 for program in filter(os.path.isfile, programs):
-                    found = bench.run(program, words, case.text("input") or case.text("program") or b"")
+                    found = bench.run(program, words, text_of(case))
                     wanted = (case.status, case.text("output") or b"", case.text("errors") or found.errors)
                     told = f"{name}, {case.title} {words}, {os.path.basename(program)}"
                     holds = (found.status, found.output, found.errors) == wanted

@@ -43,6 +43,10 @@ class Tests:
                 "parted.gf": LAMP + "%%\n" + SCRIPT,
                 "blanks.txt": LAMP + "%% \n" + SCRIPT,
                 "a b.gf": LOOSE,
+                "other.gfs": SCRIPT + "//= 1 call a.dim(4)\n",
+                "trace": TRACE,
+                "bumps.gf": CYCLE.replace("= v;", "= v + 1;"),
+                "above.gfs": "//= event 1\n" + SCRIPT,
             }
         )
 
@@ -111,6 +115,37 @@ class Tests:
         self.check(["graph", "--from", "Lamp.none", "app.gf"], 1, "", "no class or member")
         self.check(["graph", "loose.gf"], 2, "", "refused with 5")
 
+    def session(self):
+        """So do those of `session`, which tells lines of the script."""
+        passed = "2 events, each as expected\n"
+        self.check(["session", "app.gf", "app.gfc", "session.gfs"], 0, passed)
+        self.check(["session", "--unchecked", "256", "--steps", "100"], 0, passed, text=LAMP + "%%\n" + SCRIPT)
+        told = "TAP version 13\n1..2\nok 1 - line 1: new a Lamp\nok 2 - line 2: call a.dim(3)\n"
+        self.check(["session", "--tap", "app.gf", "app.gfc", "session.gfs"], 0, told)
+        told = "other.gfs:2: `call a.dim(3)`: its line 1 is `1 call a.dim(3)`, and is expected to be `1 call a.dim(4)`\n"
+        told += "2 events, 1 not as expected\n"
+        self.check(["session", "--unchecked", "256", "app.gf", "other.gfs"], 5, told, "otherwise than is expected")
+        self.check(["session", "app.gf", "app.gfc", "above.gfs"], 2, "", "above.gfs:1: expects a line of the trace")
+        self.check(["session", "app.gf", "app.gfc", "wrong.gfs"], 2, "", "refused with 16")
+        self.check(["session", "app.gf", "session.gfs"], 1, USAGE, "this is no command")
+
+    def view(self):
+        """`view` shows traces: as a diagram by that program, or as `./trace_view` does."""
+        shown = self.program(["view", "--mermaid"], TRACE, "qt_tools")
+        self.check(["view", "--mermaid"], 0, shown, text=TRACE)
+        self.check(["view", "--mermaid", "trace"], 0, shown)
+        self.check(["view", "--mermaid", "none"], 2, "", "can't be read")
+        self.check(["view", "--html", "trace"], 1, USAGE, "this is no command")
+        self.check(["view", "--plain", "trace"], 0, self.program(["--plain"], TRACE, "trace_view"))
+
+    def witness(self):
+        """`witness` looks for a script that shows why there is no certificate."""
+        told = "new o1 Lamp\nconnect o1 changed(int) o1 dim(int) direct\nemit o1.changed(1)\n"
+        self.check(["witness", "bumps.gf"], 0, told)
+        self.check(["witness"], 3, "", "no script was found", text=CYCLE)
+        self.check(["witness", "app.gf"], 3, "", "has a certificate")
+        self.check(["witness", "app.gf", "app.gf"], 1, USAGE, "this is no command")
+
     def import_classes(self):
         """So do those of `import`, which takes any number of files."""
         self.place.write({"a.json": '{"classes": [{"className": "A", "object": true}]}', "b.json": '{"classes": [\n{"className": 3}]}'})
@@ -129,7 +164,7 @@ class Tests:
 
 def main():
     tests = Tests()
-    for part in ("files", "places", "refused", "input", "terminal", "graph", "import_classes", "built"):
+    for part in ("files", "places", "refused", "input", "terminal", "graph", "session", "view", "witness", "import_classes", "built"):
         getattr(tests, part)()
     shutil.rmtree(tests.place.folder, ignore_errors=True)
     tests.count.end()

@@ -4,7 +4,6 @@
 
 mod answering;
 mod case;
-mod difference;
 mod escapes;
 mod example;
 mod fault;
@@ -15,7 +14,6 @@ mod sections;
 mod telling;
 
 pub use case::{Case, cases};
-pub use difference::{Difference, first_difference};
 pub use example::tell_example;
 pub use fault::CaseFault;
 pub use section::{Marks, Part, Section};

@@ -1,11 +1,11 @@
 //! The cases of a file, run one after another, and what is told of them.
 
 use crate::case::{Case, cases};
-use crate::difference::first_difference;
 use crate::fault::CaseFault;
 use crate::running::{Answer, run_answer};
 use crate::section::Part;
 use crate::sections::read_sections;
+use script_tests::first_difference;
 use std::rt::Files;
 use std::{fs, io, str};
 

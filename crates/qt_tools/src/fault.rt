@@ -2,6 +2,8 @@
 
 use class_graph::GraphFault;
 use moc_import::ImportFault;
+use run_witness::WitnessFault;
+use script_tests::ExpectationFault;
 use std::alloc::AllocError;
 use std::io;
 use thiserror::Error;
@@ -11,7 +13,7 @@ use thiserror::Error;
 #[derive(Clone, Copy, Debug, Error)]
 pub enum ToolFault {
     /// The words are none that there are.
-    #[error("usage: qt_tools graph [--json] [--class CLASS,..] [--from MEMBER] < PROGRAM, or qt_tools import [--only CLASS,..] [--lean] [--strict] < JSON")]
+    #[error("usage: qt_tools graph [--json] [--class CLASS,..] [--from MEMBER] < PROGRAM, import [--only CLASS,..] [--lean] [--strict] < JSON, session [--tap] [--unchecked N] [--steps M] < TEXTS, view --mermaid < TRACE, or witness < PROGRAM")]
     Usage,
     /// The program is refused, with the number that `gammonfig` gives.
     #[error("the program is refused with {0}: `gammonfig meta` says where")]
@@ -22,6 +24,24 @@ pub enum ToolFault {
     /// What is imported isn't what moc writes, or a class that is asked for isn't there.
     #[error("{0}")]
     Unimported(ImportFault),
+    /// The script isn't run, since a text is refused with this number.
+    #[error("the script isn't run: a text is refused with {0}, and `gammonfig run` says where")]
+    TextRefused(u64),
+    /// The script isn't run, since the certificate isn't valid, for this reason.
+    #[error("the script isn't run: the certificate isn't valid for the reason {0}, and `gammonfig run` says where")]
+    Invalid(u64),
+    /// No script was found whose run ends so.
+    #[error("no script was found whose run ends so, which proves nothing")]
+    NoWitness,
+    /// The program has a certificate.
+    #[error("the program has a certificate: no run of it ends so")]
+    Certified,
+    /// Events of the script went otherwise than is expected.
+    #[error("events went otherwise than is expected")]
+    Otherwise,
+    /// A line of the script expects a line of the trace and stands above all events.
+    #[error("{0}")]
+    Unexpected(ExpectationFault),
     /// The input isn't text.
     #[error("the input isn't text in UTF-8")]
     NoText,
@@ -40,11 +60,20 @@ pub enum ToolFault {
 }
 
 impl ToolFault {
-    /// The process's exit status: 2 for an input that is refused, 3 for one of which a part is left out, else 1.
+    /// The process's exit status: 2 for an input that is refused, 3 for one of which a part is left out, for a certificate
+    /// that isn't valid and where no witness was found, 5 for a script whose events went otherwise than it expects, else 1.
     pub fn status(self) -> u8 {
         match self {
-            ToolFault::Refused(_) | ToolFault::Unimported(_) | ToolFault::NoText => 2,
-            ToolFault::LeftOut => 3,
+            ToolFault::Refused(_)
+            | ToolFault::TextRefused(_)
+            | ToolFault::Unexpected(_)
+            | ToolFault::Unimported(_)
+            | ToolFault::NoText => 2,
+            ToolFault::LeftOut
+            | ToolFault::Invalid(_)
+            | ToolFault::NoWitness
+            | ToolFault::Certified => 3,
+            ToolFault::Otherwise => 5,
             _ => 1,
         }
     }
@@ -71,6 +100,24 @@ impl From<GraphFault> for ToolFault {
             GraphFault::Refused(number) => ToolFault::Refused(number),
             GraphFault::Unknown => ToolFault::Unknown,
             GraphFault::Memory => ToolFault::Memory,
+        }
+    }
+}
+
+impl From<ExpectationFault> for ToolFault {
+    fn from(fault: ExpectationFault) -> ToolFault {
+        match fault {
+            ExpectationFault::Memory => ToolFault::Memory,
+            misplaced => ToolFault::Unexpected(misplaced),
+        }
+    }
+}
+
+impl From<WitnessFault> for ToolFault {
+    fn from(fault: WitnessFault) -> ToolFault {
+        match fault {
+            WitnessFault::Refused(number) => ToolFault::Refused(number),
+            WitnessFault::Memory => ToolFault::Memory,
         }
     }
 }

@@ -5,11 +5,17 @@
 mod fault;
 mod graph;
 mod import;
+mod session;
 mod streams;
+mod view;
+mod witness;
 
 use crate::fault::ToolFault;
 use crate::graph::graph;
 use crate::import::import_classes;
+use crate::session::session;
+use crate::view::view;
+use crate::witness::witness;
 use std::alloc::{AllocError, Global};
 use std::env;
 use std::process::ExitCode;
@@ -31,6 +37,9 @@ fn start(rt: &HostRuntime) -> Result<(), ToolFault> {
     match words.as_slice() {
         [word, options @ ..] if *word == "graph" => graph(rt, options),
         [word, options @ ..] if *word == "import" => import_classes(rt, options),
+        [word, options @ ..] if *word == "session" => session(rt, options),
+        [word, options @ ..] if *word == "view" => view(rt, options),
+        [word, options @ ..] if *word == "witness" => witness(rt, options),
         _ => Err(ToolFault::Usage),
     }
 }

@@ -1,0 +1,85 @@
+//! The word `session`: runs a script as a test.
+
+use crate::fault::ToolFault;
+use crate::streams::{input, write};
+use native_slots::Natives;
+use script_tests::{Form, judge, report};
+use std::alloc::{AllocError, Global};
+use texts::{number, split_at_line};
+use trace_tool::command;
+
+/// What is read has at most so many bytes; of more than the command takes it takes none.
+const MOST_BYTES: u64 = 67108865;
+
+/// The line between two texts of an input.
+const BORDER: &[u8] = b"%%";
+
+/// The option that needs no certificate.
+const UNCHECKED: &str = "--unchecked";
+
+/// Runs the script on standard input as `gammonfig run` does with these words, but for a first `--tap`, and writes which
+/// events went otherwise than its comments expect.
+pub fn session(rt: &HostRuntime, words: &[&str]) -> Result<(), ToolFault> {
+    let alloc = rt.alloc();
+    let (form, options) = match words {
+        [word, options @ ..] if *word == "--tap" => (Form::Tap, options),
+        _ => (Form::Plain, words),
+    };
+    let input = match input(rt, MOST_BYTES) {
+        Ok(input) => input,
+        Err(reason) => return Err(ToolFault::Unread(reason)),
+    };
+    let trace = trace_of(alloc, options, input.as_slice())?;
+    let script = script_of(options, input.as_slice()).unwrap_or(&[]);
+    let tests = judge(alloc, script, trace.as_slice())?;
+    let (text, failed) = report(alloc, tests.as_slice(), form)?;
+    match write(rt, text.as_str()) {
+        Ok(()) if failed == 0 => Ok(()),
+        Ok(()) => Err(ToolFault::Otherwise),
+        Err(reason) => Err(ToolFault::Unwritten(reason)),
+    }
+}
+
+/// The trace of a run of this input with these options.
+fn trace_of(alloc: Global, options: &[&str], input: &[u8]) -> Result<Vec<u8>, ToolFault> {
+    let words = run_words(alloc, options)?;
+    let mut reader = input;
+    let mut output = Vec::new(alloc);
+    let natives = Natives::of(Vec::new(alloc));
+    match command(alloc, words.as_slice(), &mut reader, natives, &mut output) {
+        Ok(0 | 4) => Ok(output),
+        Ok(2) => Err(ToolFault::TextRefused(number_in(b"refused ", output.as_slice()))),
+        Ok(3) => Err(ToolFault::Invalid(number_in(b"no ", output.as_slice()))),
+        Ok(_) if output.as_slice() == b"usage\n".as_slice() => Err(ToolFault::Usage),
+        Ok(_) | Err(_) => Err(ToolFault::Memory),
+    }
+}
+
+/// The words of `run` with these options.
+fn run_words<'w>(alloc: Global, options: &[&'w str]) -> Result<Vec<&'w str>, AllocError> {
+    let mut words = Vec::new(alloc);
+    words.push("run")?;
+    for option in options {
+        words.push(*option)?;
+    }
+    Ok(words)
+}
+
+/// The number behind these words in the first line of an output; 0 where there is none.
+fn number_in(words: &[u8], output: &[u8]) -> u64 {
+    let line = output.split(|byte| *byte == b'\n').next().unwrap_or(&[]);
+    let told = line.strip_prefix(words).unwrap_or(&[]);
+    let digits = told.split(|byte| *byte == b' ').next().unwrap_or(&[]);
+    number(digits, u64::MAX).unwrap_or(0)
+}
+
+/// The script of an input of `run` with these options, which is its last text.
+fn script_of<'i>(options: &[&str], input: &'i [u8]) -> Option<&'i [u8]> {
+    let borders = if options.contains(&UNCHECKED) { 1 } else { 2 };
+    let mut script = input;
+    for _ in 0..borders {
+        let (_, rest) = split_at_line(script, BORDER)?;
+        script = rest;
+    }
+    Some(script)
+}

@@ -1,0 +1,11 @@
+//! Scripts whose runs end as a program's refusal warns: activations nest without bound, bindings form a loop, or an object dies
+//! in a slot of its own.
+#![tactic(auto)]
+
+mod choice;
+mod events;
+mod names;
+mod search;
+mod stage;
+
+pub use search::{Sought, WitnessFault, find_witness};

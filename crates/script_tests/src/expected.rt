@@ -1,0 +1,153 @@
+//! What a script expects of its events: by a comment behind an event how it is answered, and by comments below it what the
+//! run writes of it.
+
+use std::alloc::{AllocError, Global};
+use std::str;
+use texts::{LexFault, split_line, tokens};
+use thiserror::Error;
+
+/// How a line begins that expects a line of the trace.
+const MARK: &[u8] = b"//=";
+
+/// Behind what a number stands at the end of an event's line.
+const REFUSED: &[u8] = b"// refused";
+
+const FAULT: &[u8] = b"// fault";
+
+/// How an event is answered.
+#[derive(Clone, Copy, Debug, PartialEq, Eq)]
+pub enum Answer {
+    /// It is accepted.
+    Accepted,
+    /// It is refused with this number.
+    Refused(u8),
+}
+
+/// What a script expects of one of its events.
+#[derive(Drop)]
+pub struct Expected<'t> {
+    /// The number of its line in the script, counted from 1.
+    pub line: usize,
+    /// What its line has in front of what is expected, without blanks at its ends.
+    pub event: &'t [u8],
+    /// How it is answered.
+    pub answer: Answer,
+    /// The fault with which the run stops in it, or before its own line is written; `None` where the run goes on.
+    pub fault: Option<u8>,
+    /// The lines that the run writes below the event's own, each with its newline; `None` where any will do.
+    pub lines: Option<Vec<u8>>,
+}
+
+/// Why it isn't known what a script expects.
+#[derive(Clone, Copy, Debug, PartialEq, Eq, Error)]
+pub enum ExpectationFault {
+    /// The line of this number, counted from 1, expects a line of the trace and stands above all events.
+    #[error("line {0} of the script expects a line of the trace and stands above all events")]
+    Misplaced(usize),
+    /// A growth of memory was refused.
+    #[error("out of memory")]
+    Memory,
+}
+
+impl From<AllocError> for ExpectationFault {
+    fn from(_: AllocError) -> ExpectationFault {
+        ExpectationFault::Memory
+    }
+}
+
+/// What the script expects of each of its events, in their order. Errors: a line that expects something stands above all
+/// events (`Misplaced`, with the first such line); `Memory`.
+pub fn expectations(alloc: Global, script: &[u8]) -> Result<Vec<Expected<'_>>, ExpectationFault> {
+    let mut events = Vec::new(alloc);
+    let mut current: Option<Expected<'_>> = None;
+    let mut left = script;
+    let mut number = 0usize;
+    while let Some((line, rest)) = split_line(left) {
+        number = number.saturating_add(1);
+        left = rest;
+        if let Some(wanted) = wanted_line(line) {
+            let Some(mut event) = current else {
+                return Err(ExpectationFault::Misplaced(number));
+            };
+            event.expect(alloc, wanted)?;
+            current = Some(event);
+        } else if has_event(alloc, line)? {
+            keep(&mut events, current)?;
+            current = Some(Expected::of(number, line));
+        }
+    }
+    keep(&mut events, current)?;
+    Ok(events)
+}
+
+/// Adds what is expected of an event behind that of those before it, if there is one.
+fn keep<'t>(events: &mut Vec<Expected<'t>>, event: Option<Expected<'t>>) -> Result<(), AllocError> {
+    if let Some(event) = event {
+        events.push(event)?;
+    }
+    Ok(())
+}
+
+impl<'t> Expected<'t> {
+    /// What the line of an event expects of it.
+    fn of(number: usize, line: &'t [u8]) -> Expected<'t> {
+        let text = line.trim_ascii();
+        let mut expected = Expected {
+            line: number,
+            event: text,
+            answer: Answer::Accepted,
+            fault: None,
+            lines: None,
+        };
+        if let Some((event, refusal)) = split_number(text, REFUSED) {
+            expected.event = event;
+            expected.answer = Answer::Refused(refusal);
+        } else if let Some((event, fault)) = split_number(text, FAULT) {
+            expected.event = event;
+            expected.fault = Some(fault);
+        }
+        expected
+    }
+
+    /// Adds a line that the run is to write of it; an empty one adds none.
+    fn expect(&mut self, alloc: Global, wanted: &[u8]) -> Result<(), AllocError> {
+        let mut lines = match self.lines.take() {
+            Some(lines) => lines,
+            None => Vec::new(alloc),
+        };
+        if !wanted.is_empty() {
+            lines.extend_from_slice(wanted)?;
+            lines.push(b'\n')?;
+        }
+        self.lines = Some(lines);
+        Ok(())
+    }
+}
+
+/// The line of a trace that this line of a script expects, if it expects one.
+fn wanted_line(line: &[u8]) -> Option<&[u8]> {
+    let wanted = line.trim_ascii().strip_prefix(MARK)?;
+    Some(wanted.trim_ascii())
+}
+
+/// What a text has in front of these words and a number, which end it, and the number.
+fn split_number<'t>(text: &'t [u8], words: &[u8]) -> Option<(&'t [u8], u8)> {
+    let digits = text
+        .iter()
+        .rev()
+        .take_while(|byte| byte.is_ascii_digit())
+        .count();
+    let at = text.len().checked_sub(digits)?;
+    let number = str::from_utf8(text.get(at..)?).ok()?.parse::<u8>().ok()?;
+    let event = text.get(..at)?.trim_ascii_end().strip_suffix(words)?;
+    Some((event.trim_ascii_end(), number))
+}
+
+/// Whether there is more in a line than blanks and a comment.
+fn has_event(alloc: Global, line: &[u8]) -> Result<bool, AllocError> {
+    match tokens(alloc, line) {
+        Ok(tokens) => Ok(!tokens.is_empty()),
+        Err(LexFault::BadByte) => Ok(true),
+        Err(LexFault::Memory) => Err(AllocError),
+    }
+}

@@ -1,0 +1,16 @@
+//! Scripts as tests: what the comments of a script expect of its events, and whether the trace of a run has it.
+#![tactic(auto)]
+
+mod difference;
+mod expected;
+mod finding;
+mod happened;
+mod judging;
+mod telling;
+
+pub use difference::{Difference, first_difference};
+pub use expected::{Answer, ExpectationFault, Expected, expectations};
+pub use finding::{Finding, find, went_as_expected};
+pub use happened::{Happened, split_event};
+pub use judging::{Test, judge};
+pub use telling::{Form, report};

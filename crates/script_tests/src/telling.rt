@@ -1,0 +1,153 @@
+//! What is said of the events of a script that was run as a test.
+
+use crate::difference::Difference;
+use crate::expected::Answer;
+use crate::finding::{Finding, find};
+use crate::judging::Test;
+use std::alloc::{AllocError, Global};
+use std::str;
+
+/// How it is said.
+#[derive(Clone, Copy, Debug, PartialEq, Eq)]
+pub enum Form {
+    /// The events that went otherwise than is expected, and how many there are.
+    Plain,
+    /// Each event, in the Test Anything Protocol, version 13.
+    Tap,
+}
+
+/// What is said of the events, in whole lines, and how many of them went otherwise than is expected.
+pub fn report(
+    alloc: Global,
+    tests: &[Test<'_>],
+    form: Form,
+) -> Result<(String, usize), AllocError> {
+    let mut text = String::new(alloc);
+    let count = tests.len();
+    if form == Form::Tap {
+        write!(text, "TAP version 13\n1..{count}\n")?;
+    }
+    let mut failed = 0usize;
+    for (place, test) in tests.iter().enumerate() {
+        let finding = find(&test.expected, test.happened);
+        let is_as_expected = matches!(finding, Finding::AsExpected);
+        if !is_as_expected {
+            failed = failed.saturating_add(1);
+        }
+        match form {
+            Form::Tap => push_tap(&mut text, place.saturating_add(1), test, finding)?,
+            Form::Plain if is_as_expected => {}
+            Form::Plain => push_plain(&mut text, test, finding)?,
+        }
+    }
+    if form == Form::Plain {
+        match failed {
+            0 => write!(text, "{count} events, each as expected\n")?,
+            _ => write!(text, "{count} events, {failed} not as expected\n")?,
+        }
+    }
+    Ok((text, failed))
+}
+
+/// Adds how an event went.
+fn push_plain(text: &mut String, test: &Test<'_>, finding: Finding<'_>) -> Result<(), AllocError> {
+    let line = test.expected.line;
+    write!(text, "line {line} of the script, `")?;
+    push_bytes(text, test.expected.event)?;
+    text.push_str("`: ")?;
+    push_finding(text, test, finding)?;
+    text.push_str("\n")
+}
+
+/// Adds an event's line, and below it as a comment how it went otherwise.
+fn push_tap(
+    text: &mut String,
+    number: usize,
+    test: &Test<'_>,
+    finding: Finding<'_>,
+) -> Result<(), AllocError> {
+    let is_as_expected = matches!(finding, Finding::AsExpected);
+    text.push_str(if is_as_expected { "ok" } else { "not ok" })?;
+    let line = test.expected.line;
+    write!(text, " {number} - line {line}: ")?;
+    push_escaped(text, test.expected.event)?;
+    text.push_str("\n")?;
+    if !is_as_expected {
+        text.push_str("# ")?;
+        push_finding(text, test, finding)?;
+        text.push_str("\n")?;
+    }
+    Ok(())
+}
+
+/// Adds how an event went otherwise than is expected.
+fn push_finding(
+    text: &mut String,
+    test: &Test<'_>,
+    finding: Finding<'_>,
+) -> Result<(), AllocError> {
+    match finding {
+        Finding::AsExpected => text.push_str("as expected"),
+        Finding::Answered(answer) => {
+            push_answer(text, answer)?;
+            text.push_str(", and is expected to be ")?;
+            push_answer(text, test.expected.answer)
+        }
+        Finding::NotRun => text.push_str("not run, as the run ended before"),
+        Finding::Wrote(difference) => push_difference(text, difference),
+        Finding::Stopped(number) => write!(text, "the run stopped with fault {number}"),
+        Finding::WentOn => text.push_str("the run went on, and is expected to stop"),
+    }
+}
+
+fn push_answer(text: &mut String, answer: Answer) -> Result<(), AllocError> {
+    match answer {
+        Answer::Accepted => text.push_str("accepted"),
+        Answer::Refused(number) => write!(text, "refused with {number}"),
+    }
+}
+
+/// Adds the first line that the run wrote otherwise.
+fn push_difference(text: &mut String, difference: Difference<'_>) -> Result<(), AllocError> {
+    let Difference {
+        line,
+        wanted,
+        found,
+    } = difference;
+    write!(text, "its line {line} is ")?;
+    push_line(text, found)?;
+    text.push_str(", and is expected to be ")?;
+    push_line(text, wanted)
+}
+
+/// Adds a line of a trace, or that there is none.
+fn push_line(text: &mut String, line: &[u8]) -> Result<(), AllocError> {
+    if line.is_empty() {
+        return text.push_str("none");
+    }
+    text.push_str("`")?;
+    push_bytes(text, line.strip_suffix(b"\n".as_slice()).unwrap_or(line))?;
+    text.push_str("`")
+}
+
+/// Adds bytes that are text, or that they are none.
+fn push_bytes(text: &mut String, bytes: &[u8]) -> Result<(), AllocError> {
+    match str::from_utf8(bytes) {
+        Ok(found) => text.push_str(found),
+        Err(_) => text.push_str("(no text)"),
+    }
+}
+
+/// Adds bytes with a backslash before each `#` and each backslash, which mean something in a line of the protocol.
+fn push_escaped(text: &mut String, bytes: &[u8]) -> Result<(), AllocError> {
+    let Ok(found) = str::from_utf8(bytes) else {
+        return push_bytes(text, bytes);
+    };
+    for letter in found.chars() {
+        if letter == '#' || letter == '\\' {
+            text.push('\\')?;
+        }
+        text.push(letter)?;
+    }
+    Ok(())
+}
