@@ -13,8 +13,11 @@ Of the examples, and of the first cases of each topic of `runs` and `commands`, 
 and of the others 400 that are spread over them. Of each other run of the case files 30 are refused and, where it runs a
 script, each from the last request down to the first that is made outside the machine.
 
-Usage: tests/memory/sweep.py [--all-after] [PROGRAM..]   (default: both builds of crates/gammonfig)
---all-after refuses not the nth request alone but all from it on. The last line is `N passed, M failed`."""
+Then each call that can want memory is made by itself (`calls.py`), by the programs `memory_calls` and `memory_runs`.
+
+Usage: tests/memory/sweep.py [--calls] [--all-after] [PROGRAM..]   (default: both builds of crates/gammonfig)
+--calls makes the calls alone. --all-after refuses not the nth request alone but all from it on, and makes no calls, nor are
+they made where programs are given. The last line is `N passed, M failed`."""
 import os
 import re
 import subprocess
@@ -25,13 +28,13 @@ sys.dont_write_bytecode = True
 sys.path.insert(0, os.path.dirname(os.path.dirname(os.path.abspath(__file__))))
 import built
 import case_files
+from calls import RefusedCalls, calls
+from fronts import rule_ends
 
 EVERY, SPREAD = 1500, 400
 # How many of a topic's cases are as examples: its first ones, which are the plain ones.
 WHOLE_CASES = {"runs": 4, "commands": 2}
 OF_CASE, MOST_OF_CASE = 30, 400
-# What an event of the script writes in its own rule, behind its own line.
-PUSHES = {b"emit": rb"1 emit ", b"call": rb"1 call ", b"set": rb"1 set ", b"bind": rb"1 bind ", b"later": rb"0 post "}
 # The answers that are wanted.
 AMPLE, FAULT, LINES, MEMORY = "the ample output", "whole rules, then `fault 65`", "whole lines, then `memory`", "`memory`"
 
@@ -52,27 +55,14 @@ class Row:
         return set(rule_ends(lines[:-1] if self.ample.status == 4 else lines, built.texts(self.text)[-1]))
 
 
-def rule_ends(trace, script):
-    """What a run has written at the end of each rule, from its trace's lines. A rule's lines are appended together: an event
-    with what it begins, a write or a bind with what follows it, a death with the emission of `destroyed`."""
-    verbs = event_verbs(script)
-    written, push, last = b"", None, b""
-    for line in trace:
-        goes_on = re.match(rb"\d+ follow ", line) or (push and re.match(push, line)) or (
-            re.match(rb"\d+ dead ", last) and re.match(rb"\d+ emit \w+\.destroyed\(null\)", line)
-        )
-        if not goes_on:
-            yield written
-        event = re.fullmatch(rb"event (\d+)\n", line)
-        push = PUSHES.get(verbs[int(event[1]) - 1]) if event else None
-        written, last = written + line, line
-    yield written
+class Sweep:
+    """Tries runs, each with a program, and calls."""
 
+    def __init__(self, refusals, refused_calls):
+        self.refusals, self.refused_calls = refusals, refused_calls
 
-def event_verbs(script):
-    """The first word of each event of a script."""
-    lines = (line.split(b"//")[0].split() for line in script.split(b"\n"))
-    return [words[0] for words in lines if words]
+    def __call__(self, item, count):
+        (self.refusals if isinstance(item[1], Row) else self.refused_calls)(item, count)
 
 
 class Refusals:
@@ -154,6 +144,17 @@ def example_rows():
             yield Row(f"{name}: check", ["check"], program + b"%%\n" + certificate, b"yes\n", 0)
     yield Row("a base that isn't there: meta", ["meta"], b"class A { } class B : C { }", b"refused 11\n", 2)
     yield Row("no command", ["go"], b"", b"usage\n", 1)
+    yield deep_row()
+
+
+def deep_row():
+    """The run that was measured to need most of the host's stack: a slot that calls itself within nested blocks. It asks for
+    memory at each depth. A stack that can't grow isn't want of memory, and `built.STACK` is enough for it."""
+    body = b"if (true) { " * 29 + b"call this.f(); " + b"} " * 29
+    text = b"class A { slot f() { %s } }\n%%%%\nnew a A\ncall a.f()\n" % body
+    calls_of_f = b"".join(b"%d call a.f()\n" % depth for depth in range(1, 257))
+    output = b"event 1\nevent 2\n" + calls_of_f + b"fault 61\n"
+    return Row("as deep as may be: run --unchecked", ["run", "--unchecked", "256"], text, output, 4)
 
 
 def rows(program):
@@ -166,21 +167,31 @@ def rows(program):
         yield Row(run.name, run.words, run.text, run.output, run.status, is_whole, run.environment)
 
 
+def compiled(room):
+    """What is preloaded, compiled into this folder."""
+    library = f"{room}/refuse.so"
+    source = os.path.join(os.path.dirname(os.path.abspath(__file__)), "refuse.c")
+    words = [os.environ.get("CC") or "cc", "-O2", "-shared", "-fPIC", "-o", library, source, "-ldl"]
+    try:
+        is_compiled = subprocess.run(words).returncode == 0
+    except OSError as fault:
+        sys.exit(f"the sweep needs a C compiler, and `{words[0]}` doesn't start: {fault.strerror}")
+    if not is_compiled:
+        sys.exit(f"`{words[0]}` doesn't compile tests/memory/refuse.c")
+    return library
+
+
 def main():
     given = sys.argv[1:]
     more = "+" if "--all-after" in given else ""
-    programs = built.builds([it for it in given if it != "--all-after"])
+    named = [it for it in given if it not in ("--all-after", "--calls")]
+    items = [] if more or named else list(calls())
+    if "--calls" not in given:
+        programs = built.builds(named)
+        items += [(program, row) for row in rows(programs[0]) for program in programs]
     with tempfile.TemporaryDirectory() as room:
-        library = f"{room}/refuse.so"
-        source = os.path.join(os.path.dirname(os.path.abspath(__file__)), "refuse.c")
-        words = [os.environ.get("CC") or "cc", "-O2", "-shared", "-fPIC", "-o", library, source, "-ldl"]
-        try:
-            compiled = subprocess.run(words).returncode == 0
-        except OSError as fault:
-            sys.exit(f"the sweep needs a C compiler, and `{words[0]}` doesn't start: {fault.strerror}")
-        if not compiled:
-            sys.exit(f"`{words[0]}` doesn't compile tests/memory/refuse.c")
-        built.spread(Refusals(library, more), [(program, row) for row in rows(programs[0]) for program in programs]).end()
+        library = compiled(room)
+        built.spread(Sweep(Refusals(library, more), RefusedCalls(library)), items).end()
 
 
 if __name__ == "__main__":

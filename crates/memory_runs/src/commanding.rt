@@ -1,0 +1,79 @@
+//! The commands.
+
+use memory_trials::{Answer, CERTIFICATE, SCRIPT, SOURCE, Told};
+use native_slots::Natives;
+use std::alloc::Global;
+use trace_tool::{WriteFault, certify, check, command, meta, run, run_unchecked};
+
+/// A counter that is wired to itself.
+pub const COUNTER: &str =
+    "class Counter { property int value notify valueChanged(int); signal valueChanged(int); slot setValue(int v) { set this.value = v; } } wire Counter valueChanged(int) -> Counter setValue(int) direct;";
+
+/// Two counters that follow one another.
+const COUNTING: &str =
+    "new a Counter\nnew b Counter\nconnect a valueChanged(int) b setValue(int) direct\nconnect b valueChanged(int) a setValue(int) direct\nset a.value 5\n";
+
+/// How many rules a run uses at most.
+const STEPS: u64 = 1_000_000;
+
+/// How a command ended.
+fn ended(status: Result<u8, WriteFault>) -> Answer {
+    match status {
+        Ok(status) => Answer::Ended(status),
+        Err(_) => Answer::Other,
+    }
+}
+
+/// `meta`.
+pub fn described(alloc: Global, told: &mut Told) -> Answer {
+    ended(meta(alloc, SOURCE.as_bytes(), &mut told.text))
+}
+
+/// `certify` of no program at all.
+pub fn certified(alloc: Global, told: &mut Told) -> Answer {
+    ended(certify(alloc, b"", &mut told.text))
+}
+
+/// `check`, the command.
+pub fn judged(alloc: Global, told: &mut Told) -> Answer {
+    ended(check(
+        alloc,
+        SOURCE.as_bytes(),
+        CERTIFICATE.as_bytes(),
+        &mut told.text,
+    ))
+}
+
+/// `run`.
+pub fn checked_run(alloc: Global, told: &mut Told) -> Answer {
+    ended(run(
+        alloc,
+        SOURCE.as_bytes(),
+        CERTIFICATE.as_bytes(),
+        SCRIPT.as_bytes(),
+        Natives::of(Vec::new(alloc)),
+        STEPS,
+        &mut told.text,
+    ))
+}
+
+/// `run_unchecked`.
+pub fn unchecked_run(alloc: Global, told: &mut Told) -> Answer {
+    ended(run_unchecked(
+        alloc,
+        COUNTER.as_bytes(),
+        COUNTING.as_bytes(),
+        Natives::of(Vec::new(alloc)),
+        7,
+        STEPS,
+        &mut told.text,
+    ))
+}
+
+/// `command`.
+pub fn command_line(alloc: Global, told: &mut Told) -> Option<Answer> {
+    let input = format!(in alloc; "{SOURCE}%%\n{CERTIFICATE}%%\n{SCRIPT}").ok()?;
+    let mut reader = input.as_bytes();
+    let natives = Natives::of(Vec::new(alloc));
+    Some(ended(command(alloc, &["run"], &mut reader, natives, &mut told.text)))
+}

@@ -1,0 +1,43 @@
+/// How a call was answered.
+#[derive(Clone, Copy)]
+pub enum Answer {
+    /// It did what it is for, and what it answered is told.
+    Ample,
+    /// A command ended with this exit status, and what it wrote is told.
+    Ended(u8),
+    /// There was no memory.
+    Memory,
+    /// There was no memory, and what was lent to the call is as before or isn't. Made again it did what it is for.
+    Again { is_as_before: bool },
+    /// A machine stopped for want of memory, and its trace is told. It answers the next event as one that has stopped, and
+    /// leaves its trace, or it doesn't.
+    Stopped { stays: bool },
+    /// The call was made, and there was no memory to tell what it answered.
+    Untold,
+    /// Another answer.
+    Other,
+}
+
+impl Answer {
+    /// What a call comes to that had no memory, where it was made again with this answer.
+    pub fn again(self, is_as_before: bool) -> Answer {
+        match self {
+            Answer::Ample => Answer::Again { is_as_before },
+            _ => Answer::Other,
+        }
+    }
+}
+
+/// Makes a call again if there was no memory, once it was looked whether all that is lent to it is as before.
+#[macro_export]
+macro_rules! once_or_twice {
+    ($call:expr, $is_as_before:expr) => {
+        match $call {
+            Answer::Memory => {
+                let is_as_before = $is_as_before;
+                $call.again(is_as_before)
+            }
+            answer => answer,
+        }
+    };
+}
