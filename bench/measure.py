@@ -53,6 +53,18 @@ def emissions(slots, count):
     return joined(program, objects + [f"emit a.s({i})" for i in range(count)])
 
 
+def group(sets):
+    """A group of so many sets, each of a property of its own: an object has 30 of them, and two steps lead to it."""
+    leaves = range((sets + 29) // 30)
+    leaf = "class Leaf { " + " ".join(f"property int p{i};" for i in range(30)) + " }"
+    middle = "class Mid { " + " ".join(f"property Leaf* b{i};" for i in range(30)) + " }"
+    root = "class Root { " + " ".join(f"property Mid* a{i};" for i in range(30))
+    written = " ".join(f"set this.a{i // 900}.b{i // 30 % 30}.p{i % 30} = 1;" for i in range(sets))
+    script = ["new r Root"] + [f"new m{i} Mid\nset r.a{i} m{i}" for i in range((len(leaves) + 29) // 30)]
+    script += [f"new l{i} Leaf\nset m{i // 30}.b{i % 30} l{i}" for i in leaves]
+    return joined(f"{leaf} {middle} {root} slot f() {{ group {{ {written} }} }} }}", script + ["call r.f()"])
+
+
 ROWS = {
     "followed": lambda: joined(FOLLOWED, followers(1000) + [f"set x.x {i + 1}" for i in range(1000)]),
     "unrelated": lambda: joined(FOLLOWED, followers(1000) + [f"set q.q {i + 1}" for i in range(20000)]),
@@ -63,6 +75,7 @@ ROWS = {
     "created-and-deleted": lambda: joined("class A { }", [f"new {name(i)} A\ndelete {name(i)}" for i in range(45000)]),
     "created": lambda: joined("class A { }", [f"new {name(i)} A\nblock {name(i)}" for i in range(45000)]),
     "emissions": lambda: emissions(100, 10000),
+    "group": lambda: group(26000),
 }
 
 
