@@ -8,6 +8,7 @@ mod line;
 mod meta_line;
 mod node_line;
 mod output;
+mod pending;
 
 pub use fault::WriteFault;
 pub use output::Output;

@@ -199,6 +199,7 @@ impl<W: Write> Output<'_, W> {
     }
 
     /// Adds a property and its new value, after a word that says how it came by it.
+    #[inline(always)]
     fn changed(&mut self, word: &[u8], object: &Name, property: &Name, value: &Shown)
         ensures { Puts W.contents self.old self.new (property_text word.now object.now property.now value.now) }
     {
@@ -260,10 +261,21 @@ impl<W: Write> Output<'_, W> {
     fn at_depth(&mut self, depth: usize, entry_kind: &EntryKind)
         ensures { Puts W.contents self.old self.new (depth_line depth entry_kind.now) }
     {
-        self.number(depth);
+        self.depth(depth);
         self.put(b" ");
         self.entry_kind(entry_kind);
         self.put(b"\n");
+    }
+
+    /// Adds a depth in decimal digits. Each line has one, and most have one digit.
+    fn depth(&mut self, depth: usize)
+        ensures { Puts W.contents self.old self.new (decimal depth) }
+    {
+        if depth < 10 {
+            self.put(&[b'0' + depth as u8]);
+        } else {
+            self.number(depth);
+        }
     }
 
     /// Adds that a statement is refused.

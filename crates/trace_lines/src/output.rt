@@ -4,16 +4,14 @@ ghost use Rattle.std.specs.Io.KnownBytes.{WriteAppends};
 ghost use Rattle.trace_lines.specs.Sent.{Puts, Ends, IsBegun, Takes};
 
 use crate::fault::WriteFault;
+use crate::pending::Pending;
 use std::alloc::Global;
 use std::io;
 use std::io::{ErrorKind, Write};
 
-/// So many bytes are worth a write.
-const CHUNK: usize = 65536;
-
 /// What is put into it goes to a writer in this order, and is kept back until it is worth a write. Without memory for it
 /// it is written at once. Where a write fails nothing is written after that, and `finish` answers the fault.
-pub struct Output<'w, W, B = Vec<u8>> {
+pub struct Output<'w, W, B = Pending> {
     writer: &'w mut W,
     pending: B,
     fault: Option<WriteFault>,
@@ -40,30 +38,18 @@ impl<'w, W: Write> Output<'w, W> {
     {
         Output {
             writer,
-            pending: Vec::new(alloc),
+            pending: Pending::new(alloc),
             fault: None,
         }
     }
 
     /// Adds bytes to the output.
-    #[inline]
+    #[inline(always)]
     pub fn put(&mut self, bytes: &[u8])
         ensures { Puts W.contents self.old self.new bytes.now }
     {
-        if self.fault.is_some() {
-            return;
-        }
-        if bytes.len() >= CHUNK {
+        if !self.pending.add(bytes) {
             self.pass_on(bytes);
-            return;
-        }
-        match self.pending.extend_from_slice(bytes) {
-            Ok(()) => {
-                if self.pending.len() >= CHUNK {
-                    self.send();
-                }
-            }
-            Err(_) => self.pass_on(bytes),
         }
     }
 
@@ -78,20 +64,22 @@ impl<'w, W: Write> Output<'w, W> {
         }
     }
 
-    /// Writes all that is pending, and then these bytes.
+    /// Writes all that is pending, which makes room for these bytes; where they are too many they are written too.
+    #[cold]
     #[inline(never)]
     fn pass_on(&mut self, bytes: &[u8])
         ensures { Puts W.contents self.old self.new bytes.now }
     {
         self.send();
-        self.write(bytes);
+        if !self.pending.add(bytes) {
+            self.write(bytes);
+        }
     }
 
     /// Writes all that is pending.
-    #[inline(never)]
     fn send(&mut self)
         ensures puts { Puts W.contents self.old self.new [] }
-        ensures empty { self.new.pending.items ≡ [] }
+        ensures empty { self.new.pending ≡ [] }
     {
         if self.fault.is_none() {
             self.fault = write_out(self.writer, self.pending.as_slice()).err();
@@ -101,7 +89,7 @@ impl<'w, W: Write> Output<'w, W> {
 
     /// Writes these bytes, where nothing is pending.
     fn write(&mut self, bytes: &[u8])
-        requires { self.old.pending.items ≡ [] }
+        requires { self.old.pending ≡ [] }
         ensures { Puts W.contents self.old self.new bytes.now }
     {
         if self.fault.is_none() {
