@@ -53,6 +53,19 @@ def emissions(slots, count):
     return joined(program, objects + [f"emit a.s({i})" for i in range(count)])
 
 
+def posts(loops, count):
+    """So many emissions, each posted to every one of the event loops; after each thousand every loop has a turn."""
+    program = "class A { signal s(int); } class B { property int n; slot f(int v) { set this.n = v; } } wire A s(int) -> B f(int) queued;"
+    script = ["new a A"]
+    for i in range(loops):
+        script += [f"loop l{i}", f"new b{i} B l{i}", f"connect a s(int) b{i} f(int) queued"]
+    for i in range(count):
+        script.append(f"emit a.s({i % 10})")
+        if (i + 1) % 1000 == 0 or i + 1 == count:
+            script += [f"turn l{loop}" for loop in range(loops)]
+    return joined(program, script)
+
+
 def group(sets):
     """A group of so many sets, each of a property of its own: an object has 30 of them, and two steps lead to it."""
     leaves = range((sets + 29) // 30)
@@ -75,6 +88,7 @@ ROWS = {
     "created-and-deleted": lambda: joined("class A { }", [f"new {name(i)} A\ndelete {name(i)}" for i in range(45000)]),
     "created": lambda: joined("class A { }", [f"new {name(i)} A\nblock {name(i)}" for i in range(45000)]),
     "emissions": lambda: emissions(100, 10000),
+    "posts": lambda: posts(16, 62500),
     "group": lambda: group(26000),
 }
 
