@@ -2,6 +2,7 @@ mod Accepted
 pub mod Answering
 pub mod Inputs
 mod Lines
-mod OneRun
+mod OneCommand
+pub mod OneRun
 pub mod Partings
 pub mod Saying

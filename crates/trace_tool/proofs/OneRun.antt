@@ -1,5 +1,5 @@
 -- For natives with one answer a run is one; and a run that stopped is a front of the whole one.
-use Rattle.std.proofs.Common.{◌≡◌, ◌⊎◌, inl, inr, ℕ, true, false, List, [], ◌∷◌, ◌++◌, length, Result, Ok, Err, refl, sym, ap, ◌∙◌, subst, append_assoc, append-nil, arith}
+use Rattle.std.proofs.Common.{◌≡◌, ◌≢◌, ◌⊎◌, inl, inr, ℕ, true, false, List, [], ◌∷◌, ◌++◌, length, Result, Ok, Err, refl, sym, ap, ◌∙◌, subst, append_assoc, append-nil, arith}
 use Rattle.std.proofs.lemmas.List.{length-append}
 use Rattle.certificate_lang.specs.declared.certificate.Certificate.{Certificate}
 use Rattle.meta_model.specs.Loaded.{Loaded}
@@ -10,26 +10,71 @@ use Rattle.rank_check.specs.Checks.{Checking}
 use Rattle.script_lang.specs.declared.event.Event.{Event}
 use Rattle.machine_state.specs.declared.fault.Answer.{Answer}
 use Rattle.machine_state.specs.declared.fault.Fault.{Fault}
+use Rattle.machine_state.specs.declared.fault.Fault.TheVariants.{Steps}
 use Rattle.machine_state.specs.State.{State, Activation, IsIdle}
 use Rattle.machine_state.specs.Worlds.{at, untouched}
 use Rattle.machine_rules.specs.Natives.{NativeAnswers, AnswersOnce}
 use Rattle.machine_rules.specs.code.Keeps.{Grows}
+use Rattle.machine_events.specs.Causes.{Brings, StopsFor, spent, short as of_memory, brings, lacks_value, writes_ill, binds_ill, goes_ill, goes_fatal, binds_loop, writes_deep, goes_deep}
 use Rattle.machine_events.specs.Laws.{AnswersAre, IsFront}
-use Rattle.machine_events.specs.Runs.{Run, done, goes, takes, RunsWhole, RunsFront}
+use Rattle.machine_events.specs.Runs.{Run, done, goes, takes, RunsWhole, RunsFront, IsDue, goes_on as is_under_way, is_next}
 use Rattle.machine_events.proofs.OneRun.{no-rule, one_run, one_front, one_front_of_answers}
 use Rattle.checked_runs.proofs.Kept.{start-invariant}
 use Rattle.qt_runtime.specs.Seen.{Seen, RunsAll, Halts, begun}
 use Rattle.program_commands.specs.declared.refusal.Refusal.{Refusal}
 use Rattle.program_commands.specs.Loading.{LoadsCertified}
 use Rattle.program_commands.specs.Steps.{First, fails, goes_on}
-use Rattle.program_commands.proofs.Once.{both_fail, one_fails, same_found, IsShortResult, never_short, loaded_sound}
+use Rattle.program_commands.proofs.Once.{OneOf, both_fail, one_fails, same_found, IsShortResult, never_short, loaded_sound}
 use Rattle.program_commands.proofs.Stepping.{went}
 use Rattle.trace_tool.specs.declared.outcome.Outcome.{Outcome}
 use Rattle.trace_tool.specs.declared.outcome.Ran.{Ran}
-use Rattle.trace_tool.specs.Commands.{Accepting, MayRun, Runs, RunsFaultless, ran, short, ran_faultless, short_of_memory, refused}
+use Rattle.trace_tool.specs.Commands.{Accepting, MayRun, Runs, RunsFaultless, ran, short, ran_faultless, short_of_memory}
 use Rattle.trace_tool.specs.Laws.{AreOneRun, IsSameOutcome, OneRunOutcome, OneUncheckedOutcome, StoppedIsFront}
 use Rattle.trace_tool.specs.Outcomes.{IsShort}
 use Rattle.trace_tool.proofs.Accepted.{accepting_once, may_run_once, short_refused}
+
+-- ---- where a run ends for good
+
+nothing-more : {X : Type 0} (xs more rest : List X) → xs ≡ (xs ++ more) ++ rest → (more ≡ []) × (rest ≡ [])
+nothing-more [] [] rest e = (refl, sym e)
+nothing-more [] (m ∷ more) rest e = absurd (cc e)
+nothing-more (x ∷ xs) more rest e = nothing-more xs more rest (cc e)
+
+same-back : {X : Type 0} (xs more rest : List X) → xs ++ more ≡ xs ++ rest → more ≡ rest
+same-back [] more rest e = e
+same-back (x ∷ xs) more rest e = same-back xs more rest (cc e)
+
+-- nothing leads on from where nothing is going on and no event is left
+stays-there : {p : Loaded} {natives : NativeAnswers} {u t : State} {k j : ℕ} {es : List Event} {xs : List Answer} → es ≡ [] → IsIdle u → Run p natives u k es xs t j → u ≡ t
+stays-there none idle done = refl
+stays-there {p} {natives} {u} none idle (goes {m = m} r rest) = absurd (no-rule p natives u m idle r)
+stays-there none idle (takes r rest) = absurd (cc none)
+
+-- .. nor without a rule
+none-left : {p : Loaded} {natives : NativeAnswers} {u t : State} {k j : ℕ} {es : List Event} {xs : List Answer} → k ≡ 0 → Run p natives u k es xs t j → (u ≡ t) × (es ≡ [])
+none-left none done = (refl, refl)
+none-left none (goes r rest) = absurd (cc none)
+none-left none (takes r rest) = absurd (cc none)
+
+nothing-due : {s : State} {es : List Event} → IsIdle s → es ≡ [] → IsDue s es → ⊥
+nothing-due idle none (is_under_way busy) = busy idle
+nothing-due idle none (is_next here) = absurd (cc none)
+
+-- the limit of rules stops a run only where none is left
+brings-other : {p : Loaded} {natives : NativeAnswers} {d : ℕ} {s : State} {es : List Event} {f : Fault} → f ≡ Steps → Brings p natives d s es f → ⊥
+brings-other e (lacks_value x) = cc e
+brings-other e (writes_ill x) = cc e
+brings-other e (binds_ill x) = cc e
+brings-other e (goes_ill x) = cc e
+brings-other e (goes_fatal x) = cc e
+brings-other e (binds_loop x) = cc e
+brings-other e (writes_deep x) = cc e
+brings-other e (goes_deep x) = cc e
+
+stops-spent : {p : Loaded} {natives : NativeAnswers} {d : ℕ} {s : State} {n : ℕ} {es : List Event} {f : Fault} → f ≡ Steps → StopsFor p natives d s n es f → (n ≡ 0) × IsDue s es
+stops-spent e (spent none due) = (none, due)
+stops-spent e (of_memory some due) = absurd (cc e)
+stops-spent e (brings some x) = absurd (brings-other e x)
 
 module _ {N : Type 0} (gives : N → NativeAnswers) (p : Loaded) (natives : N) (depth steps : ℕ) (events : List Event) where
   -- ---- a run took a front of its events
@@ -70,11 +115,66 @@ module _ {N : Type 0} (gives : N → NativeAnswers) (p : Loaded) (natives : N) (
           | inr leads ↦ inr leads.grows
         ]
 
+    -- where one run took all events, the rules are enough for the other
+    enough-of : (a : Seen N) {b : Seen N} {answers : List Answer} {f : Fault} → RunsWhole p (gives natives) depth (at (untouched steps) []) steps events answers (at a.world []) a.world.left →
+        Halts gives (begun p natives depth steps) events f b → f ≡ Steps → ⊥
+    enough-of a {b} {answers} whole halts e =
+        let agree = (start-invariant p steps).sound.agree in
+        let way = halts.way in
+        let last : State = at b.world way.stack in
+        let cause = stops-spent e way.cause in
+        let all : RunsFront p (gives natives) depth (at (untouched steps) []) steps events (at a.world []) a.world.left =
+        record { taken = events; rest = []; split = sym (append-nil events); answers = answers; runs = whole.runs } in
+        elim (one_front (gives natives) once p depth (at (untouched steps) []) steps events (at a.world []) last a.world.left b.world.left is_sound agree all way.front) [
+          | inl leads ↦
+              let split : events ≡ (events ++ leads.more) ++ way.front.rest = way.front.split ∙ ap (λ (l : List Event). l ++ way.front.rest) leads.taken in
+              let none = nothing-more events leads.more way.front.rest split in
+              nothing-due (subst IsIdle (stays-there none.0 whole.ends leads.runs.run) whole.ends) none.1 cause.1
+          | inr leads ↦
+              let stopped = none-left cause.0 leads.runs.run in
+              let back : way.front.rest ≡ leads.more = same-back way.front.taken way.front.rest leads.more (sym way.front.split ∙ leads.taken) in
+              nothing-due (subst IsIdle (sym stopped.0) whole.ends) (back ∙ stopped.1) cause.1
+        ]
+
+    enough : (r s : Result (Unit {0}) Fault) (a b : Seen N) → RunsAll gives (begun p natives depth steps) events r a → RunsAll gives (begun p natives depth steps) events s b →
+        r ≡ Ok tt → s ≢ Err Steps
+    enough (Ok _) (Ok _) a b x y is also = cc also
+    enough (Ok _) (Err f) a b x y is also = elim y [
+      | inl halts ↦ enough-of a x.1.whole halts (cc also)
+      | inr stays ↦ (let no : false ≡ true = stays.stopped in cc no)
+    ]
+    enough (Err f) s a b x y is also = cc is
+
     pub one_of_runs : (x y : Ran N) → RunsAll gives (begun p natives depth steps) events x.ended x.machine → RunsAll gives (begun p natives depth steps) events y.ended y.machine → AreOneRun x y
     one_of_runs x y a b = record {
       whole = same_trace x.ended y.ended x.machine y.machine a b;
       front = one_front_of (took x.ended x.machine a) (took y.ended y.machine b);
+      enough = enough x.ended y.ended x.machine y.machine a b;
+      enough_too = enough y.ended x.ended y.machine x.machine b a;
     }
+
+-- ---- steps one after another
+
+-- any two are the same in this sense, or one is short of memory
+abbrev pub OneAs : {R : Type 0} → (R → Type 0) → (R → R → Type 0) → (R → Type 0) → Type 0
+OneAs {R} Short Same Holds = (a b : R) → Holds a → Holds b → Short a ⊎ Short b ⊎ Same a b
+
+module _ {X F R : Type 0} {Finds : Result X F → Type 0} {fault_of : F → R} (StepShort : Result X F → Type 0) (Short : R → Type 0) (Same : R → R → Type 0)
+    (one : OneOf StepShort Finds) (short : (fault : F) → StepShort (Err fault) → Short (fault_of fault)) (never : (x : X) → StepShort (Ok x) → ⊥)
+    (same : (fault : F) → Same (fault_of fault) (fault_of fault)) {Next : X → R → Type 0} where
+  pub same_first : ((x : X) → Finds (Ok x) → OneAs Short Same (Next x)) → OneAs Short Same (First Finds fault_of Next)
+  same_first next a b (fails f h) (fails g k) = elim (both_fail {fault_of = fault_of} StepShort Short one short never f g h k) [
+    | inl s ↦ inl s
+    | inr rest ↦ elim rest [
+      | inl s ↦ inr (inl s)
+      | inr e ↦ inr (inr (subst (λ (r : R). Same (fault_of f) r) e (same f)))
+    ]
+  ]
+  same_first next a b (fails f h) (goes_on y end k more) = inl (one_fails {fault_of = fault_of} StepShort Short one short never f y h k)
+  same_first next a b (goes_on x end h more) (fails g k) = inr (inl (one_fails {fault_of = fault_of} StepShort Short one short never g x k h))
+  same_first next a b (goes_on x end h more) (goes_on y other k still) =
+      let found = same_found {fault_of = fault_of} StepShort Short one short never x y h k in
+      next y k end other (subst (λ (z : X). Next z end) found more) still
 
 -- ---- what is accepted is sound
 
@@ -118,43 +218,20 @@ one_unchecked gives p natives depth steps events is_sound once (ran x all) short
 one_unchecked gives p natives depth steps events is_sound once short y = inl (record { line = refl; status_is = refl })
 
 pub one_run_outcome : {N : Type 0} (gives : N → NativeAnswers) → OneRunOutcome gives
-one_run_outcome {N} gives heads natives program certificate script steps a b once (fails f h) (fails g k) =
-    both_fail IsShortResult IsShort (accepting_once heads program certificate script) short_refused never_short f g h k
-one_run_outcome {N} gives heads natives program certificate script steps a b once (fails f h) (goes_on y end k more) =
-    inl (one_fails IsShortResult IsShort (accepting_once heads program certificate script) short_refused never_short f y h k)
-one_run_outcome {N} gives heads natives program certificate script steps a b once (goes_on x end h more) (fails g k) =
-    inr (inl (one_fails IsShortResult IsShort (accepting_once heads program certificate script) short_refused never_short g x k h))
-one_run_outcome {N} gives heads natives program certificate script steps a b once (goes_on x end h more) (goes_on y other k still) =
-    let same = same_found {fault_of = refused {N = N}} IsShortResult IsShort (accepting_once heads program certificate script) short_refused never_short x y h k in
-    let Goes : Checking × List Event → Type 0 = λ z. RunsFaultless gives (begun z.0.program natives z.0.certificate.bound steps) z.1 end in
-    one_faultless gives y.0.program natives y.0.certificate.bound steps y.1 (accepted_sound k) once (subst Goes same more) still
+one_run_outcome gives heads natives program certificate script steps a b once =
+    same_first IsShortResult IsShort IsSameOutcome (accepting_once heads program certificate script) short_refused never_short (λ r. refl)
+    (λ both accepted x y h k. one_faultless gives both.0.program natives both.0.certificate.bound steps both.1 (accepted_sound accepted) once h k) a b
 
 pub one_unchecked_outcome : {N : Type 0} (gives : N → NativeAnswers) → OneUncheckedOutcome gives
-one_unchecked_outcome {N} gives heads natives program script depth steps a b once (fails f h) (fails g k) =
-    both_fail IsShortResult IsShort (may_run_once heads program script) short_refused never_short f g h k
-one_unchecked_outcome {N} gives heads natives program script depth steps a b once (fails f h) (goes_on y end k more) =
-    inl (one_fails IsShortResult IsShort (may_run_once heads program script) short_refused never_short f y h k)
-one_unchecked_outcome {N} gives heads natives program script depth steps a b once (goes_on x end h more) (fails g k) =
-    inr (inl (one_fails IsShortResult IsShort (may_run_once heads program script) short_refused never_short g x k h))
-one_unchecked_outcome {N} gives heads natives program script depth steps a b once (goes_on x end h more) (goes_on y other k still) =
-    let same = same_found {fault_of = refused {N = N}} IsShortResult IsShort (may_run_once heads program script) short_refused never_short x y h k in
-    let Goes : Loaded × List Event → Type 0 = λ z. Runs gives (begun z.0 natives depth steps) z.1 end in
-    one_unchecked gives y.0 natives depth steps y.1 (may_run_sound k) once (subst Goes same more) still
+one_unchecked_outcome gives heads natives program script depth steps a b once =
+    same_first IsShortResult IsShort IsSameOutcome (may_run_once heads program script) short_refused never_short (λ r. refl)
+    (λ both may x y h k. one_unchecked gives both.0 natives depth steps both.1 (may_run_sound may) once h k) a b
 
 -- ---- a run that stopped
 
-nothing-more : {X : Type 0} (xs more rest : List X) → xs ≡ (xs ++ more) ++ rest → more ≡ []
-nothing-more {X} xs [] rest e = refl
-nothing-more {X} xs (m ∷ more) rest e =
-    let one = length-append (xs ++ m ∷ more) rest in
-    let two = length-append xs (m ∷ more) in
-    absurd (omega (arith, ap length e, one, two))
-
--- nothing leads on from where nothing is going on and no event is left
+-- nothing more is written where nothing leads on
 still : {p : Loaded} {natives : NativeAnswers} {u t : State} {k j : ℕ} {es : List Event} {xs : List Answer} → es ≡ [] → IsIdle u → Run p natives u k es xs t j → Grows t.trace u.trace
-still {t = t} none idle done = record { more = []; is = sym (append-nil t.trace) }
-still {p} {natives} {u} none idle (goes {m = m} r rest) = absurd (no-rule p natives u m idle r)
-still none idle (takes r rest) = absurd (cc none)
+still {t = t} none idle run = record { more = []; is = ap (λ (s : State). s.trace) (stays-there none idle run) ∙ sym (append-nil t.trace) }
 
 pub stopped_is_front : {N : Type 0} (gives : N → NativeAnswers) → StoppedIsFront gives
 stopped_is_front gives said p natives depth steps events fault after answers u k is_sound stopped whole alike also =
@@ -165,5 +242,5 @@ stopped_is_front gives said p natives depth steps events fault after answers u k
       | inl leads ↦ leads.grows
       | inr leads ↦
           let split : events ≡ (events ++ leads.more) ++ stopped.way.front.rest = stopped.way.front.split ∙ ap (λ (l : List Event). l ++ stopped.way.front.rest) leads.taken in
-          still (nothing-more events leads.more stopped.way.front.rest split) whole.ends leads.runs.run
+          still (nothing-more events leads.more stopped.way.front.rest split).0 whole.ends leads.runs.run
     ]

@@ -1,5 +1,5 @@
 -- Laws on what runs and command lines come to (docs/commands.md, "Exit status"; docs/machine.md, "Runs").
-use Rattle.std.specs.Prelude.{◌≡◌, ◌⊎◌, ℕ, List, [], Ok}
+use Rattle.std.specs.Prelude.{◌≡◌, ◌≢◌, ◌⊎◌, ℕ, List, [], Result, Ok, Err}
 use Rattle.meta_model.specs.Loaded.{Loaded}
 use Rattle.meta_model.specs.Sound.{IsSound}
 use Rattle.native_slots.specs.declared.action.Action.{Action}
@@ -7,6 +7,7 @@ use Rattle.native_slots.specs.declared.head.NativeHead.{NativeHead}
 use Rattle.script_lang.specs.declared.event.Event.{Event}
 use Rattle.machine_state.specs.declared.fault.Answer.{Answer}
 use Rattle.machine_state.specs.declared.fault.Fault.{Fault}
+use Rattle.machine_state.specs.declared.fault.Fault.TheVariants.{Steps}
 use Rattle.machine_state.specs.State.{State}
 use Rattle.machine_state.specs.Worlds.{at, untouched}
 use Rattle.machine_rules.specs.Natives.{NativeAnswers, AnswersOnce}
@@ -14,11 +15,13 @@ use Rattle.machine_rules.specs.code.Keeps.{Grows}
 use Rattle.machine_events.specs.Laws.{AnswersAre}
 use Rattle.machine_events.specs.Runs.{RunsWhole}
 use Rattle.qt_runtime.specs.Seen.{Seen, Halts, begun}
+use Rattle.program_commands.specs.Commands.{IsSameOutcome as IsSameOfProgram}
 use Rattle.program_commands.specs.Refusals.{usage_line, memory_line}
+use Rattle.trace_tool.specs.declared.input.InputFault.{InputFault}
 use Rattle.trace_tool.specs.declared.outcome.Outcome.{Outcome}
-use Rattle.trace_tool.specs.declared.outcome.Outcome.TheVariants.{Ran as OfRun}
+use Rattle.trace_tool.specs.declared.outcome.Outcome.TheVariants.{Program, Ran as OfRun}
 use Rattle.trace_tool.specs.declared.outcome.Ran.{Ran}
-use Rattle.trace_tool.specs.Commands.{RunComesTo, UncheckedRunComesTo}
+use Rattle.trace_tool.specs.Commands.{RunComesTo, UncheckedRunComesTo, CommandComesTo}
 use Rattle.trace_tool.specs.Outcomes.{outcome_text, outcome_status, IsShort}
 
 -- Where nothing was done nothing stands in front of `usage` or `memory`, nor behind it; after a read that failed nothing is
@@ -28,13 +31,18 @@ UndoneIsALine N =
     (outcome : Outcome N) → outcome_status outcome ≡ 1 →
     (outcome_text outcome ≡ usage_line) ⊎ (outcome_text outcome ≡ memory_line) ⊎ (outcome_text outcome ≡ [])
 
--- two runs: of what they wrote down the one is a front of the other, and the same where both took all events
+-- two runs: of what they wrote down the one is a front of the other, and the same where both took all events; where one did,
+-- the rules were enough for the other
 pub record AreOneRun {N : Type 0} (x y : Ran N) : Type 0 where
   pub whole : x.ended ≡ Ok tt → y.ended ≡ Ok tt → x.machine.world.trace ≡ y.machine.world.trace
   pub front : Grows x.machine.world.trace y.machine.world.trace ⊎ Grows y.machine.world.trace x.machine.world.trace
+  pub enough : x.ended ≡ Ok tt → y.ended ≢ Err Steps
+  pub enough_too : y.ended ≡ Ok tt → x.ended ≢ Err Steps
 
+-- .. and of commands on programs which cycle, path or chain shows why there is no certificate isn't fixed
 abbrev pub IsSameOutcome : {N : Type 0} → Outcome N → Outcome N → Type 0
 IsSameOutcome (OfRun x) (OfRun y) = AreOneRun x y
+IsSameOutcome (Program x) (Program y) = IsSameOfProgram x y
 IsSameOutcome a b = a ≡ b
 
 -- Where natives have one answer to one question, and but for want of memory outside a run: `run` comes to one refusal, or to one
@@ -51,6 +59,13 @@ OneUncheckedOutcome {N} gives =
     (heads : List NativeHead) (natives : N) (program script : List ℕ) (depth steps : ℕ) (a b : Outcome N) →
     AnswersOnce (gives natives) → UncheckedRunComesTo gives heads natives program script depth steps a →
     UncheckedRunComesTo gives heads natives program script depth steps b → IsShort a ⊎ IsShort b ⊎ IsSameOutcome a b
+
+-- .. and so does each command line, from what was read: one line `usage`, one thing of a command on programs, or one run
+abbrev pub OneCommandOutcome : {N : Type 0} → (N → NativeAnswers) → Type 0
+OneCommandOutcome {N} gives =
+    (heads : List NativeHead) (natives : N) (words : List (List ℕ)) (input : Result (List ℕ) InputFault) (a b : Outcome N) →
+    AnswersOnce (gives natives) → CommandComesTo gives heads natives words input a →
+    CommandComesTo gives heads natives words input b → IsShort a ⊎ IsShort b ⊎ IsSameOutcome a b
 
 -- Whatever natives may answer: a run that stopped, for want of memory or another fault, wrote a front of what each whole run of
 -- the same events writes in which they answered alike.

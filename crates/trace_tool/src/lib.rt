@@ -11,7 +11,7 @@ mod words;
 
 pub use commands::{Answered, answer, command, respond};
 pub use input::InputFault;
-pub use laws::{one_run_outcome, stopped_is_front, undone_is_a_line};
+pub use laws::{one_command_outcome, one_run_outcome, stopped_is_front, undone_is_a_line};
 pub use outcome::{Outcome, Ran, UsageFault};
 pub use program_commands::{Outcome as ProgramOutcome, Refusal, Why, certify, check, meta};
 pub use qt_runtime::{Entry, Fault, ScriptFault};

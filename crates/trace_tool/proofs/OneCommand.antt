@@ -1,0 +1,178 @@
+-- For natives with one answer a command line comes to one thing.
+use Rattle.std.proofs.Common.{◌≡◌, ◌≢◌, ◌⊎◌, inl, inr, ℕ, List, [], ◌∷◌, Result, Ok, Err, codes, refl, sym, ap, ◌∙◌, subst, arith}
+use Rattle.std.specs.Str.Parse.{digits_value}
+use Rattle.native_slots.specs.declared.head.NativeHead.{NativeHead}
+use Rattle.machine_rules.specs.Natives.{NativeAnswers, AnswersOnce}
+use Rattle.rank_make.specs.declared.why.Why.TheVariants as why
+use Rattle.program_commands.specs.Commands.{MetaComesTo, CertifyComesTo, CheckComesTo, IsSameOutcome as IsSameOfProgram}
+use Rattle.program_commands.specs.Outcomes.{IsShort as IsShortOfProgram}
+use Rattle.program_commands.specs.declared.outcome.Outcome.{Outcome as ProgramOutcome}
+use Rattle.program_commands.specs.declared.outcome.Outcome.TheVariants as of_program
+use Rattle.program_commands.specs.Steps.{Is}
+use Rattle.program_commands.proofs.Once.{OneOf, one_description, one_certifying, one_check}
+use Rattle.trace_tool.specs.Commands.{Says, Cuts, Does, IsOfProgram}
+use Rattle.trace_tool.specs.Laws.{IsSameOutcome, OneCommandOutcome}
+use Rattle.trace_tool.specs.Outcomes.{IsShort}
+use Rattle.trace_tool.specs.Words.{IsNumber, IsLimit, IsCommand}
+use Rattle.trace_tool.specs.declared.input.InputFault.{InputFault}
+use Rattle.trace_tool.specs.declared.outcome.Outcome.{Outcome}
+use Rattle.trace_tool.specs.declared.outcome.Outcome.TheVariants.{Program}
+use Rattle.trace_tool.specs.declared.outcome.UsageFault.{UsageFault}
+use Rattle.trace_tool.specs.declared.outcome.UsageFault.TheVariants.{Words, TooLarge, Texts}
+use Rattle.trace_tool.specs.declared.words.Command.{Command}
+use Rattle.trace_tool.specs.declared.words.Command.TheVariants.{Meta, Certify, Check, Run, RunUnchecked}
+use Rattle.trace_tool.specs.declared.words.Options.{Options}
+use Rattle.trace_tool.proofs.OneRun.{OneAs, same_first, one_run_outcome, one_unchecked_outcome}
+use Rattle.trace_tool.proofs.Partings.{texts_once}
+
+-- ---- the words are one command's
+
+number-once : {largest : ℕ} {v w : List ℕ} {m n : ℕ} → v ≡ w → IsNumber largest v m → IsNumber largest w n → m ≡ n
+number-once same x y = x.value ∙ ap (λ (word : List ℕ). digits_value 10 word) same ∙ sym y.value
+
+limit-once : {v w : List (List ℕ)} {m n : ℕ} → v ≡ w → IsLimit v m → IsLimit w n → m ≡ n
+limit-once {v} {w} same (inl x) (inl y) = x.1 ∙ sym y.1
+limit-once {v} {w} same (inl x) (inr y) = let no : [] ≡ codes "--steps" ∷ y.0 ∷ [] = sym x.0 ∙ same ∙ y.1 in absurd (cc no)
+limit-once {v} {w} same (inr x) (inl y) = let no : codes "--steps" ∷ x.0 ∷ [] ≡ [] = sym x.1 ∙ same ∙ y.0 in absurd (cc no)
+limit-once {v} {w} same (inr x) (inr y) =
+    let both : codes "--steps" ∷ x.0 ∷ [] ≡ codes "--steps" ∷ y.0 ∷ [] = sym x.1 ∙ same ∙ y.1 in
+    let word : x.0 ≡ y.0 = cc both in
+    number-once word x.2 y.2
+
+-- the limit doesn't begin as the depth does
+limit-other : {words options : List (List ℕ)} {word : List ℕ} {n : ℕ} → words ≡ codes "--unchecked" ∷ word ∷ options → IsLimit words n → ⊥
+limit-other {words} {options} {word} are (inl x) = let no : codes "--unchecked" ∷ word ∷ options ≡ [] = sym are ∙ x.0 in cc no
+limit-other {words} {options} {word} are (inr x) =
+    let both : codes "--unchecked" ∷ word ∷ options ≡ codes "--steps" ∷ x.0 ∷ [] = sym are ∙ x.1 in
+    let no : codes "--unchecked" ≡ codes "--steps" = cc both in
+    cc no
+
+command-once : (words : List (List ℕ)) (c d : Command) → IsCommand words c → IsCommand words d → c ≡ d
+command-once words Meta Meta x y = refl
+command-once words Meta Certify x y = let no : codes "meta" ∷ [] ≡ codes "certify" ∷ [] = sym x ∙ y in absurd (cc no)
+command-once words Meta Check x y = let no : codes "meta" ∷ [] ≡ codes "check" ∷ [] = sym x ∙ y in absurd (cc no)
+command-once words Meta (Run steps) x y = let no : codes "meta" ∷ [] ≡ codes "run" ∷ y.options = sym x ∙ y.are in absurd (cc no)
+command-once words Meta (RunUnchecked options) x y = let no : codes "meta" ∷ [] ≡ codes "run" ∷ codes "--unchecked" ∷ y.word ∷ y.options = sym x ∙ y.are in absurd (cc no)
+command-once words Certify Meta x y = let no : codes "certify" ∷ [] ≡ codes "meta" ∷ [] = sym x ∙ y in absurd (cc no)
+command-once words Certify Certify x y = refl
+command-once words Certify Check x y = let no : codes "certify" ∷ [] ≡ codes "check" ∷ [] = sym x ∙ y in absurd (cc no)
+command-once words Certify (Run steps) x y = let no : codes "certify" ∷ [] ≡ codes "run" ∷ y.options = sym x ∙ y.are in absurd (cc no)
+command-once words Certify (RunUnchecked options) x y = let no : codes "certify" ∷ [] ≡ codes "run" ∷ codes "--unchecked" ∷ y.word ∷ y.options = sym x ∙ y.are in absurd (cc no)
+command-once words Check Meta x y = let no : codes "check" ∷ [] ≡ codes "meta" ∷ [] = sym x ∙ y in absurd (cc no)
+command-once words Check Certify x y = let no : codes "check" ∷ [] ≡ codes "certify" ∷ [] = sym x ∙ y in absurd (cc no)
+command-once words Check Check x y = refl
+command-once words Check (Run steps) x y = let no : codes "check" ∷ [] ≡ codes "run" ∷ y.options = sym x ∙ y.are in absurd (cc no)
+command-once words Check (RunUnchecked options) x y = let no : codes "check" ∷ [] ≡ codes "run" ∷ codes "--unchecked" ∷ y.word ∷ y.options = sym x ∙ y.are in absurd (cc no)
+command-once words (Run steps) Meta x y = let no : codes "run" ∷ x.options ≡ codes "meta" ∷ [] = sym x.are ∙ y in absurd (cc no)
+command-once words (Run steps) Certify x y = let no : codes "run" ∷ x.options ≡ codes "certify" ∷ [] = sym x.are ∙ y in absurd (cc no)
+command-once words (Run steps) Check x y = let no : codes "run" ∷ x.options ≡ codes "check" ∷ [] = sym x.are ∙ y in absurd (cc no)
+command-once words (Run m) (Run n) x y =
+    let both : codes "run" ∷ x.options ≡ codes "run" ∷ y.options = sym x.are ∙ y.are in
+    let options : x.options ≡ y.options = cc both in
+    ap (λ (k : ℕ). Run k) (limit-once options x.limited y.limited)
+command-once words (Run m) (RunUnchecked options) x y =
+    let both : codes "run" ∷ x.options ≡ codes "run" ∷ codes "--unchecked" ∷ y.word ∷ y.options = sym x.are ∙ y.are in
+    let behind : x.options ≡ codes "--unchecked" ∷ y.word ∷ y.options = cc both in
+    absurd (limit-other behind x.limited)
+command-once words (RunUnchecked options) Meta x y = let no : codes "run" ∷ codes "--unchecked" ∷ x.word ∷ x.options ≡ codes "meta" ∷ [] = sym x.are ∙ y in absurd (cc no)
+command-once words (RunUnchecked options) Certify x y = let no : codes "run" ∷ codes "--unchecked" ∷ x.word ∷ x.options ≡ codes "certify" ∷ [] = sym x.are ∙ y in absurd (cc no)
+command-once words (RunUnchecked options) Check x y = let no : codes "run" ∷ codes "--unchecked" ∷ x.word ∷ x.options ≡ codes "check" ∷ [] = sym x.are ∙ y in absurd (cc no)
+command-once words (RunUnchecked options) (Run n) x y =
+    let both : codes "run" ∷ y.options ≡ codes "run" ∷ codes "--unchecked" ∷ x.word ∷ x.options = sym y.are ∙ x.are in
+    let behind : y.options ≡ codes "--unchecked" ∷ x.word ∷ x.options = cc both in
+    absurd (limit-other behind y.limited)
+command-once words (RunUnchecked m) (RunUnchecked n) x y =
+    let both : codes "run" ∷ codes "--unchecked" ∷ x.word ∷ x.options ≡ codes "run" ∷ codes "--unchecked" ∷ y.word ∷ y.options = sym x.are ∙ y.are in
+    let word : x.word ≡ y.word = cc both in
+    let options : x.options ≡ y.options = cc both in
+    let depth : m.depth ≡ n.depth = number-once word x.deep y.deep in
+    let steps : m.steps ≡ n.steps = limit-once options x.limited y.limited in
+    ap (λ (k : ℕ). RunUnchecked (record { depth = k; steps = m.steps })) depth ∙ ap (λ (k : ℕ). RunUnchecked (record { depth = n.depth; steps = k })) steps
+
+-- ---- each step comes to one thing
+
+abbrev Never : {X F : Type 0} → Result X F → Type 0
+Never r = ⊥
+
+says-once : (words : List (List ℕ)) → OneOf Never (Says words)
+says-once words (Ok c) (Ok d) x y = inr (inr (ap (λ (k : Command). Ok k) (command-once words c d x y)))
+says-once words (Ok c) (Err none) x y = absurd (y c x)
+says-once words (Err none) (Ok d) x y = absurd (x d y)
+says-once words (Err none) (Err other) x y = inr (inr refl)
+
+input-once : (input : Result (List ℕ) InputFault) → OneOf Never (Is input)
+input-once input a b x y = inr (inr (x ∙ sym y))
+
+cuts-once : (command : Command) (input : List ℕ) → OneOf Never (Cuts command input)
+cuts-once command input (Ok xs) (Ok ys) x y = inr (inr (ap (λ (texts : List (List ℕ)). Ok texts) (texts_once input xs ys x.1 y.1)))
+cuts-once command input (Ok xs) (Err Words) x y = absurd y
+cuts-once command input (Ok xs) (Err TooLarge) x y = absurd (omega (arith, x.0, y))
+cuts-once command input (Ok xs) (Err (Texts n)) x y = absurd (y.2 xs x.1 x.2)
+cuts-once command input (Err Words) b x y = absurd x
+cuts-once command input (Err TooLarge) (Ok ys) x y = absurd (omega (arith, y.0, x))
+cuts-once command input (Err TooLarge) (Err Words) x y = absurd y
+cuts-once command input (Err TooLarge) (Err TooLarge) x y = inr (inr refl)
+cuts-once command input (Err TooLarge) (Err (Texts n)) x y = absurd (omega (arith, y.0, x))
+cuts-once command input (Err (Texts m)) (Ok ys) x y = absurd (x.2 ys y.1 y.2)
+cuts-once command input (Err (Texts m)) (Err Words) x y = absurd y
+cuts-once command input (Err (Texts m)) (Err TooLarge) x y = absurd (omega (arith, x.0, y))
+cuts-once command input (Err (Texts m)) (Err (Texts n)) x y =
+    let same : m ≡ n = x.1 ∙ sym y.1 in
+    inr (inr (ap (λ (k : ℕ). Err (Texts k)) same))
+
+-- ---- the commands on programs
+
+-- each thing but want of memory is the same as itself
+same-or-short : (a : ProgramOutcome) → IsShortOfProgram a ⊎ IsSameOfProgram a a
+same-or-short (of_program.Refused r) = inr refl
+same-or-short (of_program.Classes p) = inr refl
+same-or-short (of_program.Certificate c) = inr refl
+same-or-short (of_program.Uncertified p (why.Wire k)) = inr (refl, refl)
+same-or-short (of_program.Uncertified p (why.BodyType spot)) = inr (refl, refl)
+same-or-short (of_program.Uncertified p (why.Cycle nodes)) = inr (refl, tt)
+same-or-short (of_program.Uncertified p (why.DestroyPath nodes)) = inr (refl, tt)
+same-or-short (of_program.Uncertified p (why.TooHigh nodes)) = inr (refl, tt)
+same-or-short (of_program.Uncertified p why.Memory) = inl (record { line = refl; status_is = refl })
+same-or-short of_program.Valid = inr refl
+
+abbrev OneProgram : (ProgramOutcome → Type 0) → Type 0
+OneProgram ComesTo = (a b : ProgramOutcome) → ComesTo a → ComesTo b → IsShortOfProgram a ⊎ IsShortOfProgram b ⊎ IsSameOfProgram a b
+
+by-equal : {ComesTo : ProgramOutcome → Type 0} → OneOf IsShortOfProgram ComesTo → OneProgram ComesTo
+by-equal one a b x y = elim (one a b x y) [
+  | inl s ↦ inl s
+  | inr rest ↦ elim rest [
+    | inl s ↦ inr (inl s)
+    | inr same ↦ elim (same-or-short a) [
+      | inl s ↦ inl s
+      | inr own ↦ inr (inr (subst (λ (o : ProgramOutcome). IsSameOfProgram a o) same own))
+    ]
+  ]
+]
+
+of-program : {N : Type 0} {ComesTo : ProgramOutcome → Type 0} → OneProgram ComesTo → OneAs {R = Outcome N} IsShort IsSameOutcome (IsOfProgram ComesTo)
+of-program {N} one a b x y = elim (one x.told y.told x.comes y.comes) [
+  | inl s ↦ inl (subst IsShort (sym x.is) (record { line = s.line; status_is = s.status_is }))
+  | inr rest ↦ elim rest [
+    | inl s ↦ inr (inl (subst IsShort (sym y.is) (record { line = s.line; status_is = s.status_is })))
+    | inr same ↦ inr (inr (subst (λ (o : Outcome N). IsSameOutcome o b) (sym x.is) (subst (λ (o : Outcome N). IsSameOutcome (Program x.told) o) (sym y.is) same)))
+  ]
+]
+
+-- ---- all commands
+
+does-once : {N : Type 0} (gives : N → NativeAnswers) (heads : List NativeHead) (natives : N) → AnswersOnce (gives natives) → (command : Command) (texts : List (List ℕ)) →
+    OneAs IsShort IsSameOutcome (Does gives heads natives command texts)
+does-once gives heads natives once Meta (program ∷ []) = of-program (by-equal (one_description program))
+does-once gives heads natives once Certify (program ∷ []) = of-program (one_certifying program)
+does-once gives heads natives once Check (program ∷ certificate ∷ []) = of-program (by-equal (one_check program certificate))
+does-once gives heads natives once (Run steps) (program ∷ certificate ∷ script ∷ []) = λ a b x y. one_run_outcome gives heads natives program certificate script steps a b once x y
+does-once gives heads natives once (RunUnchecked options) (program ∷ script ∷ []) = λ a b x y. one_unchecked_outcome gives heads natives program script options.depth options.steps a b once x y
+does-once gives heads natives once command texts = λ a b x y. absurd x
+
+pub one_command_outcome : {N : Type 0} (gives : N → NativeAnswers) → OneCommandOutcome gives
+one_command_outcome gives heads natives words input a b once =
+    same_first Never IsShort IsSameOutcome (says-once words) (λ none s. absurd s) (λ c s. s) (λ none. refl)
+    (λ command said. same_first Never IsShort IsSameOutcome (input-once input) (λ fault s. absurd s) (λ bytes s. s) (λ fault. refl)
+    (λ bytes read. same_first Never IsShort IsSameOutcome (cuts-once command bytes) (λ fault s. absurd s) (λ texts s. s) (λ fault. refl)
+    (λ texts cut. does-once gives heads natives once command texts))) a b
