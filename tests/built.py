@@ -24,6 +24,10 @@ STACK, OWN_STACK = 1 << 20, 4 << 20
 LIMIT = int(os.environ.get("LIMIT") or 140)
 # How an explanation on standard error begins, which says what the output's last line is.
 EXPLAINED = re.compile(rb"(usage|memory|refused \d+|fault \d+|no \d+|no)\b")
+# What is told beside a yes: warnings, and but for runs how deep the chains go.
+WARNED = rb"(?:<stdin>:(?:[0-9]+:[0-9]+:)? warning: .*\n){1,20}(?:and [0-9]+ more warnings?\n)?"
+DEPTH = rb"([0-9]+) members, deepest chain ([0-9]+): (.*)\n"
+BESIDE_YES = re.compile(rb"(?:" + WARNED + rb")?(?:" + DEPTH + rb")?")
 # So many failures are told in full.
 TOLD = 20
 
@@ -54,9 +58,12 @@ class Answer:
         return self.status == other.status and self.output == other.output
 
     def contradicts_itself(self):
-        """Whether standard error says another thing than the output's last line does."""
+        """Whether standard error says another thing than the output's last line does, or what is told beside a yes where there
+        is none."""
         told = EXPLAINED.match(self.errors)
         last = self.output.splitlines()[-1:] or [b""]
+        if self.status != 0 and self.errors and BESIDE_YES.match(self.errors)[0]:
+            return True
         return bool(told) and not re.match(re.escape(told[1]) + rb"\b", last[0])
 
     def __str__(self):

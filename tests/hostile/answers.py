@@ -9,6 +9,10 @@ import case_files
 import grammar
 
 LARGEST_INPUT = 67108864
+# In larger inputs nothing is looked for that is told beside an answer.
+LARGEST_TOLD = 8388608
+# So many members of a chain are named, from its front and its back.
+FRONT, BACK = 6, 2
 NAME = rb"[A-Za-z_][A-Za-z0-9_]*"
 TYPE = rb"(?:const )?" + NAME + rb"\*?"
 METHOD = NAME + rb"\((?:" + TYPE + rb"(?:," + TYPE + rb")*)?\)"
@@ -29,6 +33,7 @@ CLASSES = lines(
     rb"[0-9]+ (?:signal|slot|native) " + METHOD,
     rb"property " + NAME + rb" " + TYPE + rb"(?: notify " + METHOD + rb")?",
 )
+LINE = re.compile(rb"(" + NODE + rb") ([0-9]+)(?: ~" + NAME + rb")*")
 CERTIFICATE = re.compile(rb"certificate 2\nbound [0-9]+\n(?:" + NODE + rb" [0-9]+(?: ~" + NAME + rb")*\n)+")
 NODES = NODE + rb"(?: " + NODE + rb")+"
 NO_CERTIFICATE = re.compile(
@@ -45,7 +50,7 @@ ENTRIES = lines(
     rb"[0-9]+ connect " + ENDS + rb" (?:auto|direct|queued)(?: unique)?(?: single)?",
     rb"[0-9]+ disconnect " + ENDS,
     rb"[0-9]+ refused (?:38|39|40|41)",
-    rb"[0-9]+ null",
+    rb"[0-9]+ (?:null|group)",
 )
 REFUSED = re.compile(rb"refused (?:[2-7]|1[0-578]|77|16 line [0-9]+)\n")
 LOADING = re.compile(rb"refused 1[0-5]\n")
@@ -82,6 +87,9 @@ class Wanted:
         self.is_usage = not self.names or len(self.parts) != len(self.names)
 
     def why_not(self, answer):
+        return self.why_not_answered(answer) or (self.why_not_told(answer) if answer.status == 0 else None)
+
+    def why_not_answered(self, answer):
         if answer.status is None:
             return "it hangs"
         if answer.status < 0:
@@ -118,6 +126,27 @@ class Wanted:
         if refusal:
             return f"wanted is {refusal}"
         return getattr(self, f"why_not_{self.words[0]}")(answer)
+
+    def why_not_told(self, answer):
+        """Beside a yes stand warnings and, but for runs, how deep the chains go; beside another success nothing."""
+        if self.words == ["meta"] or "--unchecked" in self.words or sum(map(len, self.parts)) > LARGEST_TOLD:
+            return "nothing was judged, and something is told" if answer.errors else None
+        told = built.BESIDE_YES.fullmatch(answer.errors)
+        if not told or (told[1] is None) != (self.words[0] == "run"):
+            return "this isn't what is told beside a yes"
+        return self.why_not_deep(answer, told) if self.words == ["certify"] else None
+
+    def why_not_deep(self, answer, told):
+        """The certificate has a line for each member, and along the longest chain its ranks fall from the bound to 0."""
+        _, bound, *lines = answer.output.splitlines()
+        ranks = {it[1]: int(it[2]) for it in map(LINE.fullmatch, lines)}
+        depth, chain = int(told[2]), told[3].split(b" -> ")
+        wanted = [*range(depth - 1, -1, -1)]
+        if depth > FRONT + BACK:
+            wanted[FRONT:-BACK] = [None]
+            ranks[b".."] = None
+        holds = (int(told[1]), b"bound %d" % depth) == (len(lines), bound) and [ranks.get(it, -1) for it in chain] == wanted
+        return None if holds else "the certificate has other members, or another longest chain"
 
     def why_not_meta(self, answer):
         return None if answer.status == 0 and CLASSES.fullmatch(answer.output) else "these are no classes"

@@ -7,11 +7,12 @@ fails, for n = 1, 2, .. until none does. What is wanted of each run:
 - or whole lines at the front of the ample output, and then `memory`, with status 1: there was none outside the run.
 
 Never a crash, a hang, another status, a refusal that the ample run doesn't have, or a standard error that says another
-thing. Past the last request the output is the ample one, which is what the example's or case's file has.
+thing, or a part of what is told beside a yes: all of that or nothing. Past the last request the output is the ample one, which is what the example's or case's file has.
 
-Of the examples, and of the first cases of each topic of `runs` and `commands`, each request is refused, up to 1,500 of a run,
-and of the others 400 that are spread over them. Of each other run of the case files 30 are refused and, where it runs a
-script, each from the last request down to the first that is made outside the machine.
+What is told on standard error comes behind all output, and asks for memory too: of the requests behind the last one that
+matters to the output each sixteenth is refused. Of those up to it, of the examples and of the first cases of each topic of
+`runs` and `commands`, each is refused, up to 1,500 of a run, and of the others 400 that are spread over them. Of each other run
+of the case files 30 are refused and, where it runs a script, each from there down to the first that is made outside the machine.
 
 Then each call that can want memory is made by itself (`calls.py`), by the programs `memory_calls` and `memory_runs`.
 
@@ -35,6 +36,8 @@ EVERY, SPREAD = 1500, 400
 # How many of a topic's cases are as examples: its first ones, which are the plain ones.
 WHOLE_CASES = {"runs": 4, "commands": 2}
 OF_CASE, MOST_OF_CASE = 30, 400
+# Of the requests at the end without which the output is the ample one, one of so many is refused.
+STRIDE = 16
 # The answers that are wanted.
 AMPLE, FAULT, LINES, MEMORY = "the ample output", "whole rules, then `fault 65`", "whole lines, then `memory`", "`memory`"
 
@@ -71,6 +74,7 @@ class Refusals:
     def __init__(self, library, more):
         self.library, self.more = library, more
         self.bench, self.program, self.row, self.fronts, self.requests = None, None, None, set(), 0
+        self.told = set()
 
     def __call__(self, item, count):
         self.program, self.row = item
@@ -78,23 +82,33 @@ class Refusals:
         self.fronts = self.row.fronts()
         answer, self.requests, _ = self.refused("0")
         is_ample = self.requests is not None and answer == self.row.ample
+        self.told = {b"", answer.errors}
         if not count.check(is_ample, lambda: f"{self.row.name}, nothing refused, by {self.program}: {answer}"):
             return
-        for number in self.numbers():
+        last = self.last_that_matters(count)
+        for number in self.numbers(last):
             self.one(number, count)
         if self.fronts and not self.row.is_whole:
-            self.in_machine(count)
+            self.in_machine(last, count)
 
-    def numbers(self):
-        """The numbers of the requests that are refused, and one past the last."""
-        every = min(EVERY, self.requests) if self.row.is_whole else 0
-        rest = self.requests - every
+    def last_that_matters(self, count):
+        """The number of the last request without which the output is another one, or of one up to STRIDE behind it; those
+        behind it are refused in strides."""
+        for number in range(self.requests, 0, -STRIDE):
+            if self.one(number, count) != AMPLE:
+                return min(self.requests, number + STRIDE - 1)
+        return 0
+
+    def numbers(self, last):
+        """The numbers of the requests up to this one that are refused, and one past all of them."""
+        every = min(EVERY, last) if self.row.is_whole else 0
+        rest = last - every
         spread = min(SPREAD if self.row.is_whole else OF_CASE, rest)
         return [*range(1, every + 1), *(every + it * rest // spread for it in range(1, spread + 1)), self.requests + 1]
 
-    def in_machine(self, count):
-        """Refuses the last request, and each one before it, until the machine has not begun."""
-        for number in range(self.requests, max(0, self.requests - MOST_OF_CASE), -1):
+    def in_machine(self, last, count):
+        """Refuses this request, and each one before it, until the machine has not begun."""
+        for number in range(last, max(0, last - MOST_OF_CASE), -1):
             if self.one(number, count) in (MEMORY, None):
                 break
 
@@ -105,11 +119,15 @@ class Refusals:
         meets = number <= self.requests
         as_told = refusals is not None and (refusals > 0 if meets else refusals == 0 and kind == AMPLE)
         holds = count.check(
-            kind is not None and as_told and not answer.contradicts_itself(),
+            kind is not None and as_told and not answer.contradicts_itself() and self.is_told_whole(answer),
             lambda: f"{self.row.name}, request {number} of {self.requests} refused, by {self.program}: {answer}",
         )
         count.note((kind if meets else "nothing refused") if holds else "none that is wanted")
         return kind if holds else None
+
+    def is_told_whole(self, answer):
+        """Whether beside success, where reasons of refused events aren't asked for, all is told or nothing."""
+        return answer.status != 0 or bool(self.row.environment) or answer.errors in self.told
 
     def refused(self, number):
         """A run in which this request is refused, and how many requests were made and refused (None: it isn't told, as the

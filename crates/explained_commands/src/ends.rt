@@ -1,8 +1,10 @@
 //! What a command writes on standard output, what is told of its end on standard error, and its exit status.
 
-ghost use Rattle.std.specs.Prelude.{◌≡◌, map, false};
+ghost use Rattle.std.specs.Prelude.{◌≡◌, ◌↔◌, map, false, IsTrue};
+ghost use Rattle.explained_commands.specs.Judged.{IsUnjudged};
 ghost use Rattle.trace_tool.specs.Commands.{WritesCommand};
 
+use crate::remarks::{is_judged, remarks_on};
 use explanations::explanation;
 use native_slots::{Answering, Natives};
 use run_reports::{fault_report, refusal_report};
@@ -17,8 +19,9 @@ const SUCCESS: u8 = 0;
 const MOST_EXPLAINED: usize = 8388608;
 
 /// Does what the words say, as [`trace_tool::command`] does, and then writes to `errors` what a person needs of this end: why
-/// events were refused, where `tells_refusals` asks for it, what another answer than success means, and why the input can't
-/// be read or the output can't be written. Where that fails nothing else changes.
+/// events were refused, where `tells_refusals` asks for it, what another answer than success means, or what is told beside a
+/// yes, and why the input can't be read or the output can't be written. Where that fails nothing else changes. Where nothing
+/// is judged (`meta`, `run --unchecked`) nothing is told beside success.
 pub fn explained_command<R: Read, W: Write, E: Write>(
     alloc: Global,
     words: &[&str],
@@ -32,7 +35,8 @@ pub fn explained_command<R: Read, W: Write, E: Write>(
         let heads = map (λ slot. slot.head) natives.slots.items in
         WritesCommand ⟦<Natives as Answering>⟧.gives heads natives said (R.remaining reader.old)
         (W.contents writer.old) (W.contents writer.new) result }
-    ensures silent { result ≡ Ok 0 → tells_refusals ≡ false → errors.new ≡ errors.old }
+    ensures silent { let said = map (λ word. word.now) words.now in
+        IsUnjudged said → result ≡ Ok 0 → tells_refusals ≡ false → errors.new ≡ errors.old }
 {
     let answered = answer(alloc, words, reader, natives);
     match answered.outcome.write(alloc, writer) {
@@ -48,7 +52,7 @@ pub fn explained_command<R: Read, W: Write, E: Write>(
 }
 
 /// Writes what a person needs of what the words come to, with this exit status: why events were refused, where that is asked
-/// for, and what another answer than success means.
+/// for, and what another answer than success means, or what is told beside a yes.
 fn tell_end<E: Write>(
     alloc: Global,
     words: &[&str],
@@ -57,13 +61,19 @@ fn tell_end<E: Write>(
     tells_refusals: bool,
     errors: &mut E,
 )
-    ensures { status ≡ 0 → tells_refusals ≡ false → errors.new ≡ errors.old }
+    ensures { let said = map (λ word. word.now) words.now in
+        IsUnjudged said → status ≡ 0 → tells_refusals ≡ false → errors.new ≡ errors.old }
 {
     if tells_refusals {
         tell_refusals(alloc, answered, errors);
     }
     if status != SUCCESS {
         explain(alloc, words, answered, errors);
+    } else if is_judged(words) {
+        tell(
+            errors,
+            remarks_on(alloc, explained_input(answered), &answered.outcome),
+        );
     }
 }
 

@@ -2,6 +2,7 @@
 #![tactic(auto)]
 
 mod ends;
+mod remarks;
 
 pub use ends::{explained_command, tell_fault};
 pub use run_reports::{EXPLAIN, is_asked};

@@ -4,7 +4,7 @@ use crate::names::{class_text, node_text, text_of};
 use crate::numbers::statement_at;
 use crate::source::Source;
 use crate::statement::Body;
-use crate::wire::wire_text;
+use crate::wire::wire_at;
 use effect_scan::{Member, Node, Reason, reason_for};
 use meta_objects::Work;
 use std::alloc::AllocError;
@@ -37,7 +37,7 @@ fn push_reason(
         Reason::Statement(number) => push_statement(text, source, number, from),
         Reason::Native => text.push_str("the native is declared to do so"),
         Reason::Wire(place) => {
-            let wire = wire_text(source, place)?;
+            let wire = wire_at(source, place)?;
             write!(text, "`{wire}`")
         }
         Reason::Notify => text.push_str("its `notify` signal"),

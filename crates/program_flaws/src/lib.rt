@@ -13,7 +13,7 @@ mod wire;
 
 pub use edge::push_edge;
 pub use ill_typed::untyped_text;
-pub use names::{class_text, node_text, sig_text, text_of};
+pub use names::{class_text, node_text, property_text, sig_text, text_of};
 pub use reasons::missing_certificate;
 pub use source::{Source, declarations_of, meta_of};
-pub use wire::unfit_text;
+pub use wire::{unfit_text, wire_text};

@@ -5,7 +5,7 @@ use crate::ill_typed::untyped_text;
 use crate::names::class_text;
 use crate::source::{Source, declarations_of, meta_of};
 use crate::wire::unfit_text;
-use effect_scan::{Node, Reason, reason_for};
+use effect_scan::{Member, Node, Reason, reason_for};
 use rank_make::{Why, make};
 use std::alloc::{AllocError, Global};
 use texts::Program;
@@ -55,12 +55,33 @@ fn why_text(source: Source<'_>, why: &Why) -> Result<String, AllocError> {
     }
 }
 
-/// What leads from each member of a cycle to the next one, and how to break it.
+/// What leads from each member of a cycle to the next one, how to break it, and whether it may come to rest.
 fn cycle_text(source: Source<'_>, nodes: &[Node]) -> Result<String, AllocError> {
     let mut text = String::new(source.alloc);
     push_chain(&mut text, source, nodes)?;
     text.push_str(breaking(source, nodes))?;
+    text.push_str(doubt(nodes))?;
     Ok(text)
+}
+
+/// Why a cycle of these nodes may be a false alarm, if it goes through a property: a value that is written again doesn't
+/// change, and what follows a value stands for objects that may never be the same.
+fn doubt(nodes: &[Node]) -> &'static str {
+    if nodes.iter().all(is_property) {
+        "note: this may be a false alarm, since the check judges classes: where the objects are never the same, declare two classes for the two roles\n"
+    } else if nodes.iter().any(is_property) {
+        "note: this may be a false alarm, since the check judges classes and each way through an `if`: where the values come to rest, or the objects are never the same, use a `queued` wire, or two classes for the two roles\n"
+    } else {
+        ""
+    }
+}
+
+/// Whether the node is a property.
+fn is_property(node: &Node) -> bool {
+    match node.member {
+        Member::Property(_) => true,
+        Member::Method(_) | Member::Destruction => false,
+    }
 }
 
 /// What leads from each member of a path to the next one, and why it ends with the object's own deletion.

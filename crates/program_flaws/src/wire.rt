@@ -2,29 +2,33 @@
 
 use crate::names::{class_text, sig_text, type_text};
 use crate::source::Source;
-use meta_objects::MetaWire;
+use meta_objects::{Meta, MetaWire};
 use signatures::{Kind, Sig};
 use std::alloc::{AllocError, Global};
 
-/// The wire at this place as it is declared: `wire C s(T) -> D m(T) kind;`
-pub fn wire_text(source: Source<'_>, place: usize) -> Result<String, AllocError> {
-    let alloc = source.alloc;
-    let Some(wire) = source.meta.wires().get(place) else {
-        return Ok(String::new(alloc));
-    };
-    let sender = class_text(alloc, source.meta, wire.sender)?;
-    let signal = end_text(source, wire.sender, wire.signal)?;
-    let receiver = class_text(alloc, source.meta, wire.receiver)?;
-    let method = end_text(source, wire.receiver, wire.method)?;
+/// The wire at this place as it is declared, if there is one.
+pub fn wire_at(source: Source<'_>, place: usize) -> Result<String, AllocError> {
+    match source.meta.wires().get(place) {
+        Some(wire) => wire_text(source.alloc, source.meta, wire),
+        None => Ok(String::new(source.alloc)),
+    }
+}
+
+/// The wire as it is declared: `wire C s(T) -> D m(T) kind;`
+pub fn wire_text(alloc: Global, meta: &Meta, wire: &MetaWire) -> Result<String, AllocError> {
+    let sender = class_text(alloc, meta, wire.sender)?;
+    let signal = end_text(alloc, meta, wire.sender, wire.signal)?;
+    let receiver = class_text(alloc, meta, wire.receiver)?;
+    let method = end_text(alloc, meta, wire.receiver, wire.method)?;
     let kind = kind_word(wire.kind);
     format!(in alloc; "wire {sender} {signal} -> {receiver} {method} {kind};")
 }
 
 /// The signature of the method of this number.
-fn end_text(source: Source<'_>, class: usize, method: usize) -> Result<String, AllocError> {
-    match source.meta.method_at(class, method) {
-        Some(found) => sig_text(source.alloc, &found.sig),
-        None => Ok(String::new(source.alloc)),
+fn end_text(alloc: Global, meta: &Meta, class: usize, method: usize) -> Result<String, AllocError> {
+    match meta.method_at(class, method) {
+        Some(found) => sig_text(alloc, &found.sig),
+        None => Ok(String::new(alloc)),
     }
 }
 
@@ -39,7 +43,7 @@ fn kind_word(kind: Kind) -> &'static str {
 /// Why the wire at this place, which is one whose method doesn't fit its signal, can't work.
 pub fn unfit_text(source: Source<'_>, place: usize) -> Result<String, AllocError> {
     let number = place.saturating_add(1);
-    let wire = wire_text(source, place)?;
+    let wire = wire_at(source, place)?;
     let mut text = format!(in source.alloc; "wire {number}, `{wire}`, can't work: ")?;
     if let Some(found) = source.meta.wires().get(place) {
         push_difference(&mut text, source, found)?;

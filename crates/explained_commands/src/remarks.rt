@@ -1,0 +1,55 @@
+//! What is told beside a yes, from what the words came to.
+
+ghost use Rattle.std.specs.Prelude.{◌↔◌, map, IsTrue};
+ghost use Rattle.explained_commands.specs.Judged.{IsUnjudged};
+
+use native_slots::Answering;
+use program_warnings::{Yes, told_beside};
+use std::alloc::{AllocError, Global};
+use texts::split_at_line;
+use trace_tool::{Outcome, ProgramOutcome};
+
+/// The line that parts the texts of an input.
+const PARTING: &[u8] = b"%%";
+
+/// Whether a command whose words these are judges a program where it succeeds: `meta` doesn't, and neither does
+/// `run --unchecked`.
+pub fn is_judged(words: &[&str]) -> bool
+    ensures { let said = map (λ word. word.now) words.now in IsTrue result → IsUnjudged said → ⊥ }
+{
+    match words {
+        [] => false,
+        [only] => *only != "meta",
+        [_, second, ..] => *second != "--unchecked",
+    }
+}
+
+/// What is told beside the yes that the words came to on this input, if they came to one: warnings of the program, which is
+/// the first text, and where it didn't run how deep its chains are. `None` where there is nothing to tell, and where the
+/// input isn't known.
+pub fn remarks_on<N: Answering + Drop>(
+    alloc: Global,
+    input: Option<&[u8]>,
+    outcome: &Outcome<N>,
+) -> Result<Option<String>, AllocError> {
+    let (Some(input), Some(yes)) = (input, yes_of(outcome)) else {
+        return Ok(None);
+    };
+    let program = match split_at_line(input, PARTING) {
+        Some((program, _)) => program,
+        None => input,
+    };
+    told_beside(alloc, program, yes)
+}
+
+/// The yes that this is, if it is one.
+fn yes_of<N: Answering + Drop>(outcome: &Outcome<N>) -> Option<Yes<'_>> {
+    match outcome {
+        Outcome::Program(ProgramOutcome::Certificate(certificate)) => {
+            Some(Yes::Certified(certificate))
+        }
+        Outcome::Program(ProgramOutcome::Valid) => Some(Yes::Valid),
+        Outcome::Ran(_) => Some(Yes::Ran),
+        _ => None,
+    }
+}
