@@ -53,6 +53,11 @@ name_files() {
             column = $0; sub(/^.*, column /, "", column); sub(/ .*$/, "", column)
             if (text in file) { say(" at " file[text] ":" line ":" column); next }
         }
+        /^<stdin>:([0-9]+:[0-9]+:)? warning: / && ("program" in file) {
+            rest = $0; sub(/^<stdin>/, "", rest)
+            say(file["program"] rest)
+            next
+        }
         /^line [0-9]+ of the certificate/ && ("certificate" in file) {
             rest = $0; sub(/^line [0-9]+ of the certificate/, "", rest)
             say(file["certificate"] ":" $2 rest)
@@ -62,6 +67,11 @@ name_files() {
             sub(/^qt_tools: /, "")
             rest = $0; sub(/^line [0-9]+ of the script,? /, "", rest)
             say(file["script"] ":" $2 ": " rest)
+            next
+        }
+        /^qt_tools: line [0-9]+ of the list of cycles:/ && ("list" in file) {
+            rest = $0; sub(/^[^:]*:[^:]*:/, "", rest)
+            say(file["list"] ":" $3 ":" rest)
             next
         }
         /^qt_tools: text [0-9]+, line [0-9]+, column [0-9]+:/ {

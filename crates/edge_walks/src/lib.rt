@@ -1,0 +1,13 @@
+//! Walks along the edges of a program: knots of nodes that all lead to one another, shortest ways, and long chains. Unlike
+//! `rank_graph` it goes on where there are cycles.
+#![tactic(auto)]
+
+mod graph;
+mod hops;
+mod knotting;
+mod marking;
+
+pub use graph::Graph;
+pub use hops::{Hop, Hops};
+pub use knotting::knots;
+pub use marking::{is_marked, marks, set_mark};

@@ -1,0 +1,87 @@
+//! What is found.
+
+use crate::rule::Rule;
+use effect_scan::Reason;
+use text_flaws::Place;
+
+/// The text that something stands in.
+#[derive(Clone, Copy, Debug, PartialEq, Eq)]
+pub enum TextKind {
+    Program,
+    Certificate,
+}
+
+/// Something that is wrong.
+#[derive(Drop)]
+pub struct Finding {
+    /// The rule that is broken.
+    pub rule: Rule,
+    /// What is wrong, in one sentence.
+    pub message: String,
+    /// What to do about it, where that is known.
+    pub help: Option<String>,
+    /// The text in which it stands.
+    pub text: TextKind,
+    /// Where it stands there; `None` for what stands in no line, as the objects' class `QObject`.
+    pub place: Option<Place>,
+    /// The steps that lead to it, one after another; there may be none.
+    pub chain: Vec<Step>,
+}
+
+/// What leads from one member to the next.
+#[derive(Clone, Copy, Debug, PartialEq, Eq)]
+pub enum Link {
+    /// A statement of a slot's body.
+    Statement,
+    /// What a native is declared to do.
+    Native,
+    /// A wire that isn't queued.
+    Wire,
+    /// A property's `notify`.
+    Notify,
+    /// A binding that reads the property.
+    Binding,
+    /// The deletion of objects.
+    Deletion,
+}
+
+impl Link {
+    /// What draws an edge for this reason.
+    pub fn of(reason: Reason) -> Link {
+        match reason {
+            Reason::Statement(_) => Link::Statement,
+            Reason::Native => Link::Native,
+            Reason::Wire(_) => Link::Wire,
+            Reason::Notify => Link::Notify,
+            Reason::Binding(_) => Link::Binding,
+            Reason::Deletion => Link::Deletion,
+        }
+    }
+
+    /// It, in a word.
+    pub fn word(self) -> &'static str {
+        match self {
+            Link::Statement => "statement",
+            Link::Native => "native",
+            Link::Wire => "wire",
+            Link::Notify => "notify",
+            Link::Binding => "binding",
+            Link::Deletion => "deletion",
+        }
+    }
+}
+
+/// That one member may lead to another. Members are written as in certificates.
+#[derive(Drop)]
+pub struct Step {
+    /// The first member.
+    pub from: String,
+    /// What it may lead to.
+    pub to: String,
+    /// By what.
+    pub link: Link,
+    /// The same in a sentence.
+    pub message: String,
+    /// Where in the program that stands by which it does; `None` for what stands in no line.
+    pub place: Option<Place>,
+}

@@ -1,0 +1,13 @@
+//! Findings as values: rules, messages, places, and the steps that lead to them; and lists of cycles that are accepted.
+#![tactic(auto)]
+
+mod cycle_set;
+mod finding;
+mod rule;
+mod verdict;
+
+pub use cycle_set::{CycleSet, ListFault, cycle_list, read_cycles};
+pub use finding::{Finding, Link, Step, TextKind};
+pub use rule::Rule;
+pub use text_flaws::Place;
+pub use verdict::Verdict;

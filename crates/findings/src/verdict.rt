@@ -1,0 +1,66 @@
+//! What is found of a program and its certificate.
+
+ghost use Rattle.std.specs.Prelude.{◌≡◌, []};
+
+use crate::cycle_set::CycleSet;
+use crate::finding::Finding;
+use std::alloc::{AllocError, Global};
+
+/// So many findings are told.
+const MOST_TOLD: usize = 100;
+
+/// What is found of a program and its certificate.
+#[derive(Drop)]
+pub struct Verdict {
+    /// What is wrong: the first hundred.
+    pub findings: Vec<Finding>,
+    /// How many more there are.
+    pub more: usize,
+    /// The cycles that are there, whether they are accepted or not.
+    pub cycles: Vec<CycleSet>,
+    /// How many of these are accepted.
+    pub accepted: usize,
+    /// Those of the list of accepted cycles that aren't there, by their places; none where the program doesn't load.
+    pub absent: Vec<usize>,
+    /// The exit status: 0 where nothing is found, 3 where the program has no certificate or the given one isn't valid, 2
+    /// where a text is refused.
+    pub status: u8,
+}
+
+impl Verdict {
+    /// Nothing is found yet, and this is the exit status.
+    pub fn new(alloc: Global, status: u8) -> Verdict
+        ensures status { result.status ≡ status }
+        ensures accepted { result.accepted ≡ 0 }
+        ensures findings { result.findings.items ≡ [] }
+    {
+        Verdict {
+            findings: Vec::new(alloc),
+            more: 0,
+            cycles: Vec::new(alloc),
+            accepted: 0,
+            absent: Vec::new(alloc),
+            status,
+        }
+    }
+
+    /// Whether one more finding is told; where it isn't, it is counted.
+    pub fn takes_one(&mut self) -> bool {
+        let is_taken = self.findings.len() < MOST_TOLD;
+        if !is_taken {
+            self.more = self.more.saturating_add(1);
+        }
+        is_taken
+    }
+
+    /// Adds a finding that is told.
+    pub fn push(&mut self, finding: Finding) -> Result<(), AllocError> {
+        self.findings.push(finding)?;
+        Ok(())
+    }
+
+    /// How many findings there are.
+    pub fn count(&self) -> usize {
+        self.findings.len().saturating_add(self.more)
+    }
+}

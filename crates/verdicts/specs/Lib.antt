@@ -1,0 +1,3 @@
+pub mod Statuses
+pub use Rattle.program_commands.specs.Commands
+pub use Rattle.program_commands.specs.Outcomes

@@ -1,0 +1,10 @@
+-- The exit status of a verdict (docs/verdict.md, "Exit status").
+use Rattle.std.specs.Prelude.{◌≡◌, ℕ}
+use Rattle.program_commands.specs.Outcomes.{outcome_status}
+use Rattle.program_commands.specs.declared.outcome.Outcome.{Outcome}
+
+-- something that is come to has this status
+pub record HasStatus (ComesTo : Outcome → Type 0) (status : ℕ) : Type 0 where
+  pub outcome : Outcome
+  pub comes : ComesTo outcome
+  pub is : status ≡ outcome_status outcome

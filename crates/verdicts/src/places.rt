@@ -1,0 +1,220 @@
+//! Where the declarations, the members and the statements of a program stand in its text.
+
+use class_lang::program_trail;
+use std::alloc::{AllocError, Global};
+use text_flaws::Place;
+use texts::{
+    Begun, Landmark, LexFault, PlaceFault, PlacedToken, Token, Word, placed_tokens, tokens,
+};
+
+/// Where a slot or native stands, and the statements of its body, in the order of the text.
+#[derive(Drop)]
+struct SlotPlaces {
+    at: Place,
+    statements: Vec<Place>,
+}
+
+/// Where a class stands, and its members of each sort, in their order.
+#[derive(Drop)]
+struct ClassPlaces {
+    at: Place,
+    properties: Vec<Place>,
+    signals: Vec<Place>,
+    slots: Vec<SlotPlaces>,
+}
+
+/// Where the parts of a program stand, each by its first token.
+#[derive(Drop)]
+pub struct Places {
+    classes: Vec<ClassPlaces>,
+    wires: Vec<Place>,
+    sites: Vec<Place>,
+}
+
+/// How far a text was gone through.
+struct Walk<'t> {
+    text: &'t [u8],
+    at: usize,
+    place: Place,
+}
+
+impl Drop for Walk<'_> {
+    fn drop(self) {
+        let Walk {
+            text: _,
+            at: _,
+            place: _,
+        } = self;
+    }
+}
+
+impl<'t> Walk<'t> {
+    /// From the text's beginning.
+    fn new(text: &'t [u8]) -> Walk<'t> {
+        Walk {
+            text,
+            at: 0,
+            place: Place { line: 1, column: 1 },
+        }
+    }
+
+    /// Goes on to this byte, and answers its place.
+    fn to(&mut self, at: usize) -> Place {
+        let passed = self.text.get(self.at..at).unwrap_or(&[]);
+        for byte in passed {
+            if *byte == b'\n' {
+                self.place.line = self.place.line.saturating_add(1);
+                self.place.column = 1;
+            } else {
+                self.place.column = self.place.column.saturating_add(1);
+            }
+        }
+        self.at = at;
+        self.place
+    }
+}
+
+impl Places {
+    /// The places of the program that the text is; none where the text is no program.
+    pub fn of(alloc: Global, text: &[u8]) -> Result<Places, AllocError> {
+        let mut places = Places {
+            classes: Vec::new(alloc),
+            wires: Vec::new(alloc),
+            sites: Vec::new(alloc),
+        };
+        let found = match tokens(alloc, text) {
+            Ok(found) => found,
+            Err(LexFault::BadByte) => return Ok(places),
+            Err(LexFault::Memory) => return Err(AllocError),
+        };
+        let placed = match placed_tokens(alloc, text) {
+            Ok(placed) => placed,
+            Err(PlaceFault::BadByte(_)) => return Ok(places),
+            Err(PlaceFault::Memory) => return Err(AllocError),
+        };
+        let trail = match program_trail(alloc, found.as_slice()) {
+            Some(trail) if trail.is_whole() => trail,
+            _ => return Err(AllocError),
+        };
+        let mut walk = Walk::new(text);
+        for begun in trail.begun() {
+            if let Some(token) = placed.as_slice().get(begun.at) {
+                let place = walk.to(token.at);
+                places.push(alloc, *begun, token, place)?;
+            }
+        }
+        Ok(places)
+    }
+
+    /// Adds the part that begins at this place with this token.
+    fn push(
+        &mut self,
+        alloc: Global,
+        begun: Begun,
+        token: &PlacedToken,
+        place: Place,
+    ) -> Result<(), AllocError> {
+        let word = match &token.token {
+            Token::Word(word) => Some(*word),
+            _ => None,
+        };
+        match begun.landmark {
+            Landmark::Declaration => self.push_declaration(alloc, word, place),
+            Landmark::Member => self.push_member(alloc, word, place),
+            Landmark::Statement => self.push_statement(place),
+        }
+    }
+
+    /// Adds a declaration that begins with this word.
+    fn push_declaration(
+        &mut self,
+        alloc: Global,
+        word: Option<Word>,
+        place: Place,
+    ) -> Result<(), AllocError> {
+        match word {
+            Some(Word::Class) => {
+                self.classes.push(ClassPlaces {
+                    at: place,
+                    properties: Vec::new(alloc),
+                    signals: Vec::new(alloc),
+                    slots: Vec::new(alloc),
+                })?;
+            }
+            Some(Word::Wire) => self.wires.push(place)?,
+            Some(Word::Binding) => self.sites.push(place)?,
+            _ => {}
+        }
+        Ok(())
+    }
+
+    /// Adds a member of the last class that begins with this word.
+    fn push_member(
+        &mut self,
+        alloc: Global,
+        word: Option<Word>,
+        place: Place,
+    ) -> Result<(), AllocError> {
+        let Some(class) = self.classes.last_mut() else {
+            return Ok(());
+        };
+        match word {
+            Some(Word::Property) => class.properties.push(place)?,
+            Some(Word::Signal) => class.signals.push(place)?,
+            _ => {
+                let statements = Vec::new(alloc);
+                class.slots.push(SlotPlaces {
+                    at: place,
+                    statements,
+                })?;
+            }
+        }
+        Ok(())
+    }
+
+    /// Adds a statement of the last slot.
+    fn push_statement(&mut self, place: Place) -> Result<(), AllocError> {
+        if let Some(class) = self.classes.last_mut() {
+            if let Some(slot) = class.slots.last_mut() {
+                slot.statements.push(place)?;
+            }
+        }
+        Ok(())
+    }
+
+    /// The class that is declared at this place among them.
+    pub fn class(&self, class: usize) -> Option<Place> {
+        Some(self.classes.get(class)?.at)
+    }
+
+    /// A property of the class, by its place among those that it declares.
+    pub fn property(&self, class: usize, own: usize) -> Option<Place> {
+        self.classes.get(class)?.properties.get(own).copied()
+    }
+
+    /// A method of the class, by its place among those that it declares: signals, and then slots and natives.
+    pub fn method(&self, class: usize, own: usize) -> Option<Place> {
+        let class = self.classes.get(class)?;
+        match own.checked_sub(class.signals.len()) {
+            Some(slot) => Some(class.slots.get(slot)?.at),
+            None => class.signals.get(own).copied(),
+        }
+    }
+
+    /// The statement of this number in the body of such a method.
+    pub fn statement(&self, class: usize, own: usize, number: usize) -> Option<Place> {
+        let class = self.classes.get(class)?;
+        let slot = class.slots.get(own.checked_sub(class.signals.len())?)?;
+        slot.statements.get(number).copied()
+    }
+
+    /// The wire at this place among them.
+    pub fn wire(&self, place: usize) -> Option<Place> {
+        self.wires.get(place).copied()
+    }
+
+    /// The binding at this place among them.
+    pub fn site(&self, place: usize) -> Option<Place> {
+        self.sites.get(place).copied()
+    }
+}

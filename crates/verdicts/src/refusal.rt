@@ -1,0 +1,61 @@
+//! Texts that are refused.
+
+use declaration_flaws::declaration_flaw;
+use findings::{Finding, Rule, TextKind};
+use program_commands::Refusal;
+use std::alloc::{AllocError, Global};
+use text_flaws::{Flaw, Place, certificate_flaw, meaning, program_flaw};
+
+/// Why the text is refused, which is this refusal's.
+pub fn refusal_finding(
+    alloc: Global,
+    text: &[u8],
+    refusal: &Refusal,
+) -> Result<Finding, AllocError> {
+    let Some(number) = refusal.number() else {
+        return Err(AllocError);
+    };
+    let kind = match refusal {
+        Refusal::Certificate(_) => TextKind::Certificate,
+        _ => TextKind::Program,
+    };
+    let flaw = match refusal {
+        Refusal::Text(_) => program_flaw(alloc, text, number)?,
+        Refusal::Certificate(_) => certificate_flaw(alloc, text)?,
+        _ => declaration_flaw(alloc, text, number)?,
+    };
+    let rule = Rule::of_refusal(number);
+    match flaw {
+        Some(flaw) => flaw_finding(alloc, text, rule, kind, flaw),
+        None => Ok(Finding {
+            rule,
+            message: String::from_str(alloc, meaning(number).unwrap_or(""))?,
+            help: None,
+            text: kind,
+            place: Some(Place { line: 1, column: 1 }),
+            chain: Vec::new(alloc),
+        }),
+    }
+}
+
+/// The flaw as a finding.
+fn flaw_finding(
+    alloc: Global,
+    text: &[u8],
+    rule: Rule,
+    kind: TextKind,
+    flaw: Flaw,
+) -> Result<Finding, AllocError> {
+    let help = match flaw.advice {
+        Some(advice) => Some(String::from_str(alloc, advice)?),
+        None => None,
+    };
+    Ok(Finding {
+        rule,
+        place: Some(Place::of(text, flaw.at.min(text.len()))),
+        message: flaw.sentence,
+        help,
+        text: kind,
+        chain: Vec::new(alloc),
+    })
+}

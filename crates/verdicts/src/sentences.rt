@@ -1,0 +1,59 @@
+//! Sentences of findings.
+
+use effect_scan::Node;
+use meta_objects::Meta;
+use program_flaws::node_text;
+use std::alloc::{AllocError, Global};
+
+/// So many members are named in a sentence.
+const MOST_NAMED: usize = 4;
+
+/// How the lines begin that say what to do.
+const HELP: &str = "help: ";
+
+/// A sentence, and what to do.
+#[derive(Drop)]
+pub struct Told {
+    pub message: String,
+    pub help: Option<String>,
+}
+
+impl Told {
+    /// The first line of the text, and that of its lines which says what to do.
+    pub fn of(alloc: Global, text: &str) -> Result<Told, AllocError> {
+        let mut message = String::new(alloc);
+        let mut help = None;
+        for (place, line) in text.lines().enumerate() {
+            if let Some(advice) = line.strip_prefix(HELP) {
+                help = Some(String::from_str(alloc, advice)?);
+            } else if place == 0 {
+                message.push_str(line)?;
+            }
+        }
+        Ok(Told { message, help })
+    }
+}
+
+/// Adds the names of the nodes, or of the first of them, and how many more there are.
+pub fn push_names(
+    text: &mut String,
+    alloc: Global,
+    meta: &Meta,
+    nodes: &[Node],
+) -> Result<(), AllocError> {
+    let more = nodes.len().saturating_sub(MOST_NAMED);
+    for (place, node) in nodes.iter().take(MOST_NAMED).enumerate() {
+        let is_last = more == 0 && place.saturating_add(1) == nodes.len();
+        let joint = match place {
+            0 => "",
+            _ if is_last => " and ",
+            _ => ", ",
+        };
+        let name = node_text(alloc, meta, *node)?;
+        write!(text, "{joint}`{name}`")?;
+    }
+    if more > 0 {
+        write!(text, " and {more} more")?;
+    }
+    Ok(())
+}
