@@ -2,25 +2,29 @@
 """Runs the cases of tests/tools/*.cases on both builds of the program `qt_tools`. They have the form of docs/cases.md, and
 `--- errors` is compared where it is there. Then `import` is given changed texts of JSON: of each it makes declarations that
 `gammonfig meta` takes, or it is refused with status 2 and nothing is written. And `graph` is given changed programs: it draws
-those that `meta` takes, as JSON that can be read, whose edges join nodes that are drawn.
+those that `meta` takes, as JSON that can be read, whose edges join nodes that are drawn. So is `verdict`: it finds nothing where
+`gammonfig certify` makes a certificate, and else what its reason says too; what it lists of cycles it accepts; and its SARIF
+has what the schema asks, and its JSON becomes a code quality report.
 
 Usage: tests/tools/run.py. The last line is `N passed, M failed`."""
 import json
 import os
 import random
 import re
+import subprocess
 import sys
 
 sys.dont_write_bytecode = True
 sys.path.insert(0, os.path.dirname(os.path.dirname(os.path.abspath(__file__))))
 import built
 import case_files
+import sarif
 
 FOLDER = os.path.dirname(os.path.abspath(__file__))
 BUILDS = [it.replace("gammonfig", "qt_tools") for it in ("gammonfig/out/gammonfig", "gammonfig/out/gammonfig.by-rattle")]
 
 
-SEED, CHANGED, DRAWN = 20260101, 1500, 100
+SEED, CHANGED, DRAWN, JUDGED = 20260101, 1500, 100, 60
 TOKEN = re.compile(rb'"[^"]*"|[0-9a-z]+|[][{}:,]')
 ODD = [b"", b"\n", b'""', b'"int"', b'"class"', b'"QObject"', b'"a::b"', b'"x\\ny"', b"3", b"null", b"true", b"[]", b"{}", b"[", b"}", b"\xff"]
 
@@ -75,6 +79,108 @@ def draw(bench, count, program):
             count.check(holds and (found.status == 0) == (taken.status == 0), lambda: f"{given}: {found}, and meta: {taken}")
 
 
+RULES = {b"wire": "wire-types", b"type": "ill-typed", b"cycle": "cycle", b"destroy": "destroy-path", b"high": "chain-too-long"}
+
+
+def is_placed(it, text):
+    """Whether it stands at a place of the text, or, as what every object has, at none."""
+    lines = text.split(b"\n")
+    at = (it.get("line"), it.get("column"))
+    return at == (None, None) or (1 <= at[0] <= len(lines) and 1 <= at[1] <= len(lines[at[0] - 1]) + 1)
+
+
+def is_verdict(found, certified, text):
+    """Whether a verdict as JSON goes with what `certify` says of the program."""
+    try:
+        told = json.loads(found.output)
+        rules = {it["rule"] for it in told["findings"]}
+        chains = [it["chain"] for it in told["findings"]]
+        joined = all(first["to"] == second["from"] for it in chains for first, second in zip(it, it[1:]))
+        placed = all(is_placed(it, text) for it in told["findings"] + [step for chain in chains for step in chain])
+        reason = re.match(rb"no (\w+) ", certified.output)
+        return joined and placed and bool(rules) == (found.status != 0) and (not reason or RULES[reason[1]] in rules)
+    except (ValueError, KeyError):
+        return False
+
+
+def judge(bench, count, program):
+    """Each example's program, as it is and with changes."""
+    rng = random.Random(SEED)
+    for _, _, text, _, _ in built.examples():
+        source = built.texts(text)[0]
+        for number in range(JUDGED):
+            given = changed_program(rng, source) if number else source
+            found = bench.run(program, ["verdict", "--json"], given)
+            certified = bench.run(built.BUILDS[0], ["certify"], given)
+            holds = found.status == certified.status and is_verdict(found, certified, given)
+            count.check(holds, lambda: f"{given}: {found}, and certify: {certified}")
+            if found.status == 3:
+                accept(bench, count, program, given)
+
+
+def accept(bench, count, program, text):
+    """All cycles of the program are accepted by their own list, and by it alone."""
+    listed = bench.run(program, ["verdict", "--accept-all"], text)
+    found = bench.run(program, ["verdict", "--json", "--accept"], text + b"\n%%\n" + listed.output)
+    told = json.loads(found.output)
+    holds = listed.status == 0 and told["accepted"] == listed.output.count(b"\ncycle\n") and b"note" not in found.errors
+    holds = holds and not any(it["rule"] == "cycle" for it in told["findings"])
+    count.check(holds, lambda: f"{text}: the list {listed}, and with it {found}")
+
+
+def chained(length):
+    """A program with a chain of so many signals, each wired to the next one."""
+    each = [f"signal s{it}();" for it in range(length)]
+    classes = [f"class C{at // 50} {{ {' '.join(each[at : at + 50])} }}" for at in range(0, length, 50)]
+    wires = [f"wire C{it // 50} s{it}() -> C{(it + 1) // 50} s{it + 1}() direct;" for it in range(length - 1)]
+    return "\n".join(classes + wires).encode()
+
+
+def judge_large(bench, count, program):
+    """A chain that is too long, and one that isn't; and more findings than are told."""
+    for length, rules in ((256, []), (257, ["chain-too-long"]), (300, ["chain-too-long"])):
+        told = json.loads(bench.run(program, ["verdict", "--json"], chained(length)).output)
+        count.check([it["rule"] for it in told["findings"]] == rules, lambda: f"a chain of {length}: {told}")
+        for it in told["findings"]:
+            holds = len(it["chain"]) == 256 and all(step["by"] == "wire" for step in it["chain"])
+            count.check(holds, lambda: f"a chain of {length}: {it['chain']}")
+    many = b"class A { signal s(); slot f(int v) { } }\n" + b"wire A s() -> A f(int) queued;\n" * 130
+    told = json.loads(bench.run(program, ["verdict", "--json"], many).output)
+    count.check((len(told["findings"]), told["more"]) == (100, 30), lambda: f"130 wires that don't fit: {told}")
+    lines = bench.run(program, ["verdict"], many).output.splitlines()
+    count.check(lines[-1] == b"100 findings, and 30 more", lambda: f"130 wires that don't fit: {lines[-1]}")
+
+
+def report(bench, count, program):
+    """The SARIF of programs with findings of all sorts, and of one with none."""
+    faulty = {
+        "cycle": (b"class A { slot f() { call this.f(); } slot g() { delete this; } }", ["cycle", "destroy-path"]),
+        "types": (b'class A { property int p = "x"; signal s(); slot f(int v) { } }\nwire A s() -> A f(int) auto;', ["wire-types", "ill-typed"]),
+        "text": (b"class A {\n  property int p\n  signal s();\n}", ["syntax"]),
+        "none": (b"class A { }", []),
+    }  # fmt: skip
+    for name, (text, rules) in faulty.items():
+        found = bench.run(program, ["verdict", "--sarif", "--program", f"src/{name} 1.gf"], text)
+        log = json.loads(found.output)
+        wrong = sarif.faults(log)
+        count.check(not wrong, lambda: f"{name}: {wrong}")
+        run = log["runs"][0]
+        results = run["results"]
+        count.check([it["ruleId"] for it in results] == rules, lambda: f"{name}: {results}, wanted {rules}")
+        known = {it["id"] for it in run["tool"]["driver"]["rules"]}
+        count.check(known.issuperset(rules), lambda: f"{name}: the rules are {known}")
+        uris = {at["physicalLocation"]["artifactLocation"]["uri"] for it in results for at in it["locations"]}
+        count.check(uris <= {f"src/{name}%201.gf"}, lambda: f"{name}: {uris}")
+        told = bench.run(program, ["verdict", "--json"], text).output
+        made = subprocess.run([sys.executable, f"{built.ROOT}/bin/code_quality.py"], input=told, capture_output=True, check=True)
+        entries = json.loads(made.stdout)
+        holds = [it["check_name"] for it in entries] == rules and len({it["fingerprint"] for it in entries}) == len(rules)
+        holds = holds and all(it["location"]["path"] == "program" and it["location"]["lines"]["begin"] >= 1 for it in entries)
+        count.check(holds, lambda: f"{name}: {entries}")
+        flows = {it["ruleId"] for it in results if it.get("codeFlows")}
+        count.check(flows == {"cycle", "destroy-path"} & set(rules), lambda: f"{name}: {results}")
+
+
 def changed_program(rng, text):
     lines = text.split(b"\n")
     for _ in range(rng.randrange(1, 3)):
@@ -103,6 +209,9 @@ def main():
     for program in filter(os.path.isfile, programs):
         change(bench, count, program, text)
         draw(bench, count, program)
+        judge(bench, count, program)
+        judge_large(bench, count, program)
+        report(bench, count, program)
     count.end()
 
 

@@ -24,6 +24,9 @@ CYCLE = LAMP + "wire Lamp changed(int) -> Lamp dim(int) direct;\n"
 SCRIPT = "new a Lamp\ncall a.dim(3)\n"
 TRACE = "event 1\nevent 2\n1 call a.dim(3)\n2 set a.level 3\n3 emit a.changed(3)\n"
 USAGE = "usage\n"
+# What is told beside a yes to the first program, and a line behind it that is worth a warning.
+DEPTH = "13 members, deepest chain 3: Lamp.dim(int) -> Lamp.level -> Lamp.changed(int)\n"
+IDLE = "wire Lamp changed(int) -> Lamp deleteLater() queued;\n" * 2
 
 
 class Tests:
@@ -47,6 +50,7 @@ class Tests:
                 "trace": TRACE,
                 "bumps.gf": CYCLE.replace("= v;", "= v + 1;"),
                 "above.gfs": "//= event 1\n" + SCRIPT,
+                "idle.gf": LAMP + IDLE,
             }
         )
 
@@ -62,9 +66,10 @@ class Tests:
 
     def files(self):
         certificate = self.program(["certify"], LAMP)
-        self.check(["certify", "app.gf"], 0, certificate)
+        self.check(["certify", "app.gf"], 0, certificate, DEPTH)
         self.check(["meta", "app.gf"], 0, self.program(["meta"], LAMP))
-        self.check(["check", "app.gf", "app.gfc"], 0, "yes\n")
+        self.check(["check", "app.gf", "app.gfc"], 0, "yes\n", DEPTH)
+        self.check(["check", "idle.gf", "app.gfc"], 0, "yes\n", "idle.gf:7:1: warning: nothing can use this wire", DEPTH)
         self.check(["run", "app.gf", "app.gfc", "session.gfs"], 0, TRACE)
         self.check(["run", "--unchecked", "9", "app.gf", "session.gfs"], 0, TRACE)
         self.check(["run", "--unchecked", "9", "app.gf", "open.gfs"], 0, TRACE)
@@ -103,7 +108,7 @@ class Tests:
         """On a terminal the wrapper says what it waits for."""
         ours, theirs = pty.openpty()
         os.write(ours, LAMP.encode() + b"\x04")
-        self.check(["certify"], 0, self.program(["certify"], LAMP), "waiting for a program", text=theirs)
+        self.check(["certify"], 0, self.program(["certify"], LAMP), "waiting for a program", DEPTH, text=theirs)
         os.close(ours)
         os.close(theirs)
 
@@ -130,13 +135,51 @@ class Tests:
         self.check(["session", "app.gf", "session.gfs"], 1, USAGE, "this is no command")
 
     def view(self):
-        """`view` shows traces: as a diagram by that program, or as `./trace_view` does."""
+        """`view` shows traces: as a diagram or a page by that program, or as `./trace_view` does."""
         shown = self.program(["view", "--mermaid"], TRACE, "qt_tools")
         self.check(["view", "--mermaid"], 0, shown, text=TRACE)
         self.check(["view", "--mermaid", "trace"], 0, shown)
         self.check(["view", "--mermaid", "none"], 2, "", "can't be read")
-        self.check(["view", "--html", "trace"], 1, USAGE, "this is no command")
+        shown = self.program(["view", "--html"], TRACE, "qt_tools")
+        self.check(["view", "--html"], 0, shown, text=TRACE)
+        self.check(["view", "--html", "trace"], 0, shown)
+        shown = self.program(["view", "--html"], TRACE + "%%\n" + SCRIPT, "qt_tools")
+        self.check(["view", "--html"], 0, shown, text=TRACE + "%%\n" + SCRIPT)
+        self.check(["view", "--html", "trace", "session.gfs"], 0, shown)
+        self.check(["view", "--html", "-", "session.gfs"], 0, shown, text=TRACE)
+        self.check(["view", "--html", "trace", "none"], 2, "", "can't be read")
+        for words in (["--html", "trace", "session.gfs", "trace"], ["--mermaid", "trace", "session.gfs"], ["--svg", "trace"]):
+            self.check(["view", *words], 1, USAGE, "this is no command")
         self.check(["view", "--plain", "trace"], 0, self.program(["--plain"], TRACE, "trace_view"))
+
+    def verdict(self):
+        """`verdict` names the files, and takes a list of accepted cycles behind them."""
+        self.check(["verdict", "app.gf"], 0, "no findings\n")
+        self.check(["verdict", "app.gf", "app.gfc"], 0, "no findings\n")
+        told = self.program(["verdict", "--program", "cycle.gf"], CYCLE, "qt_tools")
+        self.check(["verdict", "cycle.gf"], 3, told, "there are findings")
+        told = self.program(["verdict", "--sarif", "--program", "a b.gf"], LOOSE, "qt_tools")
+        self.check(["verdict", "--sarif", "a b.gf"], 2, told, "a text is refused")
+        told = self.program(["verdict", "--json", "--program", "app.gf", "--certificate", "flat.gfc"], self.joined("app.gf", "flat.gfc"), "qt_tools")
+        self.check(["verdict", "--json", "app.gf", "flat.gfc"], 3, told, "there are findings")
+        self.check(["verdict"], 3, self.program(["verdict"], CYCLE, "qt_tools"), "there are findings", text=CYCLE)
+        listed = self.program(["verdict", "--accept-all"], CYCLE, "qt_tools")
+        self.check(["verdict", "--accept-all", "cycle.gf"], 0, listed)
+        self.place.write({"accepted.txt": listed, "above.txt": "# none\nLamp.level\n"})
+        self.check(["verdict", "--accept", "accepted.txt", "cycle.gf"], 0, "no findings, 1 accepted\n")
+        self.check(["verdict", "--accept", "accepted.txt", "app.gf"], 0, "no findings\n", "isn't there any more")
+        self.check(["verdict", "--accept", "above.txt", "app.gf", "app.gfc"], 2, "", "above.txt:2: no line `cycle`")
+        self.check(["verdict", "--accept", "none.txt", "app.gf"], 2, "", "none.txt: this file can't be read")
+        for words in (["--accept", "accepted.txt"], ["--accept"], ["--fast", "app.gf"], ["app.gf", "app.gfc", "app.gfc"]):
+            self.check(["verdict", *words], 1, USAGE, "this is no command")
+
+    def joined(self, *names):
+        """The texts of these files, as one input."""
+        texts = []
+        for name in names:
+            with open(f"{self.place.folder}/{name}") as file:
+                texts.append(file.read())
+        return "%%\n".join(texts)
 
     def witness(self):
         """`witness` looks for a script that shows why there is no certificate."""
@@ -164,7 +207,7 @@ class Tests:
 
 def main():
     tests = Tests()
-    for part in ("files", "places", "refused", "input", "terminal", "graph", "session", "view", "witness", "import_classes", "built"):
+    for part in ("files", "places", "refused", "input", "terminal", "graph", "session", "view", "verdict", "witness", "import_classes", "built"):
         getattr(tests, part)()
     shutil.rmtree(tests.place.folder, ignore_errors=True)
     tests.count.end()

@@ -1,6 +1,7 @@
 //! Why a word doesn't do what it is asked.
 
 use class_graph::GraphFault;
+use findings::ListFault;
 use moc_import::ImportFault;
 use run_witness::WitnessFault;
 use script_tests::ExpectationFault;
@@ -13,7 +14,7 @@ use thiserror::Error;
 #[derive(Clone, Copy, Debug, Error)]
 pub enum ToolFault {
     /// The words are none that there are.
-    #[error("usage: qt_tools graph [--json] [--class CLASS,..] [--from MEMBER] < PROGRAM, import [--only CLASS,..] [--lean] [--strict] < JSON, session [--tap] [--unchecked N] [--steps M] < TEXTS, view --mermaid < TRACE, or witness < PROGRAM")]
+    #[error("usage: qt_tools graph [--json] [--class CLASS,..] [--from MEMBER] < PROGRAM, import [--only CLASS,..] [--lean] [--strict] < JSON, session [--tap] [--unchecked N] [--steps M] < TEXTS, verdict [--json|--sarif|--accept-all] [--accept] [--program NAME] [--certificate NAME] < TEXTS, view --mermaid|--html < TRACE, or witness < PROGRAM")]
     Usage,
     /// The program is refused, with the number that `gammonfig` gives.
     #[error("the program is refused with {0}: `gammonfig meta` says where")]
@@ -39,6 +40,15 @@ pub enum ToolFault {
     /// Events of the script went otherwise than is expected.
     #[error("events went otherwise than is expected")]
     Otherwise,
+    /// Something is wrong with the program or its certificate, and was told.
+    #[error("there are findings")]
+    Found,
+    /// A text is refused, which was told.
+    #[error("a text is refused")]
+    Unjudged,
+    /// A list of cycles can't be read.
+    #[error("{0}")]
+    Unlisted(ListFault),
     /// A line of the script expects a line of the trace and stands above all events.
     #[error("{0}")]
     Unexpected(ExpectationFault),
@@ -61,16 +71,19 @@ pub enum ToolFault {
 
 impl ToolFault {
     /// The process's exit status: 2 for an input that is refused, 3 for one of which a part is left out, for a certificate
-    /// that isn't valid and where no witness was found, 5 for a script whose events went otherwise than it expects, else 1.
+    /// that isn't valid, where something is found and where no witness was, 5 for a script whose events went otherwise than it expects, else 1.
     pub fn status(self) -> u8 {
         match self {
             ToolFault::Refused(_)
             | ToolFault::TextRefused(_)
             | ToolFault::Unexpected(_)
             | ToolFault::Unimported(_)
+            | ToolFault::Unjudged
+            | ToolFault::Unlisted(_)
             | ToolFault::NoText => 2,
             ToolFault::LeftOut
             | ToolFault::Invalid(_)
+            | ToolFault::Found
             | ToolFault::NoWitness
             | ToolFault::Certified => 3,
             ToolFault::Otherwise => 5,
@@ -118,6 +131,15 @@ impl From<WitnessFault> for ToolFault {
         match fault {
             WitnessFault::Refused(number) => ToolFault::Refused(number),
             WitnessFault::Memory => ToolFault::Memory,
+        }
+    }
+}
+
+impl From<ListFault> for ToolFault {
+    fn from(fault: ListFault) -> ToolFault {
+        match fault {
+            ListFault::Memory => ToolFault::Memory,
+            refused => ToolFault::Unlisted(refused),
         }
     }
 }

@@ -7,6 +7,7 @@ mod graph;
 mod import;
 mod session;
 mod streams;
+mod verdict;
 mod view;
 mod witness;
 
@@ -14,6 +15,7 @@ use crate::fault::ToolFault;
 use crate::graph::graph;
 use crate::import::import_classes;
 use crate::session::session;
+use crate::verdict::tell_verdict;
 use crate::view::view;
 use crate::witness::witness;
 use std::alloc::{AllocError, Global};
@@ -38,6 +40,7 @@ fn start(rt: &HostRuntime) -> Result<(), ToolFault> {
         [word, options @ ..] if *word == "graph" => graph(rt, options),
         [word, options @ ..] if *word == "import" => import_classes(rt, options),
         [word, options @ ..] if *word == "session" => session(rt, options),
+        [word, options @ ..] if *word == "verdict" => tell_verdict(rt, options),
         [word, options @ ..] if *word == "view" => view(rt, options),
         [word, options @ ..] if *word == "witness" => witness(rt, options),
         _ => Err(ToolFault::Usage),
