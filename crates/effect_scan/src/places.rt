@@ -51,7 +51,7 @@ impl Places {
     ) -> Result<Items<usize>, AllocError>
         ensures { IfOk result (AreJust (InEach self.now.numbering classes.now member)) }
     {
-        let mut found = Items::new(alloc);
+        let mut found = Vec::with_capacity(alloc, classes.len())?;
         for class in classes {
             let node = Node {
                 class: *class,
@@ -62,7 +62,7 @@ impl Places {
                 None => {}
             }
         }
-        Ok(found)
+        Ok(Items::from_vec(found))
     }
 
     /// The numbers of this member in the class and those below it.

@@ -1,3 +1,4 @@
-mod Applying
+pub mod Applying
 mod Checking
 mod Halting
+pub mod Fronts

@@ -52,25 +52,6 @@ abbrev pub SplitsText : List ℕ → Result (Bor (List ℕ) × Bor (List ℕ)) L
 SplitsText bytes (Ok parts) = IsQuoted bytes parts.0.now parts.1.now
 SplitsText bytes (Err fault) = (fault ≡ BadByte) × ((inner rest : List ℕ) → IsQuoted bytes inner rest → ⊥)
 
--- what follows this symbol
-abbrev pub SplitsThis : Symbol → List ℕ → Option (Bor (List ℕ)) → Type 0
-SplitsThis symbol bytes None = ¬ Begins (spelling symbol) bytes
-SplitsThis symbol bytes (Some rest) = bytes ≡ spelling symbol ++ rest.now
-
--- none of these symbols stands at the front
-abbrev pub NoneBegins : List Symbol → List ℕ → Type 0
-NoneBegins symbols bytes = AllByRecursion (λ s. ¬ Begins (spelling s) bytes) symbols
-
--- the symbol is one of these
-abbrev pub IsIn : Symbol → List Symbol → Type 0
-IsIn symbol [] = ⊥
-IsIn symbol (x ∷ xs) = (symbol ≡ x) ⊎ IsIn symbol xs
-
--- one of these symbols, and what follows it
-abbrev pub SplitsOneOf : List Symbol → List ℕ → Option (Symbol × Bor (List ℕ)) → Type 0
-SplitsOneOf symbols bytes None = NoneBegins symbols bytes
-SplitsOneOf symbols bytes (Some parts) = IsIn parts.0 symbols × (bytes ≡ spelling parts.0 ++ parts.1.now)
-
 -- the longest symbol, and what follows it
 abbrev pub SplitsSymbol : List ℕ → Option (Symbol × Bor (List ℕ)) → Type 0
 SplitsSymbol bytes None = (s : Symbol) → ¬ Begins (spelling s) bytes

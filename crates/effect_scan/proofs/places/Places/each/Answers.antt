@@ -7,7 +7,7 @@ pub loop-class-preserved : goal.loop-class-preserved
 loop-class-preserved c =
     elim c.match-number.branch [
       | in-Some+in_ok-push-in-Some w ↦
-          each_yes c.args.self.now.numbering c.args.classes.now c.args.member _ _ _ _ c.loop-class-test.true c.loop-class.invariant w.in-Some.ensures.value w.in-Some.ensures.only (w.found-is ∙ w.in_ok-push-in-Some.ensures.ok)
+          each_yes c.args.self.now.numbering c.args.classes.now c.args.member _ _ _ _ c.loop-class-test.true c.loop-class.invariant w.in-Some.ensures.value w.in-Some.ensures.only (w.found-is ∙ w.in_ok-push-in-Some.ensures.items)
       | in-None w ↦ rw w.found-is (each_no c.args.self.now.numbering c.args.classes.now c.args.member _ _ c.loop-class-test.true c.loop-class.invariant w.in-None.ensures.value)
     ]
 

@@ -1,0 +1,31 @@
+//! Why nothing is imported.
+
+use std::alloc::AllocError;
+use thiserror::Error;
+
+/// Why nothing is imported.
+#[derive(Clone, Copy, Debug, PartialEq, Eq, Error)]
+pub enum ImportFault {
+    /// A text isn't what moc writes: its number among the texts, and the line and column where that shows.
+    #[error("text {text}, line {line}, column {column}: this isn't what `moc --output-json` writes")]
+    BadJson {
+        text: usize,
+        line: usize,
+        column: usize,
+    },
+    /// No line `%%` parts off a text of effects, which is asked for.
+    #[error("no line `%%` parts the effects from what `moc` writes")]
+    NoEffects,
+    /// A class that is asked for isn't among those that are read.
+    #[error("a class that is asked for isn't there")]
+    NoClass,
+    /// A growth of memory was refused.
+    #[error("out of memory")]
+    Memory,
+}
+
+impl From<AllocError> for ImportFault {
+    fn from(_: AllocError) -> ImportFault {
+        ImportFault::Memory
+    }
+}

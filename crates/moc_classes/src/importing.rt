@@ -1,0 +1,310 @@
+//! Which members are imported, class by class.
+
+use crate::catalogue::{Catalogue, Listed};
+use crate::kinds::Kind;
+use crate::members::{LeftOut, Members, Method, Property, Sort, parameters_of, property_of};
+use crate::moc::{MocClass, MocMethod, MocProperty};
+use std::alloc::{AllocError, Global};
+
+/// Which members are wanted.
+#[derive(Drop)]
+pub struct Choice<'f> {
+    /// Of properties those alone that notify, or that a slot writes.
+    pub is_lean: bool,
+    /// The names of properties that are wanted even so.
+    pub kept: Vec<&'f str>,
+    /// Slots that the classes have besides, each with its class's number. Those that the language can't have are passed over.
+    pub added: Vec<(usize, &'f MocMethod)>,
+}
+
+/// What is imported so far.
+#[derive(Drop)]
+pub struct Import<'f> {
+    pub catalogue: Catalogue<'f>,
+    /// For each class, by number, its own members.
+    pub members: Vec<Members<'f>>,
+    /// What is left out, each with its class's number.
+    pub missing: Vec<(usize, Missing<'f>)>,
+}
+
+/// A method, with its class and its place among the methods of that.
+#[derive(Clone, Copy)]
+pub struct Placed<'i, 'f> {
+    pub class: usize,
+    pub place: usize,
+    pub method: &'i Method<'f>,
+}
+
+/// A member that is left out, and why.
+#[derive(Clone, Copy)]
+pub enum Missing<'f> {
+    Property(&'f MocProperty, LeftOut<'f>),
+    Method(&'f MocMethod, LeftOut<'f>),
+}
+
+impl<'f> Import<'f> {
+    /// The members of all classes.
+    pub fn of(
+        alloc: Global,
+        catalogue: Catalogue<'f>,
+        choice: &Choice<'f>,
+    ) -> Result<Import<'f>, AllocError> {
+        let mut import = Import {
+            catalogue,
+            members: Vec::new(alloc),
+            missing: Vec::new(alloc),
+        };
+        for number in 0..import.catalogue.classes.len() {
+            import.members.push(Members {
+                properties: Vec::new(alloc),
+                methods: Vec::new(alloc),
+            })?;
+            if let Some(class) = import.class(number) {
+                import.push_methods(alloc, number, class.signals.as_slice(), Sort::Signal)?;
+                import.push_methods(alloc, number, class.slots.as_slice(), Sort::Slot)?;
+                import.push_methods(alloc, number, class.methods.as_slice(), Sort::Slot)?;
+                import.push_added(alloc, number, choice.added.as_slice())?;
+                import.push_properties(number, class, choice)?;
+            }
+        }
+        Ok(import)
+    }
+
+    /// The class of this number, as moc has it.
+    pub fn class(&self, number: usize) -> Option<&'f MocClass> {
+        let listed: &Listed<'f> = self.catalogue.classes.get(number)?;
+        Some(listed.class)
+    }
+
+    /// Adds those of the methods that the language can have.
+    fn push_methods(
+        &mut self,
+        alloc: Global,
+        class: usize,
+        methods: &'f [MocMethod],
+        sort: Sort,
+    ) -> Result<(), AllocError> {
+        for moc in methods {
+            if let Some(why) = self.push_method(alloc, class, moc, sort)? {
+                self.missing.push((class, Missing::Method(moc, why)))?;
+            }
+        }
+        Ok(())
+    }
+
+    /// Adds those of the slots that the class has besides.
+    fn push_added(
+        &mut self,
+        alloc: Global,
+        class: usize,
+        added: &[(usize, &'f MocMethod)],
+    ) -> Result<(), AllocError> {
+        for (number, moc) in added {
+            if *number == class {
+                let _passed_over = self.push_method(alloc, class, moc, Sort::AddedSlot)?;
+            }
+        }
+        Ok(())
+    }
+
+    /// Adds the method, or answers why the language can't have it.
+    fn push_method(
+        &mut self,
+        alloc: Global,
+        class: usize,
+        moc: &'f MocMethod,
+        sort: Sort,
+    ) -> Result<Option<LeftOut<'f>>, AllocError> {
+        let method = match self.method(alloc, class, moc, sort)? {
+            Ok(method) => method,
+            Err(why) => return Ok(Some(why)),
+        };
+        if let Some(members) = self.members.get_mut(class) {
+            members.methods.push(method)?;
+        }
+        Ok(None)
+    }
+
+    /// The method, or why it is left out.
+    fn method(
+        &self,
+        alloc: Global,
+        class: usize,
+        moc: &'f MocMethod,
+        sort: Sort,
+    ) -> Result<Result<Method<'f>, LeftOut<'f>>, AllocError> {
+        let parameters = match parameters_of(alloc, &self.catalogue, class, moc)? {
+            Ok(parameters) => parameters,
+            Err(why) => return Ok(Err(why)),
+        };
+        let name = moc.name.as_str();
+        let count = parameters.len();
+        if is_of_qobject(name, count) {
+            return Ok(Err(LeftOut::Inherited));
+        }
+        Ok(match self.holder(class, Sought::Method(name, count)) {
+            Some(holder) if holder == class => Err(LeftOut::Overload),
+            Some(_) => Err(LeftOut::Inherited),
+            None => Ok(Method {
+                moc,
+                sort,
+                parameters,
+            }),
+        })
+    }
+
+    /// Adds those of the properties that the language can have; of a lean import those alone that notify or are written.
+    fn push_properties(
+        &mut self,
+        number: usize,
+        class: &'f MocClass,
+        choice: &Choice<'f>,
+    ) -> Result<(), AllocError> {
+        for moc in class.properties.as_slice() {
+            match property_of(&self.catalogue, number, moc) {
+                Ok(_) if self.has_property(number, moc.name.as_str()) => {
+                    self.missing
+                        .push((number, Missing::Property(moc, LeftOut::Inherited)))?;
+                }
+                Ok(found)
+                    if choice.is_lean && !self.is_used(number, &found, choice.kept.as_slice()) => {}
+                Ok(found) => {
+                    if let Some(members) = self.members.get_mut(number) {
+                        members.properties.push(found)?;
+                    }
+                }
+                Err(why) => self.missing.push((number, Missing::Property(moc, why)))?,
+            }
+        }
+        Ok(())
+    }
+
+    /// Whether the property notifies, a slot of one parameter writes it, or it is kept by its name.
+    fn is_used(&self, class: usize, property: &Property<'f>, kept: &[&str]) -> bool {
+        let notify = property.moc.notify.as_str();
+        kept.contains(&property.moc.name.as_str())
+            || self.notifies(class, notify, property.mapped.kind).is_some()
+            || self.members.get(class).is_some_and(|own: &Members<'_>| {
+                own.methods
+                    .iter()
+                    .any(|it: &Method<'_>| writes(it, property))
+            })
+    }
+
+    /// Whether the class or a base of it has the property.
+    fn has_property(&self, class: usize, name: &str) -> bool {
+        name == "objectName" || self.holder(class, Sought::Property(name)).is_some()
+    }
+
+    /// Whether the notify signal of a property of this type is there, and then whether it carries the value.
+    pub fn notifies(&self, class: usize, notify: &str, kind: Kind) -> Option<bool> {
+        if self.holder(class, Sought::Telling(notify, kind)).is_some() {
+            return Some(true);
+        }
+        if self.holder(class, Sought::Silent(notify)).is_some() {
+            return Some(false);
+        }
+        None
+    }
+
+    /// The property that the slot of this class writes, by its name and type.
+    pub fn written(&self, class: usize, slot: &Method<'f>) -> Option<&'f str> {
+        let mut at = Some(class);
+        for _ in 0..self.members.len() {
+            let number = at?;
+            let own = self.members.get(number)?;
+            for property in own.properties.as_slice() {
+                if writes(slot, property) {
+                    return Some(property.moc.name.as_str());
+                }
+            }
+            at = self.catalogue.classes.get(number)?.base;
+        }
+        None
+    }
+
+    /// The method of a class or the nearest of its bases with this name and so many parameters.
+    pub fn find_method(&self, class: usize, name: &str, count: usize) -> Option<Placed<'_, 'f>> {
+        let holder = self.holder(class, Sought::Method(name, count))?;
+        let members = self.members.get(holder)?;
+        for (place, method) in members.methods.as_slice().iter().enumerate() {
+            if method.is_called(name, count) {
+                return Some(Placed {
+                    class: holder,
+                    place,
+                    method,
+                });
+            }
+        }
+        None
+    }
+
+    /// The first class, from this one up, that has the member itself.
+    fn holder(&self, class: usize, sought: Sought<'_>) -> Option<usize> {
+        let mut at = Some(class);
+        for _ in 0..self.members.len() {
+            let number = at?;
+            if sought.is_in(self.members.get(number)?) {
+                return Some(number);
+            }
+            at = self.catalogue.classes.get(number)?.base;
+        }
+        None
+    }
+}
+
+/// A member that is looked for.
+#[derive(Clone, Copy, Debug, PartialEq, Eq)]
+enum Sought<'n> {
+    /// The property of this name.
+    Property(&'n str),
+    /// The method of this name with so many parameters.
+    Method(&'n str, usize),
+    /// The signal of this name with one parameter, of this type.
+    Telling(&'n str, Kind),
+    /// The signal of this name without parameters.
+    Silent(&'n str),
+}
+
+impl Sought<'_> {
+    /// Whether it is one of these members.
+    fn is_in(self, members: &Members<'_>) -> bool {
+        for property in members.properties.as_slice() {
+            if self == Sought::Property(property.moc.name.as_str()) {
+                return true;
+            }
+        }
+        members
+            .methods
+            .iter()
+            .any(|it: &Method<'_>| self.is_method(it))
+    }
+
+    fn is_method(self, method: &Method<'_>) -> bool {
+        match self {
+            Sought::Property(_) => false,
+            Sought::Method(name, count) => method.is_called(name, count),
+            Sought::Telling(name, kind) => {
+                method.is_signal() && method.is_called(name, 1) && method.takes(kind)
+            }
+            Sought::Silent(name) => method.is_signal() && method.is_called(name, 0),
+        }
+    }
+}
+
+/// Whether the slot is the one that writes the property.
+fn writes(slot: &Method<'_>, property: &Property<'_>) -> bool {
+    !slot.is_signal()
+        && slot.moc.name.as_str() == property.moc.write.as_str()
+        && slot.takes(property.mapped.kind)
+}
+
+/// Whether `QObject` has the method.
+fn is_of_qobject(name: &str, count: usize) -> bool {
+    match name {
+        "destroyed" => count <= 1,
+        "objectNameChanged" => count == 1,
+        "deleteLater" => count == 0,
+        _ => false,
+    }
+}

@@ -1,0 +1,153 @@
+//! Types of C++ and what they are in the language.
+
+use crate::catalogue::Catalogue;
+use std::alloc::AllocError;
+
+/// A type of the language.
+#[derive(Clone, Copy, Debug, PartialEq, Eq)]
+pub enum Kind {
+    Int,
+    Bool,
+    Text,
+    /// A reference to objects of the class of this number, or of `QObject`.
+    Object(Option<usize>),
+    /// The same, of which nothing is written or called.
+    ConstObject(Option<usize>),
+}
+
+impl Kind {
+    /// Whether a parameter or property of this type may be given a value of the other one.
+    pub fn accepts(self, given: Kind, catalogue: &Catalogue<'_>) -> bool {
+        match (self, given) {
+            (Kind::Int, Kind::Int) | (Kind::Bool, Kind::Bool) | (Kind::Text, Kind::Text) => true,
+            (Kind::Object(wanted), Kind::Object(class))
+            | (Kind::ConstObject(wanted), Kind::Object(class) | Kind::ConstObject(class)) => {
+                catalogue.is_below(class, wanted)
+            }
+            _ => false,
+        }
+    }
+
+    /// Adds the type as it is declared.
+    pub fn push_to(self, text: &mut String, catalogue: &Catalogue<'_>) -> Result<(), AllocError> {
+        match self {
+            Kind::Int => text.push_str("int"),
+            Kind::Bool => text.push_str("bool"),
+            Kind::Text => text.push_str("QString"),
+            Kind::Object(class) => push_pointer(text, catalogue, class),
+            Kind::ConstObject(class) => {
+                text.push_str("const ")?;
+                push_pointer(text, catalogue, class)
+            }
+        }
+    }
+}
+
+/// Adds a pointer to a class.
+fn push_pointer(
+    text: &mut String,
+    catalogue: &Catalogue<'_>,
+    class: Option<usize>,
+) -> Result<(), AllocError> {
+    text.push_str(catalogue.name(class))?;
+    text.push_str("*")
+}
+
+/// What a type of C++ becomes.
+#[derive(Clone, Copy, Debug, PartialEq, Eq)]
+pub struct Mapped {
+    pub kind: Kind,
+    /// Whether the type is another number or an enum in C++.
+    pub is_narrowed: bool,
+}
+
+/// Types that are numbers in C++ and become `int`.
+const NUMBERS: &[&str] = &[
+    "short",
+    "ushort",
+    "uint",
+    "unsigned",
+    "unsigned int",
+    "unsigned short",
+    "long",
+    "ulong",
+    "unsigned long",
+    "long long",
+    "unsigned long long",
+    "char",
+    "uchar",
+    "unsigned char",
+    "signed char",
+    "qint8",
+    "quint8",
+    "qint16",
+    "quint16",
+    "qint32",
+    "quint32",
+    "qint64",
+    "quint64",
+    "qlonglong",
+    "qulonglong",
+    "qsizetype",
+    "size_t",
+    "qintptr",
+    "quintptr",
+    "int8_t",
+    "uint8_t",
+    "int16_t",
+    "uint16_t",
+    "int32_t",
+    "uint32_t",
+    "int64_t",
+    "uint64_t",
+    "char16_t",
+    "char32_t",
+    "wchar_t",
+    "QRgb",
+    "float",
+    "double",
+    "qreal",
+];
+
+/// What the type of a member of this class becomes; `None` where the language has nothing for it.
+pub fn mapped_type(catalogue: &Catalogue<'_>, class: usize, kind: &str) -> Option<Mapped> {
+    let name = plain(kind);
+    match name {
+        "int" => return Some(exact(Kind::Int)),
+        "bool" => return Some(exact(Kind::Bool)),
+        "QString" => return Some(exact(Kind::Text)),
+        _ => {}
+    }
+    if NUMBERS.contains(&name) || catalogue.has_enum(class, name) {
+        return Some(Mapped {
+            kind: Kind::Int,
+            is_narrowed: true,
+        });
+    }
+    let pointed = name.strip_suffix("*")?.trim();
+    match pointed.strip_prefix("const ") {
+        Some(pointed) => {
+            let found = catalogue.pointed(class, pointed.trim())?;
+            Some(exact(Kind::ConstObject(found)))
+        }
+        None => Some(exact(Kind::Object(catalogue.pointed(class, pointed)?))),
+    }
+}
+
+fn exact(kind: Kind) -> Mapped {
+    Mapped {
+        kind,
+        is_narrowed: false,
+    }
+}
+
+/// The type without what a call by const reference adds.
+fn plain(kind: &str) -> &str {
+    let whole = kind.trim();
+    if let Some(inner) = whole.strip_prefix("const ") {
+        if let Some(value) = inner.strip_suffix("&") {
+            return value.trim();
+        }
+    }
+    whole
+}

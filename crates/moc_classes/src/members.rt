@@ -1,0 +1,154 @@
+//! The members of a class that are imported, and why others are left out.
+
+use crate::catalogue::Catalogue;
+use crate::kinds::{Kind, Mapped, mapped_type};
+use crate::moc::{MocArgument, MocMethod, MocProperty};
+use signatures::{MOST_PARAMETERS, Word, is_name};
+use std::alloc::{AllocError, Global};
+use thiserror::Error;
+
+/// Why a member is left out.
+#[derive(Clone, Copy, Debug, PartialEq, Eq, Error)]
+pub enum LeftOut<'f> {
+    /// The language has nothing for this type.
+    #[error("there is nothing for {0}")]
+    Type(&'f str),
+    /// A base has the member already.
+    #[error("a base has it")]
+    Inherited,
+    /// The class has a method of this name with as many parameters.
+    #[error("another has its name and as many parameters")]
+    Overload,
+    /// The name is a word of the language, or no name of it.
+    #[error("its name is a word of the language")]
+    Name,
+    /// It has more parameters than a method may have.
+    #[error("it has more than 8 parameters")]
+    Parameters,
+}
+
+/// What a method is.
+#[derive(Clone, Copy, Debug, PartialEq, Eq)]
+pub enum Sort {
+    Signal,
+    /// A slot, or an invokable method.
+    Slot,
+    /// A slot that the class has here alone.
+    AddedSlot,
+}
+
+/// A property that is imported.
+#[derive(Clone, Copy)]
+pub struct Property<'f> {
+    pub moc: &'f MocProperty,
+    pub mapped: Mapped,
+}
+
+/// A method that is imported.
+#[derive(Drop)]
+pub struct Method<'f> {
+    pub moc: &'f MocMethod,
+    pub sort: Sort,
+    pub parameters: Vec<Parameter<'f>>,
+}
+
+/// A parameter.
+#[derive(Clone, Copy)]
+pub struct Parameter<'f> {
+    pub moc: &'f MocArgument,
+    pub mapped: Mapped,
+}
+
+/// The members of a class that are imported: its own alone.
+#[derive(Drop)]
+pub struct Members<'f> {
+    pub properties: Vec<Property<'f>>,
+    pub methods: Vec<Method<'f>>,
+}
+
+impl<'f> Method<'f> {
+    /// Whether the parameters are just one of this type.
+    pub fn takes(&self, kind: Kind) -> bool {
+        match self.parameters.as_slice() {
+            [parameter] => parameter.mapped.kind == kind,
+            _ => false,
+        }
+    }
+
+    /// Whether it has this name and so many parameters.
+    pub fn is_called(&self, name: &str, count: usize) -> bool {
+        self.moc.name.as_str() == name && self.parameters.len() == count
+    }
+
+    /// Whether it is a signal.
+    pub fn is_signal(&self) -> bool {
+        self.sort == Sort::Signal
+    }
+
+    /// Adds its signature, with its parameters' types as they are declared.
+    pub fn push_signature(
+        &self,
+        text: &mut String,
+        catalogue: &Catalogue<'_>,
+    ) -> Result<(), AllocError> {
+        text.push_str(self.moc.name.as_str())?;
+        text.push_str("(")?;
+        for (place, parameter) in self.parameters.as_slice().iter().enumerate() {
+            if place > 0 {
+                text.push_str(", ")?;
+            }
+            parameter.mapped.kind.push_to(text, catalogue)?;
+        }
+        text.push_str(")")
+    }
+}
+
+/// Whether the text may be a member's or a parameter's name.
+pub fn is_free(name: &str) -> bool {
+    is_name(name.as_bytes()) && Word::of(name.as_bytes()).is_none()
+}
+
+/// The property of a class, or why it is left out where its type or its name is the reason.
+pub fn property_of<'f>(
+    catalogue: &Catalogue<'_>,
+    class: usize,
+    moc: &'f MocProperty,
+) -> Result<Property<'f>, LeftOut<'f>> {
+    if !is_free(moc.name.as_str()) {
+        return Err(LeftOut::Name);
+    }
+    match mapped_type(catalogue, class, moc.kind.as_str()) {
+        Some(mapped) => Ok(Property { moc, mapped }),
+        None => Err(LeftOut::Type(moc.kind.as_str())),
+    }
+}
+
+/// The parameters of a method, but for what makes a signal private; or the type that the language has nothing for.
+pub fn parameters_of<'f>(
+    alloc: Global,
+    catalogue: &Catalogue<'_>,
+    class: usize,
+    moc: &'f MocMethod,
+) -> Result<Result<Vec<Parameter<'f>>, LeftOut<'f>>, AllocError> {
+    if !is_free(moc.name.as_str()) {
+        return Ok(Err(LeftOut::Name));
+    }
+    let mut parameters = Vec::new(alloc);
+    for argument in moc.arguments.as_slice() {
+        if argument.kind.as_str() == "QPrivateSignal" {
+            continue;
+        }
+        match mapped_type(catalogue, class, argument.kind.as_str()) {
+            Some(mapped) => parameters.push(Parameter {
+                moc: argument,
+                mapped,
+            })?,
+            None => return Ok(Err(LeftOut::Type(argument.kind.as_str()))),
+        }
+    }
+    Ok(if parameters.len() > MOST_PARAMETERS {
+        Err(LeftOut::Parameters)
+    } else {
+        Ok(parameters)
+    })
+}

@@ -1,0 +1,60 @@
+//! The texts that are read, parted by lines `%%`.
+
+use crate::fault::ImportFault;
+use crate::moc::MocFile;
+use std::alloc::{AllocError, Global};
+
+/// What parts two texts.
+pub const BORDER: &str = "\n%%\n";
+
+/// Reads each text: what moc writes of one header, or a list of these. The error names the first one that is no such.
+pub fn files(alloc: Global, input: &str) -> Result<Vec<MocFile>, ImportFault> {
+    let mut files = Vec::new(alloc);
+    for (place, text) in input.split(BORDER).enumerate() {
+        push_files(alloc, &mut files, text, place.saturating_add(1))?;
+    }
+    Ok(files)
+}
+
+/// Adds what a text has.
+fn push_files(
+    alloc: Global,
+    files: &mut Vec<MocFile>,
+    text: &str,
+    number: usize,
+) -> Result<(), ImportFault> {
+    if text.trim_start().starts_with('[') {
+        match serde_json::from_str::<Vec<MocFile>>(alloc, text) {
+            Ok(more) => Ok(append(files, more)?),
+            Err(fault) => Err(unread(&fault, number)),
+        }
+    } else {
+        match serde_json::from_str::<MocFile>(alloc, text) {
+            Ok(file) => Ok(push(files, file)?),
+            Err(fault) => Err(unread(&fault, number)),
+        }
+    }
+}
+
+/// Why the text of this number isn't read.
+fn unread(fault: &serde_json::Error, number: usize) -> ImportFault {
+    if fault.is_memory() {
+        return ImportFault::Memory;
+    }
+    ImportFault::BadJson {
+        text: number,
+        line: fault.line(),
+        column: fault.column(),
+    }
+}
+
+fn push(files: &mut Vec<MocFile>, file: MocFile) -> Result<(), AllocError> {
+    files.push(file)?;
+    Ok(())
+}
+
+/// Moves what the one list has behind the other.
+fn append(files: &mut Vec<MocFile>, more: Vec<MocFile>) -> Result<(), AllocError> {
+    let mut more = more;
+    files.append(&mut more)
+}
