@@ -2,6 +2,7 @@
 
 ghost use Rattle.std.specs.Prelude.{◌≡◌};
 ghost use Rattle.signatures.specs.Words.{word_spelling, FindsWord};
+ghost use Rattle.signatures.specs.code.Words.{begun_by};
 
 /// A reserved word, which is no name.
 #[derive(Clone, Copy, Debug, PartialEq, Eq)]
@@ -70,46 +71,13 @@ pub enum Word {
     Single,
 }
 
-const WORDS: [Word; 31] = [
-    Word::Class,
-    Word::Property,
-    Word::Signal,
-    Word::Slot,
-    Word::Native,
-    Word::Wire,
-    Word::Owns,
-    Word::Binding,
-    Word::Notify,
-    Word::Reads,
-    Word::Emits,
-    Word::Sets,
-    Word::Set,
-    Word::Emit,
-    Word::Call,
-    Word::If,
-    Word::Else,
-    Word::Connect,
-    Word::Disconnect,
-    Word::Delete,
-    Word::Later,
-    Word::This,
-    Word::True,
-    Word::False,
-    Word::Null,
-    Word::Const,
-    Word::Auto,
-    Word::Direct,
-    Word::Queued,
-    Word::Unique,
-    Word::Single,
-];
-
 impl Word {
     /// The reserved word with these letters, or `None` where they aren't those of one.
     pub fn of(letters: &[u8]) -> Option<Word>
         ensures { FindsWord letters.now result }
     {
-        let mut left = WORDS.as_slice();
+        let (first, _) = letters.split_first()?;
+        let mut left = begun_by(*first);
         while let Some((word, more)) = left.split_first() {
             if word.spelling() == letters {
                 return Some(*word);
@@ -156,5 +124,37 @@ impl Word {
             Word::Unique => b"unique",
             Word::Single => b"single",
         }
+    }
+}
+
+/// The reserved words that begin with the letter.
+fn begun_by(letter: u8) -> &'static [Word]
+    ensures { result.now ≡ begun_by letter }
+{
+    match letter {
+        b'a' => &[Word::Auto],
+        b'b' => &[Word::Binding],
+        b'c' => &[Word::Class, Word::Call, Word::Connect, Word::Const],
+        b'd' => &[Word::Disconnect, Word::Delete, Word::Direct],
+        b'e' => &[Word::Emits, Word::Emit, Word::Else],
+        b'f' => &[Word::False],
+        b'i' => &[Word::If],
+        b'l' => &[Word::Later],
+        b'n' => &[Word::Native, Word::Notify, Word::Null],
+        b'o' => &[Word::Owns],
+        b'p' => &[Word::Property],
+        b'q' => &[Word::Queued],
+        b'r' => &[Word::Reads],
+        b's' => &[
+            Word::Signal,
+            Word::Slot,
+            Word::Sets,
+            Word::Set,
+            Word::Single,
+        ],
+        b't' => &[Word::This, Word::True],
+        b'u' => &[Word::Unique],
+        b'w' => &[Word::Wire],
+        _ => &[],
     }
 }

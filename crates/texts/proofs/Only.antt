@@ -3,7 +3,7 @@ use Rattle.std.proofs.Common.{◌≡◌, ℕ, ◌+◌, ◌*◌, List, [], ◌∷
 use Rattle.texts.specs.declared.bytes.Run.TheVariants as run
 use Rattle.texts.specs.declared.symbol.Symbol.{Symbol}
 use Rattle.texts.specs.declared.symbol.Symbol.TheVariants as s
-use Rattle.texts.specs.declared.symbol.TheConstants.{DOUBLES, SINGLES}
+use Rattle.texts.proofs.Table.{doubles, singles}
 use Rattle.texts.specs.Symbols.{spelling}
 use Rattle.signatures.specs.Words.{word_spelling}
 use Rattle.signatures.proofs.Words.{one_word}
@@ -21,13 +21,13 @@ symbol_with n [] = None
 symbol_with n (x ∷ more) = cond (nat_eq n (number_of (spelling x))) (Some x) (symbol_with n more)
 
 -- the numbers of the symbols' bytes differ
-found_again : (x : Symbol) → symbol_with (number_of (spelling x)) (DOUBLES ++ SINGLES) ≡ Some x
+found_again : (x : Symbol) → symbol_with (number_of (spelling x)) (doubles ++ singles) ≡ Some x
 found_again s.Equal = refl
 found_again _ = refl
 
 one_symbol : (a b : Symbol) → spelling a ≡ spelling b → a ≡ b
 one_symbol a b e =
-    let same = ap (λ bytes. symbol_with (number_of bytes) (DOUBLES ++ SINGLES)) e in
+    let same = ap (λ bytes. symbol_with (number_of bytes) (doubles ++ singles)) e in
     let p = found_again a in
     let q = found_again b in
     cc

@@ -25,16 +25,14 @@ use Rattle.texts.specs.Pieces.{AreTokens, Piece, IsFront, StartsWithLetter, toke
 use Rattle.texts.specs.Pieces as piece
 use Rattle.texts.specs.Signatures.{TypeReading, spelled_type, spell_ending, spell_named, spell_type, sig, spell_sig}
 use Rattle.texts.specs.SignatureTexts.{IsNormalFormOf, NormalFormsAreInTokens}
-use Rattle.texts.specs.code.Splitting.{NoneBegins}
 use Rattle.texts.specs.Symbols.{spelling}
 use Rattle.texts.specs.declared.bytes.Run.TheVariants as run
 use Rattle.texts.specs.declared.symbol.Symbol.{Symbol}
 use Rattle.texts.specs.declared.symbol.Symbol.TheVariants as s
-use Rattle.texts.specs.declared.symbol.TheConstants.{DOUBLES}
 use Rattle.texts.specs.declared.token.Token.{Token}
 use Rattle.texts.specs.declared.token.Token.TheVariants as token
 use Rattle.texts.proofs.SignatureTexts.{scan_of, IsSigToken, blank_next, word_next, as_scanned, scan_list, sig_ending, sig_named}
-use Rattle.texts.proofs.Table.{single}
+use Rattle.texts.proofs.Table.{NoneBegins, doubles, is_longest_single}
 
 sure : (x : Bool) → (x ≡ true) ⊎ (x ≡ false)
 sure true = inl refl
@@ -91,7 +89,7 @@ record BeginsNoOther (b : ℕ) : Type 0 where
   bar : b ≢ 124
   minus : b ≢ 45
 
-lone : (b : ℕ) (bytes : List ℕ) → BeginsNoOther b → ((rest : List ℕ) → b ∷ bytes ≡ 38 ∷ 38 ∷ rest → ⊥) → NoneBegins DOUBLES (b ∷ bytes)
+lone : (b : ℕ) (bytes : List ℕ) → BeginsNoOther b → ((rest : List ℕ) → b ∷ bytes ≡ 38 ∷ 38 ∷ rest → ⊥) → NoneBegins doubles (b ∷ bytes)
 lone b bytes other alone = (
   λ h. let e = h.1 in other.equal cc,
   (
@@ -184,14 +182,14 @@ module _ (n : ℕ) (shorter : AreCutUpTo n) (b : ℕ) (bytes : List ℕ) (fits :
   cut_single : (x : Symbol) (k : ℕ) → spelling x ≡ k ∷ [] → BeginsNoOther k → (k ≡ 38 → ⊥) → b ≡ k → (ts : List Token) → scanner.tokens_of bytes ≡ map scan_of ts → AllByRecursion IsSigToken ts → NoTwins ts → AreTokens (b ∷ bytes) (token.Symbol x ∷ ts)
   cut_single x k spelled other alone is ts more each apart =
       let at : b ∷ bytes ≡ spelling x ++ bytes = rw (is, spelled) refl in
-      prepended (piece.symbol x) (b ∷ bytes) bytes ts (single x (b ∷ bytes) bytes (lone b bytes (rw is other) (λ rest e. alone (cc))) at) (shorter bytes ts fits more each apart)
+      prepended (piece.symbol x) (b ∷ bytes) bytes ts (is_longest_single x (b ∷ bytes) bytes (lone b bytes (rw is other) (λ rest e. alone (cc))) at) (shorter bytes ts fits more each apart)
 
   cut_ampersand : mark_of b ≡ mark.Ampersand → (ts : List Token) → scanner.tokens_of bytes ≡ map scan_of ts → NotAt s.Ampersand ts → AllByRecursion IsSigToken ts → NoTwins ts → AreTokens (b ∷ bytes) (token.Symbol s.Ampersand ∷ ts)
   cut_ampersand marked ts more none each apart =
       let is : b ≡ 38 = eqb-true b 38 (mark_byte b mark.Ampersand marked) in
       let alone : (rest : List ℕ) → b ∷ bytes ≡ 38 ∷ 38 ∷ rest → ⊥ =
       λ rest e. let twin : bytes ≡ 38 ∷ rest = cc in no_ampersand ts (scanner.tokens_of rest) each none (sym more ∙ ap scanner.tokens_of twin) in
-      prepended (piece.symbol s.Ampersand) (b ∷ bytes) bytes ts (single s.Ampersand (b ∷ bytes) bytes (lone b bytes (rw is ampersand_no_other) alone) (ap (λ x. x ∷ bytes) is)) (shorter bytes ts fits more each apart)
+      prepended (piece.symbol s.Ampersand) (b ∷ bytes) bytes ts (is_longest_single s.Ampersand (b ∷ bytes) bytes (lone b bytes (rw is ampersand_no_other) alone) (ap (λ x. x ∷ bytes) is)) (shorter bytes ts fits more each apart)
 
   cut_open : mark_of b ≡ mark.Open → (ts : List Token) → scanner.tokens_of bytes ≡ map scan_of ts → AllByRecursion IsSigToken ts → NoTwins ts → AreTokens (b ∷ bytes) (token.Symbol s.Open ∷ ts)
   cut_open is ts more each apart = cut_single s.Open 40 refl opens_no_other (λ e. cc) (eqb-true b 40 (mark_byte b mark.Open is)) ts more each apart

@@ -11,3 +11,4 @@ pub mod Connections
 pub mod Nesting
 pub mod Bytes
 pub mod Places
+pub mod Symbols

@@ -68,6 +68,7 @@ pub fn belongs(run: Run, b: u8) -> bool
 }
 
 /// The longest run at the front of the bytes, and what follows it.
+#[inline(always)]
 pub fn split_run(bytes: &[u8], run: Run) -> (&[u8], &[u8])
     ensures { IsRun run bytes.now result.0.now result.1.now }
 {

@@ -15,6 +15,9 @@ use sqlite_items::Items;
 use std::alloc::{AllocError, Global};
 use thiserror::Error;
 
+/// How many tokens a list has room for at first. Most lines have fewer.
+const TOKENS_OF_A_LINE: usize = 16;
+
 /// Why a text isn't cut into tokens.
 #[derive(Debug, Drop, Error)]
 pub enum LexFault {
@@ -45,7 +48,7 @@ pub fn tokens(alloc: Global, bytes: &[u8]) -> Result<Items<Token>, LexFault>
     ensures cut { IfOk result (λ tokens. AreTokens bytes.now tokens) }
     ensures refused { result ≡ Err BadByte → IsUncut bytes.now }
 {
-    let mut found = Items::new(alloc);
+    let mut found = Items::from_vec(Vec::with_capacity(alloc, TOKENS_OF_A_LINE)?);
     let mut rest = bytes;
     while !rest.is_empty() {
         let (token, after) = split_piece(alloc, rest)?;

@@ -118,11 +118,7 @@ fn type_of(name: Name, place: ConstPlace, ending: TypeEnding) -> QType
     match ending {
         TypeEnding::Bare => QType::value(name),
         TypeEnding::Reference => QType::value(name),
-        TypeEnding::Pointer => QType {
-            name,
-            constant: place != ConstPlace::Nowhere,
-            pointer: true,
-        },
+        TypeEnding::Pointer => QType::pointer_to(name, place != ConstPlace::Nowhere),
     }
 }
 

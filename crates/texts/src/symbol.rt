@@ -1,7 +1,8 @@
 //! Symbols and their spellings.
 
-ghost use Rattle.std.specs.Prelude.{◌≡◌};
-ghost use Rattle.texts.specs.code.Splitting.{SplitsThis, SplitsOneOf, SplitsSymbol};
+ghost use Rattle.std.specs.Prelude.{◌≡◌, [], ◌∷◌, IfSome};
+ghost use Rattle.texts.specs.code.Splitting.{SplitsSymbol};
+ghost use Rattle.texts.specs.code.Symbols.{double, single, SplitsDouble, SplitsSingle};
 ghost use Rattle.texts.specs.Symbols.{spelling};
 
 /// A token that is neither a word nor a literal.
@@ -57,100 +58,75 @@ pub enum Symbol {
     Tilde,
 }
 
-/// The symbols of two bytes.
-const DOUBLES: [Symbol; 7] = [
-    Symbol::Equal,
-    Symbol::Unequal,
-    Symbol::AtMost,
-    Symbol::AtLeast,
-    Symbol::And,
-    Symbol::Or,
-    Symbol::Arrow,
-];
-
-/// The symbols of one byte.
-const SINGLES: [Symbol; 17] = [
-    Symbol::OpenBrace,
-    Symbol::CloseBrace,
-    Symbol::Open,
-    Symbol::Close,
-    Symbol::Semicolon,
-    Symbol::Comma,
-    Symbol::Dot,
-    Symbol::Colon,
-    Symbol::Assign,
-    Symbol::Less,
-    Symbol::Greater,
-    Symbol::Plus,
-    Symbol::Minus,
-    Symbol::Star,
-    Symbol::Not,
-    Symbol::Ampersand,
-    Symbol::Tilde,
-];
-
-/// The bytes that a symbol is written with.
-fn spelling(symbol: Symbol) -> &'static [u8]
-    ensures { result.now ≡ spelling symbol }
-{
-    match symbol {
-        Symbol::OpenBrace => b"{",
-        Symbol::CloseBrace => b"}",
-        Symbol::Open => b"(",
-        Symbol::Close => b")",
-        Symbol::Semicolon => b";",
-        Symbol::Comma => b",",
-        Symbol::Dot => b".",
-        Symbol::Colon => b":",
-        Symbol::Assign => b"=",
-        Symbol::Equal => b"==",
-        Symbol::Unequal => b"!=",
-        Symbol::Less => b"<",
-        Symbol::AtMost => b"<=",
-        Symbol::Greater => b">",
-        Symbol::AtLeast => b">=",
-        Symbol::Plus => b"+",
-        Symbol::Minus => b"-",
-        Symbol::Star => b"*",
-        Symbol::Not => b"!",
-        Symbol::And => b"&&",
-        Symbol::Or => b"||",
-        Symbol::Arrow => b"->",
-        Symbol::Ampersand => b"&",
-        Symbol::Tilde => b"~",
-    }
-}
-
-/// What follows the symbol, if it stands at the front.
-fn after_symbol(bytes: &[u8], symbol: Symbol) -> Option<&[u8]>
-    ensures { SplitsThis symbol bytes.now result }
-{
-    bytes.strip_prefix(spelling(symbol))
-}
-
-/// The first of the symbols that stands at the front.
-fn first_of<'b>(symbols: &[Symbol], bytes: &'b [u8]) -> Option<(Symbol, &'b [u8])>
-    ensures { SplitsOneOf symbols.now bytes.now result }
-{
-    let mut left = symbols;
-    while let Some((symbol, more)) = left.split_first() {
-        if let Some(rest) = after_symbol(bytes, *symbol) {
-            return Some((*symbol, rest));
-        }
-        left = more;
-    }
-    None
-}
-
 /// The longest symbol at the front, and what follows it.
 pub fn split_symbol(bytes: &[u8]) -> Option<(Symbol, &[u8])>
     ensures { SplitsSymbol bytes.now result }
 {
-    if let Some(found) = first_of(&DOUBLES, bytes) {
+    if let Some(found) = split_double(bytes) {
         return Some(found);
     }
-    match first_of(&SINGLES, bytes) {
-        Some((symbol, rest)) => Some((symbol, rest)),
-        None => None,
+    split_single(bytes)
+}
+
+/// The symbol of two bytes at the front, and what follows it.
+fn split_double(bytes: &[u8]) -> Option<(Symbol, &[u8])>
+    ensures { SplitsDouble bytes.now result }
+{
+    let (first, after) = bytes.split_first()?;
+    let (second, rest) = after.split_first()?;
+    let symbol = double(*first, *second)?;
+    Some((symbol, rest))
+}
+
+/// The symbol of one byte at the front, and what follows it.
+fn split_single(bytes: &[u8]) -> Option<(Symbol, &[u8])>
+    ensures { SplitsSingle bytes.now result }
+{
+    let (first, rest) = bytes.split_first()?;
+    let symbol = single(*first)?;
+    Some((symbol, rest))
+}
+
+/// The symbol that the two bytes are.
+fn double(first: u8, second: u8) -> Option<Symbol>
+    ensures value { result ≡ double first second }
+    ensures spelled { IfSome result (λ symbol. spelling symbol ≡ first ∷ second ∷ []) }
+{
+    match (first, second) {
+        (b'=', b'=') => Some(Symbol::Equal),
+        (b'!', b'=') => Some(Symbol::Unequal),
+        (b'<', b'=') => Some(Symbol::AtMost),
+        (b'>', b'=') => Some(Symbol::AtLeast),
+        (b'&', b'&') => Some(Symbol::And),
+        (b'|', b'|') => Some(Symbol::Or),
+        (b'-', b'>') => Some(Symbol::Arrow),
+        _ => None,
+    }
+}
+
+/// The symbol that the byte is.
+fn single(byte: u8) -> Option<Symbol>
+    ensures value { result ≡ single byte }
+    ensures spelled { IfSome result (λ symbol. spelling symbol ≡ byte ∷ []) }
+{
+    match byte {
+        b'{' => Some(Symbol::OpenBrace),
+        b'}' => Some(Symbol::CloseBrace),
+        b'(' => Some(Symbol::Open),
+        b')' => Some(Symbol::Close),
+        b';' => Some(Symbol::Semicolon),
+        b',' => Some(Symbol::Comma),
+        b'.' => Some(Symbol::Dot),
+        b':' => Some(Symbol::Colon),
+        b'=' => Some(Symbol::Assign),
+        b'<' => Some(Symbol::Less),
+        b'>' => Some(Symbol::Greater),
+        b'+' => Some(Symbol::Plus),
+        b'-' => Some(Symbol::Minus),
+        b'*' => Some(Symbol::Star),
+        b'!' => Some(Symbol::Not),
+        b'&' => Some(Symbol::Ampersand),
+        b'~' => Some(Symbol::Tilde),
+        _ => None,
     }
 }

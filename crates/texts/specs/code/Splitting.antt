@@ -1,7 +1,6 @@
 -- What each step of cutting a text splits off at its front, and the fault where nothing stands there.
 use Rattle.std.specs.Borrow.{Bor}
-use Rattle.std.specs.Prelude.{ℕ, ◌≡◌, ◌++◌, List, [], Option, Some, None, Result, Ok, Err, ◌∷◌, ◌⊎◌}
-use Rattle.std.specs.List.{AllByRecursion}
+use Rattle.std.specs.Prelude.{ℕ, ◌≡◌, List, [], Option, Some, None, Result, Ok, Err, ◌⊎◌}
 use Rattle.texts.specs.Lines.{IsFrontLine, IsPartedAt, LacksLine}
 use Rattle.texts.specs.Pieces.{IsComment, IsQuoted, Piece, IsFront, token_of}
 use Rattle.texts.specs.Symbols.{spelling, Begins, IsSymbolAt}
@@ -51,25 +50,6 @@ SplitsComment bytes (Err fault) = (fault ≡ BadByte) × ((rest : List ℕ) → 
 abbrev pub SplitsText : List ℕ → Result (Bor (List ℕ) × Bor (List ℕ)) LexFault → Type 0
 SplitsText bytes (Ok parts) = IsQuoted bytes parts.0.now parts.1.now
 SplitsText bytes (Err fault) = (fault ≡ BadByte) × ((inner rest : List ℕ) → IsQuoted bytes inner rest → ⊥)
-
--- what follows this symbol
-abbrev pub SplitsThis : Symbol → List ℕ → Option (Bor (List ℕ)) → Type 0
-SplitsThis symbol bytes None = ¬ Begins (spelling symbol) bytes
-SplitsThis symbol bytes (Some rest) = bytes ≡ spelling symbol ++ rest.now
-
--- none of these symbols stands at the front
-abbrev pub NoneBegins : List Symbol → List ℕ → Type 0
-NoneBegins symbols bytes = AllByRecursion (λ s. ¬ Begins (spelling s) bytes) symbols
-
--- the symbol is one of these
-abbrev pub IsIn : Symbol → List Symbol → Type 0
-IsIn symbol [] = ⊥
-IsIn symbol (x ∷ xs) = (symbol ≡ x) ⊎ IsIn symbol xs
-
--- one of these symbols, and what follows it
-abbrev pub SplitsOneOf : List Symbol → List ℕ → Option (Symbol × Bor (List ℕ)) → Type 0
-SplitsOneOf symbols bytes None = NoneBegins symbols bytes
-SplitsOneOf symbols bytes (Some parts) = IsIn parts.0 symbols × (bytes ≡ spelling parts.0 ++ parts.1.now)
 
 -- the longest symbol, and what follows it
 abbrev pub SplitsSymbol : List ℕ → Option (Symbol × Bor (List ℕ)) → Type 0

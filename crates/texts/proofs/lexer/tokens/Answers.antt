@@ -4,7 +4,7 @@ use Rattle.texts.proofs.lexer.tokens.Goals as goal
 
 pub returns-in_err-token-clause-refused : goal.returns-in_err-token-clause-refused
 returns-in_err-token-clause-refused c =
-    let p = err_from_is_err_and c.from_residual.result c.from_residual.ensures.1 in
+    let p = err_from_is_err_and c.from_residual-in_err-token.result c.from_residual-in_err-token.ensures.1 in
     λ k. let same = p.1 in let gives = p.2 in cut_stuck c.loop-rest.invariant (not_at_end c.loop-rest.rest.now c.loop-rest-test.ensures) (c.in_err-token.ensures.cut (cc))
 
 pub loop-rest-preserved-in_ok-push : goal.loop-rest-preserved-in_ok-push

@@ -1,8 +1,13 @@
-use Rattle.texts.proofs.Table.{no_symbol, single}
+use Rattle.std.proofs.Common.{Option, Some, None, List, ℕ, Bor}
+use Rattle.texts.specs.code.Splitting.{SplitsSymbol}
+use Rattle.texts.specs.code.Symbols.{LacksDouble, SplitsSingle}
+use Rattle.texts.specs.declared.symbol.Symbol.{Symbol}
+use Rattle.texts.proofs.Table.{no_symbol, no_double, is_longest_single}
 use Rattle.texts.proofs.symbol.split_symbol.Goals as goal
 
-pub returns-in-None : goal.returns-in-None
-returns-in-None c = no_symbol c.args.bytes.now c.in_default.ensures c.in-None.ensures
+splits : (bytes : List ℕ) → LacksDouble bytes → (result : Option (Symbol × Bor (List ℕ))) → SplitsSingle bytes result → SplitsSymbol bytes result
+splits bytes d None g = no_symbol bytes d g
+splits bytes d (Some parts) e = is_longest_single parts.0 bytes parts.1.now (no_double bytes d) e
 
-pub returns-in-Some-first_of : goal.returns-in-Some-first_of
-returns-in-Some-first_of c = single c.in-Some-first_of.symbol c.args.bytes.now c.in-Some-first_of.rest.now c.in_default.ensures c.in-Some-first_of.ensures.1
+pub returns : goal.returns
+returns c = splits c.args.bytes.now c.in_default.ensures c.split_single.result c.split_single.ensures

@@ -2,12 +2,11 @@ use Rattle.std.proofs.Common.{length}
 use Rattle.std.specs.Prelude.{◌≢◌}
 use Rattle.std.specs.List.{AllByRecursion}
 use Rattle.signatures.specs.Words.{word_spelling}
-use Rattle.signatures.specs.declared.word.TheConstants.{WORDS}
 use Rattle.signatures.proofs.word.Word.of.Given as goal
 
--- where none of the words that are left has these letters, none of all has
+-- where none of the words that are left has these letters, none of those that begin as they do has
 abbrev pub invariant-loop-word : goal.invariant-loop-word
-invariant-loop-word l = AllByRecursion (λ word. l.letters ≢ word_spelling word) l.left → AllByRecursion (λ word. l.letters ≢ word_spelling word) WORDS
+invariant-loop-word l = AllByRecursion (λ word. l.letters ≢ word_spelling word) l.left → AllByRecursion (λ word. l.letters ≢ word_spelling word) l.initial.left
 
 abbrev pub decreases-loop-word : goal.decreases-loop-word
 decreases-loop-word l = length l.left
