@@ -17,7 +17,8 @@ use Rattle.certificate_lang.specs.declared.fault.CertificateFault.TheVariants.{F
 use Rattle.certificate_lang.specs.declared.version.Version.{Version}
 use Rattle.certificate_lang.specs.declared.version.Version.TheVariants.{One, Two}
 use Rattle.certificate_lang.specs.Grammar.{IsSetting, IsNodeLine}
-use Rattle.certificate_lang.specs.Reads.{HasRows, version_number, IsCertificate, fault_of_cutting, fault_of_parsing, TakesRow, SplitsRow, TakesSetting, SplitsSetting, AreNodeLines, ReadsNodeLines, ReadsWholeSetting, ReadsLine, ReadsCertificate}
+use Rattle.certificate_lang.specs.Reads.{HasRows, version_number, IsCertificate, ReadsCertificate}
+use Rattle.certificate_lang.specs.code.Reads.{fault_of_cutting, fault_of_parsing, TakesRow, SplitsRow, TakesSetting, SplitsSetting, AreNodeLines, ReadsNodeLines, ReadsWholeSetting, ReadsLine}
 use Rattle.certificate_lang.proofs.OneTree.{one_line, one_setting}
 use Rattle.certificate_lang.proofs.Rows.{SameRows, one_rows, rows_uncut}
 

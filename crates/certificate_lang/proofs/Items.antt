@@ -14,7 +14,8 @@ use Rattle.certificate_lang.specs.declared.certificate.SetItem.{SetItem}
 use Rattle.certificate_lang.specs.declared.certificate.SetItem.TheVariants.{Class, Closure}
 use Rattle.certificate_lang.specs.declared.version.Version.{Version}
 use Rattle.certificate_lang.specs.declared.version.Version.TheVariants.{Two}
-use Rattle.certificate_lang.specs.Grammar.{ItemReading, class, closure, spell_item, tree_of_item, ReadsItem}
+use Rattle.certificate_lang.specs.Grammar.{ItemReading, class, closure, spell_item, tree_of_item}
+use Rattle.certificate_lang.specs.code.Grammar.{ReadsItem}
 
 module _ (v : Version) where
   -- ---- one item

@@ -20,7 +20,8 @@ use Rattle.certificate_lang.specs.declared.certificate.MemberName.TheVariants as
 use Rattle.certificate_lang.specs.declared.certificate.NodeName.{NodeName}
 use Rattle.certificate_lang.specs.declared.certificate.SetItem.{SetItem}
 use Rattle.certificate_lang.specs.declared.version.Version.{Version}
-use Rattle.certificate_lang.specs.Grammar.{spell_setting, IsSetting, ReadsSetting, MemberReading, method, property, spell_member, tree_of_member, NodeReading, destruction, of_class, spell_node, tree_of_node, EndsNode, spell_item, tree_of_item, LineReading, spell_line, tree_of_line}
+use Rattle.certificate_lang.specs.Grammar.{spell_setting, IsSetting, MemberReading, method, property, spell_member, tree_of_member, NodeReading, destruction, of_class, spell_node, tree_of_node, spell_item, tree_of_item, LineReading, spell_line, tree_of_line}
+use Rattle.certificate_lang.specs.code.Grammar.{EndsNode, ReadsSetting}
 
 -- a list in parentheses begins with one
 pub listed_opens : (ts : List TypeReading) (rest : List Token) → (after : List Token) × (spell_listed spell_type ts rest ≡ token.Symbol Open ∷ after)

@@ -10,7 +10,8 @@ use Rattle.texts.proofs.OneTree.{HasOneTree, one_tree_of_sig}
 use Rattle.certificate_lang.specs.declared.certificate.MemberName.TheVariants as member
 use Rattle.certificate_lang.specs.declared.certificate.Line.{Line}
 use Rattle.certificate_lang.specs.declared.version.Version.{Version}
-use Rattle.certificate_lang.specs.Grammar.{IsSetting, method, property, spell_member, tree_of_member, destruction, of_class, spell_node, tree_of_node, EndsNode, class, closure, spell_item, tree_of_item, spell_line, tree_of_line, HasFewParameters, IsNodeLine}
+use Rattle.certificate_lang.specs.code.Grammar.{EndsNode}
+use Rattle.certificate_lang.specs.Grammar.{IsSetting, method, property, spell_member, tree_of_member, destruction, of_class, spell_node, tree_of_node, class, closure, spell_item, tree_of_item, spell_line, tree_of_line, HasFewParameters, IsNodeLine}
 use Rattle.certificate_lang.proofs.Nodes.{no_list}
 use Rattle.certificate_lang.proofs.Items.{item_some}
 
@@ -22,7 +23,7 @@ one_tree_of_member (method (sig x ts)) (property y) r s er es e = absurd (no_lis
 one_tree_of_member (property x) (method (sig y ts)) r s er es e = absurd (no_list ts r s er cc)
 one_tree_of_member (property x) (property y) r s er es e = (cc, cc)
 
-one_tree_of_node : HasOneTree spell_node tree_of_node EndsNode
+pub one_tree_of_node : HasOneTree spell_node tree_of_node EndsNode
 one_tree_of_node (destruction x) (destruction y) r s er es e = (cc, cc)
 one_tree_of_node (destruction x) (of_class y n) r s er es e = cc
 one_tree_of_node (of_class x m) (destruction y) r s er es e = cc

@@ -5,7 +5,8 @@ use Rattle.texts.specs.Pieces.{AreTokens, IsUncut}
 use Rattle.texts.specs.declared.token.Token.{Token}
 use Rattle.texts.proofs.Cut.{same_tokens}
 use Rattle.texts.proofs.FrontLines.{one_front_line, no_line_at_end}
-use Rattle.certificate_lang.specs.Reads.{before, AreRows, HasRows, TakesRow}
+use Rattle.certificate_lang.specs.Reads.{before, AreRows, HasRows}
+use Rattle.certificate_lang.specs.code.Reads.{TakesRow}
 
 -- ---- a text has one list of rows
 

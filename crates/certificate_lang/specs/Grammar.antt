@@ -8,15 +8,12 @@
 --   item    = Name | "~" Name            the second only in version 2
 --
 -- A number is at most 2147483647.
-use Rattle.std.specs.Prelude.{◌≡◌, ℕ, List, [], ◌∷◌, map, Result}
-use Rattle.texts.specs.code.Cursor.{NotAt}
+use Rattle.std.specs.Prelude.{◌≡◌, ℕ, List, [], ◌∷◌, map}
 use Rattle.texts.specs.Lists.{spell_each}
 use Rattle.texts.specs.Literals.{greatest}
 use Rattle.texts.specs.Numerals.{Numeral, spell_numeral, value_of}
-use Rattle.texts.specs.code.Reading.{Reads, EndsAnywhere, IsAtEnd}
 use Rattle.texts.specs.Signatures.{SigReading, spell_sig, tree_of_sig, HasFewTypes, HasPlainReference}
-use Rattle.texts.specs.declared.fault.ParseFault.{ParseFault}
-use Rattle.texts.specs.declared.symbol.Symbol.TheVariants.{Open, Dot, Tilde}
+use Rattle.texts.specs.declared.symbol.Symbol.TheVariants.{Dot, Tilde}
 use Rattle.texts.specs.declared.token.Token.{Token}
 use Rattle.texts.specs.declared.token.Token.TheVariants as token
 use Rattle.certificate_lang.specs.declared.certificate.MemberName.{MemberName}
@@ -63,10 +60,6 @@ abbrev pub tree_of_node : NodeReading → NodeName
 tree_of_node (destruction class) = record { class = class; member = member.Destruction }
 tree_of_node (of_class class m) = record { class = class; member = tree_of_member m }
 
--- a property's name doesn't go on as a signature
-abbrev pub EndsNode : List Token → Type 0
-EndsNode after = NotAt Open after
-
 -- ---- items of destroy sets, which the version tells
 pub data ItemReading (version : Version) : Type 0 where
   class : (name : List ℕ) → ItemReading version
@@ -108,23 +101,3 @@ pub record IsNodeLine (version : Version) (tokens : List Token) (line : Line) : 
   pub few : HasFewParameters line.node.member
   -- signatures have a normal form
   pub normal : ¬ HasPlainReference tokens
-
--- ---- what the readers answer
-abbrev pub ReadsSetting : List ℕ → List Token → Result ℕ ParseFault → List Token → Type 0
-ReadsSetting name before result after = Reads (spell_setting name) (λ n. value_of n.digits) EndsAnywhere before result after
-
-abbrev pub IsAtOpen : List Token → Type 0
-IsAtOpen tokens = (after : List Token) × (tokens ≡ token.Symbol Open ∷ after)
-
-abbrev pub ReadsMember : List Token → Result MemberName ParseFault → List Token → Type 0
-ReadsMember before result after = Reads spell_member tree_of_member EndsNode before result after
-
-abbrev pub ReadsNode : List Token → Result NodeName ParseFault → List Token → Type 0
-ReadsNode before result after = Reads spell_node tree_of_node EndsNode before result after
-
-abbrev pub ReadsItem : Version → List Token → Result SetItem ParseFault → List Token → Type 0
-ReadsItem version before result after = Reads (spell_item version) (tree_of_item version) EndsAnywhere before result after
-
--- .. for all tokens of a line
-abbrev pub ReadsNodeLine : Version → List Token → Result Line ParseFault → List Token → Type 0
-ReadsNodeLine version before result after = Reads (spell_line version) (tree_of_line version) IsAtEnd before result after

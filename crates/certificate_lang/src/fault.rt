@@ -31,7 +31,7 @@ impl From<AllocError> for CertificateFault {
 
 impl From<LexFault> for CertificateFault {
     ghost use Rattle.std.specs.Prelude.{◌≡◌};
-    ghost use Rattle.certificate_lang.specs.Reads.{fault_of_cutting};
+    ghost use Rattle.certificate_lang.specs.code.Reads.{fault_of_cutting};
 
     ghost from_gives = { λ fault made. made ≡ fault_of_cutting fault };
 
@@ -45,7 +45,7 @@ impl From<LexFault> for CertificateFault {
 
 impl From<ParseFault> for CertificateFault {
     ghost use Rattle.std.specs.Prelude.{◌≡◌};
-    ghost use Rattle.certificate_lang.specs.Reads.{fault_of_parsing};
+    ghost use Rattle.certificate_lang.specs.code.Reads.{fault_of_parsing};
 
     ghost from_gives = { λ fault made. made ≡ fault_of_parsing fault };
 

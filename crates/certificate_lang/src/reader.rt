@@ -1,7 +1,8 @@
 //! Reads a certificate, line by line.
 
 ghost use Rattle.std.specs.Prelude.{ℕ, List, ◌<◌, length, IfOk, IfSome};
-ghost use Rattle.certificate_lang.specs.Reads.{ReadsCertificate, SplitsRow, SplitsSetting, ReadsNodeLines, ReadsWholeSetting, ReadsLine, HasOneCertificate};
+ghost use Rattle.certificate_lang.specs.Reads.{ReadsCertificate, HasOneCertificate};
+ghost use Rattle.certificate_lang.specs.code.Reads.{SplitsRow, SplitsSetting, ReadsNodeLines, ReadsWholeSetting, ReadsLine};
 
 use crate::certificate::{Certificate, Line};
 use crate::fault::CertificateFault;

@@ -1,7 +1,8 @@
 //! The grammar of a certificate's lines, one function a rule.
 
 ghost use Rattle.std.specs.Prelude.{◌↔◌, ◌<◌, length, map, IsTrue, OnOk};
-ghost use Rattle.certificate_lang.specs.Grammar.{ReadsSetting, IsAtOpen, ReadsMember, ReadsNode, ReadsItem, ReadsNodeLine, spell_item, tree_of_item, HasFewParameters};
+ghost use Rattle.certificate_lang.specs.Grammar.{spell_item, tree_of_item, HasFewParameters};
+ghost use Rattle.certificate_lang.specs.code.Grammar.{ReadsSetting, IsAtOpen, ReadsMember, ReadsNode, ReadsItem, ReadsNodeLine};
 ghost use Rattle.texts.specs.Lists.{spell_each};
 ghost use Rattle.certificate_lang.specs.declared.certificate.SetItem.TheVariants.{Class};
 ghost use Rattle.texts.specs.Reading.{spell_name};

@@ -1,6 +1,6 @@
 //! Versions of the format.
 
-ghost use Rattle.certificate_lang.specs.Reads.{FindsVersion};
+ghost use Rattle.certificate_lang.specs.code.Reads.{FindsVersion};
 
 /// A version of the format, which says what an item of a destroy set may be.
 #[derive(Clone, Copy, Debug, PartialEq, Eq)]

@@ -143,11 +143,7 @@ fn takes<C: Classes>(declared: &QType, given: &ExprType, classes: &C) -> bool
 pub fn this_type(class: Name) -> QType
     ensures { result ≡ this_type class }
 {
-    QType {
-        name: class,
-        constant: false,
-        pointer: true,
-    }
+    QType::pointer_to(class, false)
 }
 
 /// Where every path with a type leads to a value of that type, every typed expression has a value, and it is of the

@@ -54,13 +54,21 @@ pub record IsPropertyNamed (p : Loaded) (c : ℕ) (name : List ℕ) (q : ℕ) : 
   pub is : slice_get class.properties q ≡ Some property
   pub named : property.name ≡ name
 
+-- property q of class c, where there is one
+abbrev pub property_at : Loaded → ℕ → ℕ → Option MetaProperty
+property_at p c q = option_and_then (λ (class : MetaObject). slice_get class.properties q) (slice_get p.classes c)
+
 -- the number of the base of class c; only `QObject` has none
 abbrev pub base_of : Loaded → ℕ → Option ℕ
 base_of p c = option_and_then (λ (class : MetaObject). class.base) (slice_get p.classes c)
 
+-- the class of a base's number, where there is a base
+abbrev pub class_at : Loaded → Option ℕ → Option MetaObject
+class_at p base = option_and_then (slice_get p.classes) base
+
 -- the base of this class
 abbrev pub base_class : Loaded → MetaObject → Option MetaObject
-base_class p class = option_and_then (slice_get p.classes) class.base
+base_class p class = class_at p class.base
 
 -- the first class, which is one of the program, is the second or below it
 pub data Below (p : Loaded) : ℕ → ℕ → Type 0 where
@@ -82,8 +90,7 @@ method_count p c = methods_in (slice_get p.classes c)
 
 -- how many of them its base has, which come first
 abbrev pub methods_before : Loaded → Option ℕ → ℕ
-methods_before p None = 0
-methods_before p (Some b) = method_count p b
+methods_before p base = methods_in (class_at p base)
 
 abbrev pub method_offset : Loaded → ℕ → ℕ
 method_offset p c = methods_before p (base_of p c)

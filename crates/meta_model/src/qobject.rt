@@ -114,11 +114,7 @@ pub fn reference_to(class: &Name) -> Result<QType, AllocError>
     ensures { IfOk result (λ kind. kind ≡ pointer_type class.now false) }
 {
     let name = class.copy()?;
-    Ok(QType {
-        name,
-        constant: false,
-        pointer: true,
-    })
+    Ok(QType::pointer_to(name, false))
 }
 
 /// `QString`

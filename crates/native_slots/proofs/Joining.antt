@@ -10,7 +10,8 @@ use Rattle.native_slots.specs.declared.fault.NativeFault.TheVariants as fault
 use Rattle.native_slots.specs.declared.head.NativeHead.{NativeHead}
 use Rattle.meta_model.specs.Loaded.{Loaded}
 use Rattle.meta_model.specs.Members.{method_offset, method_count, methods_in}
-use Rattle.native_slots.specs.Fitting.{IsThis, IsNativeFrom, IsNativeOf, Fit, HasFitting, HasNone, HasOther, Natives, EachNative, SomeNative, FitAmong, lower_of}
+use Rattle.native_slots.specs.Fitting.{IsNativeOf, Fit, HasFitting, HasNone, HasOther, Natives, EachNative, SomeNative, FitAmong}
+use Rattle.native_slots.specs.code.Joining.{IsThis, IsNativeFrom, lower_of}
 
 -- a native that has a closure doesn't lack one
 pub has_one : (heads : List NativeHead) (class : MetaObject) (method : MetaMethod) (effects : MetaEffects) → HasFitting heads class method effects → ¬ HasNone heads class method effects

@@ -6,3 +6,4 @@ pub mod Answers
 pub mod Promises
 pub mod Fitting
 pub mod FaultNumbers
+pub mod code

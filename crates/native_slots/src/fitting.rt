@@ -3,7 +3,8 @@
 ghost use Rattle.std.specs.Prelude.{◌≡◌, ◌↔◌, IsTrue, slice_get, Some};
 ghost use Rattle.std.specs.List.{AllZip};
 ghost use Rattle.native_slots.specs.Effects.{kinds_of};
-ghost use Rattle.native_slots.specs.Fitting.{IsPropertyAs, IsSignalAs, AreAsDeclared, lower_of};
+ghost use Rattle.native_slots.specs.Fitting.{IsPropertyAs, IsSignalAs, AreAsDeclared};
+ghost use Rattle.native_slots.specs.code.Joining.{lower_of};
 
 use crate::effects::{Effects, PlainProperty, PlainSignal};
 use crate::fault::NativeFault;

@@ -29,7 +29,8 @@ impl Natives {
     ghost use Rattle.std.specs.Option.{option_copied};
     ghost use Rattle.native_slots.specs.Answers.{takes_any, MayAnswer};
     ghost use Rattle.native_slots.specs.Effects.{accepts, are_within};
-    ghost use Rattle.native_slots.specs.Fitting.{Fit, FitAmong, IsNativeFrom, IsThis};
+    ghost use Rattle.native_slots.specs.Fitting.{Fit, FitAmong};
+    ghost use Rattle.native_slots.specs.code.Joining.{IsNativeFrom, IsThis};
     ghost use Rattle.native_slots.specs.Heads.{is_for, first_for};
     ghost use Rattle.native_slots.specs.Promises.{Promises};
 

@@ -1,7 +1,7 @@
 use Rattle.std.proofs.Common.{List, Err, subst}
 use Rattle.std.proofs.lemmas.Result.{err_from_is_err_and}
 use Rattle.texts.specs.declared.token.Token.{Token}
-use Rattle.certificate_lang.specs.Reads.{ReadsLine}
+use Rattle.certificate_lang.specs.code.Reads.{ReadsLine}
 use Rattle.certificate_lang.proofs.Certificates.{lines_end, line_next, next_refused, line_refused}
 use Rattle.certificate_lang.proofs.reader.node_lines.Goals as goal
 

@@ -1,7 +1,7 @@
 use Rattle.std.proofs.Common.{List, Err, subst}
 use Rattle.std.proofs.lemmas.Result.{err_from_is_err_and}
 use Rattle.texts.specs.declared.token.Token.{Token}
-use Rattle.certificate_lang.specs.Reads.{ReadsWholeSetting}
+use Rattle.certificate_lang.specs.code.Reads.{ReadsWholeSetting}
 use Rattle.certificate_lang.proofs.Certificates.{no_row_set, row_refused, setting_refused}
 use Rattle.certificate_lang.proofs.reader.setting_line.Goals as goal
 

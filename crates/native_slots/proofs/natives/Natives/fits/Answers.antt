@@ -1,6 +1,7 @@
 use Rattle.std.proofs.Common.{◌+◌, ◌≤◌, refl, sym, ◌∙◌, ap, subst, map, length, slice_get}
 use Rattle.std.proofs.lemmas.Option.{slice_get_read}
-use Rattle.native_slots.specs.Fitting.{FitAmong, IsNativeFrom}
+use Rattle.native_slots.specs.Fitting.{FitAmong}
+use Rattle.native_slots.specs.code.Joining.{IsNativeFrom}
 use Rattle.native_slots.proofs.Joining.{OfBefore, no_class, more_classes, all_classes}
 use Rattle.std.proofs.Common.{IsTrue, Ok}
 use Rattle.native_slots.specs.Effects.{accepts}
