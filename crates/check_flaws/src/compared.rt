@@ -4,12 +4,14 @@ use crate::bound::{Loose, loose_bound};
 use crate::extra::{Extra, first_extra};
 use crate::missing::first_missing;
 use crate::node_name::node_name_text;
-use crate::placing::{last_places, line_numbers};
 use crate::ranks::{Rise, first_rise};
 use crate::rows::{bound_row, node_row};
 use effect_scan::{Node, Scan};
 use program_flaws::{Source, class_text, node_text, push_edge, text_of};
-use rank_check::{Cause, Certificate, Line, MemberName, Mistake, NodeName, Place, SetItem, judge};
+use rank_check::{
+    Cause, Certificate, Line, MemberName, Mistake, NodeName, Place, SetItem, judge, last_places,
+    line_numbers,
+};
 use std::alloc::AllocError;
 
 /// A certificate and its text, beside the nodes of a program.

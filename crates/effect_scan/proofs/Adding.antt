@@ -199,3 +199,16 @@ module _ (P Q : ℕ → Type 0) (R : ℕ → ℕ → Type 0) (both : (a b : ℕ)
         λ r. let k = (both a b).0 r in ((p a).1 k.0, (q b).1 k.1),
         λ j. (both a b).1 ((p a).0 j.0, (q b).0 j.1),
       ))
+
+-- ---- rows that are taken out one by one
+-- the rows behind the one that was taken stand as before
+pub left_rows : (initial now after : List (List ℕ)) (k : ℕ) (r : List ℕ) → length now ≡ length initial → ((n : ℕ) → k ≤ n → row now n ≡ row initial n) → after ≡ set now k r
+    → (length after ≡ length initial) × ((n : ℕ) → k + 1 ≤ n → row after n ≡ row initial n)
+left_rows initial now after k r count same e = (
+  ap length e ∙ length-set now k r ∙ count,
+  λ n past. ap (λ (l : List (List ℕ)). row l n) e ∙ row_set_other now k r n (λ is. absurd (omega (arith, past, is))) ∙ same n (omega (arith, past)),
+)
+
+pub row_taken : (initial now : List (List ℕ)) (k : ℕ) (taken d : List ℕ) → k < length now → length now ≡ length initial → ((n : ℕ) → k ≤ n → row now n ≡ row initial n) → taken ≡ get_or now k d → taken ≡ get_or initial k taken
+row_taken initial now k taken d inside count same is =
+    is ∙ row_default now k d inside ∙ same k (omega arith) ∙ sym (row_default initial k taken (omega (arith, inside, count)))

@@ -13,7 +13,7 @@ ghost use Rattle.effect_scan.specs.code.Leading.{WireLeads, WiresLead, MethodLea
 use crate::effect::{Effect, gather, gather_native};
 use crate::node::{Member, Node};
 use crate::places::Places;
-use crate::rows::{add_all, join, ordered};
+use crate::rows::{Added, join};
 use meta_model::{
     DESTROYED, DESTROYED_ALONE, MetaMethod, MetaObject, MetaProperty, MetaSite, MetaWire,
     SourceProperty, ValueType, Work,
@@ -39,7 +39,7 @@ pub fn add_wires(
     alloc: Global,
     places: &Places,
     wires: &[MetaWire],
-    rows: &mut [Items<usize>],
+    rows: &mut [Added],
 ) -> Result<(), AllocError>
     requires { length rows.old ≡ length places.now.numbering }
     ensures { IfOk result (λ _. Adds (WiresLead places.now wires.now) rows.old rows.new) }
@@ -55,7 +55,7 @@ fn add_wire(
     alloc: Global,
     places: &Places,
     wire: &MetaWire,
-    rows: &mut [Items<usize>],
+    rows: &mut [Added],
 ) -> Result<(), AllocError>
     requires { length rows.old ≡ length places.now.numbering }
     ensures { IfOk result (λ _. Adds (WireLeads places.now wire.now) rows.old rows.new) }
@@ -76,7 +76,7 @@ pub fn add_works(
     alloc: Global,
     places: &Places,
     classes: &[MetaObject],
-    rows: &mut [Items<usize>],
+    rows: &mut [Added],
 ) -> Result<(), AllocError>
     requires { length rows.old ≡ length places.now.numbering }
     ensures { IfOk result (λ _. Adds (WorksLead places.now classes.now) rows.old rows.new) }
@@ -93,7 +93,7 @@ fn add_methods(
     places: &Places,
     number: usize,
     class: &MetaObject,
-    rows: &mut [Items<usize>],
+    rows: &mut [Added],
 ) -> Result<(), AllocError>
     requires { length rows.old ≡ length places.now.numbering }
     ensures { IfOk result (λ _. Adds (MethodsLead places.now number class.now) rows.old rows.new) }
@@ -104,14 +104,33 @@ fn add_methods(
     Ok(())
 }
 
-/// .. from the method of this number in the class.
+/// .. from the method of this number in the class: a signal does nothing by itself.
 fn add_method(
     alloc: Global,
     places: &Places,
     class: usize,
     number: usize,
     method: &MetaMethod,
-    rows: &mut [Items<usize>],
+    rows: &mut [Added],
+) -> Result<(), AllocError>
+    requires { length rows.old ≡ length places.now.numbering }
+    ensures { IfOk result (λ _.
+        Adds (MethodLeads places.now class number method.now) rows.old rows.new) }
+{
+    match method.work {
+        Work::Signal => Ok(()),
+        _ => add_effects(alloc, places, class, number, method, rows),
+    }
+}
+
+/// .. to what its work does.
+fn add_effects(
+    alloc: Global,
+    places: &Places,
+    class: usize,
+    number: usize,
+    method: &MetaMethod,
+    rows: &mut [Added],
 ) -> Result<(), AllocError>
     requires { length rows.old ≡ length places.now.numbering }
     ensures { IfOk result (λ _.
@@ -152,12 +171,12 @@ fn reached(
 ) -> Result<Items<usize>, AllocError>
     ensures { IfOk result (AreJust (OfSome (IsReached places.now class) effects.now)) }
 {
-    let mut all = Items::new(alloc);
+    let mut all = Added::new(alloc);
     for effect in effects {
         let found = places.reached(alloc, class, *effect)?;
-        add_all(&mut all, found.as_slice())?;
+        all.add_all(found.as_slice())?;
     }
-    ordered(alloc, all.as_slice())
+    Ok(all.ordered())
 }
 
 /// Adds the edges from properties to their notify signals.
@@ -165,7 +184,7 @@ pub fn add_notifiers(
     alloc: Global,
     places: &Places,
     classes: &[MetaObject],
-    rows: &mut [Items<usize>],
+    rows: &mut [Added],
 ) -> Result<(), AllocError>
     requires { length rows.old ≡ length places.now.numbering }
     ensures { IfOk result (λ _. Adds (NotifiersLead places.now classes.now) rows.old rows.new) }
@@ -182,7 +201,7 @@ fn add_properties(
     places: &Places,
     number: usize,
     class: &MetaObject,
-    rows: &mut [Items<usize>],
+    rows: &mut [Added],
 ) -> Result<(), AllocError>
     requires { length rows.old ≡ length places.now.numbering }
     ensures { IfOk result (λ _.
@@ -201,7 +220,7 @@ fn add_property(
     class: usize,
     number: usize,
     property: &MetaProperty,
-    rows: &mut [Items<usize>],
+    rows: &mut [Added],
 ) -> Result<(), AllocError>
     requires { length rows.old ≡ length places.now.numbering }
     ensures { IfOk result (λ _.
@@ -224,7 +243,7 @@ pub fn add_sites(
     alloc: Global,
     places: &Places,
     sites: &[MetaSite],
-    rows: &mut [Items<usize>],
+    rows: &mut [Added],
 ) -> Result<(), AllocError>
     requires { length rows.old ≡ length places.now.numbering }
     ensures { IfOk result (λ _. Adds (SitesLead places.now sites.now) rows.old rows.new) }
@@ -240,7 +259,7 @@ fn add_site(
     alloc: Global,
     places: &Places,
     site: &MetaSite,
-    rows: &mut [Items<usize>],
+    rows: &mut [Added],
 ) -> Result<(), AllocError>
     requires { length rows.old ≡ length places.now.numbering }
     ensures { IfOk result (λ _. Adds (SiteLeads places.now site.now) rows.old rows.new) }
@@ -279,12 +298,12 @@ fn read(
 ) -> Result<Items<usize>, AllocError>
     ensures { IfOk result (AreJust (OfSome (IsRead places.now formals.now) sources.now)) }
 {
-    let mut all = Items::new(alloc);
+    let mut all = Added::new(alloc);
     for source in sources {
         let found = read_one(alloc, places, formals, *source)?;
-        add_all(&mut all, found.as_slice())?;
+        all.add_all(found.as_slice())?;
     }
-    ordered(alloc, all.as_slice())
+    Ok(all.ordered())
 }
 
 /// The numbers of the property, where the source is of its class or below it.
@@ -307,7 +326,7 @@ pub fn add_closures(
     alloc: Global,
     places: &Places,
     closures: &[Items<usize>],
-    rows: &mut [Items<usize>],
+    rows: &mut [Added],
 ) -> Result<(), AllocError>
     requires { length rows.old ≡ length places.now.numbering }
     ensures { IfOk result (λ _. Adds (ClosuresLead places.now closures.now) rows.old rows.new) }
@@ -324,7 +343,7 @@ fn add_closure(
     places: &Places,
     class: usize,
     closure: &[usize],
-    rows: &mut [Items<usize>],
+    rows: &mut [Added],
 ) -> Result<(), AllocError>
     requires { length rows.old ≡ length places.now.numbering }
     ensures { IfOk result (λ _.

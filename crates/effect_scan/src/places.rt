@@ -51,7 +51,7 @@ impl Places {
     ) -> Result<Items<usize>, AllocError>
         ensures { IfOk result (AreJust (InEach self.now.numbering classes.now member)) }
     {
-        let mut found = Items::new(alloc);
+        let mut found = Items::from_vec(Vec::with_capacity(alloc, classes.len())?);
         for class in classes {
             let node = Node {
                 class: *class,

@@ -13,7 +13,7 @@ use crate::edges::{add_closures, add_notifiers, add_sites, add_wires, add_works}
 use crate::node::Node;
 use crate::numbering::Numbering;
 use crate::places::Places;
-use crate::rows::{empty_rows, ordered_rows, row_at};
+use crate::rows::{Added, empty_rows, ordered_rows, row_at};
 use meta_objects::Meta;
 use sqlite_items::Items;
 use std::alloc::{AllocError, Global};
@@ -134,7 +134,7 @@ fn add_edges(
     meta: &Meta,
     places: &Places,
     closures: &[Items<usize>],
-    rows: &mut [Items<usize>],
+    rows: &mut [Added],
 ) -> Result<Items<Items<usize>>, AllocError>
     requires places { ArePlaces meta.now places.now }
     requires closures { AreClosures meta.now closures.now }

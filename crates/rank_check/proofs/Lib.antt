@@ -1,4 +1,5 @@
 pub mod Elements
+pub mod Words
 pub mod Named
 pub mod Placing
 pub mod Listing

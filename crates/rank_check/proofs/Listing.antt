@@ -1,5 +1,5 @@
 -- Sets of classes from items.
-use Rattle.std.proofs.Common.{◌≡◌, ◌↔◌, ◌⊎◌, inl, inr, ℕ, ◌+◌, ◌<◌, ◌≤◌, Bool, true, false, List, length, get_or, set, take, replicate, refl, sym, ◌∙◌, subst, arith}
+use Rattle.std.proofs.Common.{◌≡◌, ◌↔◌, ◌⊎◌, inl, inr, ℕ, ◌+◌, ◌<◌, ◌≤◌, Bool, true, false, List, [], length, get_or, take, replicate, refl, sym, ◌∙◌, subst, arith}
 use Rattle.std.specs.List.{Contains}
 use Rattle.std.proofs.lemmas.Bool.{cases_lt}
 use Rattle.std.proofs.lemmas.List.{length-replicate, get_or-replicate, get_or_past, take_all}
@@ -10,7 +10,7 @@ use Rattle.effect_scan.specs.Rows.{row}
 use Rattle.effect_scan.specs.Destroying.{Closure, itself, child, AreClosures}
 use Rattle.effect_scan.specs.code.Relations.{IsMarked, Marks}
 use Rattle.effect_scan.proofs.Adding.{no_members, first_more}
-use Rattle.effect_scan.proofs.Relating.{below_first, mark_one}
+use Rattle.effect_scan.proofs.Relating.{not_marked, below_first}
 use Rattle.certificate_lang.specs.declared.certificate.SetItem.{SetItem}
 use Rattle.certificate_lang.specs.declared.certificate.SetItem.TheVariants as item
 use Rattle.rank_check.specs.Valid.{StandsFor, IsListed, AreClassesThere}
@@ -36,6 +36,15 @@ none_set p items count e = record {
     there = λ item h. absurd (no_members item h);
     marks = λ d. (λ h. absurd (unmarked count d h), λ h. absurd (no_members h.item h.listed));
   };
+}
+
+pub no_items : (p : Loaded) (items : List SetItem) (set : List Bool) → items ≡ [] → set ≡ [] → IsSet p items set
+no_items p items set none empty = record {
+  there = λ item h. absurd (no_members item (subst (λ (xs : List SetItem). Contains xs item) none h));
+  marks = λ d. (
+    λ h. absurd (not_marked d (subst (λ (marks : List Bool). IsMarked marks d) empty h)),
+    λ h. absurd (no_members h.item (subst (λ (xs : List SetItem). Contains xs h.item) none h.listed)),
+  );
 }
 
 -- ---- the classes of one item
@@ -66,10 +75,10 @@ module _ (p : Loaded) (name : List ℕ) where
     class_low count e = let low = slice_get_within p.classes c named.class named.is.is in omega arith
 
     module _ (only : (d : ℕ) → IsClassNamed p name d → d ≡ c) (before : List Bool) where
-      pub class_added : length before ≡ length p.classes → AddsItem p (item.Class name) before true (set before c true)
-      class_added count = (
+      pub class_added : (after : List Bool) → Marks (λ j. j ≡ c) before after → AddsItem p (item.Class name) before true after
+      class_added after marks = (
         (c, named),
-        marks_same (λ j. (λ e. subst (λ (d : ℕ). IsClassNamed p name d) (sym e) named, λ h. only j h)) (mark_one before c (class_low (length before) count)),
+        marks_same (λ j. (λ e. subst (λ (d : ℕ). IsClassNamed p name d) (sym e) named, λ h. only j h)) marks,
       )
 
       pub closure_added : (closures : List (List ℕ)) (after : List Bool) → AreClosures p closures → Marks (Contains (row closures c)) before after → AddsItem p (item.Closure name) before true after

@@ -84,7 +84,7 @@ impl Checked {
 /// lacks a class of the set at the end of an edge, that of `~C` one of the closure of C, or that of a slot or native of C
 /// holds C; `Bound`, where a rank isn't below the bound, or the bound is over 256. `Memory` comes only where a growth of
 /// memory was refused. Beside the scan, time is linear in the certificate and in the program's nodes and edges, with the
-/// number of classes for each set that is compared.
+/// words of a set of classes for each set that is compared.
 pub fn check(alloc: Global, meta: Meta, certificate: Certificate) -> Result<Checked, No>
     ensures { Checks meta certificate result }
 {

@@ -9,8 +9,8 @@ ghost use Rattle.rank_check.specs.Valid.{RunsBody};
 ghost use Rattle.rank_check.specs.ByNumbers.{AreWithin, HoldsOwn, Hold};
 
 use crate::causes::{Mistake, Place};
+use crate::class_set::ClassSet;
 use crate::entries::Entry;
-use crate::sets::{first_lost, is_marked};
 use effect_scan::{Member, Node, Scan, row_at};
 use meta_model::Work;
 use meta_objects::Meta;
@@ -30,7 +30,7 @@ pub fn first_mistake(meta: &Meta, scan: &Scan, entries: &[Entry]) -> Option<Mist
             node: number,
             line: entry.line,
         };
-        let set = entry.destroys.as_slice();
+        let set = &entry.destroys;
         if let Some(mistake) = own_mistake(meta, scan, *node, set, place) {
             return Some(mistake);
         }
@@ -42,13 +42,13 @@ pub fn first_mistake(meta: &Meta, scan: &Scan, entries: &[Entry]) -> Option<Mist
 }
 
 /// The first class of the sets of these nodes that isn't in this one, which is that of a node at this place.
-fn lost_class(targets: &[usize], entries: &[Entry], set: &[bool], place: Place) -> Option<Mistake>
+fn lost_class(targets: &[usize], entries: &[Entry], set: &ClassSet, place: Place) -> Option<Mistake>
     requires { (b : ℕ) → Contains targets.now b → b < length entries.now }
     ensures { let Within = AreWithin targets.now entries.now set.now in MatchOption result Within (λ _. Within → ⊥) }
 {
     for target in targets {
         let entry = &entries[*target];
-        if let Some(class) = first_lost(entry.destroys.as_slice(), set) {
+        if let Some(class) = entry.destroys.first_lost(set) {
             let to = Place {
                 node: *target,
                 line: entry.line,
@@ -60,7 +60,13 @@ fn lost_class(targets: &[usize], entries: &[Entry], set: &[bool], place: Place) 
 }
 
 /// What is wrong with the set of the node at this place, whatever the node may lead to.
-fn own_mistake(meta: &Meta, scan: &Scan, node: Node, set: &[bool], place: Place) -> Option<Mistake>
+fn own_mistake(
+    meta: &Meta,
+    scan: &Scan,
+    node: Node,
+    set: &ClassSet,
+    place: Place,
+) -> Option<Mistake>
     requires { IsScan meta.now scan.now }
     ensures { let Holds = HoldsOwn meta.now node set.now in MatchOption result Holds (λ _. Holds → ⊥) }
 {
@@ -70,7 +76,7 @@ fn own_mistake(meta: &Meta, scan: &Scan, node: Node, set: &[bool], place: Place)
             None => None,
         },
         Member::Method(method) => {
-            if runs_body(meta, node.class, method) && is_marked(set, node.class) {
+            if runs_body(meta, node.class, method) && set.contains(node.class) {
                 Some(Mistake::Own(place))
             } else {
                 None
@@ -81,11 +87,11 @@ fn own_mistake(meta: &Meta, scan: &Scan, node: Node, set: &[bool], place: Place)
 }
 
 /// The first of the classes that isn't in the set.
-fn first_unmarked(classes: &[usize], set: &[bool]) -> Option<usize>
+fn first_unmarked(classes: &[usize], set: &ClassSet) -> Option<usize>
     ensures { let All = (d : ℕ) → Contains classes.now d → IsMarked set.now d in MatchOption result All (λ _. All → ⊥) }
 {
     for class in classes {
-        if !is_marked(set, *class) {
+        if !set.contains(*class) {
             return Some(*class);
         }
     }

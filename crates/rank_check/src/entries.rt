@@ -6,6 +6,7 @@ ghost use Rattle.rank_check.specs.Entries.{AreNumbers, ArePlaces, FindsEntry, Fi
 ghost use Rattle.effect_scan.specs.Nodes.{nodes_of};
 
 use crate::causes::{Cause, Extra};
+use crate::class_set::ClassSet;
 use crate::naming::line_numbers;
 use crate::places::{first_extra, line_places};
 use crate::sets::set_of;
@@ -22,8 +23,8 @@ pub struct Entry {
     pub line: usize,
     /// Its rank.
     pub rank: u32,
-    /// For each class, by its number, whether it is in the node's destroy set.
-    pub destroys: Items<bool>,
+    /// Its destroy set.
+    pub destroys: ClassSet,
 }
 
 /// The entries of all nodes, in their order. `Missing`, where a node has no line; else `Extra`, where a line is for nothing

@@ -3,6 +3,7 @@
 
 mod causes;
 mod checked;
+mod class_set;
 mod destroys;
 mod entries;
 mod judging;
@@ -17,8 +18,10 @@ pub use certificate_lang::{
     Certificate, CertificateFault, Line, MemberName, NodeName, SetItem, read_certificate,
 };
 pub use checked::{Checked, check};
+pub use class_set::ClassSet;
 pub use judging::judge;
+pub use naming::line_numbers;
 pub use no::No;
+pub use places::last_places;
 pub use ranks::MOST_BOUND;
-pub use sets::{empty_set, is_marked, mark_all};
 pub use typing::{Spot, unfit_wire, untyped};

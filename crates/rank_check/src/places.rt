@@ -20,8 +20,9 @@ pub fn line_places(
     all_places(alloc, places.as_slice())
 }
 
-/// For each node the place of the last line that is for it, or `None` where there is none.
-fn last_places(
+/// For each of so many nodes the place of the last line that is for it, or `None` where there is none. Its error is that
+/// memory was refused.
+pub fn last_places(
     alloc: Global,
     count: usize,
     numbers: &[Option<usize>],

@@ -10,9 +10,10 @@ use crate::causes::{Loose, Place, Rise};
 use crate::entries::Entry;
 use certificate_lang::Certificate;
 use effect_scan::Scan;
+use texts::MOST_DEPTH;
 
-/// The greatest bound of a valid certificate.
-pub const MOST_BOUND: u32 = 256;
+/// The greatest bound of a valid certificate: as many activations as nest at most.
+pub const MOST_BOUND: u32 = MOST_DEPTH;
 
 /// The first edge along which the rank doesn't fall, in the order of nodes.
 pub fn first_rise(scan: &Scan, entries: &[Entry]) -> Option<Rise>

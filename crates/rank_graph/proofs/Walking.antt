@@ -1,14 +1,17 @@
 -- Walks along edges.
-use Rattle.std.proofs.Common.{◌≡◌, ℕ, suc, ◌-◌, ◌≤◌, ◌<◌, eqb, Bool, true, false, inl, inr, List, [], ◌∷◌, ◌++◌, length, get_or, slice_get, unwrap_or, Option, None, Some, refl, sym, ap, ◌∙◌, subst, arith}
+use Rattle.std.proofs.Common.{◌≡◌, ℕ, suc, ◌+◌, ◌*◌, ◌-◌, ◌/◌, ◌%◌, ◌≤◌, ◌<◌, eqb, Bool, true, false, inl, inr, List, [], ◌∷◌, ◌++◌, length, get_or, slice_get, unwrap_or, Option, None, Some, refl, sym, ap, ◌∙◌, subst, arith}
 use Rattle.std.specs.List.{Contains, list_any}
-use Rattle.std.proofs.lemmas.Bool.{eq-eqb, false≢true}
+use Rattle.std.proofs.lemmas.Bool.{eq-eqb, false≢true, cases_lt}
+use Rattle.std.proofs.lemmas.List.{get_or_past}
 use Rattle.std.proofs.lemmas.List.Folds.{list_any_at}
 use Rattle.std.proofs.lemmas.Option.{get_or_from_slice_get, unwrap_or-slice_get}
 use Rattle.effect_scan.specs.Rows.{row, Edge}
+use Rattle.rank_graph.specs.declared.bits.TheConstants.{SIZE}
 use Rattle.rank_graph.specs.declared.path.Entry.{Entry}
 use Rattle.rank_graph.specs.declared.solution.Solution.{Solution}
 use Rattle.rank_graph.specs.Walks.{Leads, IsWalk, AreDistinct}
-use Rattle.rank_graph.specs.Solutions.{AreRanks, AreClasses, entries_of}
+use Rattle.rank_graph.specs.Entries.{leads_at}
+use Rattle.rank_graph.specs.Solutions.{AreRanks, AreClasses, entries_of, leads_of}
 use Rattle.rank_graph.proofs.Distinct.{cons_cases}
 use Rattle.rank_graph.proofs.Searching.{leads_push}
 
@@ -102,3 +105,19 @@ next_there rows rank a n r ranks is e none = let chain = ranks.chains a in from 
 pub no_next : (rows : List (List ℕ)) (rank : ℕ → ℕ) (a m : ℕ) (r : List ℕ) → AreRanks rows rank → m ≡ rank a → 0 < rank a → r ≡ row rows a → ((b : ℕ) → Contains r b → rank b ≡ m - 1 → ⊥) → ⊥
 no_next rows rank a m r ranks is some e none =
     next_there rows rank a (rank a - 1) r ranks (omega arith) e (λ b has same. none b has (omega arith))
+
+-- ---- the classes of a group
+pub leads_in_group : (s : Solution) (a g c : ℕ) → c < SIZE → leads_of s a (SIZE * g + c) ≡ leads_at (entries_of s g) a c
+unfolding leads_of
+leads_in_group s a g c low =
+    let group : (SIZE * g + c) / SIZE ≡ g = omega arith in
+    let place : (SIZE * g + c) % SIZE ≡ c = omega arith in
+    ap (λ (k : ℕ). leads_at (entries_of s k) a ((SIZE * g + c) % SIZE)) group ∙ ap (λ (k : ℕ). leads_at (entries_of s g) a k) place
+
+pub leads_in_none : (s : Solution) (a n : ℕ) → length s.groups ≤ n → ((k : ℕ) → k < n → (c : ℕ) → c < SIZE → leads_at (entries_of s k) a c ≡ false) → (c : ℕ) → leads_of s a c ≡ false
+unfolding leads_of entries_of
+leads_in_none s a n all none c =
+    elim (cases_lt (c / SIZE) n) [
+      | inl l ↦ none (c / SIZE) l (c % SIZE) (omega arith)
+      | inr past ↦ ap (λ (es : List Entry). leads_at es a (c % SIZE)) (get_or_past s.groups (c / SIZE) [] (omega (arith, all, past)))
+    ]

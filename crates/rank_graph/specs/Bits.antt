@@ -1,4 +1,4 @@
--- When a set of numbers below 64 has a number.
+-- When a set of numbers below 128 has a number.
 use Rattle.std.specs.Prelude.{ℕ, Bool, ◌==◌}
 use Rattle.std.specs.Int.{bit_at}
 use Rattle.rank_graph.specs.declared.bits.Bits.{Bits}

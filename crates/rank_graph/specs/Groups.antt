@@ -1,4 +1,4 @@
--- Classes in groups: group k has the classes from 64 k on, in order, and a class's place in its group is what is left over.
+-- Classes in groups: group k has the classes from 128 k on, in order, and a class's place in its group is what is left over.
 use Rattle.std.specs.Prelude.{◌≡◌, ◌↔◌, ℕ, ◌+◌, ◌*◌, ◌<◌, true, List, length}
 use Rattle.std.specs.List.{Contains}
 use Rattle.effect_scan.specs.Rows.{Edge}

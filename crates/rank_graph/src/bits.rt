@@ -1,15 +1,16 @@
-//! Sets of numbers below 64.
+//! Sets of numbers below 128.
 
-ghost use Rattle.std.specs.Prelude.{◌≡◌, ℕ, ◌<◌, ◌||◌, ◌==◌, false};
+ghost use Rattle.std.specs.Prelude.{◌≡◌, ◌↔◌, ℕ, ◌<◌, ◌||◌, ◌==◌, false, IsTrue};
+ghost use Rattle.rank_graph.specs.declared.bits.TheConstants.{SIZE};
 ghost use Rattle.rank_graph.specs.Bits.{has};
 
 /// How many numbers there are.
-pub const SIZE: usize = 64;
+pub const SIZE: usize = 128;
 
-/// A set of numbers below 64, a bit for each of them.
+/// A set of numbers below 128, a bit for each of them.
 #[derive(Clone, Copy)]
 pub struct Bits {
-    bits: u64,
+    bits: u128,
 }
 
 impl Bits {
@@ -20,9 +21,16 @@ impl Bits {
         Bits { bits: 0 }
     }
 
+    /// Whether the set has no number.
+    pub fn is_none(self) -> bool
+        ensures { IsTrue result ↔ ((c : ℕ) → c < SIZE → has self c ≡ false) }
+    {
+        self.bits == 0
+    }
+
     /// Whether the set has the number.
     pub fn contains(self, number: u32) -> bool
-        requires { number < 64 }
+        requires { number < 128 }
         ensures { result ≡ has self number }
     {
         (self.bits >> number) & 1 == 1
@@ -30,7 +38,7 @@ impl Bits {
 
     /// The set with the number too.
     pub fn with(self, number: u32) -> Bits
-        requires { number < 64 }
+        requires { number < 128 }
         ensures { (c : ℕ) → has result c ≡ (has self c || c == number) }
     {
         Bits {

@@ -1,4 +1,4 @@
-//! Classes in groups of 64, for each of which the graph is searched.
+//! Classes in groups of 128, for each of which the graph is searched.
 
 ghost use Rattle.std.specs.Prelude.{◌≡◌, ℕ, ◌<◌, length, IfOk, IfErr};
 ghost use Rattle.effect_scan.specs.Rows.{Edge};
@@ -16,7 +16,7 @@ use std::alloc::{AllocError, Global};
 
 /// The ranks of the nodes, and the classes that they lead to, where each has the classes of its row of `own` itself, all of
 /// them below `classes`. `Cycle` comes where some nodes are a cycle, and `Memory` only where a growth of memory was refused.
-/// Takes time linear in the nodes, edges and own classes, for each 64 classes.
+/// Takes time linear in the nodes, edges and own classes, for each 128 classes.
 pub fn solve(
     alloc: Global,
     rows: &[Items<usize>],

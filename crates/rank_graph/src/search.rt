@@ -51,7 +51,7 @@ fn explore(
 fn fresh(alloc: Global, count: usize) -> Result<Vec<State>, AllocError>
     ensures { IfOk result (λ states. states.items ≡ replicate count New) }
 {
-    let mut states = Vec::new(alloc);
+    let mut states = Vec::with_capacity(alloc, count)?;
     for _node in 0..count {
         states.push(State::New)?;
     }
@@ -85,14 +85,14 @@ fn entries_of(alloc: Global, states: &[State]) -> Result<Items<Entry>, AllocErro
     requires { AllDone states.now }
     ensures { IfOk result (λ entries. map Done entries ≡ states.now) }
 {
-    let mut entries = Items::new(alloc);
+    let mut entries = Vec::with_capacity(alloc, states.len())?;
     for state in states {
         match state {
             State::Done(entry) => entries.push(*entry)?,
             _ => unreachable!(),
         }
     }
-    Ok(entries)
+    Ok(Items::from_vec(entries))
 }
 
 /// The entry of a node that has an edge to a node with the entry `below`.

@@ -1,7 +1,9 @@
 //! What is known of a graph without cycles.
 
-ghost use Rattle.std.specs.Prelude.{◌≡◌, slice_get};
+ghost use Rattle.std.specs.Prelude.{◌≡◌, ◌↔◌, ◌<◌, ℕ, false, slice_get, IsTrue};
 ghost use Rattle.std.specs.Option.{option_copied};
+ghost use Rattle.rank_graph.specs.declared.bits.TheConstants.{SIZE};
+ghost use Rattle.rank_graph.specs.Entries.{leads_at};
 ghost use Rattle.rank_graph.specs.Solutions.{entries_of, rank_of, leads_of};
 
 use crate::bits::SIZE;
@@ -20,7 +22,7 @@ impl Drop for Solution {
 }
 
 impl Solution {
-    /// Made of what was found for each group of 64 classes.
+    /// Made of what was found for each group of 128 classes.
     pub(crate) fn of(groups: Items<Items<Entry>>) -> Solution
         ensures { result.groups ≡ groups }
     {
@@ -44,6 +46,28 @@ impl Solution {
         match self.entry(class / SIZE, node) {
             Some(entry) => entry.classes.contains((class % SIZE) as u32),
             None => false,
+        }
+    }
+
+    /// Whether the node leads to no class.
+    pub fn leads_nowhere(&self, node: usize) -> bool
+        ensures { IsTrue result ↔ ((c : ℕ) → leads_of self.now node c ≡ false) }
+    {
+        for group in 0..self.groups.len() {
+            if !self.is_none_in(group, node) {
+                return false;
+            }
+        }
+        true
+    }
+
+    /// Whether the node leads to no class of this group.
+    fn is_none_in(&self, group: usize, node: usize) -> bool
+        ensures { IsTrue result ↔ ((c : ℕ) → c < SIZE → leads_at (entries_of self.now group) node c ≡ false) }
+    {
+        match self.entry(group, node) {
+            Some(entry) => entry.classes.is_none(),
+            None => true,
         }
     }
 

@@ -45,6 +45,16 @@ pub record WrittenSoFar (p : Loaded) (P : ℕ → Type 0) (end : ℕ) (items : L
   pub marks : (d : ℕ) → IsMarked implied d ↔ ((w : ℕ) × Contains are.classes w × Closure p w d)
 
 module _ (p : Loaded) (P : ℕ → Type 0) where
+  -- of no class nothing is written
+  pub items_of_none : (count : ℕ) (items : List SetItem) → ((d : ℕ) → ¬ P d) → items ≡ [] → AreItems p P count items
+  items_of_none count items none e =
+      let are : AreItems p P count [] = record {
+        classes = [];
+        closures = tt;
+        written = record { each = λ d held. absurd (no_members d held); all = λ d h. absurd (none d h.1); increasing = increasing_none };
+      } in
+      subst (λ (l : List SetItem). AreItems p P count l) (sym e) are
+
   pub items_none : (count : ℕ) → count ≡ length p.classes → WrittenSoFar p P 0 [] (replicate count false)
   items_none count e = record {
     are = record {

@@ -28,7 +28,7 @@ use typing::{unfit_wire, untyped};
 /// `Wire`, where a wire's method doesn't fit its signal; `BodyType`, where a literal, a body or a binding isn't typed;
 /// `Cycle`, where edges lead back to a node; `DestroyPath`, where they lead from a slot or native of a class C to a `~X`
 /// whose closure holds C; `TooHigh`, where a chain has 257 nodes. `Memory` comes only where a growth of memory was
-/// refused. Beside the scan, time is linear in the nodes and edges for each 64 classes, in nodes times classes, and in the
+/// refused. Beside the scan, time is linear in the nodes and edges for each 128 classes, in nodes times classes, and in the
 /// closures of the classes that are written.
 pub fn make(alloc: Global, meta: &Meta) -> Result<Certificate, Why>
     ensures { Makes meta.now result }

@@ -13,7 +13,7 @@ ghost use Rattle.rank_make.specs.Solved.{AreLow, AreItems, IsLineFor, AreLinesFo
 use effect_scan::{Member, Node, Scan, row_at};
 use meta_model::MetaObject;
 use meta_objects::Meta;
-use rank_check::{Line, MemberName, NodeName, SetItem, empty_set, is_marked, mark_all};
+use rank_check::{ClassSet, Line, MemberName, NodeName, SetItem};
 use rank_graph::Solution;
 use sqlite_items::Items;
 use std::alloc::{AllocError, Global};
@@ -29,7 +29,7 @@ pub fn lines(
     requires low { AreLow (length scan.now.nodes) (rank_of solution.now) }
     ensures { IfOk result (AreLinesFor meta.now (rank_of solution.now) (leads_of solution.now)) }
 {
-    let mut lines = Items::new(alloc);
+    let mut lines = Items::from_vec(Vec::with_capacity(alloc, scan.nodes().len())?);
     for (number, node) in scan.nodes().iter().enumerate() {
         let line = line_of(alloc, meta, scan, solution, number, *node)?;
         lines.push(line)?;
@@ -72,15 +72,18 @@ fn set_items(
     requires { IsScan meta.now scan.now }
     ensures { IfOk result (AreItems meta.now (λ d. leads_of solution.now node d ≡ true) (length meta.now.classes)) }
 {
+    if solution.leads_nowhere(node) {
+        return Ok(Items::new(alloc));
+    }
     let classes = meta.classes();
     let mut items = Items::new(alloc);
     // The classes in the closures of those that are written.
-    let mut implied = empty_set(alloc, classes.len())?;
+    let mut implied = ClassSet::with_room(alloc, classes.len())?;
     for (class, object) in classes.iter().enumerate() {
-        if solution.leads_to(node, class) && !is_marked(implied.as_slice(), class) {
+        if solution.leads_to(node, class) && !implied.contains(class) {
             let name = object.name.copy()?;
             items.push(SetItem::Closure(name))?;
-            mark_all(&mut implied, row_at(scan.destroys(), class));
+            implied.add_all(row_at(scan.destroys(), class));
         }
     }
     Ok(items)

@@ -20,7 +20,7 @@ use Rattle.typing.specs.Typed.{IsTypedProperty, kind_in, kind_of_source, IsTyped
 
 -- a property that was found
 found_property : (found : Option MetaObject) (q : ℕ) (kind : ValueType)
-    → option_and_then (λ (class : MetaObject). option_map (λ (property : MetaProperty). property.kind) (slice_get class.properties q)) found ≡ Some kind
+    → option_map (λ (property : MetaProperty). property.kind) (option_and_then (λ (class : MetaObject). slice_get class.properties q) found) ≡ Some kind
     → (class : MetaObject) × (property : MetaProperty) × (found ≡ Some class) × (slice_get class.properties q ≡ Some property) × (property.kind ≡ kind)
 found_property None q kind e = absurd (none-some kind e)
 found_property (Some class) q kind e =
@@ -37,7 +37,7 @@ has_kind p c q kind e =
 
 pub kind_is : (p : Loaded) (c q : ℕ) (property : MetaProperty) → IsProperty p c q property → kind_in p c q ≡ Some property.kind
 kind_is p c q property is =
-    ap (option_and_then (λ (class : MetaObject). option_map (λ (x : MetaProperty). x.kind) (slice_get class.properties q))) is.is_class.is
+    ap (λ (found : Option MetaObject). option_map (λ (x : MetaProperty). x.kind) (option_and_then (λ (class : MetaObject). slice_get class.properties q) found)) is.is_class.is
     ∙ ap (option_map (λ (x : MetaProperty). x.kind)) is.is
 
 -- a property of a class is one

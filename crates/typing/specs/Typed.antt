@@ -4,13 +4,12 @@ use Rattle.std.specs.Option.{option_and_then, option_map}
 use Rattle.meta_model.specs.declared.object.ValueType.{ValueType}
 use Rattle.meta_model.specs.declared.object.Work.{Work}
 use Rattle.meta_model.specs.declared.object.Work.TheVariants.{Slot}
-use Rattle.meta_model.specs.declared.object.MetaObject.{MetaObject}
 use Rattle.meta_model.specs.declared.object.MetaMethod.{MetaMethod}
 use Rattle.meta_model.specs.declared.object.MetaProperty.{MetaProperty}
 use Rattle.meta_model.specs.declared.site.SourceProperty.{SourceProperty}
 use Rattle.meta_model.specs.declared.site.MetaSite.{MetaSite}
 use Rattle.meta_model.specs.Loaded.{Loaded}
-use Rattle.meta_model.specs.Members.{IsMethod, IsProperty, Below, Declares}
+use Rattle.meta_model.specs.Members.{IsMethod, IsProperty, property_at, Below, Declares}
 use Rattle.meta_model.specs.Values.{Has}
 use Rattle.effect_scan.specs.declared.node.Node.{Node}
 use Rattle.effect_scan.specs.declared.node.Member.{Member}
@@ -50,8 +49,7 @@ IsTypedNode p x = IsTypedMember p x.class x.member
 -- ---- bindings
 -- the declared type of a property of a formal source
 abbrev pub kind_in : Loaded → ℕ → ℕ → Option ValueType
-kind_in p c q =
-    option_and_then (λ (class : MetaObject). option_map (λ (property : MetaProperty). property.kind) (slice_get class.properties q)) (slice_get p.classes c)
+kind_in p c q = option_map (λ (property : MetaProperty). property.kind) (property_at p c q)
 
 abbrev pub kind_of_source : Loaded → List ℕ → SourceProperty → Option ValueType
 kind_of_source p formals s = option_and_then (λ c. kind_in p c s.property) (slice_get formals s.source)

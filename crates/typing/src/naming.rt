@@ -49,11 +49,8 @@ pub fn spelled(alloc: Global, meta: &Meta, kind: ValueType) -> Result<Option<QTy
     let Some(class) = meta.object(class) else {
         return Ok(None);
     };
-    Ok(Some(QType {
-        name: class.name.copy()?,
-        constant,
-        pointer: true,
-    }))
+    let name = class.name.copy()?;
+    Ok(Some(QType::pointer_to(name, constant)))
 }
 
 /// The value type of this name.

@@ -1,16 +1,11 @@
-use Rattle.std.proofs.lemmas.Result.{IfOk-weaker}
-use Rattle.effect_scan.proofs.Adding.{join_leads}
-use Rattle.effect_scan.proofs.Listing.{one_low}
-use Rattle.effect_scan.proofs.Joined.{method_both}
+use Rattle.std.proofs.Common.{subst}
+use Rattle.meta_model.specs.declared.object.Work.{Work}
+use Rattle.effect_scan.specs.Effects.{WorkHas}
+use Rattle.effect_scan.specs.code.Leading.{MethodLeads}
+use Rattle.effect_scan.proofs.Adding.{adds_none}
 use Rattle.effect_scan.proofs.edges.add_method.Goals as goal
 
-pub join-requires : goal.join-requires
-join-requires c = one_low _ _ _ _ _ c.in_ok-from.ensures c.as_slice-3.ensures c.requires
-
-pub returns : goal.returns
-returns c =
-    IfOk-weaker _ _ _
-    (λ x adds.
-    join_leads _ _ _ (method_both c.args.places.now c.args.class c.args.number c.args.method.now _ _ c.as_slice-2.ensures (rw c.as_slice.ensures at c.in_ok-effects.ensures)) _ _ _ _ _ _
-    c.in_ok-from.ensures c.in_ok-to.ensures c.as_slice-3.ensures c.as_slice-4.ensures adds)
-    c.join.ensures
+pub returns-in-Signal : goal.returns-in-Signal
+returns-in-Signal c =
+    adds_none (MethodLeads c.args.places.now c.args.class c.args.number c.args.method.now) _
+    (λ a b h. subst (λ (w : Work). WorkHas c.args.method.now.kinds w h.effect) c.in-Signal.is h.has)

@@ -1,5 +1,4 @@
 use Rattle.std.proofs.Common.{◌∙◌, ◌++◌, ℕ, List, ap}
-use Rattle.std.proofs.lemmas.Result.{IfOk-weaker}
 use Rattle.meta_model.proofs.Searches.{read_at}
 use Rattle.effect_scan.specs.code.Places.{IsReached}
 use Rattle.effect_scan.proofs.Listing.{some_more, some_all}
@@ -11,7 +10,4 @@ loop-effect-preserved c =
     (c.in_ok-add_all.ensures ∙ ap (λ (l : List ℕ). c.loop-effect.all ++ l) c.as_slice.ensures)
 
 pub returns : goal.returns
-returns c =
-    IfOk-weaker _ _ _
-    (λ list o. some_all (IsReached c.args.places.now c.args.class) c.args.effects.now _ _ list c.loop-effect-test.false c.loop-effect.invariant (rw c.as_slice-2.ensures at o.same))
-    c.ordered.ensures
+returns c = some_all (IsReached c.args.places.now c.args.class) c.args.effects.now _ _ _ c.loop-effect-test.false c.loop-effect.invariant c.ordered.ensures.same

@@ -1,5 +1,4 @@
 use Rattle.std.proofs.Common.{◌∙◌, ◌++◌, ℕ, List, ap}
-use Rattle.std.proofs.lemmas.Result.{IfOk-weaker}
 use Rattle.meta_model.proofs.Searches.{read_at}
 use Rattle.effect_scan.specs.code.Places.{IsRead}
 use Rattle.effect_scan.proofs.Listing.{some_more, some_all}
@@ -11,7 +10,4 @@ loop-source-preserved c =
     (c.in_ok-add_all.ensures ∙ ap (λ (l : List ℕ). c.loop-source.all ++ l) c.as_slice.ensures)
 
 pub returns : goal.returns
-returns c =
-    IfOk-weaker _ _ _
-    (λ list o. some_all (IsRead c.args.places.now c.args.formals.now) c.args.sources.now _ _ list c.loop-source-test.false c.loop-source.invariant (rw c.as_slice-2.ensures at o.same))
-    c.ordered.ensures
+returns c = some_all (IsRead c.args.places.now c.args.formals.now) c.args.sources.now _ _ _ c.loop-source-test.false c.loop-source.invariant c.ordered.ensures.same

@@ -1,9 +1,8 @@
-use Rattle.std.proofs.Common.{◌<◌, ℕ, Bool, List, length, sym, ap, subst, arith}
+use Rattle.std.proofs.Common.{◌<◌, ℕ, List, length, refl, ap, subst, arith}
 use Rattle.std.specs.List.{Contains}
 use Rattle.effect_scan.specs.declared.node.Node.{Node}
 use Rattle.effect_scan.specs.declared.node.Member.TheVariants.{Method}
 use Rattle.effect_scan.specs.Nodes.{node}
-use Rattle.rank_check.specs.ByNumbers.{IsWithin}
 use Rattle.rank_check.proofs.Elements.{at_index}
 use Rattle.rank_check.proofs.Conditions.{hold_more, hold_all}
 use Rattle.rank_check.proofs.destroys.first_mistake.Goals as goal
@@ -16,20 +15,16 @@ returns-in-Some-lost_class c = λ hold.
     let count = ap (λ (ns : List Node). length ns) c.nodes-node-items.ensures in
     let inside : c.loop-number.number < length c.args.entries.now = omega (arith, count, c.requires.count, c.loop-number-test.true) in
     let here = at_index c.args.entries.now c.loop-number.number c.index-entries-number.result inside c.index-entries-number.is in
-    let set = c.as_slice-set.ensures in
     c.in-Some-lost_class.ensures
-    (λ b y held at.
-    subst (λ (s : List Bool). IsWithin y.destroys s) (sym set)
-    (hold.passed_on c.loop-number.number b c.index-entries-number.result y here (subst (λ (ts : List ℕ). Contains ts b) c.targets.ensures held) at))
+    (λ b y held at. hold.passed_on c.loop-number.number b c.index-entries-number.result y here (subst (λ (ts : List ℕ). Contains ts b) c.targets.ensures held) at)
 
 pub loop-number-preserved : goal.loop-number-preserved
 loop-number-preserved c =
     let count = ap (λ (ns : List Node). length ns) c.nodes-node-items.ensures in
     let inside : c.loop-number.number < length c.args.entries.now = omega (arith, count, c.requires.count, c.loop-number-test.true) in
     let here = at_index c.args.entries.now c.loop-number.number c.index-entries-number.result inside c.index-entries-number.is in
-    let set = c.as_slice-set.ensures in
     hold_more c.args.meta.now c.args.scan.now.nodes c.args.scan.now.rows c.args.entries.now c.nodes-node-items.result.now c.loop-number.number (node 0 (Method 0)) c.index-entries-number.result _ _ c.nodes-node-items.ensures c.loop-number-test.true here
-    c.targets.ensures set c.in_default-lost_class.ensures c.in_default.ensures c.loop-number.invariant
+    c.targets.ensures refl c.in_default-lost_class.ensures c.in_default.ensures c.loop-number.invariant
 
 pub returns : goal.returns
 returns c =

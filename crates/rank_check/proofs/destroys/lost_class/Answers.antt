@@ -1,4 +1,4 @@
-use Rattle.std.proofs.Common.{◌≡◌, ◌<◌, ℕ, Bool, List, length, get_or, slice_get, Some, sym, subst, below_more, arith}
+use Rattle.std.proofs.Common.{◌≡◌, ◌<◌, ℕ, length, get_or, slice_get, Some, subst, below_more, arith}
 use Rattle.std.proofs.lemmas.List.Elements.{Contains-get_or}
 use Rattle.rank_check.specs.declared.entries.Entry.{Entry}
 use Rattle.rank_check.specs.ByNumbers.{IsWithin}
@@ -16,9 +16,7 @@ bounds-entries-target c = c.requires _ (Contains-get_or c.args.targets.now c.loo
 pub returns-in-Some : goal.returns-in-Some
 returns-in-Some c = λ all.
     let held = Contains-get_or c.args.targets.now c.loop-target.target-index 0 c.loop-target-test.true in
-    c.in-Some.ensures
-    (subst (λ (s : List Bool). IsWithin s c.args.set.now) (sym c.as_slice.ensures)
-    (all _ c.index-entries-target.result held (at_index c.args.entries.now _ _ (c.requires _ held) c.index-entries-target.is)))
+    c.in-Some.ensures (all _ c.index-entries-target.result held (at_index c.args.entries.now _ _ (c.requires _ held) c.index-entries-target.is))
 
 pub loop-target-preserved : goal.loop-target-preserved
 loop-target-preserved c =
@@ -26,7 +24,7 @@ loop-target-preserved c =
     below_more _ _ c.loop-target.invariant
     (λ y at.
     subst (λ (z : Entry). IsWithin z.destroys c.args.set.now) (same_index c.args.entries.now _ _ y (c.requires _ held) c.index-entries-target.is at)
-    (subst (λ (s : List Bool). IsWithin s c.args.set.now) c.as_slice.ensures c.in_default.ensures))
+    c.in_default.ensures)
 
 pub returns : goal.returns
 returns c = λ b y held at.

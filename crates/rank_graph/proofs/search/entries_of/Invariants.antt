@@ -3,4 +3,4 @@ use Rattle.rank_graph.specs.declared.path.State.TheVariants.{Done}
 use Rattle.rank_graph.proofs.search.entries_of.Given as goal
 
 abbrev pub invariant-loop-state : goal.invariant-loop-state
-invariant-loop-state l = map Done l.entries ≡ take l.state-index l.states
+invariant-loop-state l = map Done l.entries.items ≡ take l.state-index l.states

@@ -6,8 +6,8 @@ use Rattle.rank_graph.proofs.solution.Solution.leads_to.Goals as goal
 
 pub returns-in-Some : goal.returns-in-Some
 unfolding leads_of
-returns-in-Some c = c.contains.ensures ∙ ap (λ (o : Option Entry). leads_in o (c.args.class % 64)) c.in-Some.ensures
+returns-in-Some c = c.contains.ensures ∙ ap (λ (o : Option Entry). leads_in o (c.args.class % 128)) c.in-Some.ensures
 
 pub returns-in-None : goal.returns-in-None
 unfolding leads_of
-returns-in-None c = ap (λ (o : Option Entry). leads_in o (c.args.class % 64)) c.in-None.ensures
+returns-in-None c = ap (λ (o : Option Entry). leads_in o (c.args.class % 128)) c.in-None.ensures
