@@ -40,7 +40,7 @@ use Rattle.machine_rules.proofs.Fields.{old-there, stored-reads}
 use Rattle.machine_rules.proofs.Keeps.{lives-of-class}
 use Rattle.machine_events.specs.Causes.{BindsNext}
 use Rattle.machine_events.specs.Events.{may_bind}
-use Rattle.machine_events.proofs.Inherited.{property-below}
+use Rattle.machine_rules.proofs.Inherited.{property-below}
 use Rattle.machine_events.proofs.Judged.{given-is}
 
 -- a value as it reads is of the sort that it is of

@@ -256,8 +256,8 @@ module _ {p : Loaded} {certificate : Certificate} (valid : IsValid p certificate
         let class_is : classes b.target.object ≡ Some life.class = (covered.known).lives b.target.object life.class (class-of-lives s.objects b.target.object (x.is).lives) in
         let r = level-at valid (node life.class (Property b.target.property)) (property-node sound life.class b.target.property x.property (record { class = (x.is).class; is_class = (x.is).is_class; is = (x.is).is_property })) in
         let all = all-snoc (IsSited p classes) (filter_kept b) b (all-filtered (IsSited p classes) _ s.bindings covered.sited) sited in
-        settles-held valid sound classes {s = accepted s} s.stack [] (level-of valid r.0) (b.target ∷ []) x.objects (replaced s.bindings b) x.changed covered agree stands tt (alone-low valid sound classes b.target life.class r.0 class_is r.1) x.differ all x.settled
-        (λ q z other e. same-elsewhere q z (λ same. other (inl same)) e) (λ q other none. x.kept q none) x.changes x.settles
+        settles-held valid sound classes {s = accepted s} s.stack [] (level-of valid r.0) (b.target ∷ []) x.objects (replaced s.bindings b) x.changed covered agree stands tt (alone-low valid sound classes b.target life.class r.0 class_is r.1) (x.installed).objects all (x.installed).settled
+        (λ q z other e. same-elsewhere q z (λ same. other (inl same)) e) (λ q other none. (x.installed).kept q none) (x.installed).changes x.settles
       where
         filter_kept : Binding → List Binding
         filter_kept z = without z.target s.bindings

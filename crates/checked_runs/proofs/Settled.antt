@@ -267,4 +267,4 @@ pub installs-agree : {p : Loaded} {s t : State} {below : List Activation} {b : B
 installs-agree {p} {s} {b = b} agree fit acyclic within x =
     let left : Agree p s.objects (without b.target s.bindings) = agree-fewer p s.objects (λ (z : Binding). not (same_place z.target b.target)) s.bindings agree in
     agree-at _ (x.settles).gives
-    (settled-agree s.objects x.objects agree.typed x.differ (replaced s.bindings b) (All-push (IsFit p s.objects) (without b.target s.bindings) b left.fit fit) (All-push (IsInOneLoop s.objects) (without b.target s.bindings) b left.one_loop within) (apart-replaced s.bindings b agree.apart) acyclic x.settled (λ q none. keeps (x.kept q none)))
+    (settled-agree s.objects x.objects agree.typed (x.installed).objects (replaced s.bindings b) (All-push (IsFit p s.objects) (without b.target s.bindings) b left.fit fit) (All-push (IsInOneLoop s.objects) (without b.target s.bindings) b left.one_loop within) (apart-replaced s.bindings b agree.apart) acyclic (x.installed).settled (λ q none. keeps ((x.installed).kept q none)))

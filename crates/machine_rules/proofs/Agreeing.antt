@@ -93,7 +93,7 @@ module _ {p : Loaded} {s t : State} (agree : Agree p s.objects s.bindings) (well
   -- the target of a binding that was installed has its expression's value
   bound-fits : {below : List Activation} {b : Binding} (x : Installs p s below b t) → AreTyped p x.objects → IsPlain x.property.kind → IsFit p x.objects b
   bound-fits {b = b} x typed plain =
-      let on = lives-on s.objects x.objects x.differ b.target.object x.is.life (life-of-lives x.is.lives) in
+      let on = lives-on s.objects x.objects x.installed.objects b.target.object x.is.life (life-of-lives x.is.lives) in
       let field : IsField p x.objects b.target.object b.target.property on.object x.property = record {
         life = on.life;
         lives = on.lives;
@@ -104,7 +104,7 @@ module _ {p : Loaded} {s t : State} (agree : Agree p s.objects s.bindings) (well
       let there = old-there field typed in
       record {
         value = there.0;
-        is = sym (x.settled b.target b (replaced-at s.bindings b)) ∙ there.1;
+        is = sym (x.installed.settled b.target b (replaced-at s.bindings b)) ∙ there.1;
         typed = record {
           object = on.object;
           life = on.life;
@@ -122,14 +122,14 @@ module _ {p : Loaded} {s t : State} (agree : Agree p s.objects s.bindings) (well
       let keep : Binding → Bool = λ z. not (same_place z.target b.target) in
       let typed : AreTyped p x.objects = subst (λ (v : State). AreTyped p v.objects) x.settles.gives well.values in
       let left : Agree p s.objects (without b.target s.bindings) = agree-fewer p s.objects keep s.bindings agree in
-      let stay : All (IsFit p x.objects) (without b.target s.bindings) = all-stay p s.objects x.objects agree.typed typed x.differ (without b.target s.bindings) left.fit in
+      let stay : All (IsFit p x.objects) (without b.target s.bindings) = all-stay p s.objects x.objects agree.typed typed x.installed.objects (without b.target s.bindings) left.fit in
       agree-at _ x.settles.gives (record {
         typed = typed;
         fit = All-push (IsFit p x.objects) (without b.target s.bindings) b stay (bound-fits x typed plain);
-        one_loop = All-push (IsInOneLoop x.objects) (without b.target s.bindings) b (all-joined s.objects x.objects x.differ (without b.target s.bindings) left.one_loop) (joined-stays s.objects x.objects x.differ b within);
+        one_loop = All-push (IsInOneLoop x.objects) (without b.target s.bindings) b (all-joined s.objects x.objects x.installed.objects (without b.target s.bindings) left.one_loop) (joined-stays s.objects x.objects x.installed.objects b within);
         apart = apart-replaced s.bindings b agree.apart;
         acyclic = subst (λ (v : State). IsAcyclic v) x.settles.gives acyclic;
-        settled = x.settled;
+        settled = x.installed.settled;
       })
 
   linked-agrees : (stack : List Activation) (ends : Endpoints) (how : ConnectionType) (names : Named (List ℕ)) (answer : Result (Unit {0}) Refusal) → t ≡ linked s stack ends how names answer → Agree p t.objects t.bindings

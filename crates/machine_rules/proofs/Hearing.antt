@@ -168,7 +168,7 @@ module _ (p : Loaded) (s t : State) where
   writes-heard w lower = settles-heard w.written.objects w.settles lower
 
   pub installs-heard : {below : List Activation} {b : Binding} → Installs p s below b t → In below → Heard t
-  installs-heard x lower = settles-heard x.differ x.settles lower
+  installs-heard x lower = settles-heard x.installed.objects x.settles lower
 
   linked-heard : (stack : List Activation) {ends : Endpoints} (there : AreThere p s.objects ends) (how : ConnectionType) (names : Named (List ℕ)) (answer : Result (Unit {0}) Refusal) → In stack → Heard (linked s stack ends how names answer)
   linked-heard stack there how names (Ok _) all =

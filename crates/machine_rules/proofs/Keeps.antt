@@ -232,7 +232,7 @@ pub writes-kept : {p : Loaded} {s : State} {below : List Activation} {what : Ass
 writes-kept x = settles-kept x.written.objects x.settles
 
 pub installs-kept : {p : Loaded} {s : State} {below : List Activation} {b : Binding} {t : State} → Installs p s below b t → Keeps p s 1 t 0
-installs-kept x = settles-kept x.differ x.settles
+installs-kept x = settles-kept x.installed.objects x.settles
 
 -- a connection is made, or refused
 linked-kept : (p : Loaded) (s : State) (stack : List Activation) (ends : Endpoints) (how : ConnectionType) (names : Named (List ℕ)) (spelled : AreThere p s.objects ends) (answer : Result (Unit {0}) Refusal) → may_connect p s.connected (found_ends spelled) spelled.signal.sig spelled.method.sig how answer → Keeps p s 1 (linked s stack (kept_ends ends) how names answer) 0

@@ -11,7 +11,7 @@ use Rattle.meta_model.specs.declared.object.ValueType.{ValueType}
 use Rattle.meta_model.specs.declared.object.Work.{Work}
 use Rattle.meta_model.specs.declared.object.Work.TheVariants.{Signal}
 use Rattle.meta_model.specs.Loaded.{Loaded}
-use Rattle.meta_model.specs.Members.{IsClass}
+use Rattle.meta_model.specs.Members.{IsClass, property_at}
 use Rattle.meta_model.specs.Sound.{IsSound}
 use Rattle.object_tree.specs.declared.life.Life.{Life}
 use Rattle.object_tree.specs.declared.object.Object.{Object}
@@ -26,7 +26,7 @@ use Rattle.machine_rules.specs.Good.{ArgumentsFit}
 use Rattle.machine_rules.specs.code.Keeps.{StayThere}
 use Rattle.machine_rules.specs.code.Reaches.{Calls}
 use Rattle.machine_rules.specs.Rules.{Notifies, NotifiesIf, begun, UpdateRule}
-use Rattle.machine_rules.specs.Settling.{property_in, signal_at, notified}
+use Rattle.machine_rules.specs.Settling.{signal_at, notified}
 use Rattle.machine_rules.specs.There.{IsMember, IsField}
 use Rattle.machine_rules.specs.code.Writing.{NotifiesBy, HasNotifier, MayNotify, Announces}
 use Rattle.machine_rules.proofs.Beginning.{fit-of}
@@ -46,7 +46,7 @@ notify_of found = option_and_then (λ (property : MetaProperty). property.notify
 signal-is : {p : Loaded} (objects : List Object) (place : Place) {life : Life} → life_of objects place.object ≡ Some life → (n : HasNotifier p life.class place.property) → signal_at p objects place ≡ Some n.signal
 signal-is {p} objects place {life} lives n =
     let class_is : class_of objects place.object ≡ Some life.class = ap (option_map (λ (l : Life). l.class)) lives in
-    ap (λ (class : Option ℕ). notify_of (option_and_then (λ (k : ℕ). property_in p k place.property) class)) class_is
+    ap (λ (class : Option ℕ). notify_of (option_and_then (λ (k : ℕ). property_at p k place.property) class)) class_is
     ∙ ap (λ (found : Option MetaObject). notify_of (option_and_then (λ (c : MetaObject). slice_get c.properties place.property) found)) n.is.is_class.is
     ∙ ap notify_of n.is.is
     ∙ n.is.is_signal
@@ -77,7 +77,7 @@ announces-found {p} program objects place signal found = by_life (life_of object
     by_class lives None is e = absurd (cc e)
     by_class lives (Some class) is e = by_property class lives is (slice_get class.properties place.property) refl e
 
-    by_life : (there : Option Life) → life_of objects place.object ≡ there → notify_of (option_and_then (λ (k : ℕ). property_in p k place.property) (option_map (λ (l : Life). l.class) there)) ≡ Some signal → Announces p objects place signal
+    by_life : (there : Option Life) → life_of objects place.object ≡ there → notify_of (option_and_then (λ (k : ℕ). property_at p k place.property) (option_map (λ (l : Life). l.class) there)) ≡ Some signal → Announces p objects place signal
     by_life None is e = absurd (cc e)
     by_life (Some life) is e = let there = lives-of-life objects place.object life is in by_class there.1 (slice_get p.classes life.class) refl e
 

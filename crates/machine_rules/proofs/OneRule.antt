@@ -21,7 +21,7 @@ use Rattle.machine_state.specs.Telling.{AreTold, Assigning, IsAssigningTold, wri
 use Rattle.machine_state.proofs.Told.{assigning-once, told-once}
 use Rattle.prop_bindings.specs.declared.binding.Binding.{Binding}
 use Rattle.prop_bindings.specs.Bindings.{binding_at, without_all, replaced, Loop}
-use Rattle.prop_bindings.specs.Changes.{IsInstalled, places_in}
+use Rattle.prop_bindings.specs.Changes.{places_in}
 use Rattle.prop_bindings.specs.Fits.{Agree}
 use Rattle.prop_bindings.proofs.Once.{written_once, installed_once}
 use Rattle.machine_state.specs.Connections.{is_living, next_used}
@@ -88,13 +88,10 @@ writes-one {p} {s} {below = below} {what = what} agree a b =
     settles-one (λ xs places lines. IsAssigningTold p xs (suc (length below)) what places lines) (λ xs places k l. assigning-once p xs (suc (length below)) what places k l) same.1 same.2 a.settles b.settles
 
 -- .. and so it is with a binding that is installed, unless it closes a chain
-abbrev installed-is : {p : Loaded} {s t : State} {below : List Activation} {b : Binding} → (¬ Loop (binding_at (replaced s.bindings b))) → (x : Installs p s below b t) → IsInstalled s.bindings (replaced s.bindings b) s.objects x.objects b x.changed
-installed-is acyclic x = record { bindings = refl; acyclic = acyclic; objects = x.differ; settled = x.settled; kept = x.kept; changes = x.changes }
-
 pub installs-one : {p : Loaded} {s t u : State} {below : List Activation} {b : Binding} → Agree p s.objects s.bindings → (¬ Loop (binding_at (replaced s.bindings b))) → Installs p s below b t → Installs p s below b u → t ≡ u
 installs-one {p} {s} {below = below} {b = b} agree acyclic x y =
     let cs : List Binding = replaced s.bindings b in
-    let same = installed_once p s.bindings s.objects b agree cs cs x.objects y.objects x.changed y.changed (installed-is acyclic x) (installed-is acyclic y) in
+    let same = installed_once p s.bindings s.objects b agree acyclic cs cs x.objects y.objects x.changed y.changed x.installed y.installed in
     settles-one (λ xs places lines. AreTold p xs (suc (length below)) Bind b.target places lines) (λ xs places k l. told-once p xs (suc (length below)) Bind b.target places k l) same.1 same.2 x.settles y.settles
 
 -- the names at two ends

@@ -143,7 +143,7 @@ module _ {p : Loaded} {s t : State} (program : IsSound p) (well : IsWell p s t) 
   writes-fair w lower = settles-fair w.written.objects w.settles lower
 
   pub installs-fair : {below : List Activation} {b : Binding} → Installs p s below b t → AllFit p s.objects below → Fair p t
-  installs-fair x lower = settles-fair x.differ x.settles lower
+  installs-fair x lower = settles-fair x.installed.objects x.settles lower
 
   -- the stack is another one, and all else that matters is the same
   quiet-fair : {stack : List Activation} {trace : List Entry} → t ≡ record s { stack = stack; trace = trace } → AllFit p s.objects stack → Fair p t

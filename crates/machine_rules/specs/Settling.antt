@@ -1,19 +1,18 @@
 -- What a write and a bind make of a state: all values that follow are settled in the same rule, and then notified
 -- (docs/machine.md, "Rules" and "Bindings"; Qt 6, "The Property System": a notify signal is emitted when the value has
 -- changed; "Qt Bindable Properties").
-use Rattle.std.specs.Prelude.{◌≡◌, ℕ, suc, is_some, List, [], ◌∷◌, ◌++◌, length, filter, Option, None, slice_get}
+use Rattle.std.specs.Prelude.{◌≡◌, ℕ, suc, is_some, List, ◌∷◌, ◌++◌, length, filter, Option}
 use Rattle.std.specs.List.{AllByRecursion}
 use Rattle.std.specs.Option.{option_and_then}
-use Rattle.meta_model.specs.declared.object.MetaObject.{MetaObject}
 use Rattle.meta_model.specs.declared.object.MetaProperty.{MetaProperty}
 use Rattle.meta_model.specs.Loaded.{Loaded}
+use Rattle.meta_model.specs.Members.{property_at}
 use Rattle.object_tree.specs.declared.object.Object.{Object}
 use Rattle.object_tree.specs.Objects.{class_of}
 use Rattle.prop_bindings.specs.declared.binding.Binding.{Binding}
 use Rattle.prop_bindings.specs.declared.place.Place.{Place}
-use Rattle.prop_bindings.specs.Bindings.{binding_at, without_all, replaced, Settled}
-use Rattle.prop_bindings.specs.Changes.{DifferInValues, AreChanged, in_order, IsWritten, places_in}
-use Rattle.prop_bindings.specs.Places.{values_in}
+use Rattle.prop_bindings.specs.Bindings.{without_all, replaced}
+use Rattle.prop_bindings.specs.Changes.{IsWritten, IsInstalled, places_in}
 use Rattle.machine_state.specs.declared.entry.Entry.{Entry}
 use Rattle.machine_state.specs.declared.telling.Cause.TheVariants.{Bind}
 use Rattle.machine_state.specs.State.{State, Activation, Update}
@@ -22,15 +21,11 @@ use Rattle.machine_rules.specs.There.{HasField, IsField}
 
 -- ---- what is notified
 
--- the property of a class that has this number
-abbrev pub property_in : Loaded → ℕ → ℕ → Option MetaProperty
-property_in p class q = option_and_then (λ (c : MetaObject). slice_get c.properties q) (slice_get p.classes class)
-
 -- the notify signal of a property of a living object, if it has one
 abbrev pub signal_at : Loaded → List Object → Place → Option ℕ
 signal_at p objects at =
     option_and_then (λ (property : MetaProperty). property.notify)
-    (option_and_then (λ class. property_in p class at.property) (class_of objects at.object))
+    (option_and_then (λ class. property_at p class at.property) (class_of objects at.object))
 
 -- those of the changed properties that have one, in their order
 abbrev pub notified : Loaded → List Object → List Place → List Place
@@ -68,9 +63,6 @@ pub record Installs (p : Loaded) (s : State) (below : List Activation) (b : Bind
   pub is : IsField p s.objects b.target.object b.target.property object property
   pub objects : List Object
   pub changed : List Place
-  pub differ : DifferInValues s.objects objects
-  pub settled : Settled (binding_at (replaced s.bindings b)) (values_in objects)
-  pub kept : (q : Place) → binding_at (replaced s.bindings b) q ≡ None → values_in objects q ≡ values_in s.objects q
-  pub changes : AreChanged s.objects objects (in_order (b.target ∷ []) s.bindings) changed
+  pub installed : IsInstalled s.bindings (replaced s.bindings b) s.objects objects b changed
   pub settles : Settles p s below (AreTold p objects (suc (length below)) Bind b.target changed) objects
       (replaced s.bindings b) changed t

@@ -173,6 +173,9 @@ module _ (bs : List Binding) (b : Binding) (reached later : List Place) (affecte
     pub is_later : IsLater (binding_at bs) (bound (binding_at bs) b.target b) b.target (b.target ∷ reached)
     is_later = later-is bs b reached affected apart
 
+    pub closes_none : (¬ Loop (binding_at bs)) → ¬ Loop (binding_at (replaced bs b))
+    closes_none acyclic = installed-acyclic bs b reached affected apart acyclic
+
     module _ (old new : List Object) (v : Value) (before : Settled (binding_at bs) (values_in old)) (acyclic : ¬ Loop (binding_at bs))
         (has : value_of b (values_in old) ≡ Some v)
         (is : (q : Place) → values_in new q ≡ pass (binding_at bs) reached (update (values_in old) b.target (Some v)) q) where
@@ -182,7 +185,6 @@ module _ (bs : List Binding) (b : Binding) (reached later : List Place) (affecte
       pub is_installed : (cs : List Binding) (changed : List Place) → cs ≡ replaced bs b → DifferInValues old new → AreChanged old new (in_order (b.target ∷ []) bs) changed → IsInstalled bs cs old new b changed
       is_installed cs changed left differ changes = record {
         bindings = left;
-        acyclic = subst (λ (xs : List Binding). ¬ Loop (binding_at xs)) (sym left) (installed-acyclic bs b reached affected apart acyclic);
         objects = differ;
         settled = subst (λ (xs : List Binding). Settled (binding_at xs) (values_in new)) (sym left) settles;
         kept = λ q none. installed-kept bs b reached affected apart v (values_in old) (values_in new) before has is q (ap (λ (xs : List Binding). binding_at xs q) (sym left) ∙ none);
@@ -195,7 +197,7 @@ module _ (bs : List Binding) (b : Binding) (reached later : List Place) (affecte
         fit = All-push (IsFit p new) (without b.target bs) b (All-filter _ (IsFit p new) bs sound.1) (fit-stays p old new agree.typed sound.0 differ b fit);
         one_loop = All-push (IsInOneLoop new) (without b.target bs) b (All-filter _ (IsInOneLoop new) bs (all-joined old new differ bs agree.one_loop)) (joined-stays old new differ b joined);
         apart = apart-replaced bs b agree.apart;
-        acyclic = installed-acyclic bs b reached affected apart acyclic;
+        acyclic = closes_none acyclic;
         settled = settles;
       })
 

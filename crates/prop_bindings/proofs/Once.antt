@@ -55,10 +55,9 @@ written_once p bs old writes a cs ds new other changed others w u =
     (w.bindings ∙ sym u.bindings, one, changed-once old new (in_order ps bs) changed others w.changes (subst (λ (xs : List Object). AreChanged old xs (in_order ps bs) others) (sym one) u.changes))
 
 pub installed_once : InstalledOnce
-installed_once p bs old b a cs ds new other changed others w u =
+installed_once p bs old b a acyclic cs ds new other changed others w u =
     let now = subst (λ (xs : List Binding). Settled (binding_at xs) (values_in new)) w.bindings w.settled in
     let then = subst (λ (xs : List Binding). Settled (binding_at xs) (values_in other)) u.bindings u.settled in
-    let acyclic = subst (λ (xs : List Binding). ¬ Loop (binding_at xs)) w.bindings w.acyclic in
     let one : new ≡ other = objects-once (replaced bs b) old new other (apart-replaced bs b a.apart) acyclic w.objects u.objects now then (λ q none.
     u.kept q (ap (λ (xs : List Binding). binding_at xs q) u.bindings ∙ none)
     ∙ sym (w.kept q (ap (λ (xs : List Binding). binding_at xs q) w.bindings ∙ none))) in

@@ -135,6 +135,7 @@ module _ (p : Loaded) (objects : List Object) (number target : ℕ) (sources : L
       may = made.may;
       fit = subst (IsFit p objects) made.is made.fit;
       installs = subst (λ (z : Binding). IsInstalled bs (replaced bs plan.reader) objects (after plan.planned objects) z plan.planned.changed) made.is done.installs;
+      acyclic = done.acyclic;
     };
     binding = done.binding ∙ made.is;
   }

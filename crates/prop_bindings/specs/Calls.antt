@@ -83,12 +83,13 @@ pub data IsNotBound (p : Loaded) (objects : List Object) (bs : List Binding)
       → IsNotBound p objects bs number target sources bind.BindingLoop
   no_memory : IsNotBound p objects bs number target sources bind.Memory
 
--- the binding is installed
+-- the binding is installed, and closes no chain
 pub record IsBound (p : Loaded) (bs : List Binding) (old : List Object)
     (number target : ℕ) (sources : List ℕ) (cs : List Binding) (new : List Object) (changed : List Place) : Type 0 where
   pub may : MayBind p old number target sources
   pub fit : IsFit p old (new_binding may)
   pub installs : IsInstalled bs cs old new (new_binding may) changed
+  pub acyclic : ¬ Loop (binding_at cs)
 
 -- what a bind answers, with the bindings and the objects before it and after it
 abbrev pub Binds : Loaded → ℕ → ℕ → List ℕ → List Binding → List Object → Result (List Place) BindFault → List Binding

@@ -10,7 +10,7 @@ use Rattle.prop_bindings.specs.declared.place.Place.{Place}
 use Rattle.prop_bindings.specs.declared.assignment.Assignment.{Assignment}
 use Rattle.prop_bindings.specs.declared.binding.Binding.{Binding}
 use Rattle.prop_bindings.specs.Places.{values_in, In, is_in, same_place}
-use Rattle.prop_bindings.specs.Bindings.{binding_at, without_all, replaced, Settled, Loop}
+use Rattle.prop_bindings.specs.Bindings.{binding_at, without_all, replaced, Settled}
 
 -- ---- objects whose values change
 abbrev pub valueless : Object → Object
@@ -71,11 +71,10 @@ pub record IsWritten (bs cs : List Binding) (old new : List Object) (writes : Li
   pub changes : AreChanged old new (in_order (places_in writes) bs) changed
 
 -- ---- a bind
--- The binding stands last, in place of its target's old one, and closes no chain. All bound properties have their
--- expressions' values, and every other one keeps its own.
+-- The binding stands last, in place of its target's old one; nothing is said of whether it closes a chain. All bound
+-- properties have their expressions' values, and every other one keeps its own.
 pub record IsInstalled (bs cs : List Binding) (old new : List Object) (b : Binding) (changed : List Place) : Type 0 where
   pub bindings : cs ≡ replaced bs b
-  pub acyclic : ¬ Loop (binding_at cs)
   pub objects : DifferInValues old new
   pub settled : Settled (binding_at cs) (values_in new)
   pub kept : (q : Place) → binding_at cs q ≡ None → values_in new q ≡ values_in old q

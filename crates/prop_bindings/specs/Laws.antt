@@ -8,7 +8,7 @@ use Rattle.object_tree.specs.Family.{without_life}
 use Rattle.prop_bindings.specs.declared.place.Place.{Place}
 use Rattle.prop_bindings.specs.declared.assignment.Assignment.{Assignment}
 use Rattle.prop_bindings.specs.declared.binding.Binding.{Binding}
-use Rattle.prop_bindings.specs.Bindings.{binding_at, AreApart, dropped, Settled, Loop}
+use Rattle.prop_bindings.specs.Bindings.{binding_at, replaced, AreApart, dropped, Settled, Loop}
 use Rattle.prop_bindings.specs.Changes.{IsWritten, IsInstalled}
 use Rattle.prop_bindings.specs.Fits.{Agree}
 
@@ -32,9 +32,9 @@ WrittenOnce = (p : Loaded) (bs : List Binding) (old : List Object) (writes : Lis
     → IsWritten bs cs old new writes changed → IsWritten bs ds old other writes others
     → (cs ≡ ds) × (new ≡ other) × (changed ≡ others)
 
--- .. and what a bind makes of them
+-- .. and what a bind makes of them, unless it closes a chain
 abbrev pub InstalledOnce : Type 0
-InstalledOnce = (p : Loaded) (bs : List Binding) (old : List Object) (b : Binding) → Agree p old bs
+InstalledOnce = (p : Loaded) (bs : List Binding) (old : List Object) (b : Binding) → Agree p old bs → (¬ Loop (binding_at (replaced bs b)))
     → (cs ds : List Binding) (new other : List Object) (changed others : List Place)
     → IsInstalled bs cs old new b changed → IsInstalled bs ds old other b others
     → (cs ≡ ds) × (new ≡ other) × (changed ≡ others)

@@ -123,10 +123,11 @@ pub data IsNotInstalled (bs : List Binding) (b : Binding) : BindFault → Type 0
   loops : Loop (binding_at (replaced bs b)) → IsNotInstalled bs b bind.BindingLoop
   short : IsNotInstalled bs b bind.Memory
 
--- the plan is to install this binding
+-- the plan is to install this binding, which closes no chain
 pub record InstallsIt (b : Binding) (bs : List Binding) (objects : List Object) (plan : PlannedBind) : Type 0 where
   pub binding : plan.reader ≡ b
   pub installs : IsInstalled bs (replaced bs plan.reader) objects (after plan.planned objects) b plan.planned.changed
+  pub acyclic : ¬ Loop (binding_at (replaced bs plan.reader))
 
 abbrev pub Installs : Binding → List Binding → List Object → Result PlannedBind BindFault → Type 0
 Installs b bs objects (Ok plan) = InstallsIt b bs objects plan

@@ -12,7 +12,7 @@ use Rattle.prop_bindings.specs.Plans.{after}
 use Rattle.prop_bindings.specs.code.Graph.{bindings_of}
 use Rattle.prop_bindings.specs.code.Orders.{AreBound, IsAffected, IsLater, bound, pass, update}
 use Rattle.prop_bindings.specs.code.Parts.{IsNotInstalled, IsSoundBySome, ahead, loops}
-use Rattle.prop_bindings.proofs.Calling.{tail-is, install_loops, is_moved, is_installed, is_later, agree_installed, fits-of}
+use Rattle.prop_bindings.proofs.Calling.{tail-is, install_loops, is_moved, is_installed, is_later, closes_none, agree_installed, fits-of}
 use Rattle.prop_bindings.proofs.Counting.{changed-among, counts-later}
 use Rattle.prop_bindings.proofs.Evaluating.{rest-alike}
 use Rattle.prop_bindings.proofs.Giving.{given-only, given-update, sound-ahead}
@@ -131,6 +131,8 @@ returns-clause-value c =
     record {
       binding = same;
       installs = subst (λ (xs : List Binding). IsInstalled xs (replaced xs c.in_ok-reader.reader) c.args.tree.now (after plan c.args.tree.now) b plan.changed) view done;
+      acyclic = subst (λ (xs : List Binding). ¬ Loop (binding_at (replaced xs c.in_ok-reader.reader))) view
+          (subst (λ (z : Binding). ¬ Loop (binding_at (replaced bs z))) (sym same) (closes_none bs b reached later affected all free agree.acyclic));
     }
 
 pub returns-clause-may : goal.returns-clause-may
@@ -193,21 +195,15 @@ returns-clause-counted c =
     let new = after plan c.args.tree.now in
     let values = c.in_ok-planned.ensures.values in
     let F = binding_at bs in
-    let begun = given-update c.requires.agree.0 c.args.tree.now b.target c.args.prepared.value c.in_ok-values.values c.requires.agree.1.typed
-    (fits-of c.requires.agree.0 c.args.tree.now b c.args.prepared.value c.requires.agree.2 c.requires.agree.4) c.in_ok-values.ensures in
-    let follows : (q : Place) → values_in (after plan c.args.tree.now) q ≡ pass (binding_at bs) reached (update (values_in c.args.tree.now) b.target (Some c.args.prepared.value)) q = λ q. c.in_ok-planned.ensures.values q
-    ∙ ap (λ (e : Place → Option Value). pass (binding_at bs) followers e q) begun
-    ∙ ap (λ (xs : List Place). pass (binding_at bs) xs (update (values_in c.args.tree.now) b.target (Some c.args.prepared.value)) q) rest in
     let later-is = is_later bs b reached later affected all free in
-    let done = is_installed bs b reached later affected all free c.args.tree.now new c.args.prepared.value agree.settled agree.acyclic c.requires.agree.4 follows
-    (replaced bs b) plan.changed refl c.in_ok-planned.ensures.objects c.in_ok-planned.ensures.changed in
+    let acyclic = closes_none bs b reached later affected all free agree.acyclic in
     let only = given-only c.in_ok-values.values (one b.target c.args.prepared.value) (b.target ∷ []) c.in_ok-values.ensures c.args.tree.now in
     let alike = rest-alike c.args.tree.now (ahead c.in_ok-values.values c.args.tree.now) new bs (b.target ∷ []) followers only values c.in_ok-planned.ensures.objects in
     let among = changed-among c.args.tree.now new (in_order (b.target ∷ []) bs) plan.changed (b.target ∷ []) followers c.in_ok-planned.ensures.changed alike in
     let count : plan.evaluated ≡ suc (length followers) = omega (arith, c.in_ok-planned.ensures.counted, c.requires.once) in
     let counts : CountsFrom (bound F b.target b) b.target plan.changed plan.evaluated =
     subst (λ (fs : List Place). plan.evaluated ≡ suc (length fs) → ((q : Place) → In q plan.changed → In q (b.target ∷ []) ⊎ In q fs) → CountsFrom (bound F b.target b) b.target plan.changed plan.evaluated) (sym rest)
-    (λ n some. counts-later F (bound F b.target b) b.target reached plan.changed plan.evaluated later-is (subst (λ (G : Place → Option Binding). ¬ Loop G) (installed-is bs b) done.acyclic) some n) count among in
+    (λ n some. counts-later F (bound F b.target b) b.target reached plan.changed plan.evaluated later-is (subst (λ (G : Place → Option Binding). ¬ Loop G) (installed-is bs b) acyclic) some n) count among in
     subst (λ (z : Binding). CountsFrom (binding_at (replaced c.args.self.now.installed z)) z.target plan.changed plan.evaluated) (sym same)
     (subst (λ (xs : List Binding). CountsFrom (binding_at (replaced xs b)) b.target plan.changed plan.evaluated) view
     (subst (λ (G : Place → Option Binding). CountsFrom G b.target plan.changed plan.evaluated) (sym (installed-is bs b)) counts))
