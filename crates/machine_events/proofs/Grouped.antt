@@ -32,7 +32,7 @@ use Rattle.machine_rules.specs.Operations.{led_to, set_at, set_in, sets_in, afte
 use Rattle.machine_rules.specs.Paths.{path_value, value_of}
 use Rattle.machine_rules.specs.There.{HasField}
 use Rattle.machine_rules.proofs.Differing.{differ-stay}
-use Rattle.machine_events.proofs.Inherited.{property-below}
+use Rattle.machine_rules.proofs.Inherited.{property-below}
 use Rattle.machine_events.proofs.TypedPaths.{Reaches, to_null, to_object, path-reaches}
 
 -- ---- objects that differ in values alone

@@ -9,7 +9,6 @@ pub mod Settling
 mod OneAnswer
 pub mod OneTaking
 pub mod OneRun
-pub mod Inherited
 pub mod TypedPaths
 pub mod Standing
 pub mod Grouped
@@ -19,3 +18,5 @@ pub mod Moving
 pub mod Preservation
 pub mod Progress
 mod Stopping
+mod RuleFronts
+pub mod Fronts

@@ -33,7 +33,7 @@ use Rattle.machine_rules.specs.Operations.{set_at, sets_in, operation_of_set, Op
 use Rattle.object_tree.specs.Typed.{AreTyped}
 use Rattle.machine_rules.specs.Paths.{path_value, value_of, values_of}
 use Rattle.machine_rules.specs.There.{HasField, IsMember}
-use Rattle.machine_events.proofs.Inherited.{method-below, property-below}
+use Rattle.machine_rules.proofs.Inherited.{method-below, property-below}
 use Rattle.machine_events.proofs.Standing.{ActionStands, StepStands, BodyStands}
 use Rattle.machine_events.proofs.TypedPaths.{Reaches, to_null, to_object, path-reaches}
 

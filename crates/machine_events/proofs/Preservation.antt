@@ -176,7 +176,7 @@ module _ {p : Loaded} {s t : State} (sound : IsSound p) (well : IsWell p s t) wh
   writes-stands w lower = settles-stands w.written.objects w.settles lower
 
   installs-stands : {below : List Activation} {b : Binding} → Installs p s below b t → AllByRecursion (Stands p s.objects) below → AllStand p t
-  installs-stands x lower = settles-stands x.differ x.settles lower
+  installs-stands x lower = settles-stands x.installed.objects x.settles lower
 
   -- connections are made and removed
   linked-stands : (stack : List Activation) (ends : Endpoints) (how : ConnectionType) (names : Named (List ℕ)) (answer : Result (Unit {0}) Refusal) → AllByRecursion (Stands p s.objects) stack → AllStand p (linked s stack ends how names answer)

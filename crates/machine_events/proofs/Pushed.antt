@@ -23,11 +23,9 @@ use Rattle.machine_rules.specs.Natives.{NativeAnswers}
 use Rattle.machine_rules.specs.code.Reaches.{RunsTo, IsActivated, IsBarred}
 use Rattle.prop_bindings.specs.declared.binding.Binding.{Binding}
 use Rattle.prop_bindings.specs.declared.place.Place.{Place}
-use Rattle.prop_bindings.specs.Bindings.{binding_at, Settled}
 use Rattle.prop_bindings.specs.Calls.{new_binding}
-use Rattle.prop_bindings.specs.Changes.{DifferInValues, IsWritten, one}
+use Rattle.prop_bindings.specs.Changes.{DifferInValues, IsWritten, IsInstalled, one}
 use Rattle.prop_bindings.specs.Fits.{Agree, FitsAt}
-use Rattle.prop_bindings.specs.Places.{values_in}
 use Rattle.machine_rules.specs.Good.{ArgumentsFit, TopFits}
 use Rattle.machine_rules.specs.Rules.{begun, begin_entry, top_of}
 use Rattle.machine_rules.specs.Settling.{Installs, notified}
@@ -88,18 +86,14 @@ judged-written {p} {v} {value} {place} {changed} w e writes fits has =
 pub installed : {p : Loaded} {v : World} {number o : ℕ} {sources : List ℕ} {changed : List Place} (w : World) (has : HasBound p number o sources w (accepting_entries w) changed v) → Installs p (accepted (at w [])) [] (new_binding has.binds.may) (at v (updates p v changed))
 installed {p} {v} {changed = changed} w has =
     let it = has.binds.installs in
-    let Settles_so : List Binding → Type 0 = λ cs. Settled (binding_at cs) (values_in v.store.tree) in
-    let Keeps_so : List Binding → Type 0 = λ cs. (q : Place) → binding_at cs q ≡ None → values_in v.store.tree q ≡ values_in w.store.tree q in
+    let Installs_so : List Binding → Type 0 = λ cs. IsInstalled w.store.bindings cs w.store.tree v.store.tree (new_binding has.binds.may) changed in
     record {
       object = has.binds.fit.typed.object;
       property = has.binds.fit.typed.property;
       is = field-of has.binds.fit.typed;
       objects = v.store.tree;
       changed = changed;
-      differ = it.objects;
-      settled = subst Settles_so it.bindings it.settled;
-      kept = subst Keeps_so it.bindings it.kept;
-      changes = it.changes;
+      installed = subst Installs_so it.bindings it;
       settles = record { lines = has.lines; told = has.are_told; gives = told-so w v has.lines (updates p v changed) it.bindings has.gives };
     }
 

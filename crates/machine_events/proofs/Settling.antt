@@ -29,7 +29,7 @@ use Rattle.machine_events.specs.declared.events.invoke.Invocation.TheVariants.{E
 use Rattle.machine_events.specs.Laws.{TakingSettles}
 use Rattle.machine_events.specs.Takes.{judged, Takes, accepts, refuses}
 use Rattle.machine_events.specs.Events.{may_bind, block, invoke}
-use Rattle.machine_events.proofs.Inherited.{property-below}
+use Rattle.machine_rules.proofs.Inherited.{property-below}
 use Rattle.machine_events.proofs.Judged.{given-is}
 use Rattle.machine_events.proofs.Judging.Adopting.{agree-adopted}
 use Rattle.machine_events.proofs.Moving.{stores-agree}

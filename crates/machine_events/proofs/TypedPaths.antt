@@ -24,7 +24,7 @@ use Rattle.machine_rules.specs.Paths.{root_value, step_value, steps_value, path_
 use Rattle.machine_rules.specs.There.{IsField}
 use Rattle.machine_rules.proofs.Fields.{old-there, stored-reads, read-get, read-there}
 use Rattle.machine_rules.proofs.Keeps.{lives-of-class, class-of-lives}
-use Rattle.machine_events.proofs.Inherited.{property-below}
+use Rattle.machine_rules.proofs.Inherited.{property-below}
 
 -- a value of a type is found
 pub record Yields (p : Loaded) (objects : List Object) (T : ValueType) (found : Option Value) : Type 0 where
@@ -71,7 +71,7 @@ module _ {p : Loaded} {objects : List Object} (sound : IsSound p) (typed : AreTy
         let found = read-there p objects arguments kinds k T fit is in
         record { given = seen objects found.0; is = ap (option_map (seen objects)) found.1; has = read-get p objects arguments kinds k found.0 T fit found.1 is }
 
-    path-has : (path : MetaPath) {T : ValueType} → LeadsTo p me kinds path T → Yields p objects T (path_value objects o arguments path)
+    pub path-has : (path : MetaPath) {T : ValueType} → LeadsTo p me kinds path T → Yields p objects T (path_value objects o arguments path)
     path-has path leads =
         let start = root-has path.root leads.root in
         let end = steps-have path.steps start.given start.has leads.steps in

@@ -6,6 +6,7 @@ use Rattle.meta_model.specs.Sound.{IsSound}
 use Rattle.native_slots.specs.declared.action.Action.{Action}
 use Rattle.prop_bindings.specs.Fits.{Agree}
 use Rattle.script_lang.specs.declared.event.Event.{Event}
+use Rattle.machine_state.specs.declared.entry.Entry.{Entry}
 use Rattle.machine_state.specs.declared.fault.Answer.{Answer}
 use Rattle.machine_state.specs.declared.refusal.Refusal.{Refusal}
 use Rattle.machine_state.specs.State.{State}
@@ -103,3 +104,20 @@ abbrev pub AlwaysSettled : NativeAnswers → Type 0
 AlwaysSettled natives =
     (p : Loaded) (depth steps : ℕ) (events : List Event) (answers : List Answer) (t : State) (k : ℕ) → IsSound p →
     GoodRun p natives depth (at (untouched steps) []) steps events answers t k → AreSettled t × IsAcyclic t
+
+-- ---- what was written before
+
+-- a state in which more was written down before
+abbrev pub in_front : List Entry → State → State
+in_front front s = record s { trace = front ++ s.trace }
+
+-- a rule reads nothing of what was written down, and only adds to it
+abbrev pub ReadsNoTrace : NativeAnswers → Type 0
+ReadsNoTrace natives =
+    (p : Loaded) (front : List Entry) (s t : State) → Rule p natives s t → Rule p natives (in_front front s) (in_front front t)
+
+-- A run reads nothing of what was written down before, and only adds to it: so one that goes on without it is the same run.
+abbrev pub RunReadsNoTrace : NativeAnswers → Type 0
+RunReadsNoTrace natives =
+    (p : Loaded) (front : List Entry) (s t : State) (n k : ℕ) (events : List Event) (answers : List Answer) →
+    Run p natives s n events answers t k → Run p natives (in_front front s) n events answers (in_front front t) k

@@ -1,6 +1,6 @@
 //! What holds of every program.
 
-ghost use Rattle.machine_events.specs.Laws.{AlwaysSettled, OneFront, OneFrontOfAnswers, OneJudgement, OneRun, OneRunOfAnswers, OneTaking, TakingSettles};
+ghost use Rattle.machine_events.specs.Laws.{AlwaysSettled, OneFront, OneFrontOfAnswers, OneJudgement, OneRun, OneRunOfAnswers, OneTaking, RunReadsNoTrace, TakingSettles};
 
 use native_slots::Answering;
 
@@ -50,4 +50,9 @@ pub fn taking_settles()
 /// In every state of a run without a bad moment all values are settled: each bound property has the value of its binding's expression.
 pub fn always_settled<N: Answering>(_natives: &N)
     ensures { AlwaysSettled (N.gives _natives.now) }
+{}
+
+/// A run reads nothing of the trace, and only adds to it: one that goes on without what was written before is the same run.
+pub fn run_reads_no_trace<N: Answering>(_natives: &N)
+    ensures { RunReadsNoTrace (N.gives _natives.now) }
 {}

@@ -10,6 +10,6 @@ pub use events::Invocation;
 pub use judgement::NotAccepted;
 pub use laws::{
     always_settled, one_front, one_front_of_answers, one_judgement, one_run, one_run_of_answers,
-    one_taking, taking_settles,
+    one_taking, run_reads_no_trace, taking_settles,
 };
 pub use taking::take_event;
