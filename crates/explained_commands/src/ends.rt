@@ -10,7 +10,7 @@ use native_slots::{Answering, Natives};
 use run_reports::{fault_report, refusal_report};
 use std::alloc::{AllocError, Global};
 use std::io::{Read, Write};
-use trace_tool::{Answered, InputFault, Outcome, Ran, WriteFault, answer};
+use trace_tool::{Answered, Entry, InputFault, Outcome, Ran, WriteFault, answer};
 
 /// The exit status of a command that did what it was asked.
 const SUCCESS: u8 = 0;
@@ -38,8 +38,8 @@ pub fn explained_command<R: Read, W: Write, E: Write>(
     ensures silent { let said = map (λ word. word.now) words.now in
         IsUnjudged said → result ≡ Ok 0 → tells_refusals ≡ false → errors.new ≡ errors.old }
 {
-    let answered = answer(alloc, words, reader, natives);
-    match answered.outcome.write(alloc, writer) {
+    let answered = answer(alloc, words, reader, natives, writer);
+    match answered.carried.written {
         Ok(status) => {
             tell_end(alloc, words, &answered, status, tells_refusals, errors);
             Ok(status)
@@ -72,7 +72,7 @@ fn tell_end<E: Write>(
     } else if is_judged(words) {
         tell(
             errors,
-            remarks_on(alloc, explained_input(answered), &answered.outcome),
+            remarks_on(alloc, explained_input(answered), &answered.carried.outcome),
         );
     }
 }
@@ -93,37 +93,46 @@ fn explained_input(answered: &Answered<Natives>) -> Option<&[u8]> {
 
 /// Writes why events of a run were refused, if any were.
 fn tell_refusals<E: Write>(alloc: Global, answered: &Answered<Natives>, errors: &mut E) {
-    if let Outcome::Ran(ran) = &answered.outcome {
-        tell(
-            errors,
-            refusal_report(alloc, explained_input(answered), ran.trace()),
-        );
-    }
+    let refused = answered.carried.refused.as_slice();
+    tell(
+        errors,
+        refusal_report(alloc, explained_input(answered), refused),
+    );
 }
 
 /// Writes what the words come to, if it is something that is explained.
 fn explain<E: Write>(alloc: Global, words: &[&str], answered: &Answered<Natives>, errors: &mut E) {
     let input = explained_input(answered);
-    tell(errors, explanation(alloc, words, input, &answered.outcome));
-    match &answered.outcome {
+    tell(
+        errors,
+        explanation(alloc, words, input, &answered.carried.outcome),
+    );
+    match &answered.carried.outcome {
         Outcome::NoInput(InputFault::Unread(reason)) => {
             writeln!(errors, "the input can't be read: {reason}").ok();
         }
-        Outcome::Ran(ran) => tell(errors, report_on_fault(alloc, input, ran)),
+        Outcome::Ran(ran) => {
+            let last = answered.carried.last.as_slice();
+            tell(errors, report_on_fault(alloc, input, ran, last))
+        }
         _ => {}
     }
 }
 
-/// What is told of the fault that stopped a run, if one did.
+/// What is told of the fault that stopped a run, if one did, from what was written down since the last whole event, or else for
+/// that one.
 fn report_on_fault(
     alloc: Global,
     input: Option<&[u8]>,
     ran: &Ran<Natives>,
+    last: &[Entry],
 ) -> Result<Option<String>, AllocError> {
-    match ran.ended {
-        Ok(()) => Ok(None),
-        Err(fault) => Ok(Some(fault_report(alloc, input, ran.trace(), fault)?)),
-    }
+    let Err(fault) = ran.ended else {
+        return Ok(None);
+    };
+    let begun = ran.trace();
+    let trace = if begun.is_empty() { last } else { begun };
+    Ok(Some(fault_report(alloc, input, trace, fault)?))
 }
 
 /// Writes a text, if there is one.

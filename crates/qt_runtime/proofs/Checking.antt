@@ -1,5 +1,5 @@
 -- A machine of a checked program stays one, and stops for a limit alone.
-use Rattle.std.proofs.Common.{◌≡◌, ℕ, ◌≤◌, ◌⊎◌, inl, inr, Bool, true, false, List, [], ◌∷◌, ◌++◌, length, Result, Ok, Err, sym, ◌∙◌, subst}
+use Rattle.std.proofs.Common.{◌≡◌, ℕ, ◌≤◌, ◌⊎◌, inl, inr, Bool, true, false, List, [], ◌∷◌, ◌++◌, length, Result, Ok, Err, sym, ◌∙◌, subst, append-nil}
 use Rattle.std.specs.Prelude.{IfOk, IfErr}
 use Rattle.std.specs.Result.{IsErrAnd}
 use Rattle.certificate_lang.specs.declared.certificate.Certificate.{Certificate}
@@ -11,17 +11,20 @@ use Rattle.native_slots.specs.Promises.{Takes}
 use Rattle.machine_state.specs.declared.fault.Answer.{Answer}
 use Rattle.machine_state.specs.declared.fault.Fault.{Fault}
 use Rattle.machine_state.specs.declared.world.World.{World}
-use Rattle.machine_state.specs.Worlds.{at}
+use Rattle.machine_state.specs.Worlds.{at, untouched}
+use Rattle.machine_state.specs.declared.entry.Entry.{Entry}
 use Rattle.machine_state.specs.State.{State}
 use Rattle.machine_rules.specs.Good.{HasArguments, Spares, IsAcyclic, AreSettled}
 use Rattle.machine_rules.specs.Natives.{NativeAnswers}
 use Rattle.machine_events.specs.Causes.{StopsFor}
-use Rattle.machine_events.specs.Runs.{done}
+use Rattle.machine_events.specs.Laws.{in_front}
+use Rattle.machine_events.specs.Runs.{Run, done}
+use Rattle.machine_events.proofs.Fronts.{run-front, each-behind, lacks-front, stops-front}
 use Rattle.machine_events.proofs.Running.{run-trans, each-weaker}
 use Rattle.checked_runs.specs.Claims.{IsTypedStep, IsFaultless, IsLimit, IsReached}
 use Rattle.checked_runs.proofs.Claims.{only_limits, each_run_is_faultless}
-use Rattle.qt_runtime.specs.Checked.{IsChecked, InEachRun, Claims, StopsAtLimit}
-use Rattle.qt_runtime.specs.Seen.{Seen, AreKept, Completes, Halts, Stays, begun}
+use Rattle.qt_runtime.specs.Checked.{HasCome, IsChecked, InEachRun, Claims, StopsAtLimit}
+use Rattle.qt_runtime.specs.Seen.{Seen, AreKept, Completes, Halts, Stays, begun, cleared}
 use Rattle.qt_runtime.proofs.Applying.{still-goes}
 use Rattle.qt_runtime.proofs.Halting.{seen}
 
@@ -40,7 +43,7 @@ module _ {N : Type 0} (gives : N → NativeAnswers) where
         certificate = certificate;
         valid = subst At (sym same) valid;
         bound = bound;
-        came = λ went. record { steps = steps; taken = []; answers = []; run = done };
+        came = λ went. record { steps = steps; taken = []; answers = []; gone = []; run = done };
       } in
       subst (λ (m : Seen N). IsChecked gives m) (sym is) checked
 
@@ -52,7 +55,13 @@ module _ {N : Type 0} (gives : N → NativeAnswers) where
         certificate = checked.certificate;
         valid = checked.valid;
         bound = checked.bound;
-        came = λ went. record { steps = come.steps; taken = come.taken ++ es; answers = come.answers ++ xs; run = run-trans come.run x.whole.runs.run };
+        came = λ went. record {
+          steps = come.steps;
+          taken = come.taken ++ es;
+          answers = come.answers ++ xs;
+          gone = come.gone;
+          run = run-trans come.run (run-front come.gone x.whole.runs.run);
+        };
       } in
       subst (λ (m : Seen N). IsChecked gives m) (sym x.same) further
 
@@ -66,20 +75,48 @@ module _ {N : Type 0} (gives : N → NativeAnswers) where
       } in
       subst (λ (m : Seen N). IsChecked gives m) (sym x.same) stopped
 
+  -- .. also where it has let go what was written down
+  pub cleared-checked : (a : Seen N) → IsChecked gives a → IsChecked gives (cleared a)
+  cleared-checked a checked = record {
+    certificate = checked.certificate;
+    valid = checked.valid;
+    bound = checked.bound;
+    came = λ went.
+        let come = checked.came went in
+        let At : List Entry → Type 0 = λ trace. Run a.program (gives a.natives) (at (untouched come.steps) []) come.steps come.taken come.answers (record (at a.world []) { trace = trace }) a.world.left in
+        record {
+          steps = come.steps;
+          taken = come.taken;
+          answers = come.answers;
+          gone = come.gone ++ a.world.trace;
+          run = subst At (sym (append-nil (come.gone ++ a.world.trace))) come.run;
+        };
+  }
+
 -- ---- it stops for a limit
+
+-- what holds of a step whatever was written before holds of it
+faultless-behind : {p : Loaded} {d : ℕ} (front : List Entry) (s t : State) → IsFaultless p d (in_front front s) (in_front front t) → IsFaultless p d s t
+faultless-behind front s t x = record {
+  arguments = x.arguments;
+  acyclic = x.acyclic;
+  spared = x.spared;
+  shallow = x.shallow;
+  typed = record { has_values = λ lacking. x.typed.has_values (lacks-front front lacking); values = x.typed.values };
+  settled = x.settled;
+}
 
 module _ {N : Type 0} (takes : N → Takes) (gives : N → NativeAnswers) where
   -- it has come to where it is
-  is-reached : {a : Seen N} → IsSound a.program → AreKept takes gives a → (checked : IsChecked gives a) → a.stopped ≡ false → IsReached (takes a.natives) (gives a.natives) a.program checked.certificate (at a.world []) a.world.left
-  is-reached sound kept checked went =
-      let come = checked.came went in
+  is-reached : {a : Seen N} → IsSound a.program → AreKept takes gives a → (checked : IsChecked gives a) → (come : HasCome gives a) → IsReached (takes a.natives) (gives a.natives) a.program checked.certificate (in_front come.gone (at a.world [])) a.world.left
+  is-reached sound kept checked come =
       record { sound = sound; valid = checked.valid; promises = kept; steps = come.steps; taken = come.taken; answers = come.answers; run = come.run }
 
   halts-limit : {a b : Seen N} {es : List Event} {f : Fault} → IsSound a.program → AreKept takes gives a → Halts gives a es f b → IsChecked gives a → IsLimit f
   halts-limit {a} {b} {f = f} sound kept x checked =
       let come = checked.came x.went in
       let natives = gives a.natives in
-      let stop = at b.world x.way.stack in
+      let stop = in_front come.gone (at b.world x.way.stack) in
       let StopsAt : ℕ → Type 0 = λ d. StopsFor a.program natives d stop b.world.left x.way.front.rest f in
       let reached : IsReached (takes a.natives) natives a.program checked.certificate stop b.world.left = record {
         sound = sound;
@@ -88,9 +125,9 @@ module _ {N : Type 0} (takes : N → Takes) (gives : N → NativeAnswers) where
         steps = come.steps;
         taken = come.taken ++ x.way.front.taken;
         answers = come.answers ++ x.way.front.answers;
-        run = run-trans come.run x.way.front.runs.run;
+        run = run-trans come.run (run-front come.gone x.way.front.runs.run);
       } in
-      only_limits b.world.left x.way.front.rest f reached (subst StopsAt checked.bound x.way.cause)
+      only_limits b.world.left x.way.front.rest f reached (subst StopsAt checked.bound (stops-front come.gone x.way.cause))
 
   stops-checked : {a b : Seen N} {es : List Event} {f : Fault} → IsSound a.program → AreKept takes gives a → Halts gives a es f b ⊎ Stays a f b → IsChecked gives a → IsChecked gives b × StopsAtLimit a f
   stops-checked sound kept (inl halts) checked = (halts-checked gives halts checked, inl (halts-limit sound kept halts checked))
@@ -105,7 +142,12 @@ module _ {N : Type 0} (takes : N → Takes) (gives : N → NativeAnswers) where
 
   each-faultless : {a : Seen N} → IsSound a.program → AreKept takes gives a → (checked : IsChecked gives a) → InEachRun gives a (IsFaultless a.program checked.certificate.bound)
   each-faultless {a} sound kept checked went events answers t left run =
-      each_run_is_faultless (takes a.natives) (gives a.natives) a.program checked.certificate (at a.world []) t a.world.left left events answers (is-reached sound kept checked went) run
+      let come = checked.came went in
+      let d : ℕ = checked.certificate.bound in
+      let Step : State → State → Type 0 = IsFaultless a.program d in
+      let all =
+      each_run_is_faultless (takes a.natives) (gives a.natives) a.program checked.certificate (in_front come.gone (at a.world [])) (in_front come.gone t) a.world.left left events answers (is-reached sound kept checked come) (run-front come.gone run) in
+      each-behind come.gone Step Step (λ u v x. faultless-behind come.gone u v x) run all
 
   pub claims-hold : {a : Seen N} → IsSound a.program → AreKept takes gives a → IsChecked gives a → Claims gives a
   claims-hold {a} sound kept checked =

@@ -1,3 +1,4 @@
-mod Applying
-mod Checking
+pub mod Applying
+pub mod Checking
+pub mod Fronts
 mod Halting

@@ -3,22 +3,25 @@ use Rattle.std.specs.Prelude.{◌≡◌, ℕ, ◌≤◌, ◌⊎◌, true, false,
 use Rattle.certificate_lang.specs.declared.certificate.Certificate.{Certificate}
 use Rattle.rank_check.specs.Valid.{IsValid}
 use Rattle.script_lang.specs.declared.event.Event.{Event}
+use Rattle.machine_state.specs.declared.entry.Entry.{Entry}
 use Rattle.machine_state.specs.declared.fault.Answer.{Answer}
 use Rattle.machine_state.specs.declared.fault.Fault.{Fault}
 use Rattle.machine_state.specs.State.{State}
 use Rattle.machine_state.specs.Worlds.{at, untouched}
 use Rattle.machine_rules.specs.Good.{HasArguments, Spares, IsAcyclic, AreSettled}
 use Rattle.machine_rules.specs.Natives.{NativeAnswers}
+use Rattle.machine_events.specs.Laws.{in_front}
 use Rattle.machine_events.specs.Runs.{Run, Each}
 use Rattle.checked_runs.specs.Claims.{IsLimit, IsTypedStep}
 use Rattle.qt_runtime.specs.Seen.{Seen}
 
--- the machine has come to its world by a run from the beginning
+-- the machine has come to its world by a run from the beginning, which also wrote down the lines that it has let go
 pub record HasCome {N : Type 0} (gives : N → NativeAnswers) (m : Seen N) : Type 0 where
   pub steps : ℕ
   pub taken : List Event
   pub answers : List Answer
-  pub run : Run m.program (gives m.natives) (at (untouched steps) []) steps taken answers (at m.world []) m.world.left
+  pub gone : List Entry
+  pub run : Run m.program (gives m.natives) (at (untouched steps) []) steps taken answers (in_front gone (at m.world [])) m.world.left
 
 -- its program has a valid certificate, whose bound is its depth; and unless it has stopped, it has come to where it is
 pub record IsChecked {N : Type 0} (gives : N → NativeAnswers) (m : Seen N) : Type 0 where

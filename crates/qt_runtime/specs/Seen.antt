@@ -1,8 +1,9 @@
 -- What contracts see of a machine, and what its calls do (docs/machine.md, "Runs").
-use Rattle.std.specs.Prelude.{◌≡◌, ℕ, ◌⊎◌, Bool, false, true, List, [], Result, Ok, Err}
+use Rattle.std.specs.Prelude.{◌≡◌, ℕ, ◌⊎◌, Bool, false, true, List, [], ◌++◌, Result, Ok, Err}
 use Rattle.script_lang.specs.declared.event.Event.{Event}
 use Rattle.meta_model.specs.Loaded.{Loaded}
 use Rattle.machine_state.specs.declared.world.World.{World}
+use Rattle.machine_state.specs.declared.entry.Entry.{Entry}
 use Rattle.machine_state.specs.declared.fault.Answer.{Answer}
 use Rattle.machine_state.specs.declared.fault.Answer.TheVariants.{Refused}
 use Rattle.machine_state.specs.declared.fault.Fault.{Fault}
@@ -63,6 +64,14 @@ RunsAll gives before events (Err f) after = Stops gives before events f after
 -- each bound property has the value of its binding's expression
 abbrev pub IsSettled : {N : Type 0} → Seen N → Type 0
 IsSettled m = AreSettled (at m.world [])
+
+-- a machine that has let go what it had written down
+abbrev pub cleared : {N : Type 0} → Seen N → Seen N
+cleared m = record m { world = record m.world { trace = [] } }
+
+-- .. and one that had written this down before
+abbrev pub with_front : {N : Type 0} → List Entry → Seen N → Seen N
+with_front front m = record m { world = record m.world { trace = front ++ m.world.trace } }
 
 -- ---- refused events
 

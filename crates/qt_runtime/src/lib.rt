@@ -6,9 +6,9 @@ mod machine;
 pub use machine::Machine;
 pub use machine_events::{
     always_settled, one_front, one_front_of_answers, one_judgement, one_run, one_run_of_answers,
-    one_taking, taking_settles,
+    one_taking, run_reads_no_trace, taking_settles,
 };
-pub use machine_state::{Answer, Entry, EntryKind, Fault, Shown, ShownAction};
+pub use machine_state::{Answer, Entry, EntryKind, Fault, Shown, ShownAction, Trace};
 pub use meta_objects::{Meta, MetaFault};
 pub use native_slots::{Answering, Natives};
 pub use rank_check::Checked;

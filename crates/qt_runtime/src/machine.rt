@@ -3,17 +3,18 @@ ghost use Rattle.machine_state.specs.declared.fault.Fault.TheVariants.{Steps};
 ghost use Rattle.texts.specs.Limits.{most_depth};
 ghost use Rattle.machine_rules.specs.Natives.{KeepPromises};
 ghost use Rattle.qt_runtime.specs.Checked.{Claims, IsChecked, StopsAtLimit};
-ghost use Rattle.qt_runtime.specs.Seen.{AreKept, Completes, RefusesExactly, IsSettled, Stops, RunsAll, begun};
+ghost use Rattle.qt_runtime.specs.Seen.{AreKept, Completes, RefusesExactly, IsSettled, Stops, RunsAll, begun, cleared};
 
 use machine_events::take_event;
 use machine_rules::Interpreter;
-use machine_state::{Answer, Entry, Fault, World};
+use machine_state::{Answer, Entry, Fault, Trace, World};
 use meta_objects::Meta;
 use native_slots::Answering;
 use rank_check::Checked;
 use script_lang::Event;
 use std::alloc::{AllocError, Global};
 use std::marker::Model;
+use std::mem;
 
 /// A run of a program, event by event.
 pub struct Machine<N> {
@@ -162,7 +163,7 @@ impl<N: Answering + Drop> Machine<N> {
     }
 
     /// Whether a fault has stopped the machine. Unless one has, no turn goes on.
-    fn is_stopped(&self) -> bool
+    pub fn is_stopped(&self) -> bool
         ensures value { result ≡ self.now.stopped }
         ensures idle { result ≡ false → self.now.world.turn ≡ None }
         ensures claims { AreKept N.takes N.gives self.now → IsChecked N.gives self.now
@@ -173,7 +174,19 @@ impl<N: Answering + Drop> Machine<N> {
         self.stopped
     }
 
-    /// What was written down so far.
+    /// Hands over what was written down so far, and goes on with an empty trace, to which this one gives its room: the run is
+    /// what it would have been. Whoever writes the trace out event by event keeps a long run from filling the memory by this.
+    /// The claims on a checked program hold as before, of the run that also wrote down what was handed over.
+    pub fn hand_over(&mut self, spare: Trace) -> Trace
+        requires { spare ≡ [] }
+        ensures given { result ≡ self.old.world.trace }
+        ensures cleared { self.new ≡ cleared self.old }
+        ensures checked { IsChecked N.gives self.old → IsChecked N.gives self.new }
+    {
+        mem::replace(&mut self.world.trace, spare)
+    }
+
+    /// What was written down so far, or since [`Machine::hand_over`].
     pub fn trace(&self) -> &[Entry]
         ensures { result.now ≡ self.now.world.trace }
     {

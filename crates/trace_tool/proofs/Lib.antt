@@ -5,4 +5,6 @@ mod Lines
 mod OneCommand
 pub mod OneRun
 pub mod Partings
+pub mod Preparing
 pub mod Saying
+mod Streaming

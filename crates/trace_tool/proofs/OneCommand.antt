@@ -1,6 +1,5 @@
 -- For natives with one answer a command line comes to one thing.
 use Rattle.std.proofs.Common.{◌≡◌, ◌≢◌, ◌⊎◌, inl, inr, ℕ, List, [], ◌∷◌, Result, Ok, Err, codes, refl, sym, ap, ◌∙◌, subst, arith}
-use Rattle.std.specs.Str.Parse.{digits_value}
 use Rattle.native_slots.specs.declared.head.NativeHead.{NativeHead}
 use Rattle.machine_rules.specs.Natives.{NativeAnswers, AnswersOnce}
 use Rattle.rank_make.specs.declared.why.Why.TheVariants as why
@@ -24,11 +23,12 @@ use Rattle.trace_tool.specs.declared.words.Command.TheVariants.{Meta, Certify, C
 use Rattle.trace_tool.specs.declared.words.Options.{Options}
 use Rattle.trace_tool.proofs.OneRun.{OneAs, same_first, one_run_outcome, one_unchecked_outcome}
 use Rattle.trace_tool.proofs.Partings.{texts_once}
+use Rattle.texts.specs.Numerals.{value_of}
 
 -- ---- the words are one command's
 
 number-once : {largest : ℕ} {v w : List ℕ} {m n : ℕ} → v ≡ w → IsNumber largest v m → IsNumber largest w n → m ≡ n
-number-once same x y = x.value ∙ ap (λ (word : List ℕ). digits_value 10 word) same ∙ sym y.value
+number-once same x y = x.written.value ∙ ap (λ (word : List ℕ). value_of word) same ∙ sym y.written.value
 
 limit-once : {v w : List (List ℕ)} {m n : ℕ} → v ≡ w → IsLimit v m → IsLimit w n → m ≡ n
 limit-once {v} {w} same (inl x) (inl y) = x.1 ∙ sym y.1

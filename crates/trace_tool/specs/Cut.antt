@@ -1,30 +1,18 @@
 -- How an input is cut into texts (docs/commands.md, "The input").
-use Rattle.std.specs.Prelude.{◌≡◌, ◌≢◌, ℕ, List, [], ◌∷◌, ◌++◌, codes}
-use Rattle.std.specs.List.{AllByRecursion}
-use Rattle.texts.specs.Lines.{IsFrontLine, AreFrontLines, AreLines}
+use Rattle.std.specs.Prelude.{◌≡◌, ℕ, List, [], ◌∷◌, codes}
+use Rattle.texts.specs.Lines.{IsPartedAt, LacksLine}
 
 -- the line that parts two texts
 abbrev pub parting : List ℕ
 parting = codes "%%"
 
--- none of these lines parts texts
-abbrev pub PartNothing : List (List ℕ) → Type 0
-PartNothing lines = AllByRecursion (λ line. line ≢ parting) lines
-
 -- no line of the text is exactly `%%`
-pub record IsUnparted (text : List ℕ) : Type 0 where
-  pub lines : List (List ℕ)
-  pub cut : AreLines text lines
-  pub unparted : PartNothing lines
+abbrev pub IsUnparted : List ℕ → Type 0
+IsUnparted text = LacksLine parting text
 
 -- The input is a text, the first line that is exactly `%%`, and the rest. The text has the newlines of its lines.
-pub record IsParted (input text rest : List ℕ) : Type 0 where
-  pub lines : List (List ℕ)
-  pub from_parting : List ℕ
-  pub lead : AreFrontLines input lines from_parting
-  pub unparted : PartNothing lines
-  pub parts : IsFrontLine from_parting parting rest
-  pub joined : input ≡ text ++ from_parting
+abbrev pub IsParted : List ℕ → List ℕ → List ℕ → Type 0
+IsParted input text rest = IsPartedAt parting input text rest
 
 -- the text is all of the input, in which no line parts texts
 abbrev pub IsWholeInput : List ℕ → List ℕ → Type 0

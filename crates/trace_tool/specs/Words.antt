@@ -1,13 +1,13 @@
 -- The words of a command line (docs/commands.md, "The command line").
 use Rattle.std.specs.Prelude.{◌≡◌, ◌≢◌, ℕ, ◌-◌, ◌^◌, ◌<◌, ◌≤◌, ◌⊎◌, List, [], ◌∷◌, codes}
-use Rattle.std.specs.Str.Parse.{AllDigits, digits_value}
+use Rattle.texts.specs.Limits.{most_depth}
+use Rattle.texts.specs.Numerals.{IsNumeral}
 use Rattle.trace_tool.specs.declared.words.Command.{Command}
 use Rattle.trace_tool.specs.declared.words.Command.TheVariants.{Meta, Certify, Check, Run, RunUnchecked}
 
--- decimal digits that write a number from 1 to the largest one; leading zeros are allowed, a sign isn't
+-- decimal digits that write a number from 1 to the largest one
 pub record IsNumber (largest : ℕ) (word : List ℕ) (n : ℕ) : Type 0 where
-  pub digits : AllDigits 10 word
-  pub value : n ≡ digits_value 10 word
+  pub written : IsNumeral word n
   pub least : 1 ≤ n
   pub most : n ≤ largest
 
@@ -27,7 +27,7 @@ pub record IsUncheckedRun (words : List (List ℕ)) (depth steps : ℕ) : Type 0
   pub word : List ℕ
   pub options : List (List ℕ)
   pub are : words ≡ codes "run" ∷ codes "--unchecked" ∷ word ∷ options
-  pub deep : IsNumber 256 word depth
+  pub deep : IsNumber most_depth word depth
   pub limited : IsLimit options steps
 
 -- the first of the words writes this number, and the rest come after it
@@ -54,7 +54,7 @@ IsWithinLimits Meta = Unit {0}
 IsWithinLimits Certify = Unit {0}
 IsWithinLimits Check = Unit {0}
 IsWithinLimits (Run steps) = AreSteps steps
-IsWithinLimits (RunUnchecked options) = (1 ≤ options.depth) × (options.depth ≤ 256) × AreSteps options.steps
+IsWithinLimits (RunUnchecked options) = (1 ≤ options.depth) × (options.depth ≤ most_depth) × AreSteps options.steps
 
 -- what the words don't say
 abbrev pub IsNoNumber : ℕ → List ℕ → Type 0

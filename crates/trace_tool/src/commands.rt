@@ -1,28 +1,33 @@
 ghost use Rattle.std.specs.Prelude.{◌≡◌, map};
-ghost use Rattle.trace_tool.specs.Commands.{CommandComesTo, Does, ReadsAndComesTo, InputComesTo, WritesCommand, read_of};
+ghost use Rattle.trace_tool.specs.Commands.{CommandComesTo, ReadsAndComesTo, InputComesTo, WritesCommand, read_of};
 ghost use Rattle.trace_tool.specs.Outcomes.{Writes};
+ghost use Rattle.trace_tool.specs.Prepared.{CarriesOut, Prepares};
+ghost use Rattle.trace_tool.specs.declared.outcome.Outcome.TheVariants.{Program, Usage};
+ghost use Rattle.trace_tool.specs.declared.outcome.UsageFault.TheVariants.{Words};
+ghost use Rattle.trace_tool.specs.declared.prepared.Prepared.TheVariants.{Done};
 ghost use Rattle.trace_tool.specs.Words.{IsCommand, IsWithinLimits};
 ghost use Rattle.trace_tool.specs.declared.words.Command.{Command as ACommand};
 
 use crate::cut::{one_text, three_texts, two_texts};
 use crate::input::{InputFault, LARGEST_INPUT, read_input};
 use crate::outcome::{Outcome, UsageFault};
-use crate::runs::{run_outcome, unchecked_run_outcome};
+use crate::prepared::{Carried, Prepared};
+use crate::runs::{prepare_run, prepare_unchecked_run, written};
 use crate::words::Command;
 use native_slots::{Answering, Natives};
-use program_commands::{certify_outcome, check_outcome, meta_outcome};
+use program_commands::{Outcome as ProgramOutcome, certify_outcome, check_outcome, meta_outcome};
 use std::alloc::Global;
 use std::io::{Read, Write};
 use trace_lines::WriteFault;
 
-/// What a command line comes to, with the input that was read for it.
+/// What was done for a command line, with the input that was read for it.
 #[derive(Drop)]
 pub struct Answered<N: Drop> {
     /// The bytes that were read, no more than a byte past the largest input; `None` where the words are no command, or the
     /// input can't be read.
     pub input: Option<Vec<u8>>,
-    /// What the command line comes to.
-    pub outcome: Outcome<N>,
+    /// What the command line came to, and whether that could be written.
+    pub carried: Carried<N>,
 }
 
 /// Does what a command line's words say, on the bytes that the reader has left, and answers the exit status: reads them,
@@ -42,44 +47,54 @@ pub fn command<R: Read, W: Write>(
     ensures unread { let said = map (λ word. word.now) words.now in
         ((c : ACommand) → IsCommand said c → ⊥) → reader.new ≡ reader.old }
 {
-    answer(alloc, words, reader, natives)
-        .outcome
-        .write(alloc, w)
+    let Answered { input: _, carried } = answer(alloc, words, reader, natives, w);
+    written(carried)
 }
 
-/// What a command line's words come to, on the bytes that the reader has left: [`command`] writes it. For words that are no
-/// command nothing is read.
-pub fn answer<R: Read>(
+/// Does what [`command`] does, and hands back what that came to, for those who explain it. For words that are no command
+/// nothing is read.
+pub fn answer<R: Read, W: Write>(
     alloc: Global,
     words: &[&str],
     reader: &mut R,
     natives: Natives,
+    w: &mut W,
 ) -> Answered<Natives>
-    ensures comes { let said = map (λ word. word.now) words.now in
+    ensures answers { let said = map (λ word. word.now) words.now in
         let heads = map (λ slot. slot.head) natives.slots.items in
-        ReadsAndComesTo ⟦<Natives as Answering>⟧.gives heads natives said (R.remaining reader.old) result.outcome }
+        CarriesOut (ReadsAndComesTo ⟦<Natives as Answering>⟧.gives heads natives said (R.remaining reader.old))
+        (W.contents w.old) (W.contents w.new) result.carried.outcome result.carried.written }
     ensures unread { let said = map (λ word. word.now) words.now in
         ((c : ACommand) → IsCommand said c → ⊥) → reader.new ≡ reader.old }
 {
     let Some(_) = Command::of(words) else {
         return Answered {
             input: None,
-            outcome: Outcome::Usage(UsageFault::Words),
+            carried: prepared_usage().carry_out(alloc, w),
         };
     };
     match read_input(alloc, reader) {
         Ok(input) => {
-            let outcome = outcome_for(alloc, words, Ok(input.as_slice()), natives);
+            let carried = prepare_for(alloc, words, Ok(input.as_slice()), natives).carry_out(
+                alloc, w,
+            );
             Answered {
                 input: Some(input),
-                outcome,
+                carried,
             }
         }
         Err(fault) => Answered {
             input: None,
-            outcome: outcome_for(alloc, words, Err(fault), natives),
+            carried: prepare_for(alloc, words, Err(fault), natives).carry_out(alloc, w),
         },
     }
+}
+
+/// The words are no command.
+fn prepared_usage() -> Prepared<Natives>
+    ensures { result ≡ Done (Usage Words) }
+{
+    Prepared::Done(Outcome::Usage(UsageFault::Words))
 }
 
 /// Does what a command line's words say, on the bytes that were read or on why there are none, and answers the exit
@@ -110,61 +125,61 @@ pub fn respond<W: Write>(
         let ComesTo = CommandComesTo ⟦<Natives as Answering>⟧.gives heads natives said (read_of input.entry) in
         Writes ComesTo (W.contents w.old) (W.contents w.new) result }
 {
-    outcome_for(alloc, words, input, natives).write(alloc, w)
+    written(prepare_for(alloc, words, input, natives).carry_out(alloc, w))
 }
 
-/// What a command line's words come to, on the bytes that were read or on why there are none.
-fn outcome_for(
+/// What is to be done for a command line's words, on the bytes that were read or on why there are none.
+fn prepare_for(
     alloc: Global,
     words: &[&str],
     input: Result<&[u8], InputFault>,
     natives: Natives,
-) -> Outcome<Natives>
+) -> Prepared<Natives>
     ensures { let said = map (λ word. word.now) words.now in
         let heads = map (λ slot. slot.head) natives.slots.items in
-        CommandComesTo ⟦<Natives as Answering>⟧.gives heads natives said (read_of input.entry) result }
+        Prepares ⟦<Natives as Answering>⟧.takes ⟦<Natives as Answering>⟧.gives
+        (CommandComesTo ⟦<Natives as Answering>⟧.gives heads natives said (read_of input.entry)) result }
 {
     let Some(command) = Command::of(words) else {
-        return Outcome::Usage(UsageFault::Words);
+        return prepared_usage();
     };
     match input {
-        Ok(bytes) => perform(alloc, command, bytes, natives),
-        Err(fault) => Outcome::NoInput(fault),
+        Ok(bytes) => prepare(alloc, command, bytes, natives),
+        Err(fault) => Prepared::Done(Outcome::NoInput(fault)),
     }
 }
 
-/// What a command comes to on its input.
-fn perform(alloc: Global, command: Command, input: &[u8], natives: Natives) -> Outcome<Natives>
+/// What is to be done for a command on its input.
+fn prepare(alloc: Global, command: Command, input: &[u8], natives: Natives) -> Prepared<Natives>
     requires limits { IsWithinLimits command }
     ensures { let heads = map (λ slot. slot.head) natives.slots.items in
-        InputComesTo ⟦<Natives as Answering>⟧.gives heads natives command input.now result }
+        Prepares ⟦<Natives as Answering>⟧.takes ⟦<Natives as Answering>⟧.gives
+        (InputComesTo ⟦<Natives as Answering>⟧.gives heads natives command input.now) result }
 {
     if input.len() > LARGEST_INPUT {
-        return Outcome::Usage(UsageFault::TooLarge);
+        return Prepared::Done(Outcome::Usage(UsageFault::TooLarge));
     }
     match command {
         Command::Meta => match one_text(input) {
-            Some(program) => Outcome::Program(meta_outcome(alloc, program)),
-            None => Outcome::Usage(UsageFault::Texts(1)),
+            Some(program) => of_program(meta_outcome(alloc, program)),
+            None => Prepared::Done(Outcome::Usage(UsageFault::Texts(1))),
         },
         Command::Certify => match one_text(input) {
-            Some(program) => Outcome::Program(certify_outcome(alloc, program)),
-            None => Outcome::Usage(UsageFault::Texts(1)),
+            Some(program) => of_program(certify_outcome(alloc, program)),
+            None => Prepared::Done(Outcome::Usage(UsageFault::Texts(1))),
         },
         Command::Check => match two_texts(input) {
-            Some((program, certificate)) => {
-                Outcome::Program(check_outcome(alloc, program, certificate))
-            }
-            None => Outcome::Usage(UsageFault::Texts(2)),
+            Some((program, certificate)) => of_program(check_outcome(alloc, program, certificate)),
+            None => Prepared::Done(Outcome::Usage(UsageFault::Texts(2))),
         },
         Command::Run(steps) => match three_texts(input) {
             Some((program, certificate, script)) => {
-                run_outcome(alloc, program, certificate, script, natives, steps)
+                prepare_run(alloc, program, certificate, script, natives, steps)
             }
-            None => Outcome::Usage(UsageFault::Texts(3)),
+            None => Prepared::Done(Outcome::Usage(UsageFault::Texts(3))),
         },
         Command::RunUnchecked(options) => match two_texts(input) {
-            Some((program, script)) => unchecked_run_outcome(
+            Some((program, script)) => prepare_unchecked_run(
                 alloc,
                 program,
                 script,
@@ -172,7 +187,14 @@ fn perform(alloc: Global, command: Command, input: &[u8], natives: Natives) -> O
                 options.depth,
                 options.steps,
             ),
-            None => Outcome::Usage(UsageFault::Texts(2)),
+            None => Prepared::Done(Outcome::Usage(UsageFault::Texts(2))),
         },
     }
+}
+
+/// A command that runs nothing came to this.
+fn of_program(outcome: ProgramOutcome) -> Prepared<Natives>
+    ensures { result ≡ Done (Program outcome) }
+{
+    Prepared::Done(Outcome::Program(outcome))
 }

@@ -3,7 +3,7 @@
 ghost use Rattle.std.specs.Prelude.{[], ◌∷◌, IfSome, MatchOption};
 ghost use Rattle.trace_tool.specs.Cut.{IsParted, IsWholeInput, AreTexts, AreOnly, IsNoText, AreNotTwo, AreNotThree};
 
-use texts::split_line;
+use texts::split_at_line;
 
 /// The line that parts two texts.
 const PARTING: &[u8] = b"%%";
@@ -55,13 +55,8 @@ fn first_text(input: &[u8]) -> (&[u8], Option<&[u8]>)
     ensures { MatchOption result.1 (IsWholeInput input.now result.0.now)
         (λ rest. IsParted input.now result.0.now rest.now) }
 {
-    let mut left = input;
-    while let Some((line, rest)) = split_line(left) {
-        if line == PARTING {
-            let end = input.len() - left.len();
-            return (&input[..end], Some(rest));
-        }
-        left = rest;
+    match split_at_line(input, PARTING) {
+        Some((text, rest)) => (text, Some(rest)),
+        None => (input, None),
     }
-    (input, None)
 }

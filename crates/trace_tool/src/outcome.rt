@@ -63,7 +63,7 @@ impl<N: Answering + Drop> Ran<N> {
     }
 
     /// The exit status: 0 after a whole run, 4 after a fault.
-    fn status(&self) -> u8
+    pub(crate) fn status(&self) -> u8
         ensures { result ≡ run_status self.now.ended }
     {
         match self.ended {
@@ -73,7 +73,7 @@ impl<N: Answering + Drop> Ran<N> {
     }
 
     /// Adds the trace's lines, and that of the fault that stopped the run.
-    fn put<W: Write>(&self, output: &mut Output<'_, W>)
+    pub(crate) fn put<W: Write>(&self, output: &mut Output<'_, W>)
         ensures { Puts W.contents output.old output.new
             (run_text self.now.machine.world.trace self.now.ended) }
     {

@@ -1,14 +1,18 @@
 //! The commands `run` and `run --unchecked`.
 
-ghost use Rattle.std.specs.Prelude.{◌<◌, ◌≤◌, ◌^◌, List, map, IfOk};
+ghost use Rattle.std.specs.Prelude.{◌≡◌, ◌<◌, ◌≤◌, ◌^◌, List, map, IfOk};
 ghost use Rattle.meta_model.specs.Loaded.{Loaded};
 ghost use Rattle.certificate_lang.specs.declared.certificate.Certificate.{Certificate};
 ghost use Rattle.native_slots.specs.Promises.{Promises};
+ghost use Rattle.texts.specs.Limits.{most_depth};
 ghost use Rattle.script_lang.specs.declared.event.Event.{Event as AnEvent};
-ghost use Rattle.trace_tool.specs.Commands.{Accepting, Accepts, AcceptedComesTo, MayRun, RunComesTo, UncheckedRunComesTo};
+ghost use Rattle.trace_tool.specs.Commands.{Accepting, Accepts, AcceptedComesTo, MayRun, RunComesTo, UncheckedRunComesTo, refused};
 ghost use Rattle.trace_tool.specs.Outcomes.{Writes};
+ghost use Rattle.trace_tool.specs.Prepared.{Prepares};
+ghost use Rattle.trace_tool.specs.declared.prepared.Prepared.TheVariants.{Done};
 
-use crate::outcome::{Outcome, Ran};
+use crate::outcome::Outcome;
+use crate::prepared::{Carried, Prepared, Ready};
 use native_slots::{Answering, Natives};
 use program_commands::{Outcome as ProgramOutcome, Refusal, load_certified, load_program};
 use qt_runtime::{Event, Machine, Meta, read_script};
@@ -34,15 +38,38 @@ pub fn run_outcome(
     ensures { let heads = map (λ slot. slot.head) natives.slots.items in
         RunComesTo ⟦<Natives as Answering>⟧.gives heads natives program.now certificate.now script.now steps result }
 {
+    prepare_run(alloc, program, certificate, script, natives, steps).outcome()
+}
+
+/// What `run` is about to do: a run of the program on the script, or to say why there is none.
+pub(crate) fn prepare_run(
+    alloc: Global,
+    program: &[u8],
+    certificate: &[u8],
+    script: &[u8],
+    natives: Natives,
+    steps: u64,
+) -> Prepared<Natives>
+    requires steps { (1 ≤ steps) × (steps < 2 ^ 63) }
+    ensures { let heads = map (λ slot. slot.head) natives.slots.items in
+        Prepares ⟦<Natives as Answering>⟧.takes ⟦<Natives as Answering>⟧.gives
+        (RunComesTo ⟦<Natives as Answering>⟧.gives heads natives program.now certificate.now script.now steps) result }
+{
     let (checked, events) = match accept(alloc, program, certificate, script, &natives) {
         Ok(accepted) => accepted,
-        Err(refusal) => return Outcome::Program(ProgramOutcome::Refused(refusal)),
+        Err(refusal) => return refused(refusal),
     };
-    let Ok(mut machine) = Machine::checked(alloc, checked, natives, steps) else {
-        return Outcome::Memory;
+    let Ok(machine) = Machine::checked(alloc, checked, natives, steps) else {
+        return Prepared::Done(Outcome::Memory);
     };
-    let ended = machine.run(events.as_slice());
-    Outcome::Ran(Ran { machine, ended })
+    Prepared::Ready(Ready { machine, events })
+}
+
+/// A program is refused, and doesn't run.
+fn refused(refusal: Refusal) -> Prepared<Natives>
+    ensures { result ≡ Done (refused refusal) }
+{
+    Prepared::Done(Outcome::Program(ProgramOutcome::Refused(refusal)))
 }
 
 /// Checks a program with its certificate, runs it on a script, and writes the trace, or why there is none.
@@ -72,7 +99,8 @@ pub fn run<W: Write>(
         let ComesTo = AcceptedComesTo ⟦<Natives as Answering>⟧.gives natives loaded read events steps in
         Writes ComesTo (W.contents w.old) (W.contents w.new) result }
 {
-    run_outcome(alloc, program, certificate, script, natives, steps).write(alloc, w)
+    let prepared = prepare_run(alloc, program, certificate, script, natives, steps);
+    written(prepared.carry_out(alloc, w))
 }
 
 /// Reads and loads a program, reads its certificate and its script, checks the program, and compares its natives with the
@@ -107,20 +135,37 @@ pub fn unchecked_run_outcome(
     depth: usize,
     steps: u64,
 ) -> Outcome<Natives>
-    requires depth { (1 ≤ depth) × (depth ≤ 256) }
+    requires depth { (1 ≤ depth) × (depth ≤ most_depth) }
     requires steps { (1 ≤ steps) × (steps < 2 ^ 63) }
     ensures { let heads = map (λ slot. slot.head) natives.slots.items in
         UncheckedRunComesTo ⟦<Natives as Answering>⟧.gives heads natives program.now script.now depth steps result }
 {
+    prepare_unchecked_run(alloc, program, script, natives, depth, steps).outcome()
+}
+
+/// What `run --unchecked` is about to do: a run of the program on the script, or to say why there is none.
+pub(crate) fn prepare_unchecked_run(
+    alloc: Global,
+    program: &[u8],
+    script: &[u8],
+    natives: Natives,
+    depth: usize,
+    steps: u64,
+) -> Prepared<Natives>
+    requires depth { (1 ≤ depth) × (depth ≤ most_depth) }
+    requires steps { (1 ≤ steps) × (steps < 2 ^ 63) }
+    ensures { let heads = map (λ slot. slot.head) natives.slots.items in
+        Prepares ⟦<Natives as Answering>⟧.takes ⟦<Natives as Answering>⟧.gives
+        (UncheckedRunComesTo ⟦<Natives as Answering>⟧.gives heads natives program.now script.now depth steps) result }
+{
     let (meta, events) = match load(alloc, program, script, &natives) {
         Ok(loaded) => loaded,
-        Err(refusal) => return Outcome::Program(ProgramOutcome::Refused(refusal)),
+        Err(refusal) => return refused(refusal),
     };
-    let Ok(mut machine) = Machine::unchecked(alloc, meta, natives, depth, steps) else {
-        return Outcome::Memory;
+    let Ok(machine) = Machine::unchecked(alloc, meta, natives, depth, steps) else {
+        return Prepared::Done(Outcome::Memory);
     };
-    let ended = machine.run(events.as_slice());
-    Outcome::Ran(Ran { machine, ended })
+    Prepared::Ready(Ready { machine, events })
 }
 
 /// Runs a program, which need not be checked, on a script, and writes the trace, or why there is none.
@@ -139,13 +184,27 @@ pub fn run_unchecked<W: Write>(
     steps: u64,
     w: &mut W,
 ) -> Result<u8, WriteFault>
-    requires depth { (1 ≤ depth) × (depth ≤ 256) }
+    requires depth { (1 ≤ depth) × (depth ≤ most_depth) }
     requires steps { (1 ≤ steps) × (steps < 2 ^ 63) }
     ensures { let heads = map (λ slot. slot.head) natives.slots.items in
         let ComesTo = UncheckedRunComesTo ⟦<Natives as Answering>⟧.gives heads natives program.now script.now depth steps in
         Writes ComesTo (W.contents w.old) (W.contents w.new) result }
 {
-    unchecked_run_outcome(alloc, program, script, natives, depth, steps).write(alloc, w)
+    let prepared = prepare_unchecked_run(alloc, program, script, natives, depth, steps);
+    written(prepared.carry_out(alloc, w))
+}
+
+/// The exit status of what was done, or why it couldn't be written.
+pub(crate) fn written(carried: Carried<Natives>) -> Result<u8, WriteFault>
+    ensures { result ≡ carried.written }
+{
+    let Carried {
+        outcome: _,
+        last: _,
+        refused: _,
+        written,
+    } = carried;
+    written
 }
 
 /// Reads and loads a program, reads its script, and compares its natives with the closures.

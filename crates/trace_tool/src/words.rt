@@ -2,11 +2,12 @@
 
 ghost use Rattle.std.specs.Prelude.{◌≡◌, ◌↔◌, Some, ◌≤◌, ◌<◌, ◌^◌, [], ◌∷◌, map, codes};
 ghost use Rattle.std.specs.Prelude.{IsTrue, IfSome, MatchOption};
+ghost use Rattle.texts.specs.Limits.{most_depth};
 ghost use Rattle.trace_tool.specs.Words.{IsNumber, IsFirstNumber, IsLimit, IsRun, IsUncheckedRun, IsCommand};
 ghost use Rattle.trace_tool.specs.Words.{IsNoNumber, IsNoLimit, IsNoRun, IsNoUncheckedRun, IsNoCommand};
 ghost use Rattle.trace_tool.specs.Words.{BeginsOtherwise, BeginsWithNoNumber, IsWithinLimits};
 
-const LARGEST_DEPTH: u64 = 256;
+use texts::MOST_DEPTH;
 
 const LARGEST_STEPS: u64 = 9223372036854775807;
 
@@ -86,12 +87,12 @@ impl Options {
     pub fn of(words: &[&str]) -> Option<Options>
         ensures said { let said = map (λ w. w.now) words.now in
             MatchOption result (IsNoUncheckedRun said) (λ o. IsUncheckedRun said o.depth o.steps) }
-        ensures depth { IfSome result (λ o. (1 ≤ o.depth) × (o.depth ≤ 256)) }
+        ensures depth { IfSome result (λ o. (1 ≤ o.depth) × (o.depth ≤ most_depth)) }
         ensures steps { IfSome result (λ o. (1 ≤ o.steps) × (o.steps < 2 ^ 63)) }
     {
         let words = after(words, "run")?;
         let words = after(words, "--unchecked")?;
-        let (depth, words) = number(words, LARGEST_DEPTH)?;
+        let (depth, words) = number(words, MOST_DEPTH as u64)?;
         let steps = limit(words)?;
         Some(Options {
             depth: depth as usize,
@@ -146,11 +147,6 @@ fn number<'a>(words: &'a [&'a str], largest: u64) -> Option<(u64, &'a [&'a str])
 fn number_of(word: &str, largest: u64) -> Option<u64>
     ensures { MatchOption result (IsNoNumber largest word.now) (λ n. IsNumber largest word.now n) }
 {
-    if word.as_bytes().first() == Some(&b'+') {
-        return None;
-    }
-    match word.parse::<u64>() {
-        Ok(number) if 1 <= number && number <= largest => Some(number),
-        _ => None,
-    }
+    let number = texts::number(word.as_bytes(), largest)?;
+    if number == 0 { None } else { Some(number) }
 }

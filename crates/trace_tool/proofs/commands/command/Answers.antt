@@ -1,4 +1,5 @@
+use Rattle.trace_tool.proofs.Preparing.{carried-writes}
 use Rattle.trace_tool.proofs.commands.command.Goals as goal
 
 pub returns-clause-answers : goal.returns-clause-answers
-returns-clause-answers g c = record { outcome = c.answer.result.outcome; comes = c.answer.ensures.comes; takes = c.write.ensures }
+returns-clause-answers g c = carried-writes c.answer-carried.ensures.answers c.written.ensures

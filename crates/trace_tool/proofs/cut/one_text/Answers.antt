@@ -1,11 +1,12 @@
 use Rattle.std.proofs.Common.{[], ◌∷◌, sym, subst}
 use Rattle.trace_tool.specs.Cut.{IsUnparted}
-use Rattle.trace_tool.proofs.Partings.{not_parted, texts_once}
+use Rattle.texts.proofs.Partings.{parted_or_not}
+use Rattle.trace_tool.proofs.Partings.{texts_once}
 use Rattle.trace_tool.proofs.cut.one_text.Goals as goal
 
 pub returns-in-Some-clause-cut : goal.returns-in-Some-clause-cut
 returns-in-Some-clause-cut c text cut =
-    not_parted (rw c.in-Some.is at c.first_text.ensures) (subst IsUnparted (sym cut.0) cut.1)
+    parted_or_not (rw c.in-Some.is at c.first_text.ensures) (subst IsUnparted (sym cut.0) cut.1)
 
 pub returns-in-None-clause-only : goal.returns-in-None-clause-only
 returns-in-None-clause-only c others cut =

@@ -1,19 +1,20 @@
 use Rattle.std.proofs.Common.{◌∷◌, [], subst}
 use Rattle.trace_tool.specs.Cut.{AreTexts}
-use Rattle.trace_tool.proofs.Partings.{not_parted, same_rest, texts_once}
+use Rattle.texts.proofs.Partings.{one_parting, parted_or_not}
+use Rattle.trace_tool.proofs.Partings.{texts_once}
 use Rattle.trace_tool.proofs.cut.three_texts.Goals as goal
 
 pub returns-in_err-rest-clause-cut : goal.returns-in_err-rest-clause-cut
 returns-in_err-rest-clause-cut c =
     rw c.from_residual.ensures
-    (λ first second third cut. let whole = rw c.in_err-rest.was at c.first_text.ensures in not_parted cut.1 whole.1)
+    (λ first second third cut. let whole = rw c.in_err-rest.was at c.first_text.ensures in parted_or_not cut.1 whole.1)
 
 pub returns-in_err-second-clause-cut : goal.returns-in_err-second-clause-cut
 returns-in_err-second-clause-cut c =
     let one = rw c.in_ok-rest.was at c.first_text.ensures in
     rw c.from_residual-in_err-second.ensures
     (λ first second third cut.
-    c.in_err-second.ensures.cut second third (subst (λ r. AreTexts r (second ∷ third ∷ [])) (same_rest cut.1 one) cut.2))
+    c.in_err-second.ensures.cut second third (subst (λ r. AreTexts r (second ∷ third ∷ [])) (one_parting cut.1 one).1 cut.2))
 
 pub returns-clause-cut : goal.returns-clause-cut
 returns-clause-cut c =

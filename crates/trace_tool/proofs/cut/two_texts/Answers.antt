@@ -1,7 +1,8 @@
 use Rattle.std.proofs.Common.{◌≡◌, true, false, [], ◌∷◌, Option, Some, None, MatchOption, sym, subst}
 use Rattle.std.specs.Option.{is_some}
 use Rattle.trace_tool.specs.Cut.{IsUnparted}
-use Rattle.trace_tool.proofs.Partings.{not_parted, same_rest, texts_once}
+use Rattle.texts.proofs.Partings.{one_parting, parted_or_not}
+use Rattle.trace_tool.proofs.Partings.{texts_once}
 use Rattle.trace_tool.proofs.cut.two_texts.Goals as goal
 
 at_some : {X : Type 0} (o : Option X) (P : Type 0) (Q : X → Type 0) → is_some o ≡ true → MatchOption o P Q → (x : X) × Q x
@@ -15,14 +16,14 @@ at_none (Some x) P Q e h = cc
 pub returns-in_err-rest-clause-cut : goal.returns-in_err-rest-clause-cut
 returns-in_err-rest-clause-cut c =
     rw c.from_residual.ensures
-    (λ first second cut. let whole = rw c.in_err-rest.was at c.first_text.ensures in not_parted cut.1 whole.1)
+    (λ first second cut. let whole = rw c.in_err-rest.was at c.first_text.ensures in parted_or_not cut.1 whole.1)
 
 pub returns-then-is_some-clause-cut : goal.returns-then-is_some-clause-cut
 returns-then-is_some-clause-cut c first second cut =
     let one = rw c.in_ok-rest.was at c.first_text.ensures in
     let two = at_some c.first_text-2.result.1 _ _ (cc) c.first_text-2.ensures in
     let unmarked = subst IsUnparted (sym cut.2.0) cut.2.1 in
-    not_parted two.1 (subst IsUnparted (same_rest cut.1 one) unmarked)
+    parted_or_not two.1 (subst IsUnparted (one_parting cut.1 one).1 unmarked)
 
 pub returns-clause-only : goal.returns-clause-only
 returns-clause-only c others cut =

@@ -1,4 +1,8 @@
+use Rattle.trace_tool.proofs.Preparing.{carried-of, carried-writes}
 use Rattle.trace_tool.proofs.runs.run_unchecked.Goals as goal
 
+pub carry_out-requires : goal.carry_out-requires
+carry_out-requires g c = c.prepare_unchecked_run-prepared.ensures.may
+
 pub returns : goal.returns
-returns g c = record { outcome = c.unchecked_run_outcome.result; comes = c.unchecked_run_outcome.ensures; takes = c.write.ensures }
+returns g c = carried-writes (carried-of c.prepare_unchecked_run-prepared.ensures c.carry_out.ensures) c.written.ensures

@@ -1,0 +1,25 @@
+use Rattle.std.proofs.Common.{List, sym, ap, ◌∙◌, subst}
+use Rattle.machine_state.specs.declared.entry.Entry.{Entry}
+use Rattle.qt_runtime.specs.Checked.{IsChecked}
+use Rattle.qt_runtime.specs.Seen.{Seen, cleared}
+use Rattle.qt_runtime.proofs.Checking.{cleared-checked}
+use Rattle.qt_runtime.proofs.Fronts.{invariant-with}
+use Rattle.qt_runtime.proofs.Halting.{seen}
+use Rattle.qt_runtime.proofs.machine.Machine.hand_over.Goals as goal
+
+pub invariant_of-self : goal.invariant_of-self
+invariant_of-self g c = invariant-with c.replace.new.dest c.self.invariant
+
+pub returns-clause-cleared : goal.returns-clause-cleared
+returns-clause-cleared g c =
+    let inside = c.self.inside in
+    let tracing : List Entry → Seen _ = λ trace. seen inside.interpreter.meta inside.interpreter.natives inside.interpreter.depth (record inside.world { trace = trace }) inside.stopped in
+    ap tracing (c.replace.ensures.after ∙ c.requires) ∙ ap (λ (m : Seen _). cleared m) c.self.view_is
+
+pub returns-clause-checked : goal.returns-clause-checked
+returns-clause-checked g c checked =
+    let inside = c.self.inside in
+    let gives = g.N.Answering.gives in
+    let tracing : List Entry → Seen _ = λ trace. seen inside.interpreter.meta inside.interpreter.natives inside.interpreter.depth (record inside.world { trace = trace }) inside.stopped in
+    let same = ap tracing (c.replace.ensures.after ∙ c.requires) ∙ ap (λ (m : Seen _). cleared m) c.self.view_is in
+    subst (λ (m : Seen _). IsChecked gives m) (sym same) (cleared-checked gives c.args.self.now checked)

@@ -1,0 +1,59 @@
+-- What a command line is about to do, and what is left of it when its run was written out while it went on (docs/commands.md,
+-- "Exit status").
+use Rattle.std.specs.Prelude.{◌≡◌, ℕ, List, Option, Result, IfErr}
+use Rattle.script_lang.specs.declared.event.Event.{Event}
+use Rattle.native_slots.specs.Promises.{Takes}
+use Rattle.machine_state.specs.declared.entry.Entry.{Entry}
+use Rattle.machine_rules.specs.Natives.{NativeAnswers}
+use Rattle.qt_runtime.specs.Checked.{IsChecked, Claims, StopsAtLimit}
+use Rattle.qt_runtime.specs.Seen.{Seen, AreKept, RunsAll, with_front}
+use Rattle.trace_lines.specs.Sent.{TakesWith}
+use Rattle.trace_tool.specs.Outcomes.{outcome_text, outcome_status}
+use Rattle.trace_tool.specs.declared.outcome.Outcome.{Outcome}
+use Rattle.trace_tool.specs.declared.outcome.Outcome.TheVariants.{Ran as OfRun}
+use Rattle.trace_tool.specs.declared.outcome.Ran.{Ran}
+use Rattle.trace_tool.specs.declared.prepared.Prepared.{Prepared}
+use Rattle.trace_tool.specs.declared.prepared.Prepared.TheVariants.{Done, Ready as OfReady}
+use Rattle.trace_tool.specs.declared.prepared.Ready.{Ready}
+
+-- ---- before
+
+-- a run of these events from this machine ends so; one of a checked program only for a limit, and the claims hold of it
+pub record RunsSo {N : Type 0} (gives : N → NativeAnswers) (m : Seen N) (events : List Event) (end : Ran N) : Type 0 where
+  pub ran : RunsAll gives m events end.ended end.machine
+  pub limits : IsChecked gives m → IfErr end.ended (StopsAtLimit m)
+  pub claims : IsChecked gives m → Claims gives m
+
+-- the natives of a machine that is to run keep what its program declares of them
+abbrev pub MayBeDone : {N : Type 0} → (N → Takes) → (N → NativeAnswers) → Prepared N → Type 0
+MayBeDone takes gives (Done outcome) = Unit {0}
+MayBeDone takes gives (OfReady ready) = AreKept takes gives ready.machine
+
+-- a run of these events from this machine comes to this
+abbrev pub ComesOfRun : {N : Type 0} → (N → NativeAnswers) → Seen N → List Event → Outcome N → Type 0
+ComesOfRun {N} gives machine events end = (ran : Ran N) × RunsSo gives machine events ran × (end ≡ OfRun ran)
+
+-- .. and what is prepared to this
+abbrev pub ComesOf : {N : Type 0} → (N → NativeAnswers) → Prepared N → Outcome N → Type 0
+ComesOf gives (Done outcome) end = end ≡ outcome
+ComesOf gives (OfReady ready) end = ComesOfRun gives ready.machine ready.events end
+
+-- all that it may come to is so
+pub record Prepares {N : Type 0} (takes : N → Takes) (gives : N → NativeAnswers) (ComesTo : Outcome N → Type 0) (prepared : Prepared N)
+    : Type 0 where
+  pub may : MayBeDone takes gives prepared
+  pub comes : (end : Outcome N) → ComesOf gives prepared end → ComesTo end
+
+-- ---- after
+
+-- an outcome, of which these lines of a run's trace were handed over
+abbrev pub with_gone : {N : Type 0} → List Entry → Outcome N → Outcome N
+with_gone gone (OfRun ran) = OfRun (record ran { machine = with_front gone ran.machine })
+with_gone gone outcome = outcome
+
+-- what it comes to was written, and this is left of it
+pub record CarriesOut {N E : Type 0} (ComesTo : Outcome N → Type 0) (before after : Option (List ℕ)) (left : Outcome N) (written : Result ℕ E)
+    : Type 0 where
+  pub gone : List Entry
+  pub comes : ComesTo (with_gone gone left)
+  pub takes : TakesWith before after (outcome_text (with_gone gone left)) (outcome_status (with_gone gone left)) written

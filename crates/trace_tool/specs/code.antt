@@ -1,0 +1,2 @@
+-- What the code of runs needs, which no one else has to read.
+pub mod Streaming
