@@ -13,6 +13,22 @@ pub struct Finding {
     pub advice: Option<&'static str>,
 }
 
+impl Finding {
+    /// The same, with what to write instead.
+    pub fn advised(self, advice: &'static str) -> Finding {
+        let Finding {
+            name,
+            sentence,
+            advice: _,
+        } = self;
+        Finding {
+            name,
+            sentence,
+            advice: Some(advice),
+        }
+    }
+}
+
 /// Why a search ends before it has seen everything.
 #[derive(Drop)]
 pub enum Halt {

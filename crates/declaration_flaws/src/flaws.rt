@@ -8,14 +8,16 @@ use crate::class_names::{missing_base, repeated_class};
 use crate::declared::{Declared, Walk};
 use crate::finding::{Finding, found_by};
 use crate::kinds::{native_reference, parameter_kinds, property_kind};
+use crate::likely::likely;
 use crate::natives::{missing_native, other_effects};
 use crate::notifiers::bad_notifier;
 use crate::outer_uses::{check_effects, check_owns, check_wire};
 use crate::repeats::{repeated_property, repeated_signal, repeated_site, repeated_slot};
 use class_lang::{TextFault, read_program};
+use diagnostics::Flaw;
+use signatures::Name;
 use std::alloc::{AllocError, Global};
-use text_flaws::{Flaw, Mark, ScanFault, marks};
-use texts::{Class, Program, Slot, SlotWork, Token};
+use texts::{Class, PlaceFault, PlacedToken, Program, Slot, SlotWork, Token, placed_tokens};
 
 /// The first declaration of a program, in the order of its text, that breaks the rule of this number, where the program
 /// is refused for that: a class's name (10), a base (11), a name that stands twice (12), a name that isn't there (13), a
@@ -29,12 +31,12 @@ pub fn declaration_flaw(alloc: Global, text: &[u8], number: u8) -> Result<Option
         Err(TextFault::Memory) => return Err(AllocError),
         Err(_) => return Ok(None),
     };
-    let marks = match marks(alloc, text) {
-        Ok(marks) => marks,
-        Err(ScanFault::Memory) => return Err(AllocError),
-        Err(ScanFault::BadByte(_)) => return Ok(None),
+    let placed = match placed_tokens(alloc, text) {
+        Ok(placed) => placed,
+        Err(PlaceFault::Memory) => return Err(AllocError),
+        Err(PlaceFault::BadByte(_)) => return Ok(None),
     };
-    first_flaw(alloc, text, &program, marks.as_slice(), number)
+    first_flaw(alloc, text, &program, placed.as_slice(), number)
 }
 
 /// The same of this program, whose text has these tokens.
@@ -42,63 +44,47 @@ fn first_flaw(
     alloc: Global,
     text: &[u8],
     program: &Program,
-    tokens: &[Mark],
+    tokens: &[PlacedToken],
     number: u8,
 ) -> Result<Option<Flaw>, AllocError>
     ensures { IfOk result (λ flaw. IfSome flaw (λ f. f.at ≤ length text.now)) }
 {
     let mut walk = Walk::new(program);
-    for (at, mark) in tokens.iter().enumerate() {
-        if let Some(declared) = walk.next(&mark.token)
+    for (at, placed) in tokens.iter().enumerate() {
+        if let Some(declared) = walk.next(&placed.token)
             && let Some(finding) = finding(alloc, program.classes.as_slice(), declared, number)?
         {
-            return Ok(Some(flaw_of(alloc, text, tokens, at, declared, finding)?));
+            let name = name_of(tokens, at, finding.name);
+            let advice = match (finding.advice, name) {
+                (Some(advice), _) => Some(String::from_str(alloc, advice)?),
+                (None, Some((_, name))) => match number {
+                    11 | 13..=15 => likely(alloc, program, name)?,
+                    _ => None,
+                },
+                (None, None) => None,
+            };
+            let mut sentence = String::new(alloc);
+            declared.push_heading(&mut sentence, alloc)?;
+            sentence.push_str(": ")?;
+            sentence.push_str(finding.sentence.as_str())?;
+            return Ok(Some(Flaw {
+                at: name.map_or(0, |(at, _)| at).min(text.len()),
+                sentence,
+                advice,
+            }));
         }
     }
     Ok(None)
 }
 
-/// What is found of a declaration that begins with this token.
-fn flaw_of(
-    alloc: Global,
-    text: &[u8],
-    tokens: &[Mark],
-    at: usize,
-    declared: Declared,
-    finding: Finding,
-) -> Result<Flaw, AllocError>
-    ensures { IfOk result (λ flaw. flaw.at ≤ length text.now) }
-{
-    let mut sentence = String::new(alloc);
-    declared.push_heading(&mut sentence, alloc)?;
-    sentence.push_str(": ")?;
-    sentence.push_str(finding.sentence.as_str())?;
-    Ok(Flaw {
-        at: place_of_name(tokens, at, finding.name).min(text.len()),
-        sentence,
-        advice: finding.advice,
-    })
-}
-
-/// The place of the name of this number, counted from 0, behind the token at this place.
-fn place_of_name(tokens: &[Mark], from: usize, number: usize) -> usize {
-    let mut names = 0usize;
-    for (at, mark) in tokens.iter().enumerate() {
-        if at >= from && is_name(&mark.token) {
-            if names == number {
-                return mark.at;
-            }
-            names = names.saturating_add(1);
-        }
-    }
-    0
-}
-
-fn is_name(token: &Token) -> bool {
-    match token {
-        Token::Name(_) => true,
-        _ => false,
-    }
+/// The name of this number, counted from 0, behind the token at this place, with its own place.
+fn name_of(tokens: &[PlacedToken], from: usize, number: usize) -> Option<(usize, &Name)> {
+    let behind = tokens.get(from..)?;
+    let mut names = behind.iter().filter_map(|placed| match &placed.token {
+        Token::Name(name) => Some((placed.at, name)),
+        _ => None,
+    });
+    names.nth(number)
 }
 
 /// What is wrong with a declaration by the rule of this number.

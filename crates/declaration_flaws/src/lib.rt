@@ -11,6 +11,7 @@ mod ends;
 mod finding;
 mod flaws;
 mod kinds;
+mod likely;
 mod members;
 mod natives;
 mod notifiers;

@@ -211,7 +211,8 @@ fn inherited_method(
         Piece::Words(" with "),
         Piece::Parameters(parameters.len()),
     ];
-    Ok(Some(told(alloc, 0, &pieces)?))
+    let finding = told(alloc, 0, &pieces)?;
+    Ok(Some(finding.advised("nothing is overridden: give this one another name")))
 }
 
 /// Two methods of a class that are called alike.
@@ -222,7 +223,10 @@ fn two_methods(alloc: Global, name: &Name, count: usize) -> Result<Finding, Allo
         Piece::Words(" with "),
         Piece::Parameters(count),
     ];
-    told(alloc, 0, &pieces)
+    let finding = told(alloc, 0, &pieces)?;
+    let advice =
+        "methods of one name differ in how many parameters they have, and not in their types alone";
+    Ok(finding.advised(advice))
 }
 
 /// The declared classes above this one, the nearest first.

@@ -58,10 +58,12 @@ impl<'a> Scope<'a> {
             }
         }
         let line = lineage(self.alloc, self.classes, &self.me.name)?;
-        let advice = if property_of(line.as_slice(), name).is_some() {
-            Some("a property of the object itself is written `this.p`")
-        } else {
-            None
+        let advice = match name.bytes() {
+            b"nullptr" | b"NULL" => Some("write `null`"),
+            _ if property_of(line.as_slice(), name).is_some() => {
+                Some("a property of the object itself is written `this.p`")
+            }
+            _ => None,
         };
         let pieces = [
             Piece::Name(name),

@@ -1,8 +1,8 @@
 //! Sentences of words, names and types.
 
+use diagnostics::push_printed;
 use signatures::{Name, QType, Sig};
 use std::alloc::{AllocError, Global};
-use text_flaws::push_printed;
 use texts::Parameter;
 
 /// A part of a sentence. Names, types and signatures stand between backquotes.

@@ -3,43 +3,14 @@
 use crate::usage::push_usage;
 use check_flaws::broken_condition;
 use declaration_flaws::declaration_flaw;
+use diagnostics::{
+    Flaw, Severity, Span, TextKind, certificate_flaw, meaning, program_flaw, push_flaw,
+    script_flaw, size_flaw, text_spans, wire_flaw,
+};
 use native_slots::Answering;
 use program_flaws::missing_certificate;
 use std::alloc::{AllocError, Global};
-use text_flaws::{
-    Flaw, Span, certificate_flaw, meaning, program_flaw, push_excerpt, push_place, script_flaw,
-    text_spans, wire_flaw,
-};
 use trace_tool::{Fault, Outcome, ProgramOutcome, Refusal, ScriptFault, Why};
-
-/// A text of an input, as a person calls it.
-#[derive(Clone, Copy, Debug, PartialEq, Eq)]
-enum TextKind {
-    Program,
-    Certificate,
-    Script,
-}
-
-impl TextKind {
-    fn name(self) -> &'static str {
-        match self {
-            TextKind::Program => "program",
-            TextKind::Certificate => "certificate",
-            TextKind::Script => "script",
-        }
-    }
-
-    /// Where it stands among the texts of an input: the program is the first one, a certificate follows it, and a script
-    /// is the last one.
-    fn span(self, spans: &[Span]) -> Option<Span> {
-        let span = match self {
-            TextKind::Program => spans.first()?,
-            TextKind::Certificate => spans.get(1)?,
-            TextKind::Script => spans.last()?,
-        };
-        Some(*span)
-    }
-}
 
 /// Explains what the words come to on this input: what it means, in one sentence; and where the input is at fault, what is
 /// wrong there, its line and column in the input and in its text, that line with a caret below the place, and what to write
@@ -81,7 +52,7 @@ fn push_fault(text: &mut String, fault: Fault) -> Result<(), AllocError> {
     writeln!(text, "fault {number}: {about}")
 }
 
-/// Adds what a refusal means, and where the input is at fault.
+/// Adds where the input is at fault, and what the refusal means.
 fn push_refusal(
     text: &mut String,
     alloc: Global,
@@ -92,17 +63,17 @@ fn push_refusal(
         return Ok(());
     };
     let about = meaning(number).unwrap_or("");
-    match refusal {
-        Refusal::Check(_) => writeln!(text, "no {number}: {about}")?,
-        _ => writeln!(text, "refused {number}: {about}")?,
+    if let Refusal::Check(_) = refusal {
+        writeln!(text, "no {number}: {about}")?;
+        return match input {
+            Some(input) => push_broken(text, alloc, input, number),
+            None => Ok(()),
+        };
     }
-    let Some(input) = input else {
-        return Ok(());
-    };
-    match refusal {
-        Refusal::Check(_) => push_broken(text, alloc, input, number),
-        _ => push_place_of(text, alloc, input, refusal, number),
+    if let Some(input) = input {
+        push_place_of(text, alloc, input, refusal, number)?;
     }
+    writeln!(text, "refused {number}: {about}")
 }
 
 /// Adds where the input is at fault that is refused under this number, if that is at one place.
@@ -120,7 +91,7 @@ fn push_place_of(
     };
     let source = source_of(input, span);
     match flaw_of(alloc, source, refusal, number)? {
-        Some(flaw) => push_flaw(text, input, span.begin, source, kind, &flaw),
+        Some(flaw) => push_flaw(text, Severity::Error, input, span, kind, &flaw),
         None => Ok(()),
     }
 }
@@ -146,7 +117,8 @@ fn flaw_of(
         Refusal::Loading(_) | Refusal::Natives(_) => declaration_flaw(alloc, source, number),
         Refusal::Certificate(_) => certificate_flaw(alloc, source),
         Refusal::Script(ScriptFault::BadLine(line)) => script_flaw(alloc, source, *line),
-        Refusal::Script(_) | Refusal::Check(_) => Ok(None),
+        Refusal::Script(_) => size_flaw(alloc, "script", source),
+        Refusal::Check(_) => Ok(None),
     }
 }
 
@@ -183,9 +155,8 @@ fn push_missing(
     let Some(about) = meaning_of_reason(why) else {
         return Ok(());
     };
-    writeln!(text, "no certificate: {about}")?;
     let Some(input) = input else {
-        return Ok(());
+        return writeln!(text, "no certificate: {about}");
     };
     let spans = text_spans(alloc, input)?;
     let Some(span) = TextKind::Program.span(spans.as_slice()) else {
@@ -194,9 +165,10 @@ fn push_missing(
     let source = source_of(input, span);
     if let Why::Wire(place) = why {
         if let Some(flaw) = wire_flaw(alloc, source, place.saturating_add(1))? {
-            push_flaw(text, input, span.begin, source, TextKind::Program, &flaw)?;
+            push_flaw(text, Severity::Error, input, span, TextKind::Program, &flaw)?;
         }
     }
+    writeln!(text, "no certificate: {about}")?;
     match missing_certificate(alloc, source)? {
         Some(reason) => text.push_str(reason.as_str()),
         None => Ok(()),
@@ -228,30 +200,4 @@ fn meaning_of_reason(why: &Why) -> Option<&'static str> {
 /// The bytes of a text of the input.
 fn source_of(input: &[u8], span: Span) -> &[u8] {
     input.get(span.begin..span.end).unwrap_or(&[])
-}
-
-/// Adds what is wrong with a text that begins at this byte of the input, and where.
-fn push_flaw(
-    text: &mut String,
-    input: &[u8],
-    begin: usize,
-    source: &[u8],
-    kind: TextKind,
-    flaw: &Flaw,
-) -> Result<(), AllocError> {
-    let sentence = flaw.sentence.as_str();
-    let name = kind.name();
-    let at = begin.saturating_add(flaw.at).min(input.len());
-    let inner = flaw.at.min(source.len());
-    writeln!(text, "{sentence}")?;
-    text.push_str(" at ")?;
-    push_place(text, input, at)?;
-    text.push_str(" of the input (")?;
-    push_place(text, source, inner)?;
-    writeln!(text, " of the {name})")?;
-    push_excerpt(text, input, at)?;
-    if let Some(advice) = flaw.advice {
-        writeln!(text, "help: {advice}")?;
-    }
-    Ok(())
 }

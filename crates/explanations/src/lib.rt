@@ -4,5 +4,5 @@
 mod explain;
 mod usage;
 
+pub use diagnostics::{Place, meaning};
 pub use explain::explanation;
-pub use text_flaws::{Place, meaning};

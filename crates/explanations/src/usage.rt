@@ -1,12 +1,9 @@
 //! What is wrong with a command line, or with the number of its texts.
 
+use diagnostics::text_spans;
 use std::alloc::{AllocError, Global};
-use text_flaws::text_spans;
-use texts::split_line;
-use trace_tool::UsageFault;
-
-/// The most bytes of an input.
-const LARGEST_INPUT: usize = 67108864;
+use texts::{MOST_DEPTH, number, split_line};
+use trace_tool::{LARGEST_INPUT, UsageFault};
 
 /// The commands, as a person writes them.
 const COMMANDS: &str =
@@ -49,12 +46,13 @@ fn push_number(
         text,
         "usage: the command takes {wanted} texts, and the input has {found}"
     )?;
-    if has_spoilt_parting(input) {
-        text.push_str(
-            "a line `%%` with a carriage return or a blank beside it parts nothing: end the lines by newlines alone\n",
-        )?;
+    match spoilt_parting(input) {
+        Some(line) => writeln!(
+            text,
+            "<stdin>:{line}:1: error: a line `%%` with a carriage return or a blank beside it parts nothing: end it right behind `%%`"
+        ),
+        None => Ok(()),
     }
-    Ok(())
 }
 
 /// What is wrong with words that are no command.
@@ -74,7 +72,9 @@ fn mistake(words: &[&str]) -> &'static str {
 fn mistake_in_run(options: &[&str]) -> &'static str {
     match options.split_first() {
         Some((first, others)) if *first == "--unchecked" => match others.split_first() {
-            Some((depth, steps)) if is_number(depth, 256) => mistake_in_steps(steps),
+            Some((depth, steps)) if is_number(depth, u64::from(MOST_DEPTH)) => mistake_in_steps(
+                steps,
+            ),
             _ => "behind `--unchecked` stands a number from 1 to 256",
         },
         _ => mistake_in_steps(options),
@@ -93,24 +93,19 @@ fn mistake_in_steps(words: &[&str]) -> &'static str {
 
 /// Whether a word is a number from 1 to this one.
 fn is_number(word: &str, most: u64) -> bool {
-    if word.as_bytes().first() == Some(&b'+') {
-        return false;
-    }
-    match word.parse::<u64>() {
-        Ok(number) => 1 <= number && number <= most,
-        Err(_) => false,
-    }
+    number(word.as_bytes(), most).is_some_and(|number| number != 0)
 }
 
-/// Whether a line is `%%` with a carriage return or a blank beside it.
-fn has_spoilt_parting(input: &[u8]) -> bool {
+/// The first line that is `%%` with blanks or carriage returns beside it, by its number, counted from 1.
+fn spoilt_parting(input: &[u8]) -> Option<usize> {
     let mut left = input;
+    let mut number = 0usize;
     while let Some((line, rest)) = split_line(left) {
-        match line {
-            b"%%\r" | b"%% " | b" %%" => return true,
-            _ => {}
+        number = number.saturating_add(1);
+        if line.len() > 2 && line.trim_ascii() == b"%%".as_slice() {
+            return Some(number);
         }
         left = rest;
     }
-    false
+    None
 }

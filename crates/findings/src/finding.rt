@@ -1,8 +1,8 @@
 //! What is found.
 
 use crate::rule::Rule;
+use diagnostics::Place;
 use effect_scan::Reason;
-use text_flaws::Place;
 
 /// The text that something stands in.
 #[derive(Clone, Copy, Debug, PartialEq, Eq)]

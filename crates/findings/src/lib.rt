@@ -7,7 +7,7 @@ mod rule;
 mod verdict;
 
 pub use cycle_set::{CycleSet, ListFault, cycle_list, read_cycles};
+pub use diagnostics::Place;
 pub use finding::{Finding, Link, Step, TextKind};
 pub use rule::Rule;
-pub use text_flaws::Place;
 pub use verdict::Verdict;

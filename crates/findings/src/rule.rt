@@ -1,6 +1,6 @@
 //! The rules that a program or a certificate may break.
 
-use text_flaws::meaning;
+use diagnostics::meaning;
 
 /// A rule that a finding is about. Those of texts and of loading have the number of the refusal, those of the check the number
 /// of the condition that no certificate, or not this one, can meet (docs/commands.md).

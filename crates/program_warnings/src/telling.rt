@@ -3,11 +3,11 @@
 use crate::ranked::Ranked;
 use crate::spot::Spot;
 use crate::warning::Warning;
+use diagnostics::Place;
 use effect_scan::{Member, Node};
 use meta_objects::MetaWire;
 use program_flaws::{Source, node_text, property_text, wire_text};
 use std::alloc::AllocError;
-use text_flaws::Place;
 use texts::PlacedToken;
 
 /// So many warnings are told.

@@ -1,9 +1,9 @@
 //! What is told of refused events.
 
 use crate::script::Script;
+use diagnostics::meaning;
 use machine_state::Entry;
 use std::alloc::{AllocError, Global};
-use text_flaws::meaning;
 
 /// So many refused events are told.
 const MOST_TOLD: usize = 100;

@@ -3,8 +3,8 @@
 ghost use Rattle.std.specs.Prelude.{◌≤◌, length};
 
 use crate::events::{EventLine, event_line};
+use diagnostics::{push_excerpt, push_place, text_spans};
 use std::alloc::{AllocError, Global};
-use text_flaws::{push_excerpt, push_place, text_spans};
 
 /// A script, which is an input's last text.
 #[derive(Clone, Copy)]

@@ -9,11 +9,12 @@ use native_slots::Natives;
 use program_commands::load_program;
 use rank_make::{Why, make};
 use std::alloc::{AllocError, Global};
+use texts::MOST_DEPTH;
 use thiserror::Error;
 use trace_tool::{Fault, Outcome, unchecked_run_outcome};
 
 /// The depth to which runs are tried, which is the greatest that there is.
-const DEPTH: usize = 256;
+const DEPTH: usize = MOST_DEPTH as usize;
 
 /// How many rules a run uses at most.
 const STEPS: u64 = 1_000_000;

@@ -2,14 +2,15 @@
 use Rattle.std.specs.Prelude.{ℕ, ◌≡◌, ◌≢◌, ◌*◌, ◌==◌, ◌&&◌, nat_le, if◌then◌else◌, length, IsTrue, Bool, true, false, min, replicate, List, [], ◌∷◌, ◌++◌, codes, ◌⊎◌, Option, Some, None}
 use Rattle.std.specs.List.{AllByRecursion}
 use Rattle.std.specs.Io.KnownBytes.{Appends}
+use Rattle.texts.specs.Limits.{most_depth}
 use Rattle.texts.specs.Lines.{IsFrontLine}
 use Rattle.trace_reading.specs.Lines.{IsTraceLine}
 use Rattle.trace_reading.specs.declared.line.TraceLine.{TraceLine}
 use Rattle.trace_reading.specs.declared.line.TraceLine.TheVariants as line
 
--- two blanks for each level of the depth, up to the deepest
+-- two blanks for each level of the depth, up to the greatest that there is
 abbrev pub indent_of : TraceLine → List ℕ
-indent_of (line.At depth what) = replicate (2 * min depth 256) 32
+indent_of (line.At depth what) = replicate (2 * min depth most_depth) 32
 indent_of _ = []
 
 -- digits and `;`, and `m` at the end

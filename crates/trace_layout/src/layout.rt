@@ -4,13 +4,10 @@ ghost use Rattle.std.specs.Prelude.{◌≡◌, ◌++◌, List, ℕ, OnOk};
 ghost use Rattle.trace_layout.specs.Shown.{ShowsLine, AddsColoured, AddsRemark, indent_of};
 
 use crate::colour::colour_of;
+use diagnostics::meaning;
 use std::alloc::AllocError;
-use text_flaws::meaning;
-use texts::split_line;
+use texts::{MOST_DEPTH, split_line};
 use trace_reading::{EntryKind, TraceLine};
-
-/// The deepest that activations nest; what is deeper isn't indented further.
-const DEEPEST: u64 = 256;
 
 /// What ends a colour.
 const RESET: &[u8] = b"\x1b[0m";
@@ -48,14 +45,14 @@ fn push_coloured(
     Ok(())
 }
 
-/// Adds two blanks for each level of a line's depth.
+/// Adds two blanks for each level of a line's depth, up to the greatest that there is.
 fn push_indent(shown: &mut Vec<u8>, told: TraceLine) -> Result<(), AllocError>
     ensures { OnOk result (shown.new.items ≡ shown.old.items ++ indent_of told) }
 {
     let TraceLine::At(depth, _) = told else {
         return Ok(());
     };
-    for _ in 0..depth.min(DEEPEST) {
+    for _ in 0..depth.min(MOST_DEPTH as u64) {
         shown.extend_from_slice(b"  ")?;
     }
     Ok(())

@@ -5,12 +5,12 @@ use crate::refusal::refusal_finding;
 use crate::sentences::Told;
 use certificate_lang::{Certificate, read_certificate};
 use check_flaws::broken_condition;
+use diagnostics::Place;
 use effect_scan::Scan;
 use findings::{Finding, Rule, TextKind, Verdict};
 use program_commands::Refusal;
 use rank_check::{Cause, Extra, Loose, Mistake, judge};
 use std::alloc::{AllocError, Global};
-use text_flaws::Place;
 use texts::{PlaceFault, placed_tokens};
 
 /// So many lines stand before those of nodes: the version's and the bound's.

@@ -1,11 +1,11 @@
 //! A program together with the places of its parts.
 
 use crate::places::Places;
+use diagnostics::Place;
 use effect_scan::{Member, Node, Reason, reason_for};
 use findings::{Link, Step};
 use program_flaws::{Source, node_text, push_edge};
 use std::alloc::AllocError;
-use text_flaws::Place;
 
 /// A program that loads, and where its parts stand in its text.
 #[derive(Clone, Copy)]

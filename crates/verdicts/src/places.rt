@@ -1,8 +1,8 @@
 //! Where the declarations, the members and the statements of a program stand in its text.
 
 use class_lang::program_trail;
+use diagnostics::Place;
 use std::alloc::{AllocError, Global};
-use text_flaws::Place;
 use texts::{
     Begun, Landmark, LexFault, PlaceFault, PlacedToken, Token, Word, placed_tokens, tokens,
 };

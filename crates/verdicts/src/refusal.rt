@@ -1,10 +1,10 @@
 //! Texts that are refused.
 
 use declaration_flaws::declaration_flaw;
+use diagnostics::{Flaw, Place, certificate_flaw, meaning, program_flaw};
 use findings::{Finding, Rule, TextKind};
 use program_commands::Refusal;
 use std::alloc::{AllocError, Global};
-use text_flaws::{Flaw, Place, certificate_flaw, meaning, program_flaw};
 
 /// Why the text is refused, which is this refusal's.
 pub fn refusal_finding(
@@ -46,15 +46,16 @@ fn flaw_finding(
     kind: TextKind,
     flaw: Flaw,
 ) -> Result<Finding, AllocError> {
-    let help = match flaw.advice {
-        Some(advice) => Some(String::from_str(alloc, advice)?),
-        None => None,
-    };
+    let Flaw {
+        at,
+        sentence,
+        advice,
+    } = flaw;
     Ok(Finding {
         rule,
-        place: Some(Place::of(text, flaw.at.min(text.len()))),
-        message: flaw.sentence,
-        help,
+        place: Some(Place::of(text, at.min(text.len()))),
+        message: sentence,
+        help: advice,
         text: kind,
         chain: Vec::new(alloc),
     })

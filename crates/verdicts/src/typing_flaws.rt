@@ -2,13 +2,13 @@
 
 use crate::located::Located;
 use crate::sentences::Told;
+use diagnostics::Place;
 use effect_scan::Node;
 use findings::{Finding, Rule, TextKind, Verdict};
 use meta_objects::{Meta, MetaWire};
 use program_flaws::{unfit_text, untyped_text};
 use signatures::fits;
 use std::alloc::AllocError;
-use text_flaws::Place;
 use typing::{Spot, flaw_at};
 
 /// Adds each wire whose method doesn't fit its signal.

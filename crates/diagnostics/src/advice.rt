@@ -1,0 +1,158 @@
+//! What to write instead of what can't stand where it does.
+
+use crate::edits::nearest;
+use crate::habits::{
+    Habit, in_declarations, in_expressions, in_lines, in_members, in_statements, of_declarations,
+    of_members, of_statements, others,
+};
+use crate::misfit::Misfit;
+use crate::pattern::{fits, start_of};
+use crate::place::Place;
+use crate::printed::Printed;
+use crate::source::Part;
+use std::alloc::{AllocError, Global};
+use texts::{Symbol, Token, Wanted, Word};
+
+/// The first words of events.
+const VERBS: [&[u8]; 15] = [
+    b"loop",
+    b"turn",
+    b"new",
+    b"adopt",
+    b"move",
+    b"connect",
+    b"disconnect",
+    b"set",
+    b"emit",
+    b"call",
+    b"bind",
+    b"block",
+    b"unblock",
+    b"delete",
+    b"later",
+];
+
+/// What to write instead, where that is known.
+pub fn advice(alloc: Global, misfit: Misfit) -> Result<Option<String>, AllocError> {
+    if let Some(text) = unclosed(alloc, misfit)? {
+        return Ok(Some(text));
+    }
+    let tables = [
+        in_lines(),
+        of_declarations(),
+        of_members(),
+        in_members(),
+        in_declarations(),
+        of_statements(),
+        in_statements(),
+        in_expressions(),
+    ];
+    for habits in tables {
+        if let Some(text) = habit_of(alloc, habits, misfit)? {
+            return Ok(Some(text));
+        }
+    }
+    if let Some(text) = misspelled(alloc, misfit)? {
+        return Ok(Some(text));
+    }
+    habit_of(alloc, others(), misfit)
+}
+
+/// What the first of these habits says that fits.
+fn habit_of(alloc: Global, habits: &[Habit], misfit: Misfit) -> Result<Option<String>, AllocError> {
+    let found = habits
+        .iter()
+        .find(|habit| habit.is_at(misfit) && fits(habit.pattern, misfit));
+    let Some(habit) = found else {
+        return Ok(None);
+    };
+    let mut text = String::new(alloc);
+    for (number, part) in habit.advice.split('@').enumerate() {
+        if number % 2 == 0 {
+            text.push_str(part)?;
+        } else {
+            let part = slot(misfit, habit.pattern, part);
+            write!(&mut text, "{part}")?;
+        }
+    }
+    Ok(Some(text))
+}
+
+/// The tokens for which this stands in the words of a habit with this pattern.
+fn slot<'a>(misfit: Misfit<'a>, pattern: &str, slot: &str) -> Part<'a> {
+    let source = misfit.source;
+    if slot == "part" {
+        return source.part(misfit.head().saturating_add(1), misfit.at);
+    }
+    if let Some(number) = slot.strip_suffix("..") {
+        let from = start_of(pattern, misfit, count(number));
+        return source.part(from, source.end_of(from));
+    }
+    if let Some(number) = slot.strip_prefix('-') {
+        let from = misfit.at.saturating_sub(count(number));
+        return source.part(from, from.saturating_add(1));
+    }
+    let number = count(slot);
+    let from = start_of(pattern, misfit, number);
+    source.part(from, start_of(pattern, misfit, number.saturating_add(1)))
+}
+
+/// The number that is written so.
+fn count(digits: &str) -> usize {
+    digits.parse::<usize>().unwrap_or(0)
+}
+
+/// That a brace is missing, where what comes stands outside of what is open, or nothing comes.
+fn unclosed(alloc: Global, misfit: Misfit) -> Result<Option<String>, AllocError> {
+    let source = misfit.source;
+    let in_slot = misfit.wants_word(Word::Set);
+    let is_outside = match source.token(misfit.at) {
+        None => true,
+        Some(Token::Word(word)) => match word {
+            Word::Property | Word::Signal | Word::Slot | Word::Native => in_slot,
+            Word::Class | Word::Wire | Word::Owns | Word::Binding => true,
+            _ => false,
+        },
+        Some(_) => false,
+    };
+    if !is_outside || !misfit.wants_symbol(Symbol::CloseBrace) {
+        return Ok(None);
+    }
+    let word = if in_slot { Word::Slot } else { Word::Class };
+    let Some(begun) = misfit.last_begun(&[word]) else {
+        return Ok(None);
+    };
+    let place = source.place(begun).min(source.text.len());
+    let line = Place::of(source.text, place).line;
+    let (word, name) = (source.shown(begun), source.shown(begun.saturating_add(1)));
+    let place = if source.token(misfit.at).is_some() {
+        "before this"
+    } else {
+        "at the end"
+    };
+    Ok(Some(format!(in alloc;
+        "a `}}` is missing {place}: {word} `{name}` of line {line} isn't closed"
+    )?))
+}
+
+/// The word that was to be written, where a name differs from one in few letters.
+fn misspelled(alloc: Global, misfit: Misfit) -> Result<Option<String>, AllocError> {
+    if !misfit.source.is_name(misfit.at) {
+        return Ok(None);
+    }
+    let mut words = Vec::new(alloc);
+    for wanted in misfit.wanted() {
+        match wanted {
+            Wanted::Word(word) => words.push(word.spelling())?,
+            Wanted::Spelled(name) => words.push(*name)?,
+            Wanted::Verb => words.extend_from_slice(&VERBS)?,
+            _ => {}
+        }
+    }
+    let name = misfit.source.spelled(misfit.at);
+    let Some(word) = nearest(alloc, name, words.as_slice())? else {
+        return Ok(None);
+    };
+    let word = Printed(word);
+    Ok(Some(format!(in alloc; "did you mean `{word}`?")?))
+}

@@ -1,0 +1,247 @@
+//! Where a text goes over a limit (docs/language.md, "Limits"), and how far.
+
+ghost use Rattle.std.specs.Prelude.{◌≤◌, length, IfOk, IfSome};
+
+use crate::flaw::{Flaw, within};
+use crate::source::Source;
+use std::alloc::{AllocError, Global};
+use texts::{MOST_BYTES, Symbol, Token, Trail, Word};
+
+/// A limit of how many declarations there may be.
+struct Limit {
+    most: usize,
+    name: &'static str,
+    /// With which words those begin that are counted.
+    words: &'static [Word],
+    /// Whether they are counted in each class, and not in the whole program.
+    in_class: bool,
+}
+
+macro_rules! limits {
+    ($($most:literal $name:literal [$($word:ident)*] $in_class:literal;)*) => {
+        [$(Limit { most: $most, name: $name, words: &[$(Word::$word),*], in_class: $in_class },)*]
+    };
+}
+
+const LIMITS: [Limit; 7] = limits! {
+    256 "classes" [Class] false;
+    1000 "wires" [Wire] false;
+    1000 "`owns`" [Owns] false;
+    1000 "bindings" [Binding] false;
+    64 "natives" [Native] false;
+    32 "properties" [Property] true;
+    64 "signals, slots and natives" [Signal Slot Native] true;
+};
+
+/// What goes over a limit.
+#[derive(Clone, Copy)]
+struct Excess {
+    /// The first token of the first declaration that is one too many.
+    at: usize,
+    /// How many there are.
+    total: usize,
+    /// The name of the class in which they are counted.
+    class: usize,
+}
+
+impl Limit {
+    /// What goes over it, if anything does.
+    fn excess(&self, source: Source, trail: &Trail) -> Option<Excess> {
+        let mut found: Option<Excess> = None;
+        let mut total = 0usize;
+        let mut class = 0usize;
+        for begun in trail.begun() {
+            let Some(Token::Word(word)) = source.token(begun.at) else {
+                continue;
+            };
+            if self.in_class && *word == Word::Class {
+                if found.is_some() {
+                    break;
+                }
+                total = 0;
+                class = begun.at.saturating_add(1);
+            }
+            if self.words.contains(word) {
+                total = total.saturating_add(1);
+                let at = match &found {
+                    Some(first) => first.at,
+                    None => begun.at,
+                };
+                if total > self.most {
+                    found = Some(Excess { at, total, class });
+                }
+            }
+        }
+        found
+    }
+}
+
+/// The first declaration with which there are too many.
+pub fn count_flaw(
+    alloc: Global,
+    source: Source,
+    trail: &Trail,
+) -> Result<Option<Flaw>, AllocError> {
+    let mut first: Option<(usize, Flaw)> = None;
+    for limit in &LIMITS {
+        if let Some(excess) = limit.excess(source, trail) {
+            let is_first = match &first {
+                Some((at, _)) => excess.at < *at,
+                None => true,
+            };
+            if is_first {
+                first = Some((excess.at, excess_flaw(alloc, source, limit, &excess)?));
+            }
+        }
+    }
+    match first {
+        Some((_, flaw)) => Ok(Some(flaw)),
+        None => Ok(None),
+    }
+}
+
+fn excess_flaw(
+    alloc: Global,
+    source: Source,
+    limit: &Limit,
+    excess: &Excess,
+) -> Result<Flaw, AllocError> {
+    let Excess { at, total, class } = *excess;
+    let (most, name) = (limit.most, limit.name);
+    let class = source.shown(class);
+    let sentence = if limit.in_class {
+        format!(in alloc;
+            "class `{class}` has {total} {name}: at most {most} may be, and this is the first one too many"
+        )?
+    } else {
+        format!(in alloc;
+            "the program has {total} {name}: at most {most} may be, and this is the first one too many"
+        )?
+    };
+    Flaw::told(alloc, source.place(at), sentence, None)
+}
+
+/// A text of this name, a program or a script, with more bytes than it may have.
+pub fn size_flaw(alloc: Global, name: &str, text: &[u8]) -> Result<Option<Flaw>, AllocError>
+    ensures { IfOk result (λ flaw. IfSome flaw (λ f. f.at ≤ length text.now)) }
+{
+    let size = text.len();
+    if size <= MOST_BYTES {
+        return Ok(None);
+    }
+    let sentence = format!(in alloc; "the {name} has {size} bytes: at most {MOST_BYTES} may be")?;
+    let flaw = Flaw::told(alloc, MOST_BYTES, sentence, None)?;
+    Ok(within(text, 0, Some(flaw)))
+}
+
+/// The first token with which more than 32 of `(` and `{` are open, or more than 200 tokens stand together.
+pub fn depth_flaw(alloc: Global, source: Source) -> Result<Option<Flaw>, AllocError> {
+    let mut open = 0u32;
+    let mut together = 0u32;
+    for placed in source.tokens {
+        open = match placed.token {
+            Token::Symbol(Symbol::Open | Symbol::OpenBrace) => open.saturating_add(1),
+            Token::Symbol(Symbol::Close | Symbol::CloseBrace) => open.saturating_sub(1),
+            _ => open,
+        };
+        together = match placed.token {
+            Token::Symbol(Symbol::Semicolon | Symbol::OpenBrace | Symbol::CloseBrace) => 0,
+            _ => together.saturating_add(1),
+        };
+        let sentence = if open > 32 {
+            "this bracket is the 33rd that is open at once: at most 32 may be"
+        } else if together > 200 {
+            "this is the 201st token without a `;`, `{` or `}`: at most 200 may stand together"
+        } else {
+            continue;
+        };
+        let sentence = String::from_str(alloc, sentence)?;
+        return Ok(Some(Flaw::told(alloc, placed.at, sentence, None)?));
+    }
+    Ok(None)
+}
+
+/// The first reference that isn't const.
+pub fn reference_flaw(alloc: Global, source: Source) -> Result<Option<Flaw>, AllocError> {
+    let found = (1..source.tokens.len()).find(|at| is_plain_reference(source, *at));
+    let Some(at) = found else {
+        return Ok(None);
+    };
+    let name = source.shown(at.saturating_sub(1));
+    let sentence = format!(in alloc; "the reference `{name} &` isn't `const`")?;
+    let advice = format!(in alloc;
+        "write `const {name} &` or `{name}`, which are the same type: values are copied"
+    )?;
+    Ok(Some(Flaw {
+        at: source.place(at),
+        sentence,
+        advice: Some(advice),
+    }))
+}
+
+/// Whether the token is the `&` of a reference without `const`.
+fn is_plain_reference(source: Source, at: usize) -> bool {
+    let is_const = match source.token(at.saturating_sub(2)) {
+        Some(Token::Word(Word::Const)) => at >= 2,
+        _ => false,
+    };
+    source.is(at, Symbol::Ampersand) && source.is_name(at.saturating_sub(1)) && !is_const
+}
+
+/// The first signature with more than eight types or parameters, or binding with more formal sources. Those of a certificate
+/// stand behind a dot.
+pub fn parameters_flaw(
+    alloc: Global,
+    source: Source,
+    is_certificate: bool,
+) -> Result<Option<Flaw>, AllocError> {
+    for at in 0..source.tokens.len() {
+        if source.is(at, Symbol::Open) && (is_certificate || !begins_arguments(source, at)) {
+            if let Some(flaw) = long_list(alloc, source, at)? {
+                return Ok(Some(flaw));
+            }
+        }
+    }
+    Ok(None)
+}
+
+/// Whether `(` begins arguments: behind `emit` and a name, behind a path, or in an expression.
+fn begins_arguments(source: Source, at: usize) -> bool {
+    if is_of_binding(source, at) {
+        return false;
+    }
+    let is_emitted = match source.token(at.saturating_sub(2)) {
+        Some(Token::Word(Word::Emit)) | Some(Token::Symbol(Symbol::Dot)) => true,
+        _ => false,
+    };
+    !source.is_name(at.saturating_sub(1)) || is_emitted
+}
+
+/// Whether `(` begins the formal sources of a binding, behind its name and the property.
+fn is_of_binding(source: Source, at: usize) -> bool {
+    match source.token(at.saturating_sub(5)) {
+        Some(Token::Word(Word::Binding)) => true,
+        _ => false,
+    }
+}
+
+/// A list that begins with this `(`, and has more than eight parts.
+fn long_list(alloc: Global, source: Source, at: usize) -> Result<Option<Flaw>, AllocError> {
+    let close = (at..source.tokens.len()).find(|inner| source.is(*inner, Symbol::Close));
+    let end = close.unwrap_or(source.tokens.len());
+    let commas = (at..end).filter(|inner| source.is(*inner, Symbol::Comma));
+    let total = commas.count().saturating_add(1);
+    let mut commas = (at..end).filter(|inner| source.is(*inner, Symbol::Comma));
+    let Some(eighth) = commas.nth(7) else {
+        return Ok(None);
+    };
+    let place = source.place(eighth.saturating_add(1));
+    let sentence = if is_of_binding(source, at) {
+        let name = source.shown(at.saturating_sub(4));
+        format!(in alloc; "binding `{name}` has {total} formal sources: at most 8 may be")?
+    } else {
+        let name = source.shown(at.saturating_sub(1));
+        format!(in alloc; "`{name}` has {total} parameters: at most 8 may be")?
+    };
+    Ok(Some(Flaw::told(alloc, place, sentence, None)?))
+}

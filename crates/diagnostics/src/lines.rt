@@ -1,0 +1,148 @@
+//! What is wrong with a line of a script or of a certificate.
+
+ghost use Rattle.std.specs.Prelude.{◌≤◌, length, IfOk, IfSome};
+
+use crate::bytes::bad_byte;
+use crate::flaw::{Flaw, within};
+use crate::limits::{parameters_flaw, reference_flaw};
+use crate::misfit::Misfit;
+use crate::source::{Source, plain_tokens, whole};
+use certificate_lang::{Row, Version, row_trail};
+use script_lang::event_trail;
+use sqlite_items::Items;
+use std::alloc::{AllocError, Global};
+use texts::{PlaceFault, PlacedToken, Token, Trail, Wanted, number, placed_tokens, split_line};
+
+/// What is wrong with this line of a script, counted from 1.
+pub fn script_flaw(alloc: Global, text: &[u8], line: usize) -> Result<Option<Flaw>, AllocError>
+    ensures { IfOk result (λ flaw. IfSome flaw (λ f. f.at ≤ length text.now)) }
+{
+    let mut left = text;
+    let mut number = 0usize;
+    while let Some((content, rest)) = split_line(left) {
+        number = number.saturating_add(1);
+        if number == line {
+            let flaw = event_flaw(alloc, content)?;
+            return Ok(within(text, text.len().saturating_sub(left.len()), flaw));
+        }
+        left = rest;
+    }
+    Ok(None)
+}
+
+/// What is wrong with a line that is to be an event.
+fn event_flaw(alloc: Global, line: &[u8]) -> Result<Option<Flaw>, AllocError> {
+    let placed = match placed_line(alloc, line)? {
+        Ok(placed) => placed,
+        Err(flaw) => return Ok(Some(flaw)),
+    };
+    let tokens = plain_tokens(alloc, line)?;
+    let trail = whole(event_trail(alloc, tokens.as_slice()))?;
+    let source = Source {
+        text: line,
+        tokens: placed.as_slice(),
+    };
+    line_flaw(alloc, source, &trail, false)
+}
+
+/// What is wrong with the first line of a certificate that is none of its lines.
+pub fn certificate_flaw(alloc: Global, text: &[u8]) -> Result<Option<Flaw>, AllocError>
+    ensures { IfOk result (λ flaw. IfSome flaw (λ f. f.at ≤ length text.now)) }
+{
+    let mut left = text;
+    let mut row = Row::Version;
+    let mut version = Version::Two;
+    while let Some((line, rest)) = split_line(left) {
+        let begin = text.len().saturating_sub(left.len());
+        let placed = match placed_line(alloc, line)? {
+            Ok(placed) => placed,
+            Err(flaw) => return Ok(within(text, begin, Some(flaw))),
+        };
+        if !placed.is_empty() {
+            let source = Source {
+                text: line,
+                tokens: placed.as_slice(),
+            };
+            if let Some(flaw) = row_flaw(alloc, source, row)? {
+                return Ok(within(text, begin, Some(flaw)));
+            }
+            if row == Row::Version {
+                version = version_of(source).unwrap_or(version);
+            }
+            row = row_after(row, version);
+        }
+        left = rest;
+    }
+    let flaw = match row {
+        Row::Node(_) => None,
+        Row::Version | Row::Bound => Some(ends_early(alloc, text.len())?),
+    };
+    Ok(within(text, 0, flaw))
+}
+
+/// What follows a line of a certificate in this version.
+fn row_after(row: Row, version: Version) -> Row {
+    match row {
+        Row::Version => Row::Bound,
+        Row::Bound | Row::Node(_) => Row::Node(version),
+    }
+}
+
+/// What is wrong with a line of a certificate.
+fn row_flaw(alloc: Global, source: Source, row: Row) -> Result<Option<Flaw>, AllocError> {
+    let tokens = plain_tokens(alloc, source.text)?;
+    let trail = whole(row_trail(alloc, tokens.as_slice(), row))?;
+    match line_flaw(alloc, source, &trail, true)? {
+        Some(flaw) => Ok(Some(flaw)),
+        None if row == Row::Version && version_of(source).is_none() => {
+            let number = source.shown(1);
+            let sentence = format!(in alloc; "there is no version {number} of certificates")?;
+            let advice = "write `certificate 2`; `certificate 1` is read too";
+            Ok(Some(Flaw::told(alloc, source.place(1), sentence, Some(advice))?))
+        }
+        None => Ok(None),
+    }
+}
+
+/// The version that the tokens of a certificate's first line name.
+fn version_of(source: Source) -> Option<Version> {
+    match source.token(1)? {
+        Token::Number(digits) => {
+            let number = number(digits.as_slice(), u64::from(u32::MAX))?;
+            Version::of(u32::try_from(number).ok()?)
+        }
+        _ => None,
+    }
+}
+
+/// A certificate that ends before its nodes.
+fn ends_early(alloc: Global, at: usize) -> Result<Flaw, AllocError> {
+    let sentence = String::from_str(alloc, "the certificate ends too early")?;
+    let advice = "its first line is `certificate 2`, its second one `bound N`";
+    Flaw::told(alloc, at, sentence, Some(advice))
+}
+
+/// What is wrong with a line through which the reader went so.
+fn line_flaw(
+    alloc: Global,
+    source: Source,
+    trail: &Trail,
+    is_certificate: bool,
+) -> Result<Option<Flaw>, AllocError> {
+    if trail.farthest() < source.tokens.len() || !trail.wanted().contains(&Wanted::End) {
+        return Ok(Some(Misfit::new(source, trail).flaw(alloc)?));
+    }
+    match reference_flaw(alloc, source)? {
+        Some(flaw) => Ok(Some(flaw)),
+        None => parameters_flaw(alloc, source, is_certificate),
+    }
+}
+
+/// The tokens of a line, or what is wrong with its bytes.
+fn placed_line(alloc: Global, line: &[u8]) -> Result<Result<Items<PlacedToken>, Flaw>, AllocError> {
+    match placed_tokens(alloc, line) {
+        Ok(placed) => Ok(Ok(placed)),
+        Err(PlaceFault::BadByte(at)) => Ok(Err(bad_byte(alloc, line, at)?)),
+        Err(PlaceFault::Memory) => Err(AllocError),
+    }
+}

@@ -1,0 +1,158 @@
+//! A token that can't stand where it does, or an end that comes too early.
+
+use crate::advice::advice;
+use crate::flaw::Flaw;
+use crate::source::Source;
+use crate::wanted::push_wanted;
+use signatures::LONGEST_TEXT;
+use std::alloc::{AllocError, Global};
+use texts::{Symbol, Token, Trail, Wanted, Word};
+
+/// A token that can't stand where it does, or the end where it comes too early.
+#[derive(Clone, Copy)]
+pub struct Misfit<'a> {
+    /// The text, which may be a line of one.
+    pub source: Source<'a>,
+    /// How many tokens stand in front of it.
+    pub at: usize,
+    trail: &'a Trail,
+}
+
+impl<'a> Misfit<'a> {
+    /// Where a reader stopped that went so through a text.
+    pub fn new(source: Source<'a>, trail: &'a Trail) -> Misfit<'a> {
+        Misfit {
+            source,
+            at: trail.farthest(),
+            trail,
+        }
+    }
+
+    /// Whether this could come.
+    pub fn wants(self, wanted: Wanted) -> bool {
+        self.trail.wanted().contains(&wanted)
+    }
+
+    /// Whether this symbol could come.
+    pub fn wants_symbol(self, symbol: Symbol) -> bool {
+        self.wants(Wanted::Symbol(symbol))
+    }
+
+    /// Whether this word could come.
+    pub fn wants_word(self, word: Word) -> bool {
+        self.wants(Wanted::Word(word))
+    }
+
+    /// Whether a name that is spelled out could come.
+    pub fn wants_spelled(self) -> bool {
+        self.wanted()
+            .iter()
+            .any(|wanted| matches!(wanted, Wanted::Spelled(_)))
+    }
+
+    /// Whether a number could come.
+    pub fn wants_number(self) -> bool {
+        self.greatest().is_some()
+    }
+
+    /// What could come.
+    pub fn wanted(self) -> &'a [Wanted] {
+        self.trail.wanted()
+    }
+
+    /// The greatest number that could come.
+    fn greatest(self) -> Option<u32> {
+        self.trail.wanted().iter().find_map(|wanted| match wanted {
+            Wanted::Number(most) => Some(*most),
+            _ => None,
+        })
+    }
+
+    /// Whether it stands in a line by itself, of a script or of a certificate, or in front of all declarations.
+    pub fn is_in_line(self) -> bool {
+        self.trail.begun().is_empty()
+    }
+
+    /// The first token of the innermost part in which it stands: a statement, a member, a declaration or a line.
+    pub fn head(self) -> usize {
+        let begun = self.trail.begun().iter().filter(|begun| begun.at < self.at);
+        begun.last().map_or(0, |begun| begun.at)
+    }
+
+    /// The first token of the last part in front of it that begins with one of these words.
+    pub fn last_begun(self, words: &[Word]) -> Option<usize> {
+        let begun = self.trail.begun().iter().filter(|begun| match self.source.token(begun.at) {
+            Some(Token::Word(word)) => begun.at < self.at && words.contains(word),
+            _ => false,
+        });
+        begun.last().map(|begun| begun.at)
+    }
+
+    /// What is wrong, and what to write instead.
+    pub fn flaw(self, alloc: Global) -> Result<Flaw, AllocError> {
+        if let Some(at) = self.of_no_binding() {
+            return self.binding_flaw(alloc, at);
+        }
+        Ok(Flaw {
+            at: self.source.place(self.at),
+            sentence: self.sentence(alloc)?,
+            advice: advice(alloc, self)?,
+        })
+    }
+
+    /// What is wrong.
+    fn sentence(self, alloc: Global) -> Result<String, AllocError> {
+        let spelled = self.source.shown(self.at);
+        let mut sentence = match (self.source.token(self.at), self.greatest()) {
+            (Some(Token::Text(bytes)), _) if self.wants(Wanted::Text) => {
+                let size = bytes.len();
+                return format!(in alloc;
+                    "the text has {size} bytes: at most {LONGEST_TEXT} may be"
+                );
+            }
+            (Some(Token::Number(_)), Some(most)) => {
+                return format!(in alloc;
+                    "the number `{spelled}` is too great: at most {most} may be"
+                );
+            }
+            (Some(_), _) if self.wants(Wanted::Verb) => {
+                return format!(in alloc; "`{spelled}` begins no event");
+            }
+            (Some(_), _) => format!(in alloc; "`{spelled}` can't stand here: ")?,
+            (None, _) => format!(in alloc; "this ends too early: ")?,
+        };
+        push_wanted(&mut sentence, alloc, self.wanted())?;
+        Ok(sentence)
+    }
+
+    /// The first token that can't stand in the expression of a binding, where one was read to its `;`.
+    fn of_no_binding(self) -> Option<usize> {
+        if !self.source.is(self.at, Symbol::Semicolon) || !self.wants_symbol(Symbol::Semicolon) {
+            return None;
+        }
+        let begin = (self.head()..self.at).find(|at| self.source.is(*at, Symbol::Assign))?;
+        (begin..self.at).find(|at| self.is_foreign(*at))
+    }
+
+    /// Whether the token is `this`, `null`, a name without a property, or the dot in front of a second property.
+    fn is_foreign(self, at: usize) -> bool {
+        let source = self.source;
+        match source.token(at) {
+            Some(Token::Word(word)) => *word == Word::This || *word == Word::Null,
+            Some(Token::Name(_)) => {
+                !source.is(at.saturating_sub(1), Symbol::Dot)
+                    && !source.is(at.saturating_add(1), Symbol::Dot)
+            }
+            Some(Token::Symbol(Symbol::Dot)) => source.is(at.saturating_sub(2), Symbol::Dot),
+            _ => false,
+        }
+    }
+
+    fn binding_flaw(self, alloc: Global, at: usize) -> Result<Flaw, AllocError> {
+        let spelled = self.source.shown(at);
+        let sentence = format!(in alloc; "`{spelled}` can't stand in the expression of a binding")?;
+        let advice =
+            "a binding reads its formal sources alone, each by one property, as `a.p`, and has no `this` and no `null`";
+        Flaw::told(alloc, self.source.place(at), sentence, Some(advice))
+    }
+}

@@ -1,0 +1,86 @@
+//! What is wrong with a program.
+
+ghost use Rattle.std.specs.Prelude.{◌≤◌, length, IfOk, IfSome};
+
+use crate::bytes::bad_byte;
+use crate::flaw::{Flaw, within};
+use crate::limits::{count_flaw, depth_flaw, parameters_flaw, reference_flaw, size_flaw};
+use crate::meanings::meaning;
+use crate::misfit::Misfit;
+use crate::source::{Source, plain_tokens, whole};
+use class_lang::program_trail;
+use std::alloc::{AllocError, Global};
+use texts::{PlaceFault, Token, Trail, Word, placed_tokens};
+
+/// What is wrong with a program that is refused for the reason of this number, where that has a place in its text: a
+/// byte that begins no token (4), the first token that can't stand where it does (5), one that nests too deep (6), a
+/// reference that isn't const (2), a ninth parameter (3), or too many bytes or declarations (7).
+pub fn program_flaw(alloc: Global, text: &[u8], number: u8) -> Result<Option<Flaw>, AllocError>
+    ensures { IfOk result (λ flaw. IfSome flaw (λ f. f.at ≤ length text.now)) }
+{
+    let flaw = flaw_of(alloc, text, number)?;
+    Ok(within(text, 0, flaw))
+}
+
+fn flaw_of(alloc: Global, text: &[u8], number: u8) -> Result<Option<Flaw>, AllocError> {
+    if number == 7
+        && let Some(flaw) = size_flaw(alloc, "program", text)?
+    {
+        return Ok(Some(flaw));
+    }
+    let placed = match placed_tokens(alloc, text) {
+        Ok(placed) => placed,
+        Err(PlaceFault::BadByte(at)) => return Ok(Some(bad_byte(alloc, text, at)?)),
+        Err(PlaceFault::Memory) => return Err(AllocError),
+    };
+    let source = Source {
+        text,
+        tokens: placed.as_slice(),
+    };
+    match number {
+        2 => reference_flaw(alloc, source),
+        3 => parameters_flaw(alloc, source, false),
+        5 => {
+            let trail = trail_of(alloc, text)?;
+            Ok(Some(Misfit::new(source, &trail).flaw(alloc)?))
+        }
+        6 => depth_flaw(alloc, source),
+        7 => count_flaw(alloc, source, &trail_of(alloc, text)?),
+        _ => Ok(None),
+    }
+}
+
+/// The way of the reader of programs through the text.
+fn trail_of(alloc: Global, text: &[u8]) -> Result<Trail, AllocError> {
+    let tokens = plain_tokens(alloc, text)?;
+    whole(program_trail(alloc, tokens.as_slice()))
+}
+
+/// The wire of this number, counted from 1, as one that doesn't fit.
+pub fn wire_flaw(alloc: Global, text: &[u8], number: usize) -> Result<Option<Flaw>, AllocError>
+    ensures { IfOk result (λ flaw. IfSome flaw (λ f. f.at ≤ length text.now)) }
+{
+    let placed = match placed_tokens(alloc, text) {
+        Ok(placed) => placed,
+        Err(PlaceFault::BadByte(_)) => return Ok(None),
+        Err(PlaceFault::Memory) => return Err(AllocError),
+    };
+    let mut wires = placed
+        .as_slice()
+        .iter()
+        .filter(|placed| is_wire(&placed.token));
+    let Some(wire) = wires.nth(number.saturating_sub(1)) else {
+        return Ok(None);
+    };
+    let sentence = String::from_str(alloc, meaning(70).unwrap_or(""))?;
+    let flaw = Flaw::told(alloc, wire.at, sentence, None)?;
+    Ok(within(text, 0, Some(flaw)))
+}
+
+/// Whether a wire begins with the token.
+fn is_wire(token: &Token) -> bool {
+    match token {
+        Token::Word(word) => *word == Word::Wire,
+        _ => false,
+    }
+}
