@@ -12,7 +12,12 @@ pub fn input(rt: &HostRuntime, most: u64) -> io::Result<Vec<u8>> {
 
 /// Writes a text on standard output.
 pub fn write(rt: &HostRuntime, text: &str) -> io::Result<()> {
+    write_bytes(rt, text.as_bytes())
+}
+
+/// Writes bytes, which need be no text, on standard output.
+pub fn write_bytes(rt: &HostRuntime, bytes: &[u8]) -> io::Result<()> {
     let mut writer = io::writer(rt);
-    writer.write_all(text.as_bytes())?;
+    writer.write_all(bytes)?;
     writer.flush()
 }

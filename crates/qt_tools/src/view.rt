@@ -1,41 +1,72 @@
-//! The word `view`: a trace as a sequence diagram, or as a page.
+//! The word `view`: a trace as lines for a terminal, as a sequence diagram, or as a page.
 
 use crate::fault::ToolFault;
-use crate::streams::{input, write};
+use crate::streams::{input, write, write_bytes};
 use std::alloc::{AllocError, Global};
+use std::io;
 use texts::split_at_line;
 use trace_diagrams::sequence_diagram;
-use trace_pages::trace_page;
+use trace_pages::{laid_out_trace, trace_page};
 
 /// The line between a trace and a script.
 const BORDER: &[u8] = b"%%";
 
-/// Writes the diagram or the page of the trace on standard input.
+/// What a trace is shown as.
+#[derive(Clone, Copy)]
+enum Form {
+    /// Lines for a terminal.
+    Lines {
+        /// Whether they are coloured.
+        colours: bool,
+    },
+    /// A sequence diagram.
+    Diagram,
+    /// A page of HTML.
+    Page,
+}
+
+/// Writes the trace on standard input as the words say. Of a page and of lines its script may follow.
 pub fn view(rt: &HostRuntime, words: &[&str]) -> Result<(), ToolFault> {
-    let is_page = match words {
-        [word] if *word == "--mermaid" => false,
-        [word] if *word == "--html" => true,
-        _ => return Err(ToolFault::Usage),
+    let Some(form) = wanted_form(words) else {
+        return Err(ToolFault::Usage);
     };
     let input = match input(rt, u64::MAX) {
         Ok(input) => input,
         Err(reason) => return Err(ToolFault::Unread(reason)),
     };
-    let text = if is_page {
-        page(rt.alloc(), input.as_slice())?
-    } else {
-        sequence_diagram(rt.alloc(), input.as_slice())?
-    };
-    match write(rt, text.as_str()) {
+    match show(rt, form, input.as_slice())? {
         Ok(()) => Ok(()),
         Err(reason) => Err(ToolFault::Unwritten(reason)),
     }
 }
 
-/// The page of a trace, behind which the script may stand.
-fn page(alloc: Global, input: &[u8]) -> Result<String, AllocError> {
-    match split_at_line(input, BORDER) {
-        Some((trace, script)) => trace_page(alloc, trace, script),
-        None => trace_page(alloc, input, &[]),
+/// What the words ask for; `None` for others.
+fn wanted_form(words: &[&str]) -> Option<Form> {
+    match words {
+        [word] if *word == "--plain" => Some(Form::Lines { colours: false }),
+        [word] if *word == "--color" => Some(Form::Lines { colours: true }),
+        [word] if *word == "--mermaid" => Some(Form::Diagram),
+        [word] if *word == "--html" => Some(Form::Page),
+        _ => None,
+    }
+}
+
+/// Writes the trace in this form. Its error is that memory was refused.
+fn show(rt: &HostRuntime, form: Form, input: &[u8]) -> Result<io::Result<()>, AllocError> {
+    let alloc: Global = rt.alloc();
+    let (trace, script) = split_at_line(input, BORDER).unwrap_or((input, &[]));
+    match form {
+        Form::Lines { colours } => {
+            let lines = laid_out_trace(alloc, trace, script, colours)?;
+            Ok(write_bytes(rt, lines.as_slice()))
+        }
+        Form::Diagram => {
+            let diagram = sequence_diagram(alloc, input)?;
+            Ok(write(rt, diagram.as_str()))
+        }
+        Form::Page => {
+            let page = trace_page(alloc, trace, script)?;
+            Ok(write(rt, page.as_str()))
+        }
     }
 }
