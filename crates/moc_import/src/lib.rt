@@ -1,20 +1,14 @@
 //! Class declarations from what Qt's meta-object compiler writes of C++ headers.
 #![tactic(auto)]
 
-mod catalogue;
-mod fault;
-mod importing;
-mod kinds;
-mod members;
-mod moc;
-mod reading;
+mod bodies;
 mod summary;
 mod writing;
 
-use crate::catalogue::Catalogue;
-use crate::importing::Import;
-use crate::reading::files;
-pub use fault::ImportFault;
+pub use moc_classes::ImportFault;
+use moc_classes::{BORDER, Catalogue, Choice, Import, MocFile, files};
+pub use slot_effects::Mistake;
+use slot_effects::{Effects, Line, added_slots, lines, named_properties};
 use std::alloc::Global;
 pub use summary::Summary;
 
@@ -23,8 +17,18 @@ pub use summary::Summary;
 pub struct Wanted<'w> {
     /// These classes and their bases alone, by their names with their scope or without; all classes where none is named.
     pub only: &'w [&'w str],
-    /// Properties alone that notify, or that a slot writes.
+    /// Of properties those alone that notify, that a slot writes, or that effects name.
     pub is_lean: bool,
+    /// Whether the last text has effects of slots.
+    pub has_effects: bool,
+}
+
+/// What comes of it.
+#[derive(Drop)]
+pub enum Outcome {
+    Imported(Imported),
+    /// What is wrong with the effects, line by line.
+    Mistaken(Vec<Mistake>),
 }
 
 /// What is imported.
@@ -36,19 +40,44 @@ pub struct Imported {
     pub summary: Summary,
 }
 
-/// Class declarations from what moc writes: texts of JSON, parted by lines `%%`. Errors: a text isn't what moc writes
-/// (`BadJson`); a class is asked for that isn't there (`NoClass`); `Memory`.
-pub fn import(alloc: Global, input: &str, wanted: Wanted<'_>) -> Result<Imported, ImportFault> {
-    let files = files(alloc, input)?;
-    let catalogue = Catalogue::of(alloc, files.as_slice(), wanted.only)?;
+/// Class declarations from what moc writes: texts of JSON, parted by lines `%%`, and behind them one of effects, if that is
+/// asked for. Errors: a text isn't what moc writes (`BadJson`); there is no text of effects (`NoEffects`); a class is asked
+/// for that isn't there (`NoClass`); `Memory`.
+pub fn import(alloc: Global, input: &str, wanted: Wanted<'_>) -> Result<Outcome, ImportFault> {
+    let (json, effects) = match input.rsplit_once(BORDER) {
+        Some(both) if wanted.has_effects => both,
+        None if wanted.has_effects => return Err(ImportFault::NoEffects),
+        _ => (input, ""),
+    };
+    let files = files(alloc, json)?;
+    let lines = lines(alloc, effects)?;
+    declarations(alloc, files.as_slice(), lines.as_slice(), wanted)
+}
+
+/// Class declarations from what is read.
+fn declarations<'f>(
+    alloc: Global,
+    files: &'f [MocFile],
+    lines: &'f [Line<'_>],
+    wanted: Wanted<'_>,
+) -> Result<Outcome, ImportFault> {
+    let catalogue = Catalogue::of(alloc, files, wanted.only)?;
     for name in wanted.only {
         if catalogue.number(name).is_none() {
             return Err(ImportFault::NoClass);
         }
     }
-    let mut missing = Vec::new(alloc);
-    let import = Import::of(alloc, catalogue, wanted.is_lean, &mut missing)?;
-    let program = writing::program(alloc, &import, missing.as_slice())?;
-    let summary = Summary::of(&import, missing.as_slice());
-    Ok(Imported { program, summary })
+    let choice = Choice {
+        is_lean: wanted.is_lean,
+        kept: named_properties(alloc, lines)?,
+        added: added_slots(alloc, &catalogue, lines)?,
+    };
+    let import = Import::of(alloc, catalogue, &choice)?;
+    let effects = Effects::of(alloc, &import, lines)?;
+    if !effects.is_whole() {
+        return Ok(Outcome::Mistaken(effects.into_mistakes()));
+    }
+    let program = writing::program(alloc, &import, &effects)?;
+    let summary = Summary::of(&import, &effects);
+    Ok(Outcome::Imported(Imported { program, summary }))
 }

@@ -1,7 +1,7 @@
 //! How much was imported, and how much was left out.
 
-use crate::importing::{Import, Missing};
-use crate::members::{LeftOut, Method, Parameter};
+use moc_classes::{Import, LeftOut, Missing, Placed, Sort};
+use slot_effects::Effects;
 
 /// How much was imported, and how much was left out.
 #[derive(Clone, Copy, Debug, Default, PartialEq, Eq)]
@@ -11,6 +11,10 @@ pub struct Summary {
     pub signals: usize,
     /// Slots and invokable methods.
     pub slots: usize,
+    /// Slots that effects give a body.
+    pub given: usize,
+    /// Those of them that C++ doesn't have.
+    pub added: usize,
     /// Slots whose body isn't known: a verdict says nothing of these.
     pub unknown: usize,
     /// Types of properties and parameters that are an `int` here, and another number or an enum in C++.
@@ -23,9 +27,9 @@ pub struct Summary {
 
 impl Summary {
     /// The counts.
-    pub(crate) fn of(import: &Import<'_>, missing: &[(usize, Missing<'_>)]) -> Summary {
+    pub(crate) fn of(import: &Import<'_>, effects: &Effects<'_>) -> Summary {
         let mut summary = Summary {
-            others: import.catalogue.unnamed.len(),
+            others: import.catalogue.left_out.len(),
             ..Summary::default()
         };
         for (class, members) in import.members.iter().enumerate() {
@@ -34,11 +38,16 @@ impl Summary {
                 summary.properties = summary.properties.saturating_add(1);
                 summary.count_narrowed(property.mapped.is_narrowed);
             }
-            for method in members.methods.as_slice() {
-                summary.count_method(import, class, method);
+            for (place, method) in members.methods.as_slice().iter().enumerate() {
+                let placed = Placed {
+                    class,
+                    place,
+                    method,
+                };
+                summary.count_method(import, effects, placed);
             }
         }
-        for (_, member) in missing {
+        for (_, member) in import.missing.as_slice() {
             let (Missing::Property(_, why) | Missing::Method(_, why)) = *member;
             match why {
                 LeftOut::Type(_) => summary.untyped = summary.untyped.saturating_add(1),
@@ -59,16 +68,22 @@ impl Summary {
         }
     }
 
-    fn count_method(&mut self, import: &Import<'_>, class: usize, method: &Method<'_>) {
+    fn count_method(&mut self, import: &Import<'_>, effects: &Effects<'_>, placed: Placed<'_, '_>) {
+        let method = placed.method;
         for parameter in method.parameters.as_slice() {
             self.count_narrowed(parameter.mapped.is_narrowed);
         }
-        if method.is_signal {
+        if method.is_signal() {
             self.signals = self.signals.saturating_add(1);
             return;
         }
         self.slots = self.slots.saturating_add(1);
-        if import.written(class, method).is_none() {
+        if method.sort == Sort::AddedSlot {
+            self.added = self.added.saturating_add(1);
+        }
+        if effects.statements(placed.class, placed.place).is_some() {
+            self.given = self.given.saturating_add(1);
+        } else if import.written(placed.class, method).is_none() {
             self.unknown = self.unknown.saturating_add(1);
         }
     }

@@ -1,33 +1,37 @@
 //! What is written: class declarations, with comments on what isn't as in C++.
 
-use crate::catalogue::{Listed, QOBJECT, full_name, own_name};
-use crate::importing::{Import, Missing};
-use crate::kinds::{Kind, Mapped};
-use crate::members::{LeftOut, Method, Property, is_free};
-use crate::moc::MocMethod;
+use crate::bodies::push_body;
+use moc_classes::{
+    Import, Listed, Mapped, Method, Missing, MocMethod, NoClass, Placed, Property, QOBJECT, Sort,
+    full_name, is_free, push_plain,
+};
 use signatures::is_name;
+use slot_effects::Effects;
 use std::alloc::{AllocError, Global};
 
 /// The class declarations, one after another, each with what is left out of it.
 pub fn program(
     alloc: Global,
     import: &Import<'_>,
-    missing: &[(usize, Missing<'_>)],
+    effects: &Effects<'_>,
 ) -> Result<String, AllocError> {
     let mut text = String::new(alloc);
-    for class in import.catalogue.unnamed.as_slice() {
+    for (class, why) in import.catalogue.left_out.as_slice() {
         text.push_str("// left out: the class ")?;
-        push_comment(&mut text, full_name(class))?;
-        text.push_str(": the language has no class of this name\n")?;
+        push_plain(&mut text, full_name(class))?;
+        text.push_str(match why {
+            NoClass::Name => ": the language has no class of this name\n",
+            NoClass::Circle => ": its bases lead in a circle\n",
+        })?;
     }
     for (number, listed) in import.catalogue.classes.iter().enumerate() {
         if number > 0 {
             text.push_str("\n")?;
         }
-        push_class(&mut text, alloc, import, number, *listed)?;
-        for (class, member) in missing {
+        push_class(&mut text, alloc, import, effects, number, *listed)?;
+        for (class, member) in import.missing.as_slice() {
             if *class == number {
-                push_missing(&mut text, *member)?;
+                push_missing(&mut text, alloc, *member)?;
             }
         }
         text.push_str("}\n")?;
@@ -40,26 +44,29 @@ fn push_class(
     text: &mut String,
     alloc: Global,
     import: &Import<'_>,
+    effects: &Effects<'_>,
     number: usize,
     listed: Listed<'_>,
 ) -> Result<(), AllocError> {
-    let name = class_name(alloc, listed)?;
-    write!(text, "class {name}")?;
-    if let Some(base) = listed
-        .base
-        .and_then(|base: usize| import.catalogue.classes.get(base))
-    {
-        let base = class_name(alloc, *base)?;
-        write!(text, " : {base}")?;
+    text.push_str("class ")?;
+    text.push_str(import.catalogue.name(Some(number)))?;
+    if listed.base.is_some() {
+        text.push_str(" : ")?;
+        text.push_str(import.catalogue.name(listed.base))?;
     }
     text.push_str(" {\n")?;
     push_other_bases(text, listed)?;
     if let Some(members) = import.members.get(number) {
         for property in members.properties.as_slice() {
-            push_property(text, alloc, import, number, property)?;
+            push_property(text, import, number, property)?;
         }
-        for method in members.methods.as_slice() {
-            push_method(text, alloc, import, number, method)?;
+        for (place, method) in members.methods.as_slice().iter().enumerate() {
+            let placed = Placed {
+                class: number,
+                place,
+                method,
+            };
+            push_method(text, alloc, import, effects, placed)?;
         }
     }
     Ok(())
@@ -72,84 +79,30 @@ fn push_other_bases(text: &mut String, listed: Listed<'_>) -> Result<(), AllocEr
         let is_kept = place == 0 && (listed.base.is_some() || name == QOBJECT);
         if !is_kept {
             text.push_str("    // left out: the base ")?;
-            push_comment(text, name)?;
+            push_plain(text, name)?;
             text.push_str("\n")?;
         }
     }
     Ok(())
 }
 
-/// The name that a class has here: where another has its name, with its scope in front.
-pub fn class_name(alloc: Global, listed: Listed<'_>) -> Result<String, AllocError> {
-    let mut text = String::new(alloc);
-    if !listed.is_scoped {
-        text.push_str(own_name(listed.class))?;
-        return Ok(text);
-    }
-    let mut is_first = true;
-    for part in full_name(listed.class).split("::") {
-        if !is_first {
-            text.push_str("_")?;
-        }
-        text.push_str(part)?;
-        is_first = false;
-    }
-    Ok(text)
-}
-
-/// Adds a type.
-fn push_kind(
-    text: &mut String,
-    alloc: Global,
-    import: &Import<'_>,
-    kind: Kind,
-) -> Result<(), AllocError> {
-    match kind {
-        Kind::Int => text.push_str("int"),
-        Kind::Bool => text.push_str("bool"),
-        Kind::Text => text.push_str("QString"),
-        Kind::Object(class) => push_pointed(text, alloc, import, class),
-        Kind::ConstObject(class) => {
-            text.push_str("const ")?;
-            push_pointed(text, alloc, import, class)
-        }
-    }
-}
-
-/// Adds a pointer to a class.
-fn push_pointed(
-    text: &mut String,
-    alloc: Global,
-    import: &Import<'_>,
-    class: Option<usize>,
-) -> Result<(), AllocError> {
-    match class.and_then(|class: usize| import.catalogue.classes.get(class)) {
-        Some(listed) => {
-            let name = class_name(alloc, *listed)?;
-            write!(text, "{name}*")
-        }
-        None => write!(text, "{QOBJECT}*"),
-    }
-}
-
 /// Adds a property.
 fn push_property(
     text: &mut String,
-    alloc: Global,
     import: &Import<'_>,
     class: usize,
     property: &Property<'_>,
 ) -> Result<(), AllocError> {
     let name = property.moc.name.as_str();
     text.push_str("    property ")?;
-    push_kind(text, alloc, import, property.mapped.kind)?;
+    property.mapped.kind.push_to(text, &import.catalogue)?;
     write!(text, " {name}")?;
     let notify = property.moc.notify.as_str();
     let notified = import.notifies(class, notify, property.mapped.kind);
     match notified {
         Some(true) => {
             write!(text, " notify {notify}(")?;
-            push_kind(text, alloc, import, property.mapped.kind)?;
+            property.mapped.kind.push_to(text, &import.catalogue)?;
             text.push_str(")")?;
         }
         Some(false) => write!(text, " notify {notify}()")?,
@@ -159,7 +112,7 @@ fn push_property(
     push_narrowed(text, property.mapped, property.moc.kind.as_str())?;
     if !notify.is_empty() && notified.is_none() {
         text.push_str(" // left out: its notify signal ")?;
-        push_comment(text, notify)?;
+        push_plain(text, notify)?;
     }
     text.push_str("\n")
 }
@@ -168,7 +121,7 @@ fn push_property(
 fn push_narrowed(text: &mut String, mapped: Mapped, kind: &str) -> Result<(), AllocError> {
     if mapped.is_narrowed {
         text.push_str(" // ")?;
-        push_comment(text, kind)?;
+        push_plain(text, kind)?;
     }
     Ok(())
 }
@@ -178,10 +131,11 @@ fn push_method(
     text: &mut String,
     alloc: Global,
     import: &Import<'_>,
-    class: usize,
-    method: &Method<'_>,
+    effects: &Effects<'_>,
+    placed: Placed<'_, '_>,
 ) -> Result<(), AllocError> {
-    let word = if method.is_signal { "signal" } else { "slot" };
+    let method = placed.method;
+    let word = if method.is_signal() { "signal" } else { "slot" };
     let name = method.moc.name.as_str();
     let names = parameter_names(alloc, method)?;
     write!(text, "    {word} {name}(")?;
@@ -189,39 +143,25 @@ fn push_method(
         if place > 0 {
             text.push_str(", ")?;
         }
-        push_kind(text, alloc, import, parameter.mapped.kind)?;
+        parameter.mapped.kind.push_to(text, &import.catalogue)?;
         if let Some(name) = names.get(place) {
             let name = name.as_str();
             write!(text, " {name}")?;
         }
     }
     text.push_str(")")?;
-    if method.is_signal {
-        text.push_str(";")?;
-    } else {
-        push_body(text, import, class, method, names.as_slice())?;
+    match method.sort {
+        Sort::Signal => text.push_str(";")?,
+        Sort::Slot => push_body(text, import, effects, placed, names.as_slice())?,
+        Sort::AddedSlot => {
+            push_body(text, import, effects, placed, names.as_slice())?;
+            text.push_str(" // added")?;
+        }
     }
     for parameter in method.parameters.as_slice() {
         push_narrowed(text, parameter.mapped, parameter.moc.kind.as_str())?;
     }
     text.push_str("\n")
-}
-
-/// Adds the body of a slot: the write of its property, or none that is known.
-fn push_body(
-    text: &mut String,
-    import: &Import<'_>,
-    class: usize,
-    method: &Method<'_>,
-    names: &[String],
-) -> Result<(), AllocError> {
-    match (import.written(class, method), names.first()) {
-        (Some(property), Some(name)) => {
-            let name = name.as_str();
-            write!(text, " {{ set this.{property} = {name}; }}")
-        }
-        _ => text.push_str(" { } // body unknown"),
-    }
 }
 
 /// The names of the parameters: their own, or `a1`, `a2`, .. by their places, and with a `_` behind a name that is a word of
@@ -250,20 +190,12 @@ fn parameter_names(alloc: Global, method: &Method<'_>) -> Result<Vec<String>, Al
     Ok(names)
 }
 
-/// Adds a text of the input to a comment, whose line it doesn't end.
-fn push_comment(text: &mut String, part: &str) -> Result<(), AllocError> {
-    for letter in part.chars() {
-        text.push(if letter.is_control() { ' ' } else { letter })?;
-    }
-    Ok(())
-}
-
 /// Adds a member that is left out, and why.
-fn push_missing(text: &mut String, member: Missing<'_>) -> Result<(), AllocError> {
+fn push_missing(text: &mut String, alloc: Global, member: Missing<'_>) -> Result<(), AllocError> {
     let why = match member {
         Missing::Property(moc, why) => {
             text.push_str("    // left out: property ")?;
-            push_comment(text, moc.name.as_str())?;
+            push_plain(text, moc.name.as_str())?;
             text.push_str(": ")?;
             why
         }
@@ -274,28 +206,20 @@ fn push_missing(text: &mut String, member: Missing<'_>) -> Result<(), AllocError
             why
         }
     };
-    match why {
-        LeftOut::Type(kind) => {
-            text.push_str("there is nothing for ")?;
-            push_comment(text, kind)?;
-            text.push_str("\n")
-        }
-        LeftOut::Inherited => text.push_str("a base has it\n"),
-        LeftOut::Overload => text.push_str("another has its name and as many parameters\n"),
-        LeftOut::Name => text.push_str("its name is a word of the language\n"),
-        LeftOut::Parameters => text.push_str("it has more than 8 parameters\n"),
-    }
+    let why = format!(in alloc; "{why}")?;
+    push_plain(text, why.as_str())?;
+    text.push_str("\n")
 }
 
 /// Adds a method as it is in C++.
 fn push_cpp(text: &mut String, moc: &MocMethod) -> Result<(), AllocError> {
-    push_comment(text, moc.name.as_str())?;
+    push_plain(text, moc.name.as_str())?;
     text.push_str("(")?;
     for (place, argument) in moc.arguments.as_slice().iter().enumerate() {
         if place > 0 {
             text.push_str(", ")?;
         }
-        push_comment(text, argument.kind.as_str())?;
+        push_plain(text, argument.kind.as_str())?;
     }
     text.push_str(")")
 }

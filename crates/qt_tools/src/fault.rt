@@ -14,7 +14,7 @@ use thiserror::Error;
 #[derive(Clone, Copy, Debug, Error)]
 pub enum ToolFault {
     /// The words are none that there are.
-    #[error("usage: qt_tools graph [--json] [--class CLASS,..] [--from MEMBER] < PROGRAM, import [--only CLASS,..] [--lean] [--strict] < JSON, session [--tap] [--unchecked N] [--steps M] < TEXTS, verdict [--json|--sarif|--accept-all] [--accept] [--program NAME] [--certificate NAME] < TEXTS, view --mermaid|--html < TRACE, or witness < PROGRAM")]
+    #[error("usage: qt_tools graph [--json] [--class CLASS,..] [--from MEMBER] < PROGRAM, import [--only CLASS,..] [--lean] [--strict] [--effects] < TEXTS, session [--tap] [--unchecked N] [--steps M] < TEXTS, verdict [--json|--sarif|--accept-all] [--accept] [--program NAME] [--certificate NAME] < TEXTS, view --plain|--color|--mermaid|--html < TRACE, or witness < PROGRAM")]
     Usage,
     /// The program is refused, with the number that `gammonfig` gives.
     #[error("the program is refused with {0}: `gammonfig meta` says where")]
@@ -25,6 +25,9 @@ pub enum ToolFault {
     /// What is imported isn't what moc writes, or a class that is asked for isn't there.
     #[error("{0}")]
     Unimported(ImportFault),
+    /// Lines of effects have mistakes, which are told before.
+    #[error("nothing is imported, since the effects have mistakes")]
+    Mistaken,
     /// The script isn't run, since a text is refused with this number.
     #[error("the script isn't run: a text is refused with {0}, and `gammonfig run` says where")]
     TextRefused(u64),
@@ -80,6 +83,7 @@ impl ToolFault {
             | ToolFault::Unimported(_)
             | ToolFault::Unjudged
             | ToolFault::Unlisted(_)
+            | ToolFault::Mistaken
             | ToolFault::NoText => 2,
             ToolFault::LeftOut
             | ToolFault::Invalid(_)

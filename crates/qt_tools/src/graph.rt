@@ -4,9 +4,10 @@ use crate::fault::ToolFault;
 use crate::streams::{input, write};
 use class_graph::{Form, Part, class_graph};
 use std::alloc::{AllocError, Global};
+use texts::MOST_BYTES;
 
-/// A program has at most so many bytes; what is read of a longer one is refused for its length.
-const MOST_BYTES: u64 = 1048577;
+/// So many bytes of a program are read: one more than it may have, so that a longer one is refused for its length.
+const MOST_READ: u64 = MOST_BYTES as u64 + 1;
 
 /// What the options of `graph` ask for.
 #[derive(Drop)]
@@ -64,7 +65,7 @@ pub fn graph(rt: &HostRuntime, words: &[&str]) -> Result<(), ToolFault> {
     let Some(options) = Options::of(alloc, words)? else {
         return Err(ToolFault::Usage);
     };
-    let program = match input(rt, MOST_BYTES) {
+    let program = match input(rt, MOST_READ) {
         Ok(program) => program,
         Err(reason) => return Err(ToolFault::Unread(reason)),
     };

@@ -2,7 +2,7 @@
 
 use crate::fault::ToolFault;
 use crate::streams::{input, write};
-use moc_import::{Summary, Wanted, import};
+use moc_import::{Imported, Mistake, Outcome, Summary, Wanted, import};
 use std::alloc::{AllocError, Global};
 
 /// What is read has at most so many bytes.
@@ -14,6 +14,7 @@ struct Options<'w> {
     only: Vec<&'w str>,
     is_lean: bool,
     is_strict: bool,
+    has_effects: bool,
 }
 
 impl<'w> Options<'w> {
@@ -23,6 +24,7 @@ impl<'w> Options<'w> {
             only: Vec::new(alloc),
             is_lean: false,
             is_strict: false,
+            has_effects: false,
         };
         let mut awaits_classes = false;
         for word in words {
@@ -37,6 +39,8 @@ impl<'w> Options<'w> {
                 options.is_lean = true;
             } else if *word == "--strict" {
                 options.is_strict = true;
+            } else if *word == "--effects" {
+                options.has_effects = true;
             } else {
                 return Ok(None);
             }
@@ -61,12 +65,29 @@ pub fn import_classes(rt: &HostRuntime, words: &[&str]) -> Result<(), ToolFault>
     let wanted = Wanted {
         only: options.only.as_slice(),
         is_lean: options.is_lean,
+        has_effects: options.has_effects,
     };
-    let imported = import(alloc, text, wanted)?;
+    match import(alloc, text, wanted)? {
+        Outcome::Imported(imported) => hand_over(rt, &options, &imported),
+        Outcome::Mistaken(mistakes) => {
+            for Mistake { line, text } in mistakes.as_slice() {
+                eprintln!(rt; "line {line} of the effects: {text}").ok();
+            }
+            Err(ToolFault::Mistaken)
+        }
+    }
+}
+
+/// Writes the class declarations, and the summary on standard error.
+fn hand_over(
+    rt: &HostRuntime,
+    options: &Options<'_>,
+    imported: &Imported,
+) -> Result<(), ToolFault> {
     if let Err(reason) = write(rt, imported.program.as_str()) {
         return Err(ToolFault::Unwritten(reason));
     }
-    tell(rt, &imported.summary);
+    tell(rt, options, &imported.summary);
     if options.is_strict && !imported.summary.is_whole() {
         return Err(ToolFault::LeftOut);
     }
@@ -74,12 +95,14 @@ pub fn import_classes(rt: &HostRuntime, words: &[&str]) -> Result<(), ToolFault>
 }
 
 /// Writes the summary on standard error.
-fn tell(rt: &HostRuntime, summary: &Summary) {
+fn tell(rt: &HostRuntime, options: &Options<'_>, summary: &Summary) {
     let Summary {
         classes,
         properties,
         signals,
         slots,
+        given,
+        added,
         unknown,
         narrowed,
         untyped,
@@ -92,6 +115,11 @@ fn tell(rt: &HostRuntime, summary: &Summary) {
     eprintln!(rt;
         "left out: {untyped} members for their types, {others} for other reasons; comments name them"
     ).ok();
+    if options.has_effects {
+        eprintln!(rt;
+            "{given} slots have the bodies that the effects give, {added} of them added"
+        ).ok();
+    }
     eprintln!(rt;
         "{unknown} slots have bodies that aren't known: a verdict says nothing of what these do"
     ).ok();

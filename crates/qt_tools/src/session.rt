@@ -6,10 +6,10 @@ use native_slots::Natives;
 use script_tests::{Form, judge, report};
 use std::alloc::{AllocError, Global};
 use texts::{number, split_at_line};
-use trace_tool::command;
+use trace_tool::{LARGEST_INPUT, command};
 
-/// What is read has at most so many bytes; of more than the command takes it takes none.
-const MOST_BYTES: u64 = 67108865;
+/// So many bytes are read: one more than the command takes, which takes none of a longer input.
+const MOST_READ: u64 = LARGEST_INPUT as u64 + 1;
 
 /// The line between two texts of an input.
 const BORDER: &[u8] = b"%%";
@@ -25,7 +25,7 @@ pub fn session(rt: &HostRuntime, words: &[&str]) -> Result<(), ToolFault> {
         [word, options @ ..] if *word == "--tap" => (Form::Tap, options),
         _ => (Form::Plain, words),
     };
-    let input = match input(rt, MOST_BYTES) {
+    let input = match input(rt, MOST_READ) {
         Ok(input) => input,
         Err(reason) => return Err(ToolFault::Unread(reason)),
     };

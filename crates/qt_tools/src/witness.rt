@@ -3,16 +3,17 @@
 use crate::fault::ToolFault;
 use crate::streams::{input, write};
 use run_witness::{Sought, find_witness};
+use texts::MOST_BYTES;
 
-/// A program has at most so many bytes; what is read of a longer one is refused for its length.
-const MOST_BYTES: u64 = 1048577;
+/// So many bytes of a program are read: one more than it may have, so that a longer one is refused for its length.
+const MOST_READ: u64 = MOST_BYTES as u64 + 1;
 
 /// Writes such a script for the program on standard input.
 pub fn witness(rt: &HostRuntime, words: &[&str]) -> Result<(), ToolFault> {
     if !words.is_empty() {
         return Err(ToolFault::Usage);
     }
-    let program = match input(rt, MOST_BYTES) {
+    let program = match input(rt, MOST_READ) {
         Ok(program) => program,
         Err(reason) => return Err(ToolFault::Unread(reason)),
     };

@@ -2,9 +2,20 @@
 
 use crate::catalogue::{Catalogue, Listed};
 use crate::kinds::Kind;
-use crate::members::{LeftOut, Members, Method, Property, parameters_of, property_of};
+use crate::members::{LeftOut, Members, Method, Property, Sort, parameters_of, property_of};
 use crate::moc::{MocClass, MocMethod, MocProperty};
 use std::alloc::{AllocError, Global};
+
+/// Which members are wanted.
+#[derive(Drop)]
+pub struct Choice<'f> {
+    /// Of properties those alone that notify, or that a slot writes.
+    pub is_lean: bool,
+    /// The names of properties that are wanted even so.
+    pub kept: Vec<&'f str>,
+    /// Slots that the classes have besides, each with its class's number. Those that the language can't have are passed over.
+    pub added: Vec<(usize, &'f MocMethod)>,
+}
 
 /// What is imported so far.
 #[derive(Drop)]
@@ -12,6 +23,16 @@ pub struct Import<'f> {
     pub catalogue: Catalogue<'f>,
     /// For each class, by number, its own members.
     pub members: Vec<Members<'f>>,
+    /// What is left out, each with its class's number.
+    pub missing: Vec<(usize, Missing<'f>)>,
+}
+
+/// A method, with its class and its place among the methods of that.
+#[derive(Clone, Copy)]
+pub struct Placed<'i, 'f> {
+    pub class: usize,
+    pub place: usize,
+    pub method: &'i Method<'f>,
 }
 
 /// A member that is left out, and why.
@@ -22,16 +43,16 @@ pub enum Missing<'f> {
 }
 
 impl<'f> Import<'f> {
-    /// The members of all classes; what is left out of them is added to `missing`, with the class's number.
+    /// The members of all classes.
     pub fn of(
         alloc: Global,
         catalogue: Catalogue<'f>,
-        is_lean: bool,
-        missing: &mut Vec<(usize, Missing<'f>)>,
+        choice: &Choice<'f>,
     ) -> Result<Import<'f>, AllocError> {
         let mut import = Import {
             catalogue,
             members: Vec::new(alloc),
+            missing: Vec::new(alloc),
         };
         for number in 0..import.catalogue.classes.len() {
             import.members.push(Members {
@@ -39,10 +60,11 @@ impl<'f> Import<'f> {
                 methods: Vec::new(alloc),
             })?;
             if let Some(class) = import.class(number) {
-                import.push_methods(alloc, number, class.signals.as_slice(), true, missing)?;
-                import.push_methods(alloc, number, class.slots.as_slice(), false, missing)?;
-                import.push_methods(alloc, number, class.methods.as_slice(), false, missing)?;
-                import.push_properties(number, class, is_lean, missing)?;
+                import.push_methods(alloc, number, class.signals.as_slice(), Sort::Signal)?;
+                import.push_methods(alloc, number, class.slots.as_slice(), Sort::Slot)?;
+                import.push_methods(alloc, number, class.methods.as_slice(), Sort::Slot)?;
+                import.push_added(alloc, number, choice.added.as_slice())?;
+                import.push_properties(number, class, choice)?;
             }
         }
         Ok(import)
@@ -60,20 +82,47 @@ impl<'f> Import<'f> {
         alloc: Global,
         class: usize,
         methods: &'f [MocMethod],
-        is_signal: bool,
-        missing: &mut Vec<(usize, Missing<'f>)>,
+        sort: Sort,
     ) -> Result<(), AllocError> {
         for moc in methods {
-            match self.method(alloc, class, moc, is_signal)? {
-                Ok(method) => {
-                    if let Some(members) = self.members.get_mut(class) {
-                        members.methods.push(method)?;
-                    }
-                }
-                Err(why) => missing.push((class, Missing::Method(moc, why)))?,
+            if let Some(why) = self.push_method(alloc, class, moc, sort)? {
+                self.missing.push((class, Missing::Method(moc, why)))?;
             }
         }
         Ok(())
+    }
+
+    /// Adds those of the slots that the class has besides.
+    fn push_added(
+        &mut self,
+        alloc: Global,
+        class: usize,
+        added: &[(usize, &'f MocMethod)],
+    ) -> Result<(), AllocError> {
+        for (number, moc) in added {
+            if *number == class {
+                let _passed_over = self.push_method(alloc, class, moc, Sort::AddedSlot)?;
+            }
+        }
+        Ok(())
+    }
+
+    /// Adds the method, or answers why the language can't have it.
+    fn push_method(
+        &mut self,
+        alloc: Global,
+        class: usize,
+        moc: &'f MocMethod,
+        sort: Sort,
+    ) -> Result<Option<LeftOut<'f>>, AllocError> {
+        let method = match self.method(alloc, class, moc, sort)? {
+            Ok(method) => method,
+            Err(why) => return Ok(Some(why)),
+        };
+        if let Some(members) = self.members.get_mut(class) {
+            members.methods.push(method)?;
+        }
+        Ok(None)
     }
 
     /// The method, or why it is left out.
@@ -82,7 +131,7 @@ impl<'f> Import<'f> {
         alloc: Global,
         class: usize,
         moc: &'f MocMethod,
-        is_signal: bool,
+        sort: Sort,
     ) -> Result<Result<Method<'f>, LeftOut<'f>>, AllocError> {
         let parameters = match parameters_of(alloc, &self.catalogue, class, moc)? {
             Ok(parameters) => parameters,
@@ -98,7 +147,7 @@ impl<'f> Import<'f> {
             Some(_) => Err(LeftOut::Inherited),
             None => Ok(Method {
                 moc,
-                is_signal,
+                sort,
                 parameters,
             }),
         })
@@ -109,30 +158,32 @@ impl<'f> Import<'f> {
         &mut self,
         number: usize,
         class: &'f MocClass,
-        is_lean: bool,
-        missing: &mut Vec<(usize, Missing<'f>)>,
+        choice: &Choice<'f>,
     ) -> Result<(), AllocError> {
         for moc in class.properties.as_slice() {
             match property_of(&self.catalogue, number, moc) {
                 Ok(_) if self.has_property(number, moc.name.as_str()) => {
-                    missing.push((number, Missing::Property(moc, LeftOut::Inherited)))?;
+                    self.missing
+                        .push((number, Missing::Property(moc, LeftOut::Inherited)))?;
                 }
-                Ok(found) if is_lean && !self.is_used(number, &found) => {}
+                Ok(found)
+                    if choice.is_lean && !self.is_used(number, &found, choice.kept.as_slice()) => {}
                 Ok(found) => {
                     if let Some(members) = self.members.get_mut(number) {
                         members.properties.push(found)?;
                     }
                 }
-                Err(why) => missing.push((number, Missing::Property(moc, why)))?,
+                Err(why) => self.missing.push((number, Missing::Property(moc, why)))?,
             }
         }
         Ok(())
     }
 
-    /// Whether the property notifies, or a slot of one parameter writes it.
-    fn is_used(&self, class: usize, property: &Property<'f>) -> bool {
+    /// Whether the property notifies, a slot of one parameter writes it, or it is kept by its name.
+    fn is_used(&self, class: usize, property: &Property<'f>, kept: &[&str]) -> bool {
         let notify = property.moc.notify.as_str();
-        self.notifies(class, notify, property.mapped.kind).is_some()
+        kept.contains(&property.moc.name.as_str())
+            || self.notifies(class, notify, property.mapped.kind).is_some()
             || self.members.get(class).is_some_and(|own: &Members<'_>| {
                 own.methods
                     .iter()
@@ -168,6 +219,22 @@ impl<'f> Import<'f> {
                 }
             }
             at = self.catalogue.classes.get(number)?.base;
+        }
+        None
+    }
+
+    /// The method of a class or the nearest of its bases with this name and so many parameters.
+    pub fn find_method(&self, class: usize, name: &str, count: usize) -> Option<Placed<'_, 'f>> {
+        let holder = self.holder(class, Sought::Method(name, count))?;
+        let members = self.members.get(holder)?;
+        for (place, method) in members.methods.as_slice().iter().enumerate() {
+            if method.is_called(name, count) {
+                return Some(Placed {
+                    class: holder,
+                    place,
+                    method,
+                });
+            }
         }
         None
     }
@@ -218,16 +285,16 @@ impl Sought<'_> {
             Sought::Property(_) => false,
             Sought::Method(name, count) => method.is_called(name, count),
             Sought::Telling(name, kind) => {
-                method.is_signal && method.is_called(name, 1) && method.takes(kind)
+                method.is_signal() && method.is_called(name, 1) && method.takes(kind)
             }
-            Sought::Silent(name) => method.is_signal && method.is_called(name, 0),
+            Sought::Silent(name) => method.is_signal() && method.is_called(name, 0),
         }
     }
 }
 
 /// Whether the slot is the one that writes the property.
 fn writes(slot: &Method<'_>, property: &Property<'_>) -> bool {
-    !slot.is_signal
+    !slot.is_signal()
         && slot.moc.name.as_str() == property.moc.write.as_str()
         && slot.takes(property.mapped.kind)
 }

@@ -5,20 +5,36 @@ use crate::kinds::{Kind, Mapped, mapped_type};
 use crate::moc::{MocArgument, MocMethod, MocProperty};
 use signatures::{MOST_PARAMETERS, Word, is_name};
 use std::alloc::{AllocError, Global};
+use thiserror::Error;
 
 /// Why a member is left out.
-#[derive(Clone, Copy, Debug, PartialEq, Eq)]
+#[derive(Clone, Copy, Debug, PartialEq, Eq, Error)]
 pub enum LeftOut<'f> {
     /// The language has nothing for this type.
+    #[error("there is nothing for {0}")]
     Type(&'f str),
     /// A base has the member already.
+    #[error("a base has it")]
     Inherited,
     /// The class has a method of this name with as many parameters.
+    #[error("another has its name and as many parameters")]
     Overload,
     /// The name is a word of the language, or no name of it.
+    #[error("its name is a word of the language")]
     Name,
     /// It has more parameters than a method may have.
+    #[error("it has more than 8 parameters")]
     Parameters,
+}
+
+/// What a method is.
+#[derive(Clone, Copy, Debug, PartialEq, Eq)]
+pub enum Sort {
+    Signal,
+    /// A slot, or an invokable method.
+    Slot,
+    /// A slot that the class has here alone.
+    AddedSlot,
 }
 
 /// A property that is imported.
@@ -28,11 +44,11 @@ pub struct Property<'f> {
     pub mapped: Mapped,
 }
 
-/// A signal, or a slot or invokable method, that is imported.
+/// A method that is imported.
 #[derive(Drop)]
 pub struct Method<'f> {
     pub moc: &'f MocMethod,
-    pub is_signal: bool,
+    pub sort: Sort,
     pub parameters: Vec<Parameter<'f>>,
 }
 
@@ -63,6 +79,28 @@ impl<'f> Method<'f> {
     pub fn is_called(&self, name: &str, count: usize) -> bool {
         self.moc.name.as_str() == name && self.parameters.len() == count
     }
+
+    /// Whether it is a signal.
+    pub fn is_signal(&self) -> bool {
+        self.sort == Sort::Signal
+    }
+
+    /// Adds its signature, with its parameters' types as they are declared.
+    pub fn push_signature(
+        &self,
+        text: &mut String,
+        catalogue: &Catalogue<'_>,
+    ) -> Result<(), AllocError> {
+        text.push_str(self.moc.name.as_str())?;
+        text.push_str("(")?;
+        for (place, parameter) in self.parameters.as_slice().iter().enumerate() {
+            if place > 0 {
+                text.push_str(", ")?;
+            }
+            parameter.mapped.kind.push_to(text, catalogue)?;
+        }
+        text.push_str(")")
+    }
 }
 
 /// Whether the text may be a member's or a parameter's name.
@@ -72,7 +110,7 @@ pub fn is_free(name: &str) -> bool {
 
 /// The property of a class, or why it is left out where its type or its name is the reason.
 pub fn property_of<'f>(
-    catalogue: &Catalogue<'f>,
+    catalogue: &Catalogue<'_>,
     class: usize,
     moc: &'f MocProperty,
 ) -> Result<Property<'f>, LeftOut<'f>> {
@@ -88,7 +126,7 @@ pub fn property_of<'f>(
 /// The parameters of a method, but for what makes a signal private; or the type that the language has nothing for.
 pub fn parameters_of<'f>(
     alloc: Global,
-    catalogue: &Catalogue<'f>,
+    catalogue: &Catalogue<'_>,
     class: usize,
     moc: &'f MocMethod,
 ) -> Result<Result<Vec<Parameter<'f>>, LeftOut<'f>>, AllocError> {

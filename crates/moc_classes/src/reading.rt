@@ -4,10 +4,13 @@ use crate::fault::ImportFault;
 use crate::moc::MocFile;
 use std::alloc::{AllocError, Global};
 
+/// What parts two texts.
+pub const BORDER: &str = "\n%%\n";
+
 /// Reads each text: what moc writes of one header, or a list of these. The error names the first one that is no such.
 pub fn files(alloc: Global, input: &str) -> Result<Vec<MocFile>, ImportFault> {
     let mut files = Vec::new(alloc);
-    for (place, text) in input.split("\n%%\n").enumerate() {
+    for (place, text) in input.split(BORDER).enumerate() {
         push_files(alloc, &mut files, text, place.saturating_add(1))?;
     }
     Ok(files)

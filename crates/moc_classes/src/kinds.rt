@@ -1,6 +1,7 @@
 //! Types of C++ and what they are in the language.
 
 use crate::catalogue::Catalogue;
+use std::alloc::AllocError;
 
 /// A type of the language.
 #[derive(Clone, Copy, Debug, PartialEq, Eq)]
@@ -12,6 +13,44 @@ pub enum Kind {
     Object(Option<usize>),
     /// The same, of which nothing is written or called.
     ConstObject(Option<usize>),
+}
+
+impl Kind {
+    /// Whether a parameter or property of this type may be given a value of the other one.
+    pub fn accepts(self, given: Kind, catalogue: &Catalogue<'_>) -> bool {
+        match (self, given) {
+            (Kind::Int, Kind::Int) | (Kind::Bool, Kind::Bool) | (Kind::Text, Kind::Text) => true,
+            (Kind::Object(wanted), Kind::Object(class))
+            | (Kind::ConstObject(wanted), Kind::Object(class) | Kind::ConstObject(class)) => {
+                catalogue.is_below(class, wanted)
+            }
+            _ => false,
+        }
+    }
+
+    /// Adds the type as it is declared.
+    pub fn push_to(self, text: &mut String, catalogue: &Catalogue<'_>) -> Result<(), AllocError> {
+        match self {
+            Kind::Int => text.push_str("int"),
+            Kind::Bool => text.push_str("bool"),
+            Kind::Text => text.push_str("QString"),
+            Kind::Object(class) => push_pointer(text, catalogue, class),
+            Kind::ConstObject(class) => {
+                text.push_str("const ")?;
+                push_pointer(text, catalogue, class)
+            }
+        }
+    }
+}
+
+/// Adds a pointer to a class.
+fn push_pointer(
+    text: &mut String,
+    catalogue: &Catalogue<'_>,
+    class: Option<usize>,
+) -> Result<(), AllocError> {
+    text.push_str(catalogue.name(class))?;
+    text.push_str("*")
 }
 
 /// What a type of C++ becomes.
@@ -53,6 +92,18 @@ const NUMBERS: &[&str] = &[
     "size_t",
     "qintptr",
     "quintptr",
+    "int8_t",
+    "uint8_t",
+    "int16_t",
+    "uint16_t",
+    "int32_t",
+    "uint32_t",
+    "int64_t",
+    "uint64_t",
+    "char16_t",
+    "char32_t",
+    "wchar_t",
+    "QRgb",
     "float",
     "double",
     "qreal",
@@ -75,8 +126,11 @@ pub fn mapped_type(catalogue: &Catalogue<'_>, class: usize, kind: &str) -> Optio
     }
     let pointed = name.strip_suffix("*")?.trim();
     match pointed.strip_prefix("const ") {
-        Some(class) => Some(exact(Kind::ConstObject(catalogue.pointed(class.trim())?))),
-        None => Some(exact(Kind::Object(catalogue.pointed(pointed)?))),
+        Some(pointed) => {
+            let found = catalogue.pointed(class, pointed.trim())?;
+            Some(exact(Kind::ConstObject(found)))
+        }
+        None => Some(exact(Kind::Object(catalogue.pointed(class, pointed)?))),
     }
 }
 

@@ -13,6 +13,9 @@ pub enum ImportFault {
         line: usize,
         column: usize,
     },
+    /// No line `%%` parts off a text of effects, which is asked for.
+    #[error("no line `%%` parts the effects from what `moc` writes")]
+    NoEffects,
     /// A class that is asked for isn't among those that are read.
     #[error("a class that is asked for isn't there")]
     NoClass,

@@ -1,0 +1,198 @@
+//! The classes that are imported, by number: bases stand before the classes that have them.
+
+use crate::listing::Listing;
+use crate::members::is_free;
+use crate::moc::{MocClass, MocEnum, MocFile};
+use crate::scopes::{full_name, is_around, is_called, nearness};
+use std::alloc::{AllocError, Global};
+
+/// The class of which all others are.
+pub const QOBJECT: &str = "QObject";
+
+/// A class that is imported.
+#[derive(Clone, Copy)]
+pub struct Listed<'f> {
+    pub class: &'f MocClass,
+    /// The number of its base; `None` for `QObject`.
+    pub base: Option<usize>,
+}
+
+/// Why a class of objects is left out.
+#[derive(Clone, Copy, Debug, PartialEq, Eq)]
+pub enum NoClass {
+    /// No class of the language can have its name.
+    Name,
+    /// Its bases lead back to it.
+    Circle,
+}
+
+/// The classes that are imported, and those whose enums are known.
+#[derive(Drop)]
+pub struct Catalogue<'f> {
+    pub classes: Vec<Listed<'f>>,
+    /// The names that the classes have here, by number.
+    names: Vec<String>,
+    /// Classes of objects that are left out.
+    pub left_out: Vec<(&'f MocClass, NoClass)>,
+    all: Vec<&'f MocClass>,
+}
+
+impl<'f> Catalogue<'f> {
+    /// The objects' classes of the files; where some are named, these and their bases alone.
+    pub fn of(
+        alloc: Global,
+        files: &'f [MocFile],
+        only: &[&str],
+    ) -> Result<Catalogue<'f>, AllocError> {
+        let mut all: Vec<&'f MocClass> = Vec::new(alloc);
+        for file in files {
+            for class in file.classes.as_slice() {
+                all.push(class)?;
+            }
+        }
+        let Listing {
+            classes,
+            names,
+            left_out,
+        } = Listing::of(alloc, all.as_slice(), only)?;
+        Ok(Catalogue {
+            classes,
+            names,
+            left_out,
+            all,
+        })
+    }
+
+    /// The name that a class has here; that of `QObject` for `None`.
+    pub fn name(&self, class: Option<usize>) -> &str {
+        match class.and_then(|number: usize| self.names.get(number)) {
+            Some(name) => name.as_str(),
+            None => QOBJECT,
+        }
+    }
+
+    /// The names that the classes have here.
+    pub fn class_names(&self, alloc: Global) -> Result<Vec<&str>, AllocError> {
+        let mut names = Vec::new(alloc);
+        for name in self.names.as_slice() {
+            names.push(name.as_str())?;
+        }
+        Ok(names)
+    }
+
+    /// The number of the class that has this name here, or else of the first one that C++ calls so, with its scope or without.
+    pub fn number(&self, name: &str) -> Option<usize> {
+        match self
+            .names
+            .iter()
+            .position(|it: &String| it.as_str() == name)
+        {
+            Some(number) => Some(number),
+            None => self.number_from("", name),
+        }
+    }
+
+    /// Whether a class of objects of this name is read, which needn't be imported.
+    pub fn is_read(&self, name: &str) -> bool {
+        self.all
+            .iter()
+            .any(|it: &&MocClass| it.object && is_called(it, name))
+    }
+
+    /// The number of the class that the name leads to where it stands in the class of the full name `from`.
+    fn number_from(&self, from: &str, name: &str) -> Option<usize> {
+        let mut nearest: Option<(usize, usize)> = None;
+        for (number, it) in self.classes.iter().enumerate() {
+            if let Some(near) = nearness(it.class, name, from) {
+                if nearest.is_none_or(|(_, most): (usize, usize)| near > most) {
+                    nearest = Some((number, near));
+                }
+            }
+        }
+        nearest.map(|(number, _): (usize, usize)| number)
+    }
+
+    /// The class that a pointer to this name leads to where it stands in a class: `Some(None)` for `QObject`, `None` where
+    /// it isn't imported.
+    pub fn pointed(&self, class: usize, name: &str) -> Option<Option<usize>> {
+        if name == QOBJECT {
+            return Some(None);
+        }
+        let from = full_name(self.classes.get(class)?.class);
+        match self.number_from(from, name) {
+            Some(number) => Some(Some(number)),
+            // A class that has another name here.
+            None => Some(Some(self.number(name)?)),
+        }
+    }
+
+    /// The numbers of a class and of its bases, from the class up; none for `QObject`.
+    pub fn lineage(&self, alloc: Global, class: Option<usize>) -> Result<Vec<usize>, AllocError> {
+        let mut lineage = Vec::new(alloc);
+        let mut at = class;
+        for _ in 0..self.classes.len() {
+            let Some(number) = at else {
+                break;
+            };
+            lineage.push(number)?;
+            at = self.base(number);
+        }
+        Ok(lineage)
+    }
+
+    /// The base of a class.
+    fn base(&self, class: usize) -> Option<usize> {
+        self.classes.get(class)?.base
+    }
+
+    /// Whether each object of the one class is one of the other.
+    pub fn is_below(&self, class: Option<usize>, above: Option<usize>) -> bool {
+        let mut at = class;
+        for _ in 0..self.classes.len() {
+            let Some(number) = at else {
+                break;
+            };
+            if at == above {
+                return true;
+            }
+            at = self.base(number);
+        }
+        above.is_none()
+    }
+
+    /// Whether the name is an enum's or a flag's: with a scope of any class; else of this class, a base of it, or what its
+    /// scopes are.
+    pub fn has_enum(&self, class: usize, name: &str) -> bool {
+        if let Some((scope, own)) = name.rsplit_once("::") {
+            return self.all.iter().any(|it: &&MocClass| is_called(it, scope)
+                && has_own_enum(it, own));
+        }
+        let mut at = Some(class);
+        for _ in 0..self.classes.len() {
+            let Some(listed) = at.and_then(|number: usize| self.classes.get(number)) else {
+                return false;
+            };
+            if self.sees_enum(listed.class, name) {
+                return true;
+            }
+            at = listed.base;
+        }
+        false
+    }
+
+    /// Whether the class has the enum, or a class or namespace around it.
+    fn sees_enum(&self, class: &MocClass, name: &str) -> bool {
+        has_own_enum(class, name)
+            || self.all.iter().any(|it: &&MocClass| is_around(it, class) && has_own_enum(it, name))
+    }
+}
+
+/// Whether a program may declare a class of this name.
+pub fn may_be_class(name: &str) -> bool {
+    is_free(name) && !matches!(name, QOBJECT | "int" | "bool" | "QString")
+}
+
+fn has_own_enum(class: &MocClass, name: &str) -> bool {
+    class.enums.as_slice().iter().any(|it: &MocEnum| it.name.as_str() == name
+        || it.alias.as_str() == name)
+}

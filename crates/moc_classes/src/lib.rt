@@ -1,0 +1,23 @@
+//! What Qt's meta-object compiler writes of C++ headers, and which of its classes and members the language can have.
+#![tactic(auto)]
+
+mod catalogue;
+mod fault;
+mod importing;
+mod kinds;
+mod listing;
+mod members;
+mod moc;
+mod plain;
+mod reading;
+mod scopes;
+
+pub use catalogue::{Catalogue, Listed, NoClass, QOBJECT};
+pub use fault::ImportFault;
+pub use importing::{Choice, Import, Missing, Placed};
+pub use kinds::{Kind, Mapped, mapped_type};
+pub use members::{LeftOut, Members, Method, Parameter, Property, Sort, is_free, parameters_of};
+pub use moc::{MocArgument, MocBase, MocClass, MocEnum, MocFile, MocMethod, MocProperty};
+pub use plain::push_plain;
+pub use reading::{BORDER, files};
+pub use scopes::{full_name, own_name};

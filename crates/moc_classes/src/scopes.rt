@@ -1,0 +1,64 @@
+//! Names of C++, with their scopes.
+
+use crate::moc::MocClass;
+
+/// The class's name without its scope.
+pub fn own_name(class: &MocClass) -> &str {
+    let name = class.class_name.as_str();
+    match name.rsplit_once("::") {
+        Some((_, own)) => own,
+        None => name,
+    }
+}
+
+/// The class's name with its scope, where it is known.
+pub fn full_name(class: &MocClass) -> &str {
+    let name = class.qualified_class_name.as_str();
+    if name.is_empty() {
+        class.class_name.as_str()
+    } else {
+        name
+    }
+}
+
+/// Whether the name is the class's, with its scope, a part of that or none.
+pub fn is_called(class: &MocClass, name: &str) -> bool {
+    nearness(class, name, "").is_some()
+}
+
+/// How near the class is to the class of the full name `from`, in which a name stands that may be the class's: the more of
+/// its scope both have, the nearer. `None` where it isn't its name.
+pub fn nearness(class: &MocClass, name: &str, from: &str) -> Option<usize> {
+    match front_of(full_name(class), name) {
+        Some(front) if surrounds(front, from) => Some(front.len().saturating_add(1)),
+        Some(_) => Some(0),
+        None if own_name(class) == name => Some(0),
+        None => None,
+    }
+}
+
+/// Whether the scope of this full name is one around the class.
+pub fn is_around(scope: &MocClass, class: &MocClass) -> bool {
+    match full_name(class).strip_prefix(full_name(scope)) {
+        Some(rest) => rest.starts_with("::"),
+        None => false,
+    }
+}
+
+/// What stands in front of the name in a full name: nothing, or a scope with its `::`.
+fn front_of<'n>(full: &'n str, name: &str) -> Option<&'n str> {
+    let front = full.strip_suffix(name)?;
+    if front.is_empty() || front.ends_with("::") {
+        Some(front)
+    } else {
+        None
+    }
+}
+
+/// Whether the scope, with its `::`, is that of the class of this full name, or one around it.
+fn surrounds(front: &str, class: &str) -> bool {
+    match front.strip_suffix("::") {
+        Some(scope) => class == scope || class.starts_with(front),
+        None => front.is_empty(),
+    }
+}

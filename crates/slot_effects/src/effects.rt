@@ -1,0 +1,137 @@
+//! Effects as bodies of slots.
+
+use crate::body::Statement;
+use crate::fault::LineFault;
+use crate::line::{EffectLine, Line};
+use crate::lookup::Lookup;
+use crate::slots::slot_of;
+use crate::statements::statement;
+use moc_classes::{Import, push_plain};
+use std::alloc::{AllocError, Global};
+
+/// What lines of effects give: bodies of slots, and what is wrong with lines.
+#[derive(Drop)]
+pub struct Effects<'e> {
+    bodies: Vec<Body<'e>>,
+    mistakes: Vec<Mistake>,
+}
+
+/// What is wrong with a line, and what would be right.
+#[derive(Drop)]
+pub struct Mistake {
+    /// The line's number, from 1 on.
+    pub line: usize,
+    pub text: String,
+}
+
+/// The body of a slot.
+#[derive(Drop)]
+struct Body<'e> {
+    line: usize,
+    /// The slot, by its class and its place among the methods of that.
+    class: usize,
+    place: usize,
+    statements: Vec<Statement<'e>>,
+}
+
+impl<'e> Effects<'e> {
+    /// The bodies that the lines give what is imported. A line for a class that is read and not imported gives none.
+    pub fn of<'i>(
+        alloc: Global,
+        import: &'i Import<'_>,
+        lines: &'e [Line<'_>],
+    ) -> Result<Effects<'e>, AllocError>
+    where
+        'e: 'i,
+    {
+        let mut effects = Effects {
+            bodies: Vec::new(alloc),
+            mistakes: Vec::new(alloc),
+        };
+        let lookup = Lookup { import };
+        for line in lines {
+            match &line.read {
+                Ok(read) => effects.push_line(alloc, lookup, line.number, read)?,
+                Err(fault) => effects.note(alloc, line.number, fault)?,
+            }
+        }
+        Ok(effects)
+    }
+
+    /// Whether nothing is wrong with the lines; else not all bodies are there.
+    pub fn is_whole(&self) -> bool {
+        self.mistakes.is_empty()
+    }
+
+    /// What is wrong with the lines, in their order.
+    pub fn into_mistakes(self) -> Vec<Mistake> {
+        let Effects { bodies, mistakes } = self;
+        drop(bodies);
+        mistakes
+    }
+
+    /// The statements of a slot, by its class and its place among the methods of that, if a line gives them.
+    pub fn statements(&self, class: usize, place: usize) -> Option<&[Statement<'e>]> {
+        let body = self.body(class, place)?;
+        Some(body.statements.as_slice())
+    }
+
+    fn body(&self, class: usize, place: usize) -> Option<&Body<'e>> {
+        self.bodies
+            .iter()
+            .find(|it: &&Body<'_>| it.class == class && it.place == place)
+    }
+
+    /// Adds the body that a line gives.
+    fn push_line<'i>(
+        &mut self,
+        alloc: Global,
+        lookup: Lookup<'i, '_>,
+        number: usize,
+        line: &'e EffectLine<'_>,
+    ) -> Result<(), AllocError>
+    where
+        'e: 'i,
+    {
+        let slot = match slot_of(alloc, lookup, line) {
+            Ok(Some(slot)) => slot,
+            Ok(None) => return Ok(()),
+            Err(fault) => return self.note(alloc, number, &fault),
+        };
+        if let Some(first) = self.body(slot.class, slot.place) {
+            let fault = LineFault::Twice(first.line);
+            return self.note(alloc, number, &fault);
+        }
+        let mut statements = Vec::new(alloc);
+        for effect in line.effects.as_slice() {
+            match statement(alloc, lookup, slot, effect) {
+                Ok(statement) => statements.push(statement)?,
+                Err(fault) => self.note(alloc, number, &fault)?,
+            }
+        }
+        self.bodies.push(Body {
+            line: number,
+            class: slot.class,
+            place: slot.place,
+            statements,
+        })?;
+        Ok(())
+    }
+
+    /// Notes what is wrong with a line.
+    fn note(
+        &mut self,
+        alloc: Global,
+        line: usize,
+        fault: &LineFault<'_>,
+    ) -> Result<(), AllocError> {
+        if let LineFault::Memory(fault) = fault {
+            return Err(*fault);
+        }
+        let told = format!(in alloc; "{fault}")?;
+        let mut text = String::new(alloc);
+        push_plain(&mut text, told.as_str())?;
+        self.mistakes.push(Mistake { line, text })?;
+        Ok(())
+    }
+}

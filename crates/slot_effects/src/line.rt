@@ -1,0 +1,68 @@
+//! The lines of a text of effects.
+
+use crate::fault::LineFault;
+use moc_classes::MocMethod;
+
+/// A line that isn't empty.
+#[derive(Drop)]
+pub struct Line<'e> {
+    /// Its number, from 1 on.
+    pub number: usize,
+    /// What it says, or what is wrong with it.
+    pub(crate) read: Result<EffectLine<'e>, LineFault<'e>>,
+}
+
+/// A slot, and what it does.
+#[derive(Drop)]
+pub struct EffectLine<'e> {
+    /// The slot's class, as it is named here or in C++.
+    pub class: &'e str,
+    /// The slot as moc would write it, with parameters that have no names.
+    pub slot: MocMethod,
+    pub effects: Vec<Effect<'e>>,
+}
+
+/// One thing that a slot does.
+#[derive(Drop)]
+pub struct Effect<'e> {
+    pub verb: Verb,
+    /// `this`, or names with a `.` between them, of which all but the last one are properties.
+    pub path: &'e str,
+    /// The types behind a signal or a slot, where it has brackets.
+    pub types: Option<Vec<&'e str>>,
+}
+
+/// What a slot does to what is named.
+#[derive(Clone, Copy, Debug, PartialEq, Eq)]
+pub enum Verb {
+    Emits,
+    Sets,
+    Calls,
+    Deletes,
+}
+
+impl Verb {
+    /// The verb of this word.
+    pub fn of(word: &str) -> Option<Verb> {
+        match word {
+            "emits" => Some(Verb::Emits),
+            "sets" => Some(Verb::Sets),
+            "calls" => Some(Verb::Calls),
+            "deletes" => Some(Verb::Deletes),
+            _ => None,
+        }
+    }
+
+    /// Whether what is named is a method.
+    pub fn names_method(self) -> bool {
+        matches!(self, Verb::Emits | Verb::Calls)
+    }
+}
+
+/// A path to a member: the path to its object, and its name.
+pub fn split_path(path: &str) -> (&str, &str) {
+    match path.rsplit_once('.') {
+        Some((front, name)) => (front, name),
+        None => ("this", path),
+    }
+}

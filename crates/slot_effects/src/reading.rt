@@ -1,0 +1,140 @@
+//! Texts of effects are read line by line:
+//!
+//! ```text
+//! line   = CLASS "." SLOT types {effect}
+//! effect = "emits" SIGNAL [types] {"," SIGNAL [types]} | "sets" path {"," path}
+//!        | "calls" path [types] {"," path [types]} | "deletes" path {"," path}
+//! path   = ["this" "."] NAME {"." NAME} | "this"
+//! types  = "(" [TYPE {"," TYPE}] ")"
+//! ```
+
+use crate::fault::LineFault;
+use crate::line::{Effect, EffectLine, Line, Verb};
+use crate::scanner::Scanner;
+use moc_classes::{MocArgument, MocMethod};
+use signatures::is_name;
+use std::alloc::{AllocError, Global};
+
+/// The lines of a text that have more than a comment.
+pub fn lines<'e>(alloc: Global, text: &'e str) -> Result<Vec<Line<'e>>, AllocError> {
+    let mut lines = Vec::new(alloc);
+    for (place, line) in text.lines().enumerate() {
+        let mut scanner = Scanner::of(line);
+        if scanner.is_done() {
+            continue;
+        }
+        let read = match line_of(alloc, &mut scanner) {
+            Err(LineFault::Memory(fault)) => return Err(fault),
+            read => read,
+        };
+        lines.push(Line {
+            number: place.saturating_add(1),
+            read,
+        })?;
+    }
+    Ok(lines)
+}
+
+/// What a line says.
+fn line_of<'e>(alloc: Global, scanner: &mut Scanner<'e>) -> Result<EffectLine<'e>, LineFault<'e>> {
+    let Some((class, name)) = scanner.word().rsplit_once('.') else {
+        return Err(LineFault::NoSlot);
+    };
+    let Some(types) = types(alloc, scanner)? else {
+        return Err(LineFault::NoSlot);
+    };
+    let slot = moc_method(alloc, name, types.as_slice())?;
+    let mut effects = Vec::new(alloc);
+    // Each round takes a letter at least.
+    for _ in 0..scanner.len() {
+        if scanner.is_done() {
+            break;
+        }
+        push_effects(alloc, scanner, &mut effects)?;
+    }
+    Ok(EffectLine {
+        class,
+        slot,
+        effects,
+    })
+}
+
+/// Takes a verb, and adds what stands behind it.
+fn push_effects<'e>(
+    alloc: Global,
+    scanner: &mut Scanner<'e>,
+    effects: &mut Vec<Effect<'e>>,
+) -> Result<(), LineFault<'e>> {
+    let ahead = scanner.ahead();
+    let Some(verb) = Verb::of(scanner.word()) else {
+        return Err(LineFault::NoVerb(ahead));
+    };
+    for _ in 0..scanner.len().saturating_add(1) {
+        let path = path(scanner)?;
+        let types = if verb.names_method() {
+            types(alloc, scanner)?
+        } else {
+            None
+        };
+        effects.push(Effect { verb, path, types })?;
+        if !scanner.eat(',') {
+            break;
+        }
+    }
+    Ok(())
+}
+
+/// Takes a path; a `this.` in front is left out of it.
+fn path<'e>(scanner: &mut Scanner<'e>) -> Result<&'e str, LineFault<'e>> {
+    let ahead = scanner.ahead();
+    if ahead.is_empty() {
+        return Err(LineFault::NoName);
+    }
+    let word = scanner.word();
+    let path = word.strip_prefix("this.").unwrap_or(word);
+    if path.split('.').all(|name: &str| is_name(name.as_bytes())) {
+        Ok(path)
+    } else {
+        Err(LineFault::NoPath(ahead))
+    }
+}
+
+/// Takes the types in brackets, if brackets stand next.
+fn types<'e>(
+    alloc: Global,
+    scanner: &mut Scanner<'e>,
+) -> Result<Option<Vec<&'e str>>, LineFault<'e>> {
+    if !scanner.eat('(') {
+        return Ok(None);
+    }
+    let Some(inside) = scanner.until(')') else {
+        return Err(LineFault::Unclosed);
+    };
+    let mut types = Vec::new(alloc);
+    if inside.trim().is_empty() {
+        return Ok(Some(types));
+    }
+    for part in inside.split(',') {
+        let kind = part.trim();
+        if kind.is_empty() {
+            return Err(LineFault::NoType);
+        }
+        types.push(kind)?;
+    }
+    Ok(Some(types))
+}
+
+/// The method as moc would write it.
+fn moc_method(alloc: Global, name: &str, types: &[&str]) -> Result<MocMethod, AllocError> {
+    let mut arguments = Vec::new(alloc);
+    for kind in types {
+        arguments.push(MocArgument {
+            name: String::new(alloc),
+            kind: String::from_str(alloc, kind)?,
+        })?;
+    }
+    Ok(MocMethod {
+        name: String::from_str(alloc, name)?,
+        arguments,
+    })
+}

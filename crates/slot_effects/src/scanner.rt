@@ -1,0 +1,63 @@
+//! A line, word by word.
+
+/// What is left of a line.
+#[derive(Drop)]
+pub struct Scanner<'e> {
+    rest: &'e str,
+}
+
+impl<'e> Scanner<'e> {
+    /// The line without its comment.
+    pub fn of(line: &'e str) -> Scanner<'e> {
+        let rest = match line.split_once("//") {
+            Some((rest, _)) => rest,
+            None => line,
+        };
+        Scanner { rest }
+    }
+
+    /// Whether nothing but blanks is left.
+    pub fn is_done(&self) -> bool {
+        self.rest.trim_start().is_empty()
+    }
+
+    /// So many bytes are left.
+    pub fn len(&self) -> usize {
+        self.rest.len()
+    }
+
+    /// What stands next, up to a blank.
+    pub fn ahead(&self) -> &'e str {
+        self.rest.split_whitespace().next().unwrap_or("")
+    }
+
+    /// Takes the next word, up to a blank, a bracket or a comma. It has no letters where one of these stands next.
+    pub fn word(&mut self) -> &'e str {
+        let text = self.rest.trim_start();
+        let rest = text.trim_start_matches(is_of_word);
+        self.rest = rest;
+        text.strip_suffix(rest).unwrap_or(text)
+    }
+
+    /// Takes this symbol, if it stands next.
+    pub fn eat(&mut self, symbol: char) -> bool {
+        match self.rest.trim_start().strip_prefix(symbol) {
+            Some(rest) => {
+                self.rest = rest;
+                true
+            }
+            None => false,
+        }
+    }
+
+    /// Takes what stands before the next such symbol, and it.
+    pub fn until(&mut self, symbol: char) -> Option<&'e str> {
+        let (front, rest) = self.rest.split_once(symbol)?;
+        self.rest = rest;
+        Some(front)
+    }
+}
+
+fn is_of_word(letter: char) -> bool {
+    !letter.is_whitespace() && !matches!(letter, '(' | ')' | ',')
+}

@@ -1,0 +1,73 @@
+//! Effects as statements.
+
+use crate::body::{Statement, Value, next_value, values};
+use crate::fault::LineFault;
+use crate::line::{Effect, Verb, split_path};
+use crate::lookup::{Lookup, MemberSort, Sought};
+use moc_classes::{Parameter, Placed};
+use std::alloc::Global;
+
+/// The statement that an effect is in the body of this slot.
+pub fn statement<'i, 'e: 'i>(
+    alloc: Global,
+    lookup: Lookup<'i, '_>,
+    slot: Placed<'_, '_>,
+    effect: &'e Effect<'_>,
+) -> Result<Statement<'e>, LineFault<'i>> {
+    let path: &'e str = effect.path;
+    let parameters = slot.method.parameters.as_slice();
+    let (front, name) = split_path(path);
+    match effect.verb {
+        Verb::Emits => {
+            if path != name {
+                return Err(LineFault::OtherObject(path));
+            }
+            let sought = Sought {
+                class: Some(slot.class),
+                sort: MemberSort::Signal,
+                name,
+            };
+            Ok(Statement::Emit {
+                signal: path,
+                values: arguments(alloc, lookup, sought, effect, parameters)?,
+            })
+        }
+        Verb::Sets => {
+            let class = lookup.object(alloc, slot.class, front)?;
+            let kind = lookup.property(alloc, class, name)?;
+            let value = next_value(lookup.catalogue(), kind, parameters, &[]);
+            Ok(Statement::Set { path, value })
+        }
+        Verb::Calls => {
+            let sought = Sought {
+                class: lookup.object(alloc, slot.class, front)?,
+                sort: MemberSort::Slot,
+                name,
+            };
+            Ok(Statement::Call {
+                path,
+                values: arguments(alloc, lookup, sought, effect, parameters)?,
+            })
+        }
+        Verb::Deletes => {
+            lookup.object(alloc, slot.class, path)?;
+            Ok(Statement::Delete { path })
+        }
+    }
+}
+
+/// The values for the signal or slot that an effect names.
+fn arguments<'i>(
+    alloc: Global,
+    lookup: Lookup<'i, '_>,
+    sought: Sought<'i>,
+    effect: &Effect<'_>,
+    parameters: &[Parameter<'_>],
+) -> Result<Vec<Value>, LineFault<'i>> {
+    let types = match &effect.types {
+        Some(types) => Some(types.as_slice()),
+        None => None,
+    };
+    let kinds = lookup.method(alloc, sought, types)?;
+    Ok(values(alloc, lookup.catalogue(), kinds.as_slice(), parameters)?)
+}
