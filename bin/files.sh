@@ -11,9 +11,10 @@ texts_of() {
     esac
 }
 
-# Ends where a file can't be read, or has a line that would part it in two.
+# Ends where a file can't be read, or has a line that would part it in two. `-` is standard input.
 need_text() {
     local found
+    [ "$1" != - ] || return 0
     if [ -d "$1" ] || ! [ -r "$1" ]; then
         say "$1: this file can't be read"
         exit 2
@@ -25,7 +26,7 @@ need_text() {
     fi
 }
 
-# Writes the files as one input.
+# Writes the files as one input. `-` is standard input, which may have several texts.
 join_files() {
     local between= file
     for file in "$@"; do
@@ -33,7 +34,9 @@ join_files() {
         between=yes
         cat -- "$file" || return
         # A text that doesn't end its last line, before the line behind it.
-        [ -z "$(tail -c 1 -- "$file")" ] || echo
+        if [ "$file" = - ] || [ -n "$(tail -c 1 -- "$file")" ]; then
+            echo
+        fi
     done
 }
 
@@ -46,17 +49,32 @@ name_files() {
             count = split(ENVIRON["pairs"], given, "\n")
             for (at = 1; at < count; at += 2) file[given[at]] = given[at + 1]
             place = "^ at line [0-9]+, column [0-9]+ of the input \\(line [0-9]+, column [0-9]+ of the [a-z]+\\)$"
+            own = "^ at line [0-9]+, column [0-9]+ of the [a-z]+$"
         }
-        $0 ~ place {
-            text = $0; sub(/^.*of the /, "", text); sub(/\)$/, "", text)
-            line = $0; sub(/^.*\(line /, "", line); sub(/,.*$/, "", line)
-            column = $0; sub(/^.*, column /, "", column); sub(/ .*$/, "", column)
-            if (text in file) { say(" at " file[text] ":" line ":" column); next }
+        # What is wrong is told with its place in the input, and that in its text follows.
+        first != "" {
+            text = $0; sub(/^.*of the /, "", text)
+            if ($0 ~ own && text in file) {
+                line = $3; sub(/,$/, "", line)
+                sub(/^<stdin>:[0-9]+:[0-9]+/, "", first)
+                say(file[text] ":" line ":" $5 first)
+                first = ""
+                next
+            }
+            say(first)
+            first = ""
         }
         /^<stdin>:([0-9]+:[0-9]+:)? warning: / && ("program" in file) {
             rest = $0; sub(/^<stdin>/, "", rest)
             say(file["program"] rest)
             next
+        }
+        /^<stdin>:[0-9]+:[0-9]+: / { first = $0; next }
+        $0 ~ place {
+            text = $0; sub(/^.*of the /, "", text); sub(/\)$/, "", text)
+            line = $0; sub(/^.*\(line /, "", line); sub(/,.*$/, "", line)
+            column = $0; sub(/^.*, column /, "", column); sub(/ .*$/, "", column)
+            if (text in file) { say(" at " file[text] ":" line ":" column); next }
         }
         /^line [0-9]+ of the certificate/ && ("certificate" in file) {
             rest = $0; sub(/^line [0-9]+ of the certificate/, "", rest)
@@ -74,6 +92,11 @@ name_files() {
             say(file["list"] ":" $3 ":" rest)
             next
         }
+        /^line [0-9]+ of the effects: / && ("effects" in file) {
+            rest = $0; sub(/^line [0-9]+ of the effects: /, "", rest)
+            say(file["effects"] ":" $2 ": " rest)
+            next
+        }
         /^qt_tools: text [0-9]+, line [0-9]+, column [0-9]+:/ {
             split($0, part, /[ ,:]+/)
             if (("text " part[3]) in file) {
@@ -82,7 +105,8 @@ name_files() {
                 next
             }
         }
-        { say($0) }'
+        { say($0) }
+        END { if (first != "") say(first) }'
 }
 
 # Says which line of the input looks as if it parted two texts, and doesn't.

@@ -26,8 +26,10 @@ LENT = set(
 )
 # Those that take no memory, whatever they are given; and those that do without on what they are given here: what they copy
 # is shared, or has room already.
-FREE = set(b"nesting unfit_wire nodes destroys new_tree new_connections new_bindings natives".split())
-MAY_BE_FREE = set(b"value_copy eval_sum type_of adopt connect add post schedule checked unchecked".split())
+FREE = set(b"nesting unfit_wire new_tree new_connections new_bindings natives".split())
+MAY_BE_FREE = set(b"value_copy eval_sum type_of adopt connect add post schedule checked unchecked nodes destroys".split())
+# Those on a scan that was just made: its rows give back the room that they don't need, and do without where that is refused.
+SHRUNK = set(b"scan edges nodes destroys make check".split())
 # The script of `memory_runs`.
 SCRIPT = b"new s Source\nnew l Label\nconnect s valueChanged(int) l show(int) auto\ncall s.setValue(7)\n"
 COUNTING = b"new a Counter\nnew b Counter\nconnect\nconnect\nset a.value 5\n"
@@ -143,6 +145,9 @@ class RefusedCalls:
             if answer.output == UNMADE:
                 return number + 1
             if is_told and self.call.is_untold(answer.output):
+                continue
+            if self.call.word in SHRUNK and answer.output == self.call.ample:
+                count.note(WITHOUT)
                 continue
             is_told = False
             self.judge(number, answer, self.call.kind_of, count)

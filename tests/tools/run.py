@@ -1,7 +1,8 @@
 #!/usr/bin/env python3
 """Runs the cases of tests/tools/*.cases on both builds of the program `qt_tools`. They have the form of docs/cases.md, and
 `--- errors` is compared where it is there. Then `import` is given changed texts of JSON: of each it makes declarations that
-`gammonfig meta` takes, or it is refused with status 2 and nothing is written. And `graph` is given changed programs: it draws
+`gammonfig meta` takes, or it is refused with status 2 and nothing is written; so with changed texts of effects behind them, of
+which it makes bodies that are typed. And `graph` is given changed programs: it draws
 those that `meta` takes, as JSON that can be read, whose edges join nodes that are drawn. So is `verdict`: it finds nothing where
 `gammonfig certify` makes a certificate, and else what its reason says too; what it lists of cycles it accepts; and its SARIF
 has what the schema asks, and its JSON becomes a code quality report.
@@ -24,7 +25,8 @@ FOLDER = os.path.dirname(os.path.abspath(__file__))
 BUILDS = [it.replace("gammonfig", "qt_tools") for it in ("gammonfig/out/gammonfig", "gammonfig/out/gammonfig.by-rattle")]
 
 
-SEED, CHANGED, DRAWN, JUDGED = 20260101, 1500, 100, 60
+SEED, DRAWN, JUDGED = 20260101, 100, 60
+CHANGED = int(os.environ.get("CHANGED") or 1500)
 TOKEN = re.compile(rb'"[^"]*"|[0-9a-z]+|[][{}:,]')
 ODD = [b"", b"\n", b'""', b'"int"', b'"class"', b'"QObject"', b'"a::b"', b'"x\\ny"', b"3", b"null", b"true", b"[]", b"{}", b"[", b"}", b"\xff"]
 
@@ -44,17 +46,42 @@ def changed(rng, text):
     return b" ".join(tokens[: rng.randrange(len(tokens))] if rng.random() < 0.1 else tokens)
 
 
+def changed_effects(rng, text):
+    """The text with a few words changed, exchanged or left out."""
+    words = re.findall(rb"\w+|\W", text)
+    for _ in range(rng.randrange(1, 4)):
+        at = rng.randrange(len(words))
+        words[at] = rng.choice([rng.choice(words), rng.choice(words), b"", b"\n", b"this", b"int", b"const", b"\x01", b"\xc3\xa4"])
+    return b"".join(words)
+
+
 def change(bench, count, program, text):
     rng = random.Random(SEED)
     for _ in range(CHANGED):
         given = changed(rng, text)
         found = bench.run(program, ["import", "--lean"] if rng.random() < 0.3 else ["import"], given)
-        if found.status == 0:
-            taken = bench.run(built.BUILDS[0], ["meta"], found.output)
-            count.check(taken.status == 0, lambda: f"{given}: {found.output} is refused: {taken}")
-        else:
-            holds = found.status == 2 and not found.output and found.errors
-            count.check(holds, lambda: f"{given}: {found}")
+        judge_import(bench, count, given, found, ["meta"], lambda it: it.status == 0)
+
+
+def change_effects(bench, count, program, text):
+    """`text` has JSON and effects, of which now and then both are changed."""
+    rng = random.Random(SEED)
+    json_text, effects = text.rsplit(b"\n%%\n", 1)
+    for _ in range(CHANGED):
+        given = changed(rng, json_text) if rng.random() < 0.2 else json_text
+        given += b"\n%%\n" + changed_effects(rng, effects)
+        found = bench.run(program, ["import", "--effects"], given)
+        judge_import(bench, count, given, found, ["certify"], lambda it: it.status in (0, 3) and not it.output.startswith(b"no type"))
+
+
+def judge_import(bench, count, given, found, words, is_taken):
+    """What was imported is taken by `gammonfig`; what was refused wrote nothing and has a reason."""
+    if found.status == 0:
+        taken = bench.run(built.BUILDS[0], words, found.output)
+        count.check(is_taken(taken), lambda: f"{given}: {found.output} is refused: {taken}")
+    else:
+        holds = found.status == 2 and not found.output and found.errors
+        count.check(holds, lambda: f"{given}: {found}")
 
 
 def is_graph(text):
@@ -206,8 +233,10 @@ def main():
                     holds = (found.status, found.output, found.errors) == wanted
                     count.check(holds, lambda: f"{told}: {found}, wanted {wanted}")
     text = next(it for it in case_files.cases_of(f"{FOLDER}/import.cases") if "moc" in it.title).text("input")
+    effects = case_files.cases_of(f"{FOLDER}/effects.cases")[0].text("input")
     for program in filter(os.path.isfile, programs):
         change(bench, count, program, text)
+        change_effects(bench, count, program, effects)
         draw(bench, count, program)
         judge(bench, count, program)
         judge_large(bench, count, program)

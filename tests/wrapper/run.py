@@ -79,10 +79,10 @@ class Tests:
 
     def places(self):
         """What is said of a text names its file and its own line."""
-        self.check(["meta", "loose.gf"], 2, "refused 5\n", " at loose.gf:4:")
-        self.check(["meta", "a b.gf"], 2, "refused 5\n", " at a b.gf:4:")
+        self.check(["meta", "loose.gf"], 2, "refused 5\n", "loose.gf:4:20: error: `{` can't stand here")
+        self.check(["meta", "a b.gf"], 2, "refused 5\n", "a b.gf:4:20: error: ")
         words = ["run", "app.gf", "app.gfc", "wrong.gfs"]
-        self.check(words, 2, "refused 16 line 3\n", " at wrong.gfs:3:1\n")
+        self.check(words, 2, "refused 16 line 3\n", "wrong.gfs:3:1: error: `cal` begins no event\n", "did you mean `call`?\n")
         self.check(["check", "app.gf", "flat.gfc"], 3, "no 76\n", "flat.gfc:12 gives `Lamp.dim(int)` the rank 2")
 
     def refused(self):
@@ -148,6 +148,10 @@ class Tests:
         self.check(["view", "--html", "trace", "session.gfs"], 0, shown)
         self.check(["view", "--html", "-", "session.gfs"], 0, shown, text=TRACE)
         self.check(["view", "--html", "trace", "none"], 2, "", "can't be read")
+        shown = self.program(["view", "--plain"], TRACE + "%%\n" + SCRIPT, "qt_tools")
+        self.check(["view", "trace", "session.gfs"], 0, shown)
+        self.check(["view", "--plain", "-", "session.gfs"], 0, shown, text=TRACE)
+        self.check(["view", "--color", "trace", "session.gfs"], 0, self.program(["view", "--color"], TRACE + "%%\n" + SCRIPT, "qt_tools"))
         for words in (["--html", "trace", "session.gfs", "trace"], ["--mermaid", "trace", "session.gfs"], ["--svg", "trace"]):
             self.check(["view", *words], 1, USAGE, "this is no command")
         self.check(["view", "--plain", "trace"], 0, self.program(["--plain"], TRACE, "trace_view"))
@@ -197,6 +201,22 @@ class Tests:
         self.check(["import", "a.json", "b.json"], 2, "", "b.json:2:")
         self.check(["import"], 0, "class A {\n}\n", "imported 1 classes", text='{"classes": [{"className": "A", "object": true}]}')
         self.check(["import", "--only"], 1, USAGE, "this is no command")
+        found = self.place.run(["import", "--help"])
+        self.count.check(found[0] == 0 and "--effects FILE" in found[1] and not found[2], lambda: f"import --help: {found}")
+
+    def effects(self):
+        """A file of effects goes behind the others, and its lines are told as lines of that file."""
+        self.place.write({"a.effects": "A.f() sets objectName", "b.effects": "A.f()\n\nA.g() sets name\n"})
+        told = 'class A {\n    slot f() { set this.objectName = ""; } // added\n}\n'
+        self.check(["import", "--effects", "a.effects", "a.json"], 0, told, "1 slots have the bodies")
+        self.check(["import", "--lean", "--effects", "a.effects", "a.json", "a.json"], 0, told, "1 of them added")
+        self.check(["import", "--effects", "a.effects"], 0, told, "1 of them added", text='{"classes": [{"className": "A", "object": true}]}')
+        self.check(["import", "--effects", "b.effects", "a.json"], 2, "", "b.effects:3: `A` has no property `name`")
+        self.check(["import", "--effects", "a.effects", "a.json", "b.json"], 2, "", "b.json:2:")
+        self.check(["import", "--effects", "none.effects", "a.json"], 2, "", "none.effects: this file can't be read")
+        self.check(["import", "a.json", "--effects", "a.effects"], 2, "", "--effects: this file can't be read")
+        for words in (["--effects"], ["--effects", ""], ["--effects", "a.effects", "--effects", "b.effects"], ["--lean", "--help"]):
+            self.check(["import", *words], 1, USAGE, "this is no command")
 
     def built(self):
         """Where a program isn't built and there is no toolchain, a sentence says so."""
@@ -207,7 +227,7 @@ class Tests:
 
 def main():
     tests = Tests()
-    for part in ("files", "places", "refused", "input", "terminal", "graph", "session", "view", "verdict", "witness", "import_classes", "built"):
+    for part in ("files", "places", "refused", "input", "terminal", "graph", "session", "view", "verdict", "witness", "import_classes", "effects", "built"):
         getattr(tests, part)()
     shutil.rmtree(tests.place.folder, ignore_errors=True)
     tests.count.end()
