@@ -4,3 +4,4 @@ pub mod PlainValues
 pub mod Joining
 pub mod Asking
 pub mod Promising
+pub mod OnlyFitting

@@ -87,3 +87,8 @@ pub record IsNativeOf (p : Loaded) (class : MetaObject) (method : MetaMethod) (e
 -- .. of the natives that the program declares
 abbrev pub Fit : List NativeHead → Loaded → Result (Unit {0}) NativeFault → Type 0
 Fit heads p answer = FitAmong heads (IsNativeOf p) answer
+
+-- the closures fit a program in one way: they do, or they are refused for one reason
+abbrev pub OneFitting : Type 0
+OneFitting =
+    (heads : List NativeHead) (p : Loaded) (a b : Result (Unit {0}) NativeFault) → Fit heads p a → Fit heads p b → a ≡ b

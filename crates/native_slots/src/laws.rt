@@ -1,0 +1,9 @@
+//! What holds of the closures that are handed in.
+
+ghost use Rattle.native_slots.specs.Fitting.{OneFitting};
+
+/// Closures fit a program in one way: each native has one that keeps to the effects declared, or they are refused for one
+/// reason.
+pub fn one_fitting()
+    ensures { OneFitting }
+{}
