@@ -1,5 +1,5 @@
 -- What runs of checked programs never come to.
-use Rattle.std.proofs.Common.{◌≡◌, ◌≢◌, ℕ, List, refl, subst}
+use Rattle.std.proofs.Common.{◌≡◌, ◌≢◌, ℕ, List, refl}
 use Rattle.script_lang.specs.declared.event.Event.{Event}
 use Rattle.meta_model.specs.Loaded.{Loaded}
 use Rattle.meta_model.specs.Sound.{IsSound}
@@ -9,26 +9,16 @@ use Rattle.native_slots.specs.Promises.{Takes}
 use Rattle.machine_state.specs.declared.fault.Fault.{Fault}
 use Rattle.machine_state.specs.declared.fault.Fault.TheVariants.{BadType, TooDeep, BindingLoop, InUse, Steps, Memory}
 use Rattle.machine_state.specs.State.{State}
-use Rattle.std.specs.List.{Contains}
-use Rattle.std.proofs.lemmas.List.Elements.{All-contains, All-from_recursion}
-use Rattle.meta_model.specs.declared.object.MetaProperty.{MetaProperty}
-use Rattle.object_tree.specs.declared.object.Object.{Object}
-use Rattle.object_tree.specs.Typed.{ReadsAs}
-use Rattle.prop_bindings.specs.declared.assignment.Assignment.{Assignment}
-use Rattle.prop_bindings.specs.Calls.{AllFit}
-use Rattle.prop_bindings.specs.Fits.{FitsAt}
-use Rattle.machine_state.specs.Telling.{writes_of}
-use Rattle.machine_rules.specs.There.{IsField}
-use Rattle.machine_rules.proofs.Fields.{field-property}
 use Rattle.machine_rules.specs.Natives.{NativeAnswers}
-use Rattle.machine_rules.specs.Faults.{WritesIll, GoesIll}
+use Rattle.machine_rules.specs.Faults.{GoesIll}
+use Rattle.machine_rules.specs.Next.{WritesIll}
 use Rattle.machine_events.specs.Causes.{Brings, StopsFor, BindsIll, spent, short, brings, lacks_value, writes_ill, binds_ill, goes_ill, goes_fatal, binds_loop, writes_deep, goes_deep}
 use Rattle.machine_events.specs.Runs.{Follows}
 use Rattle.machine_events.proofs.Progress.{stuck-lacks}
 use Rattle.checked_runs.specs.Claims.{NeverStops, NeverLacksValue, NeverStuck, IsReached, EachRunIsFaultless, EachIsFaultless, IsLimit, no_rule, no_memory, StopsAtLimits}
 use Rattle.checked_runs.proofs.Binding.{binds-fit}
 use Rattle.checked_runs.proofs.Kept.{Kept, run-kept, writes-low, deep-not, fatal-not, loops-not, lacks-not}
-use Rattle.checked_runs.proofs.Steps.{Stood, come-stood, as-kept, writes-fit, follows-good, follows-faultless, run-faultless}
+use Rattle.checked_runs.proofs.Steps.{Stood, come-stood, as-kept, writes-none, follows-good, follows-faultless, run-faultless}
 
 module _ {natives : NativeAnswers} {p : Loaded} {certificate : Certificate} (valid : IsValid p certificate) (sound : IsSound p) {s : State} (kept : Kept valid sound natives s) {next : List Event} where
   -- nothing is brought but 60
@@ -71,13 +61,6 @@ never_stuck natives p certificate s steps left taken answers sound valid run stu
 
 -- ---- every step
 
--- what fits reads as its property's type
-fits-read : {p : Loaded} {objects : List Object} (writes : List Assignment) → AllFit p objects writes → (set : Assignment) → Contains writes set → {x : Object} {property : MetaProperty} → IsField p objects set.place.object set.place.property x property → ReadsAs p objects set.value property.kind
-fits-read {p} {objects} writes fit set among {x} {property} field =
-    let f = All-contains (λ (a : Assignment). FitsAt p objects a.place a.value) writes set (All-from_recursion (λ (a : Assignment). FitsAt p objects a.place a.value) writes fit) among in
-    let own : IsField p objects set.place.object set.place.property f.object f.property = record { life = f.life; lives = f.lives; class = (f.is_property).class; is_class = (f.is_property).is_class; is_property = (f.is_property).is } in
-    subst (λ (k : MetaProperty). ReadsAs p objects set.value k.kind) (field-property own field) f.reads
-
 module _ {accepts : Takes} {natives : NativeAnswers} {p : Loaded} {certificate : Certificate} {s : State} {left : ℕ} (reached : IsReached accepts natives p certificate s left) where
   stood : Stood p certificate s
   stood = come-stood reached.valid reached.sound accepts natives reached.promises reached.run
@@ -89,7 +72,7 @@ module _ {accepts : Takes} {natives : NativeAnswers} {p : Loaded} {certificate :
   binds-not ill = ill.ill (binds-fit reached.valid reached.sound ((kept.1).sound).agree ill.next)
 
   writes-not : WritesIll p s → ⊥
-  writes-not w = w.ill (fits-read (writes_of w.what) (writes-fit reached.valid reached.sound stood w.what w.next) w.set w.among w.is)
+  writes-not ill = writes-none reached.valid reached.sound stood ill
 
   goes-not : {next : List Event} → GoesIll p s (λ t. Follows p natives s t next) → ⊥
   goes-not g = g.ill (follows-good reached.valid reached.sound accepts natives reached.promises stood g.follows).well

@@ -19,7 +19,8 @@ use Rattle.machine_rules.specs.Operations.{Write}
 use Rattle.machine_rules.specs.Good.{IsWell, IsGood}
 use Rattle.machine_rules.specs.Natives.{NativeAnswers}
 use Rattle.machine_rules.specs.Rules.{Rule}
-use Rattle.machine_rules.specs.Faults.{WritesNext}
+use Rattle.machine_rules.specs.Next.{WritesNext, WritesIll}
+use Rattle.machine_rules.proofs.Writes.{fits-read}
 use Rattle.machine_rules.specs.There.{IsField}
 use Rattle.machine_events.specs.Runs.{Run, done, goes, takes, Each, Follows, by_rule, by_event}
 use Rattle.machine_events.specs.Takes.{Takes as Taking}
@@ -58,6 +59,10 @@ module _ {p : Loaded} {certificate : Certificate} (valid : IsValid p certificate
       on-top (r ∷ levels) st all =
           does-give valid sound stood.classes (((stood.held).covered).known).lives ((stood.up).sound).agree.typed (st.0).stands n.step (Write what) (((st.0).stands).steps).0 (all.0).0 n.does
 
+  -- .. so it is of no wrong type
+  pub writes-none : {s : State} → Stood p certificate s → ¬ WritesIll p s
+  writes-none stood ill = ill.ill (fits-read (writes_of ill.what) (writes-fit stood ill.what ill.next) ill.set ill.among ill.is)
+
   module _ (accepts : Takes) (natives : NativeAnswers) (promises : Promises p accepts natives) where
     -- what follows is well, and its values are settled
     rule-well : {s t : State} → Stood p certificate s → Rule p natives s t → IsWell p s t
@@ -78,12 +83,12 @@ module _ {p : Loaded} {certificate : Certificate} (valid : IsValid p certificate
         let well = rule-well {s = s} {t = t} stood rule in
         let held = follows-held valid sound natives {s = s} {t = t} {next = []} (as-kept natives stood) well (by_rule rule) in
         let agree = rule-agrees natives s t ((stood.up).sound).agree (writes-fit stood) rule in
-        record { well = well; spared = held.1; acyclic = agree.acyclic; shallow = no-deeper valid (held.0).0 t.objects ((held.0).1).levels t.stack ((held.0).1).stacked }
+        record { well = well; spared = held.1; acyclic = agree.acyclic; shallow = no-deeper valid (held.0).0 t.objects ((held.0).1).levels t.stack ((held.0).1).stacked; fits = writes-none stood }
     follows-good {s} {t} stood (by_event {e = e} {events = events} x) =
         let well = event-well stood x in
         let held = follows-held valid sound natives {s = s} {t = t} {next = e ∷ events} (as-kept natives stood) well (by_event x) in
         let agree = takes-agrees valid sound (stood.classes, stood.held) ((stood.up).sound).agree x in
-        record { well = well; spared = held.1; acyclic = agree.acyclic; shallow = no-deeper valid (held.0).0 t.objects ((held.0).1).levels t.stack ((held.0).1).stacked }
+        record { well = well; spared = held.1; acyclic = agree.acyclic; shallow = no-deeper valid (held.0).0 t.objects ((held.0).1).levels t.stack ((held.0).1).stacked; fits = writes-none stood }
 
     rule-stood : {d : ℕ} {s t : State} → Stood p certificate s → IsGood p d s t → Rule p natives s t → Stood p certificate t
     rule-stood {d} {s} {t} stood good rule =

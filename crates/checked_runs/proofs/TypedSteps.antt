@@ -58,7 +58,7 @@ use Rattle.machine_rules.specs.Operations.{Operation, Write, Begin, Choose, Conn
 use Rattle.machine_rules.specs.Judgement.{found as finds, holds as so, becomes, goes_on}
 use Rattle.machine_rules.specs.Natives.{NativeAnswers}
 use Rattle.machine_rules.specs.Rules.{Rule, RuleAt, BodyRule, Does, EmitRule, UpdateRule, NotifiesIf, TurnRule, Serves, Delivers, Arrives, BeginsIf, begun, with_used, linked, unlinked}
-use Rattle.machine_rules.specs.Faults.{WritesNext}
+use Rattle.machine_rules.specs.Next.{WritesNext}
 use Rattle.machine_rules.specs.There.{IsField}
 use Rattle.machine_rules.proofs.Differing.{scheduled-agree}
 use Rattle.machine_rules.proofs.Fields.{field-property}

@@ -13,7 +13,8 @@ use Rattle.machine_state.specs.declared.fault.Fault.TheVariants.{Steps, Memory}
 use Rattle.machine_state.specs.State.{State, IsIdle}
 use Rattle.machine_state.specs.Worlds.{at, untouched}
 use Rattle.machine_rules.specs.Good.{HasArguments, Spares, IsAcyclic, AreSettled}
-use Rattle.machine_rules.specs.Faults.{LacksValue, LacksFirst, DoesNext, WritesNext}
+use Rattle.machine_rules.specs.Faults.{LacksValue, LacksFirst}
+use Rattle.machine_rules.specs.Next.{DoesNext, WritesNext}
 use Rattle.machine_rules.specs.Natives.{NativeAnswers}
 use Rattle.machine_events.specs.Causes.{StopsFor}
 use Rattle.machine_events.specs.Runs.{Run, Each, GoodRun, Follows}

@@ -21,7 +21,8 @@ use Rattle.machine_state.specs.declared.refusal.Refusal.{Refusal}
 use Rattle.prop_bindings.specs.Places.{property_of}
 use Rattle.prop_bindings.specs.declared.binding.Binding.{Binding}
 use Rattle.machine_rules.specs.Destroying.{deleting, Schedules}
-use Rattle.machine_rules.specs.Faults.{DoesNext, LacksValue}
+use Rattle.machine_rules.specs.Faults.{LacksValue}
+use Rattle.machine_rules.specs.Next.{DoesNext, WritesNext, WritesIll}
 use Rattle.machine_rules.specs.Good.{IsWell, IsGood}
 use Rattle.machine_rules.specs.Judgement.{Numbered, Then, goes_on, ends, Gives, gives, Becomes, becomes}
 use Rattle.machine_rules.specs.Natives.{NativeAnswers}
@@ -112,6 +113,13 @@ module _ (front : List Entry) where
   takes-front {p} {e} (refuses {s = s} r idle x) =
       subst (λ (u : State). Takes p e (Refused (refusal_number r)) (in_front front s) u) (sym (refused-front s r)) (refuses r (idle-front idle) (judged-front p s e _ x))
 
+  -- what is written next doesn't depend on it
+  ill-behind : {p : Loaded} (s : State) → WritesIll p (in_front front s) → WritesIll p s
+  ill-behind s ill =
+      let next = ill.next in
+      let same : WritesNext s ill.what = record { object = next.object; method = next.method; arguments = next.arguments; step = next.step; rest = next.rest; below = next.below; is_next = next.is_next; does = next.does } in
+      record { what = ill.what; next = same; set = ill.set; among = ill.among; it = ill.it; property = ill.property; is = ill.is; ill = ill.ill }
+
   module _ {p : Loaded} {natives : NativeAnswers} where
     abbrev pub run-front : {s t : State} {n k : ℕ} {es : List Event} {xs : List Answer} → Run p natives s n es xs t k → Run p natives (in_front front s) n es xs (in_front front t) k
     run-front done = done
@@ -141,6 +149,7 @@ module _ (front : List Entry) where
             spared = good.spared;
             acyclic = good.acyclic;
             shallow = good.shallow;
+            fits = λ ill. good.fits (ill-behind u ill);
           })
           x.run x.good;
     }

@@ -16,6 +16,7 @@ use Rattle.machine_state.specs.Worlds.{at, after, Rejects}
 use Rattle.machine_rules.specs.Natives.{NativeAnswers}
 use Rattle.prop_bindings.specs.Fits.{Agree}
 use Rattle.machine_rules.specs.Good.{IsGood, TopFits}
+use Rattle.machine_rules.specs.Next.{WritesIll}
 use Rattle.machine_rules.specs.code.Going.{GoodRules}
 use Rattle.machine_rules.specs.code.Going as of_rules
 use Rattle.machine_events.specs.declared.judgement.NotAccepted.{NotAccepted}
@@ -35,13 +36,17 @@ runs-taken {p} {natives} {d} {a} {s} {m} {t} {n} {j} {k} e x good some less rest
     let after : GoodRun p natives d m j [] [] t k = rules-run rest in
     subst Family suc_is (record { run = takes x after.run; good = (good, after.good) })
 
+-- where nothing is going on, nothing is written next
+nothing-written : {p : Loaded} (w : World) → ¬ WritesIll p (at w [])
+nothing-written w ill = absurd (cc (ill.next).is_next)
+
 -- an event that pushes nothing is good where objects and bindings agree
 pub good-quiet : {p : Loaded} {d : ℕ} (w v : World) → Agree p v.store.tree v.store.bindings → IsGood p d (at w []) (at v [])
-good-quiet w v agree = record { well = record { arguments = λ more. absurd (omega (arith, more)); values = agree.typed }; spared = λ o body gone. absurd (cc body); acyclic = agree.acyclic; shallow = omega arith }
+good-quiet w v agree = record { well = record { arguments = λ more. absurd (omega (arith, more)); values = agree.typed }; spared = λ o body gone. absurd (cc body); acyclic = agree.acyclic; shallow = omega arith; fits = nothing-written w }
 
 -- .. and one that pushes an activation where its arguments fit too
 pub good-pushed : {p : Loaded} {d : ℕ} {top : Activation} (w v : World) → Agree p v.store.tree v.store.bindings → TopFits p v.store.tree (top ∷ []) → 1 ≤ d → IsGood p d (at w []) (at v (top ∷ []))
-good-pushed w v agree fit room = record { well = record { arguments = λ more. fit; values = agree.typed }; spared = λ o body gone. absurd (cc body); acyclic = agree.acyclic; shallow = omega (arith, room) }
+good-pushed w v agree fit room = record { well = record { arguments = λ more. fit; values = agree.typed }; spared = λ o body gone. absurd (cc body); acyclic = agree.acyclic; shallow = omega (arith, room); fits = nothing-written w }
 
 -- a run that hasn't begun
 pub none-yet : {p : Loaded} {natives : NativeAnswers} {d : ℕ} {s : State} {n : ℕ} → GoodRun p natives d s n [] [] s n

@@ -12,3 +12,4 @@ pub use Rattle.machine_rules.specs.Good
 pub use Rattle.machine_rules.specs.Judgement as MachineRulesJudgement
 pub use Rattle.machine_rules.specs.code.Reaches
 pub use Rattle.machine_rules.specs.Faults
+pub use Rattle.machine_rules.specs.Next

@@ -9,6 +9,7 @@ use Rattle.meta_model.specs.declared.object.Work.{Work}
 use Rattle.meta_model.specs.declared.object.Work.TheVariants.{Signal, Slot, Native}
 use Rattle.meta_model.specs.Loaded.{Loaded}
 use Rattle.connections.specs.declared.connection.Connection.{Connection}
+use Rattle.prop_bindings.specs.declared.place.Place.{Place}
 use Rattle.machine_state.specs.declared.entry.Entry.{Entry}
 use Rattle.machine_state.specs.declared.fault.Fault.{Fault}
 use Rattle.machine_state.specs.declared.fault.Fault.TheVariants.{BadType, TooDeep, Memory}
@@ -22,7 +23,7 @@ use Rattle.object_tree.specs.declared.life.Life.{Life}
 use Rattle.object_tree.specs.declared.object.Object.{Object}
 use Rattle.machine_state.specs.declared.world.World.{World}
 use Rattle.machine_state.specs.Objects.{all_shown}
-use Rattle.machine_state.specs.State.{State, Activation, Emit}
+use Rattle.machine_state.specs.State.{State, Activation, Emit, Update}
 use Rattle.machine_state.specs.Turns.{running, reaches_at_once}
 use Rattle.machine_rules.specs.Rules.{Begins, begun, with_used, posted, EmitRule, Uses, Arrives, begin_entry, top_of}
 use Rattle.machine_state.specs.Connections.{is_living, next_used}
@@ -35,7 +36,7 @@ use Rattle.machine_rules.specs.code.Reaches.{Reaches, StopsIn, RunsTo, CallsIn, 
 use Rattle.machine_rules.proofs.Frames.{high, shows-over}
 use Rattle.machine_rules.specs.There.{IsMember, IsDead}
 use Rattle.machine_rules.proofs.Dying.{lives-not-dead, lives-or-dead}
-use Rattle.machine_rules.proofs.Reaching.{none-spared, same-spared, reaches-high, ends-after, ends-lifted, not-idle, ends-noted, stops-as, stops-memory, stops-deep, stops-ill, stops-stuck}
+use Rattle.machine_rules.proofs.Reaching.{none-spared, same-spared, reaches-pushed, ends-after, ends-lifted, not-idle, ends-noted, stops-as, stops-memory, stops-deep, stops-ill, stops-stuck}
 use Rattle.machine_rules.proofs.Fields.{member-method, method-unique, read-front}
 use Rattle.machine_rules.specs.Operations.{Write, Begin, TakeAnswer}
 use Rattle.machine_rules.specs.Natives.{NativeAnswers}
@@ -71,6 +72,12 @@ top-fits last Signal below fit = of_living fit
 top-fits last (Slot statements) below fit = fit
 top-fits last (Native effects) below fit = fit
 
+-- .. and it is no update
+pub top-other : (o m last : ℕ) (arguments : List Value) (places : List Place) (work : Work) → top_of o m arguments last work ≢ Update places
+top-other o m last arguments places Signal is = cc is
+top-other o m last arguments places (Slot statements) is = cc is
+top-other o m last arguments places (Native effects) is = cc is
+
 emission-fits : {p : Loaded} {objects : List Object} {o m : ℕ} {x : Object} {method : MetaMethod} {arguments : List Value} → IsMember p objects o m x method → EmissionFits p objects o m arguments → ArgumentsFit p objects o m arguments
 emission-fits is (of_living fit) = fit
 emission-fits is (of_dead gone g_is typed) = absurd (lives-not-dead is.lives gone)
@@ -88,7 +95,7 @@ reaches-begun {p} {natives} {d} {o} {m} {h} {active} {w} {u} {v} {from} {to} {ar
     let target : World = begun_world u (length active + 1) is.object m is.method arguments in
     let target_is : v ≡ target = v_is ∙ ap (λ (y : Entry). noted u (y ∷ [])) is.is_line in
     let went : Pushed target is.method.work u.store.connections.last =
-    reaches-high over (λ below e. calls.gives below _ (begins-there u arguments (from ++ below) (to ++ below) is.is (one-more to below over e))) (λ below e. none-spared w.store.tree u.store.tree (from ++ below) (same-spared calls.objects)) (λ below. top-fits u.store.connections.last is.method.work (to ++ below) fit) is.room agree (ap (λ (n : ℕ). n - 1) same) some in
+    reaches-pushed over (λ places. top-other o m u.store.connections.last arguments places is.method.work) (λ below e. calls.gives below _ (begins-there u arguments (from ++ below) (to ++ below) is.is (one-more to below over e))) (λ below e. none-spared w.store.tree u.store.tree (from ++ below) (same-spared calls.objects)) (λ below. top-fits u.store.connections.last is.method.work (to ++ below) fit) is.room agree (ap (λ (n : ℕ). n - 1) same) some in
     subst (λ (z : World). Pushed z work last) (sym target_is) (subst (λ (k : Work). Pushed target k last) (sym is.is_work) (subst (λ (l : ℕ). Pushed target is.method.work l) (sym is.is_last) went))
 
 -- a method begins, and what it pushed runs

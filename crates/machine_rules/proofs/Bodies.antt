@@ -27,7 +27,7 @@ use Rattle.machine_rules.specs.Rules.{Rule, StepRule, Does, told, Connects, Disc
 use Rattle.machine_rules.specs.Destroying.{Schedules}
 use Rattle.object_tree.specs.Objects.{life_of}
 use Rattle.machine_rules.specs.code.Sound.{AgreeIn}
-use Rattle.machine_rules.specs.Faults.{DoesNext}
+use Rattle.machine_rules.specs.Next.{DoesNext}
 use Rattle.machine_rules.specs.code.Going.{GoodRules, done, then}
 use Rattle.machine_state.specs.Worlds.{at, noted, Ticks, GoesTo}
 use Rattle.machine_rules.specs.code.Reaches.{StopsIn, RunsTo, Advances, Calls, OnlyCalls, Sets, Deletes, Went, Stalls, ConnectsIn, DisconnectsIn, SchedulesIn}

@@ -39,7 +39,7 @@ use Rattle.machine_rules.proofs.Declared.{emission-sends}
 use Rattle.machine_rules.specs.code.Sound.{SendsThese}
 use Rattle.meta_model.specs.Sound.{IsSound}
 use Rattle.machine_rules.proofs.Frames.{high}
-use Rattle.machine_rules.proofs.Reaching.{none-spared, reaches-low, reaches-high, stops-as, stops-memory, stops-steps, stops-deep, stops-fatal, ends-after, ends-lifted, not-idle}
+use Rattle.machine_rules.proofs.Reaching.{none-spared, reaches-low, reaches-pushed, stops-as, stops-memory, stops-steps, stops-deep, stops-fatal, ends-after, ends-lifted, not-idle}
 use Rattle.machine_rules.specs.Natives.{NativeAnswers}
 
 -- ---- a deletion begins
@@ -49,7 +49,7 @@ pub ends-deleting : {p : Loaded} {natives : NativeAnswers} {d x : ℕ} {h active
 ends-deleting {p} {natives} {d} {x} {h} {active} {w} {v} {u} {from} {to} over deletes room agree ticks rest =
     let Family : World → Type 0 = λ k. Reaches p natives d h w from k (Destroy (Some x) [] ∷ to) in
     let went : Reaches p natives d h w from (ticked w) (Destroy (Some x) [] ∷ to) =
-    reaches-high over (λ below e. deletes.gives below) (λ below e. none-spared w.store.tree w.store.tree (from ++ below) (λ o gone. gone)) (λ below. tt) room agree refl ticks.0 in
+    reaches-pushed over (λ places is. cc is) (λ below e. deletes.gives below) (λ below e. none-spared w.store.tree w.store.tree (from ++ below) (λ o gone. gone)) (λ below. tt) room agree refl ticks.0 in
     ends-after (subst Family (sym ticks.1) went) (ends-lifted over rest)
 
 -- .. or activations would nest too deep
@@ -107,7 +107,7 @@ module _ {p : Loaded} {natives : NativeAnswers} {d : ℕ} {active : List (Option
       let target : World = died_world w n x name in
       let Family : World → ℕ → Type 0 = λ u l. Reaches p natives d active w (Destroy next before ∷ []) u (Emit x DESTROYED (value.Ref None ∷ []) 0 l ∷ Destroy (Some x) torn ∷ []) in
       let went : Family target w.store.connections.last =
-      reaches-high {active = None ∷ active} {from = Destroy next before ∷ []} {to = Destroy (Some x) torn ∷ []} refl
+      reaches-pushed {active = None ∷ active} {from = Destroy next before ∷ []} {to = Destroy (Some x) torn ∷ []} refl (λ places is. cc is)
       (λ below e. died-next below kills named (omega (arith, n_is, high below e)))
       (λ below e. unbodied-spared w.store.tree x (Destroy next before ∷ below) (bodiless x below e none))
       (λ below. death-fits p w.store.tree x named)

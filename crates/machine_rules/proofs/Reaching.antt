@@ -1,6 +1,6 @@
 -- How runs are put together.
 use Rattle.machine_state.specs.Telling.{Assigning, writes_of}
-use Rattle.std.proofs.Common.{◌≡◌, ℕ, suc, ◌+◌, ◌-◌, ◌<◌, ◌≤◌, inl, inr, Option, IsTrue, List, [], ◌∷◌, ◌++◌, length, Result, Ok, Err, refl, sym, subst, arith, length-append}
+use Rattle.std.proofs.Common.{◌≡◌, ◌≢◌, ℕ, suc, ◌+◌, ◌-◌, ◌<◌, ◌≤◌, inl, inr, Option, Some, IsTrue, List, [], ◌∷◌, ◌++◌, length, Result, Ok, Err, refl, sym, ap, ◌∙◌, subst, arith, length-append}
 use Rattle.std.specs.Prelude.{OnOk}
 use Rattle.std.specs.Result.{IsErrAnd}
 use Rattle.meta_model.specs.Loaded.{Loaded}
@@ -9,17 +9,20 @@ use Rattle.expressions.specs.declared.evaluation.EvalFault.TheVariants as eval
 use Rattle.machine_state.specs.declared.fault.Fault.{Fault}
 use Rattle.machine_state.specs.declared.fault.Fault.TheVariants.{BadType, TooDeep, InUse, Steps, Memory}
 use Rattle.machine_state.specs.declared.world.World.{World}
-use Rattle.machine_state.specs.State.{State, Activation, IsIdle}
-use Rattle.machine_rules.specs.Rules.{Rule}
-use Rattle.machine_rules.specs.Operations.{TakeAnswer}
+use Rattle.machine_state.specs.State.{State, Activation, Body, Update, IsIdle}
+use Rattle.machine_rules.specs.Rules.{Rule, RuleAt, StepRule, Does}
+use Rattle.machine_rules.specs.Settling.{Writes, notified}
+use Rattle.machine_rules.specs.Operations.{Operation, Write, TakeAnswer}
 use Rattle.meta_model.specs.declared.effects.MetaEffects.{MetaEffects}
 use Rattle.signatures.specs.declared.value.Value.{Value}
 use Rattle.prop_bindings.specs.Fits.{Agree}
+use Rattle.prop_bindings.specs.declared.place.Place.{Place}
 use Rattle.object_tree.specs.declared.object.Object.{Object}
 use Rattle.machine_rules.specs.There.{IsDead, NoneDied}
 use Rattle.machine_rules.specs.code.Sound.{AgreeIn}
 use Rattle.machine_rules.specs.Good.{has_body, IsWell, Spares, IsGood, TopFits, shows}
-use Rattle.machine_rules.specs.Faults.{DoesNext, WritesNext, WritesIll, WritesDeep, GoesIll, GoesFatal, GoesDeep, LacksFirst}
+use Rattle.machine_rules.specs.Faults.{WritesDeep, GoesIll, GoesFatal, GoesDeep, LacksFirst}
+use Rattle.machine_rules.specs.Next.{DoesNext, WritesNext, WritesIll}
 use Rattle.machine_rules.specs.code.Going.{GoodRules, done, then, IsStuck}
 use Rattle.machine_state.specs.Worlds.{at, Ticks, GoesTo}
 use Rattle.machine_rules.specs.code.Reaches.{Reaches, StopsIn, RunsTo}
@@ -58,24 +61,58 @@ none-spared old new stack none o body gone = none o gone
 pub same-spared : {old new : List Object} → new ≡ old → NoneDied old new
 same-spared e o gone = subst (λ (objects : List Object). IsDead objects o) e gone
 
+-- where the next rule writes, it pushes an update
+pub writes-push : (p : Loaded) (natives : NativeAnswers) (s t : State) {what : Assigning} → (next : WritesNext s what) → Rule p natives s t → (places : List Place) × (t.stack ≡ Update places ∷ Body next.object next.method next.arguments next.rest ∷ next.below)
+writes-push p natives s t {what} next rule =
+    let At : List Activation → Type 0 = λ stack. RuleAt p natives s t stack in
+    let step : StepRule p natives s next.object next.method next.arguments next.step next.rest next.below t = subst At next.is_next rule in
+    let both : Some step.what ≡ Some (Write what) = sym step.is ∙ next.does in
+    let same : step.what ≡ Write what = cc both in
+    let Done : Operation → Type 0 = λ e. Does p natives s next.object next.method next.arguments next.rest next.below e t in
+    let writes : Writes p s (Body next.object next.method next.arguments next.rest ∷ next.below) what t = subst Done same step.does in
+    (notified p writes.objects writes.changed, ap (λ (u : State). u.stack) writes.settles.gives)
+
+-- .. so one that leaves the stack no higher writes nothing
+no-higher-fits : (p : Loaded) (natives : NativeAnswers) (s t : State) → Rule p natives s t → length t.stack ≤ length s.stack → ¬ WritesIll p s
+no-higher-fits p natives s t rule low ill =
+    let next = ill.next in
+    let pushed = writes-push p natives s t next rule in
+    let after : length t.stack ≡ suc (suc (length next.below)) = ap (λ (l : List Activation). length l) pushed.1 in
+    let before : length s.stack ≡ suc (length next.below) = ap (λ (l : List Activation). length l) next.is_next in
+    absurd (omega (arith, after, before, low))
+
+-- .. nor does one that pushes something else
+no-update-fits : (p : Loaded) (natives : NativeAnswers) (s t : State) (top : Activation) (below : List Activation) → Rule p natives s t → t.stack ≡ top ∷ below → ((places : List Place) → top ≢ Update places) → ¬ WritesIll p s
+no-update-fits p natives s t top below rule is other ill =
+    let next = ill.next in
+    let pushed = writes-push p natives s t next rule in
+    let both : (top ∷ below) ≡ (Update pushed.0 ∷ Body next.object next.method next.arguments next.rest ∷ next.below) = sym is ∙ pushed.1 in
+    let same : top ≡ Update pushed.0 = cc both in
+    other pushed.0 same
+
 -- one rule that pushes nothing, to a world with one rule fewer left
 pub reaches-low : {p : Loaded} {natives : NativeAnswers} {d : ℕ} {h : List (Option ℕ)} {w v : World} {a b : List Activation} → ((below : List Activation) → shows below ≡ h → Rule p natives (at w (a ++ below)) (at v (b ++ below))) → NoneDied w.store.tree v.store.tree → length b ≤ length a → length b + length h ≤ d → AgreeIn p v → v.left ≡ w.left - 1 → 0 < w.left → Reaches p natives d h w a v b
 reaches-low {p} {natives} {d} {h} {w} {v} {a} {b} step none low fits agree less some = record {
   runs = λ below e.
       let shallow : length (b ++ below) ≤ d = omega (arith, length-append b below, high below e, fits) in
       let no_higher : length (b ++ below) ≤ length (a ++ below) = omega (arith, length-append b below, length-append a below, low) in
-      let good : IsGood p d (at w (a ++ below)) (at v (b ++ below)) = record { well = record { arguments = λ higher. absurd (omega (arith, higher, no_higher)); values = agree.typed }; spared = none-spared w.store.tree v.store.tree (a ++ below) none; acyclic = agree.acyclic; shallow = shallow } in
+      let good : IsGood p d (at w (a ++ below)) (at v (b ++ below)) = record { well = record { arguments = λ higher. absurd (omega (arith, higher, no_higher)); values = agree.typed }; spared = none-spared w.store.tree v.store.tree (a ++ below) none; acyclic = agree.acyclic; shallow = shallow; fits = no-higher-fits p natives (at w (a ++ below)) (at v (b ++ below)) (step below e) no_higher } in
       rules-one (step below e) good some less;
 }
 
 -- one rule that pushes an activation, over a stack that shows `active`
-pub reaches-high : {p : Loaded} {natives : NativeAnswers} {d : ℕ} {h active : List (Option ℕ)} {w v : World} {from : List Activation} {top : Activation} {to : List Activation} → active ≡ shows to ++ h → ((below : List Activation) → shows below ≡ h → Rule p natives (at w (from ++ below)) (at v (top ∷ to ++ below))) → ((below : List Activation) → shows below ≡ h → Spares (at w (from ++ below)) (at v (top ∷ to ++ below))) → ((below : List Activation) → TopFits p v.store.tree (top ∷ to ++ below)) → length active < d → AgreeIn p v → v.left ≡ w.left - 1 → 0 < w.left → Reaches p natives d h w from v (top ∷ to)
-reaches-high {p} {natives} {d} {h} {active} {w} {v} {from} {top} {to} over step spared fit room agree less some = record {
+pub reaches-high : {p : Loaded} {natives : NativeAnswers} {d : ℕ} {h active : List (Option ℕ)} {w v : World} {from : List Activation} {top : Activation} {to : List Activation} → active ≡ shows to ++ h → ((below : List Activation) → shows below ≡ h → Rule p natives (at w (from ++ below)) (at v (top ∷ to ++ below))) → ((below : List Activation) → shows below ≡ h → ¬ WritesIll p (at w (from ++ below))) → ((below : List Activation) → shows below ≡ h → Spares (at w (from ++ below)) (at v (top ∷ to ++ below))) → ((below : List Activation) → TopFits p v.store.tree (top ∷ to ++ below)) → length active < d → AgreeIn p v → v.left ≡ w.left - 1 → 0 < w.left → Reaches p natives d h w from v (top ∷ to)
+reaches-high {p} {natives} {d} {h} {active} {w} {v} {from} {top} {to} over step fits spared fit room agree less some = record {
   runs = λ below e.
       let shallow : length (top ∷ to ++ below) ≤ d = omega (arith, high (to ++ below) (shows-over to below over e), room) in
-      let good : IsGood p d (at w (from ++ below)) (at v (top ∷ to ++ below)) = record { well = record { arguments = λ higher. fit below; values = agree.typed }; spared = spared below e; acyclic = agree.acyclic; shallow = shallow } in
+      let good : IsGood p d (at w (from ++ below)) (at v (top ∷ to ++ below)) = record { well = record { arguments = λ higher. fit below; values = agree.typed }; spared = spared below e; acyclic = agree.acyclic; shallow = shallow; fits = fits below e } in
       rules-one (step below e) good some less;
 }
+
+-- .. one that is no update
+pub reaches-pushed : {p : Loaded} {natives : NativeAnswers} {d : ℕ} {h active : List (Option ℕ)} {w v : World} {from : List Activation} {top : Activation} {to : List Activation} → active ≡ shows to ++ h → ((places : List Place) → top ≢ Update places) → ((below : List Activation) → shows below ≡ h → Rule p natives (at w (from ++ below)) (at v (top ∷ to ++ below))) → ((below : List Activation) → shows below ≡ h → Spares (at w (from ++ below)) (at v (top ∷ to ++ below))) → ((below : List Activation) → TopFits p v.store.tree (top ∷ to ++ below)) → length active < d → AgreeIn p v → v.left ≡ w.left - 1 → 0 < w.left → Reaches p natives d h w from v (top ∷ to)
+reaches-pushed {p} {natives} {w = w} {v = v} {from = from} {top = top} {to = to} over other step spared fit room agree less some =
+    reaches-high over step (λ below e. no-update-fits p natives (at w (from ++ below)) (at v (top ∷ to ++ below)) top (to ++ below) (step below e) refl other) spared fit room agree less some
 
 -- ---- why a run stops
 

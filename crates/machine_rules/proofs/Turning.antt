@@ -24,9 +24,9 @@ use Rattle.machine_rules.specs.code.Reaches.{IsCalled, DoesWork, Reaches, StopsI
 use Rattle.machine_rules.specs.Rules.{Rule, TurnRule, Serves, Delivers, Begins, BeginsIf, top_of}
 use Rattle.machine_rules.specs.code.Going.{done}
 use Rattle.machine_rules.specs.code.Sound.{Waits, IsSoundWorld, AgreeIn}
-use Rattle.machine_rules.proofs.Beginning.{begun_world, begins-there, top-fits}
+use Rattle.machine_rules.proofs.Beginning.{begun_world, begins-there, top-fits, top-other}
 use Rattle.machine_rules.proofs.Keeps.{reaches-keeps}
-use Rattle.machine_rules.proofs.Reaching.{none-spared, reaches-low, reaches-high, reaches-then, stops-after, ends-unchanged}
+use Rattle.machine_rules.proofs.Reaching.{none-spared, reaches-low, reaches-pushed, reaches-then, stops-after, ends-unchanged}
 use Rattle.machine_rules.proofs.Bodies.{advances-left}
 use Rattle.machine_state.specs.Connections.{is_living}
 use Rattle.machine_rules.proofs.Beginning.{has-life}
@@ -93,7 +93,7 @@ reaches-served {p} {natives} {d} {o} {m} {active} {w} {v} {turn} {q} {arguments}
     let rule : Rule p natives (at w []) (at target stack) = turn-rule p natives w (at target stack) (Some q) is found (subst Of (sym item_is) (subst If (sym (life-of-lives begun.is.lives)) begins)) in
     let Over : List Activation → Type 0 = λ l. Rule p natives (at w l) (at target (top_of o m arguments w.store.connections.last begun.method.work ∷ l)) in
     let room : 0 < d = omega (arith, none_active, begun.room) in
-    let went : Reaches p natives d [] w [] target stack = reaches-high {active = []} {from = []} {to = []} refl (λ below e. subst Over (sym (none-below below e)) rule) (λ below e. none-spared w.store.tree w.store.tree below (λ k gone. gone)) (λ below. top-fits w.store.connections.last begun.method.work below fit) room agree refl some in
+    let went : Reaches p natives d [] w [] target stack = reaches-pushed {active = []} {from = []} {to = []} refl (λ places. top-other o m w.store.connections.last arguments places begun.method.work) (λ below e. subst Over (sym (none-below below e)) rule) (λ below e. none-spared w.store.tree w.store.tree below (λ k gone. gone)) (λ below. top-fits w.store.connections.last begun.method.work below fit) room agree refl some in
     let Pushed : World → Work → ℕ → Type 0 = λ u k l. Reaches p natives d [] w [] u (top_of o m arguments l k ∷ []) in
     let target_is : v ≡ target = v_is ∙ ap (λ (y : Entry). taking w (y ∷ []) turn.home turn.limit) begun.is_line in
     subst (λ (u : World). Pushed u work last) (sym target_is) (subst (λ (k : Work). Pushed target k last) (sym begun.is_work) (subst (λ (l : ℕ). Pushed target begun.method.work l) (sym begun.is_last) went))
@@ -120,7 +120,7 @@ reaches-deleting {p} {natives} {d} {o} {w} {v} {turn} {q} is found item_is room 
     let rule : Rule p natives (at w []) (at target stack) = turn-rule p natives w (at target stack) (Some q) is found (subst Of (sym item_is) refl) in
     let Over : List Activation → Type 0 = λ l. Rule p natives (at w l) (at target (Destroy (Some o) [] ∷ l)) in
     let Family : World → Type 0 = λ u. Reaches p natives d [] w [] u (Destroy (Some o) [] ∷ []) in
-    subst Family (sym v_is) (reaches-high {active = []} {from = []} {to = []} refl (λ below e. subst Over (sym (none-below below e)) rule) (λ below e. none-spared w.store.tree w.store.tree below (λ k gone. gone)) (λ below. tt) room agree refl some)
+    subst Family (sym v_is) (reaches-pushed {active = []} {from = []} {to = []} refl (λ places is. cc is) (λ below e. subst Over (sym (none-below below e)) rule) (λ below e. none-spared w.store.tree w.store.tree below (λ k gone. gone)) (λ below. tt) room agree refl some)
 
 -- .. and is carried out
 pub advances-served : {p : Loaded} {natives : NativeAnswers} {d : ℕ} {active : List (Option ℕ)} {w v u : World} {from : List Activation} (r : Result (Unit {0}) Fault) → active ≡ [] → Reaches p natives d [] w [] v from → v.left ≡ w.left - 1 → 0 < w.left → RunsTo p natives d active v from u [] r → Advances p natives d [] w [] u [] r

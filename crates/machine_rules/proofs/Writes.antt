@@ -23,13 +23,15 @@ use Rattle.std.proofs.lemmas.Option.{same_Some}
 use Rattle.machine_state.specs.Worlds.{at, noted, HasWritten}
 use Rattle.machine_rules.specs.Operations.{Operation, Write, TakeAnswer, operation_of_step}
 use Rattle.machine_rules.specs.code.Reaches.{Reaches, StopsIn, RunsTo, MayNest, Sets}
-use Rattle.machine_rules.specs.Faults.{DoesNext, IsAfterFit, LacksFirst, WritesIll, WritesDeep}
+use Rattle.machine_rules.specs.Faults.{IsAfterFit, LacksFirst, WritesDeep}
+use Rattle.machine_rules.specs.Next.{DoesNext, WritesIll}
 use Rattle.machine_rules.specs.Settling.{Settles, Writes, notified}
 use Rattle.machine_rules.specs.code.Sound.{AgreeIn}
 use Rattle.machine_rules.specs.There.{HasField, IsField, LacksField}
 use Rattle.machine_rules.specs.code.Writing.{MayWrite, IsUnfit, FitsOrNot, IsUnwritten, missing, ill, unfit, deep}
 use Rattle.machine_rules.proofs.Beginning.{one-more, not-true}
 use Rattle.machine_rules.proofs.Differing.{differ-spared}
+use Rattle.machine_rules.proofs.Fields.{field-property}
 use Rattle.machine_rules.proofs.Reaching.{none-spared, reaches-high, ends-after, ends-lifted, stops-stuck, stops-ill-write, stops-deep-write}
 use Rattle.machine_rules.specs.Natives.{NativeAnswers}
 use Rattle.machine_rules.specs.Good.{shows}
@@ -73,25 +75,6 @@ writes-there {p} {n} {what} {changed} {v} w stack over fit h depth_is =
       settles = settles;
     }
 
--- .. by one rule
-pub reaches-written : {p : Loaded} {natives : NativeAnswers} {d : ℕ} {h active : List (Option ℕ)} {what : Assigning} {w v : World} {from to : List Activation} {changed : List Place} →
-    active ≡ shows to ++ h → Sets p natives w from to what → 0 < w.left → MayWrite p d active w.store.tree (writes_of what) → HasWritten p (length active + 1) what w (noted w) changed v → AgreeIn p v →
-    Reaches p natives d h w from v (Update (notified p v.store.tree changed) ∷ to)
-reaches-written {p} {natives} {d} {h} {active} {what} {w} {v} {from} {to} over sets some may written agree =
-    let less : v.left ≡ w.left - 1 = ap (λ (u : World). u.left) written.gives in
-    reaches-high over
-    (λ below e. sets.gives below _ (writes-there w (from ++ below) (to ++ below) may.fit written (one-more to below over e)))
-    (λ below e. none-spared w.store.tree v.store.tree (from ++ below) (differ-spared w.store.tree v.store.tree written.writes.objects))
-    (λ below. tt) may.room agree less some
-
--- .. and its update runs
-pub ends-written : {p : Loaded} {natives : NativeAnswers} {d : ℕ} {h active : List (Option ℕ)} {what : Assigning} {w v u : World} {from to : List Activation} {changed : List Place} {r : Result (Unit {0}) Fault} →
-    active ≡ shows to ++ h → Sets p natives w from to what → 0 < w.left → MayWrite p d active w.store.tree (writes_of what) → HasWritten p (length active + 1) what w (noted w) changed v → AgreeIn p v →
-    RunsTo p natives d active v (Update (notified p v.store.tree changed) ∷ []) u [] r → RunsTo p natives d h w from u to r
-ends-written over sets some may written agree rest = ends-after (reaches-written over sets some may written agree) (ends-lifted over rest)
-
--- ---- properties aren't written
-
 -- a step does one thing
 one-operation : {s : State} {c d : Operation} → DoesNext s c → DoesNext s d → c ≡ d
 one-operation {s} {c} {d} m n =
@@ -104,6 +87,41 @@ one-operation {s} {c} {d} m n =
     let by_step : Step → Option Operation = λ x. operation_of_step s.objects m.object m.arguments x in
     let both : Some c ≡ Some d = sym m.does ∙ ap by_step step_is ∙ ap by_arguments arguments_is ∙ ap by_object object_is ∙ n.does in
     cc both
+
+-- what fits reads as its property's type
+pub fits-read : {p : Loaded} {objects : List Object} (writes : List Assignment) → AllFit p objects writes → (set : Assignment) → Contains writes set → {x : Object} {property : MetaProperty} → IsField p objects set.place.object set.place.property x property → ReadsAs p objects set.value property.kind
+fits-read {p} {objects} writes fit set among {x} {property} field =
+    let f = All-contains (λ (a : Assignment). FitsAt p objects a.place a.value) writes set (All-from_recursion (λ (a : Assignment). FitsAt p objects a.place a.value) writes fit) among in
+    let own : IsField p objects set.place.object set.place.property f.object f.property = fits-field f in
+    subst (λ (k : MetaProperty). ReadsAs p objects set.value k.kind) (field-property own field) f.reads
+
+-- .. so what is written next and fits is of no wrong type
+written-fits : {p : Loaded} {natives : NativeAnswers} {what : Assigning} {w : World} {from to : List Activation} → Sets p natives w from to what → AllFit p w.store.tree (writes_of what) → (below : List Activation) → ¬ WritesIll p (at w (from ++ below))
+written-fits {what = what} sets fit below bad =
+    let same : Write bad.what ≡ Write what = one-operation bad.next (sets.next below) in
+    let is : bad.what ≡ what = cc same in
+    let among : Contains (writes_of what) bad.set = subst (λ (k : Assigning). Contains (writes_of k) bad.set) is bad.among in
+    bad.ill (fits-read (writes_of what) fit bad.set among bad.is)
+
+-- .. by one rule
+pub reaches-written : {p : Loaded} {natives : NativeAnswers} {d : ℕ} {h active : List (Option ℕ)} {what : Assigning} {w v : World} {from to : List Activation} {changed : List Place} →
+    active ≡ shows to ++ h → Sets p natives w from to what → 0 < w.left → MayWrite p d active w.store.tree (writes_of what) → HasWritten p (length active + 1) what w (noted w) changed v → AgreeIn p v →
+    Reaches p natives d h w from v (Update (notified p v.store.tree changed) ∷ to)
+reaches-written {p} {natives} {d} {h} {active} {what} {w} {v} {from} {to} over sets some may written agree =
+    let less : v.left ≡ w.left - 1 = ap (λ (u : World). u.left) written.gives in
+    reaches-high over
+    (λ below e. sets.gives below _ (writes-there w (from ++ below) (to ++ below) may.fit written (one-more to below over e)))
+    (λ below e. written-fits sets may.fit below)
+    (λ below e. none-spared w.store.tree v.store.tree (from ++ below) (differ-spared w.store.tree v.store.tree written.writes.objects))
+    (λ below. tt) may.room agree less some
+
+-- .. and its update runs
+pub ends-written : {p : Loaded} {natives : NativeAnswers} {d : ℕ} {h active : List (Option ℕ)} {what : Assigning} {w v u : World} {from to : List Activation} {changed : List Place} {r : Result (Unit {0}) Fault} →
+    active ≡ shows to ++ h → Sets p natives w from to what → 0 < w.left → MayWrite p d active w.store.tree (writes_of what) → HasWritten p (length active + 1) what w (noted w) changed v → AgreeIn p v →
+    RunsTo p natives d active v (Update (notified p v.store.tree changed) ∷ []) u [] r → RunsTo p natives d h w from u to r
+ends-written over sets some may written agree rest = ends-after (reaches-written over sets some may written agree) (ends-lifted over rest)
+
+-- ---- properties aren't written
 
 -- it is one of them
 pub after-among : {p : Loaded} {objects : List Object} {writes : List Assignment} {set : Assignment} → IsAfterFit p objects writes set → Contains writes set

@@ -1,51 +1,22 @@
 -- What comes next where a run stops, and why it stops (docs/machine.md, "Faults").
 use Rattle.std.specs.Prelude.{◌≡◌, ℕ, ◌<◌, ◌≤◌, List, ◌∷◌, ◌++◌, length, None, Some}
 use Rattle.signatures.specs.declared.value.Value.{Value}
-use Rattle.std.specs.List.{Contains}
-use Rattle.meta_model.specs.declared.object.MetaProperty.{MetaProperty}
 use Rattle.meta_model.specs.declared.object.Statement.{Statement}
 use Rattle.meta_model.specs.declared.object.Statement.TheViews.{out-Statement}
 use Rattle.meta_model.specs.Loaded.{Loaded}
 use Rattle.object_tree.specs.declared.object.Object.{Object}
-use Rattle.object_tree.specs.Typed.{ReadsAs}
 use Rattle.prop_bindings.specs.declared.assignment.Assignment.{Assignment}
 use Rattle.prop_bindings.specs.Calls.{AllFit}
 use Rattle.machine_state.specs.State.{Step, Run, State, Activation, Body}
 use Rattle.machine_state.specs.Telling.{Assigning, writes_of}
-use Rattle.machine_rules.specs.Operations.{Operation, Write, operation, operation_of_step}
-use Rattle.machine_rules.specs.There.{IsField, LacksField}
+use Rattle.machine_rules.specs.Operations.{operation}
+use Rattle.machine_rules.specs.There.{LacksField}
+use Rattle.machine_rules.specs.Next.{WritesNext}
 use Rattle.machine_rules.specs.Good.{IsWell, Spares, IsAcyclic}
 
 -- ---- what comes next
 
--- what is going on is a body whose next step does this
-pub record DoesNext (s : State) (what : Operation) : Type 0 where
-  pub object : ℕ
-  pub method : ℕ
-  pub arguments : List Value
-  pub step : Step
-  pub rest : List Step
-  pub below : List Activation
-  pub is_next : s.stack ≡ Body object method arguments (step ∷ rest) ∷ below
-  pub does : operation_of_step s.objects object arguments step ≡ Some what
-
--- .. it writes this
-abbrev pub WritesNext : State → Assigning → Type 0
-WritesNext s what = DoesNext s (Write what)
-
--- .. a value for an object's property that is not of its type. What follows from the property need have no values then, so
--- this is told of the step, and not of what it makes.
-pub record WritesIll (p : Loaded) (s : State) : Type 0 where
-  pub what : Assigning
-  pub next : WritesNext s what
-  pub set : Assignment
-  pub among : Contains (writes_of what) set
-  pub it : Object
-  pub property : MetaProperty
-  pub is : IsField p s.objects set.place.object set.place.property it property
-  pub ill : ¬ ReadsAs p s.objects set.value property.kind
-
--- .. values which are of their properties' types, and one more activation is too many
+-- what is going on writes values which are of their properties' types, and one more activation is too many
 pub record WritesDeep (p : Loaded) (depth : ℕ) (s : State) : Type 0 where
   pub what : Assigning
   pub next : WritesNext s what

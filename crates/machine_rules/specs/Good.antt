@@ -13,6 +13,7 @@ use Rattle.object_tree.specs.Typed.{ReadAs, AreTyped}
 use Rattle.prop_bindings.specs.Bindings.{binding_at, Loop, Settled}
 use Rattle.prop_bindings.specs.Places.{values_in}
 use Rattle.machine_rules.specs.There.{IsMember, IsDead}
+use Rattle.machine_rules.specs.Next.{WritesIll}
 use Rattle.machine_state.specs.State.{State, Activation, Body, Emit}
 
 -- ---- arguments
@@ -75,12 +76,14 @@ Spares s t = (o : ℕ) → IsTrue (has_body o s.stack) → IsDead t.objects o �
 abbrev pub IsAcyclic : State → Type 0
 IsAcyclic t = ¬ Loop (binding_at t.bindings)
 
--- .. and no bad moment is among these: activations nest no deeper than the depth, either
+-- .. and no bad moment is among these: activations nest no deeper than the depth, either, and what is written next in s are
+-- values of their properties' types. The last is asked of s, since in a group a later write may hide the value from t.
 pub record IsGood (p : Loaded) (depth : ℕ) (s t : State) : Type 0 where
   pub well : IsWell p s t
   pub spared : Spares s t
   pub acyclic : IsAcyclic t
   pub shallow : length t.stack ≤ depth
+  pub fits : ¬ WritesIll p s
 
 -- ---- what is no bad moment: it follows where there is none
 

@@ -7,6 +7,7 @@ pub mod Connecting
 pub mod Destroying
 pub mod Settling
 pub mod Rules
+pub mod Next
 pub mod Good
 pub mod Faults
 pub mod Laws

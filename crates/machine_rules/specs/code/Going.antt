@@ -6,7 +6,8 @@ use Rattle.machine_state.specs.declared.fault.Fault.{Fault}
 use Rattle.machine_state.specs.declared.fault.Fault.TheVariants.{BadType, TooDeep, BindingLoop, InUse, Steps, Memory, Stopped}
 use Rattle.machine_state.specs.State.{State, IsIdle}
 use Rattle.machine_rules.specs.Operations.{TakeAnswer}
-use Rattle.machine_rules.specs.Faults.{DoesNext, WritesNext, LacksFirst, WritesIll, WritesDeep, GoesIll, GoesFatal, GoesDeep}
+use Rattle.machine_rules.specs.Faults.{LacksFirst, WritesDeep, GoesIll, GoesFatal, GoesDeep}
+use Rattle.machine_rules.specs.Next.{DoesNext, WritesNext, WritesIll}
 use Rattle.machine_rules.specs.Good.{IsGood}
 use Rattle.machine_rules.specs.Natives.{NativeAnswers}
 use Rattle.machine_rules.specs.Rules.{Rule}

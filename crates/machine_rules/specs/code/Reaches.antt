@@ -41,7 +41,7 @@ use Rattle.prop_bindings.specs.Fits.{Agree}
 use Rattle.machine_state.specs.declared.entry.Shown.TheVariants as show
 use Rattle.machine_rules.specs.Destroying.{deleting, Dies, Schedules}
 use Rattle.machine_rules.specs.There.{IsMember, NoneDied}
-use Rattle.machine_rules.specs.Faults.{DoesNext, WritesNext}
+use Rattle.machine_rules.specs.Next.{DoesNext, WritesNext}
 use Rattle.machine_rules.specs.code.Going.{GoodRules, RulesStop}
 use Rattle.machine_state.specs.Worlds.{at, having_used, posting, taking, ending, GoesTo}
 

@@ -1,0 +1,40 @@
+-- What comes next, and whether it writes values of wrong types (docs/machine.md, "Faults").
+use Rattle.std.specs.Prelude.{◌≡◌, ℕ, List, ◌∷◌, Some}
+use Rattle.std.specs.List.{Contains}
+use Rattle.signatures.specs.declared.value.Value.{Value}
+use Rattle.meta_model.specs.declared.object.MetaProperty.{MetaProperty}
+use Rattle.meta_model.specs.Loaded.{Loaded}
+use Rattle.object_tree.specs.declared.object.Object.{Object}
+use Rattle.object_tree.specs.Typed.{ReadsAs}
+use Rattle.prop_bindings.specs.declared.assignment.Assignment.{Assignment}
+use Rattle.machine_state.specs.State.{Step, State, Activation, Body}
+use Rattle.machine_state.specs.Telling.{Assigning, writes_of}
+use Rattle.machine_rules.specs.Operations.{Operation, Write, operation_of_step}
+use Rattle.machine_rules.specs.There.{IsField}
+
+-- what is going on is a body whose next step does this
+pub record DoesNext (s : State) (what : Operation) : Type 0 where
+  pub object : ℕ
+  pub method : ℕ
+  pub arguments : List Value
+  pub step : Step
+  pub rest : List Step
+  pub below : List Activation
+  pub is_next : s.stack ≡ Body object method arguments (step ∷ rest) ∷ below
+  pub does : operation_of_step s.objects object arguments step ≡ Some what
+
+-- .. it writes this
+abbrev pub WritesNext : State → Assigning → Type 0
+WritesNext s what = DoesNext s (Write what)
+
+-- .. a value for an object's property that is not of its type. What follows from the property need have no values then, so
+-- this is told of the step, and not of what it makes.
+pub record WritesIll (p : Loaded) (s : State) : Type 0 where
+  pub what : Assigning
+  pub next : WritesNext s what
+  pub set : Assignment
+  pub among : Contains (writes_of what) set
+  pub it : Object
+  pub property : MetaProperty
+  pub is : IsField p s.objects set.place.object set.place.property it property
+  pub ill : ¬ ReadsAs p s.objects set.value property.kind
