@@ -8,7 +8,6 @@ mod frame;
 mod kinds;
 mod laid_out;
 mod page;
-mod statements;
 
 pub use laid_out::laid_out_trace;
 pub use page::trace_page;

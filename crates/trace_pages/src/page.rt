@@ -3,9 +3,8 @@
 use crate::escaped::push_escaped;
 use crate::frame::{FOOT, HEAD};
 use crate::kinds::class_of;
-use crate::statements::Statements;
 use std::alloc::{AllocError, Global};
-use trace_reading::TraceLine;
+use trace_reading::{Statements, TraceLine};
 
 /// The page of a trace, in HTML. Each event has the line of the script that it comes from, where a script is given: that line
 /// is found by the event's number. Lines that are none of a trace stand on the page as they are.

@@ -1,2 +1,4 @@
 pub mod Cutting
 pub mod Begun
+pub mod Skipping
+pub mod Telling

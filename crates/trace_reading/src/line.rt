@@ -1,7 +1,8 @@
 //! The lines of a trace.
 
-ghost use Rattle.std.specs.Prelude.{◌≡◌, IfSome};
+ghost use Rattle.std.specs.Prelude.{◌≡◌, ◌<◌, ◌^◌, ℕ, ◌↔◌, Some, IfSome};
 ghost use Rattle.texts.specs.Numerals.{IsNumeral};
+ghost use Rattle.trace_reading.specs.Events.{IsEventsLine, EndsEventsLine, GivesReason, event_of};
 ghost use Rattle.trace_reading.specs.Lines.{IsTraceLine, BeginsAsKind, kind_word, IsPlain, EndsEvent};
 
 use crate::words::cut_word;
@@ -61,28 +62,40 @@ impl TraceLine {
     /// What a line tells, which stands here without its newline; `None` where it is no line of a trace. What follows the
     /// word of an entry isn't judged.
     pub fn of(line: &[u8]) -> Option<TraceLine>
-        ensures { IfSome result (IsTraceLine line.now) }
+        ensures told { IfSome result (IsTraceLine line.now) }
+        ensures event { (event : ℕ) → IsEventsLine line.now event ↔ (event_of result ≡ Some event) }
     {
         let (first, rest) = cut_word(line);
         let rest = rest?;
-        match first {
-            b"event" => event_line(rest),
-            b"fault" => {
-                let fault = reason(rest)?;
-                Some(TraceLine::Fault(fault))
-            }
-            _ => {
-                let depth = number(first, LARGEST)?;
-                let kind = EntryKind::of(rest)?;
-                Some(TraceLine::At(depth, kind))
-            }
+        if first == b"event".as_slice() {
+            return event_line(rest);
+        }
+        if first == b"fault".as_slice() {
+            let fault = reason(rest)?;
+            return Some(TraceLine::Fault(fault));
+        }
+        let depth = number(first, LARGEST)?;
+        let kind = EntryKind::of(rest)?;
+        Some(TraceLine::At(depth, kind))
+    }
+
+    /// The number of the event that was accepted or refused by a line, which stands here without its newline; `None` where
+    /// it is no such line.
+    pub fn event(line: &[u8]) -> Option<u64>
+        ensures { (event : ℕ) → IsEventsLine line.now event ↔ (result ≡ Some event) }
+    {
+        match TraceLine::of(line)? {
+            TraceLine::Accepted(event) => Some(event),
+            TraceLine::Refused(event, _) => Some(event),
+            TraceLine::At(_, _) | TraceLine::Fault(_) => None,
         }
     }
 }
 
 /// What a line tells that begins with `event`, by what follows that word.
 fn event_line(text: &[u8]) -> Option<TraceLine>
-    ensures { IfSome result (EndsEvent text.now) }
+    ensures told { IfSome result (EndsEvent text.now) }
+    ensures event { (event : ℕ) → EndsEventsLine text.now event ↔ (event_of result ≡ Some event) }
 {
     let (digits, rest) = cut_word(text);
     let event = number(digits, LARGEST)?;
@@ -93,19 +106,24 @@ fn event_line(text: &[u8]) -> Option<TraceLine>
     Some(TraceLine::Refused(event, reason))
 }
 
-/// The number behind the word `refused`.
+/// The number of a reason behind the word `refused`; `None` where the text is anything else.
 fn refusal(text: &[u8]) -> Option<u8>
-    ensures { IfSome result (λ reason. BeginsAsKind text.now (EntryKind.Refused reason)) }
+    ensures { (number : ℕ) → GivesReason text.now number ↔ (result ≡ Some number) }
 {
-    match EntryKind::of(text)? {
-        EntryKind::Refused(reason) => Some(reason),
-        _ => None,
+    let (word, rest) = cut_word(text);
+    let rest = rest?;
+    if word == b"refused".as_slice() {
+        reason(rest)
+    } else {
+        None
     }
 }
 
 /// The number of a reason or of a fault.
 fn reason(digits: &[u8]) -> Option<u8>
-    ensures { IfSome result (IsNumeral digits.now) }
+    ensures numeral { IfSome result (IsNumeral digits.now) }
+    ensures every { (number : ℕ) → (number < 2 ^ 8) → IsNumeral digits.now number → result ≡ Some number }
+    ensures small { IfSome result (λ number. number < 2 ^ 8) }
 {
     let number = number(digits, LARGEST_REASON)?;
     Some(number as u8)
