@@ -1,5 +1,8 @@
 //! What a misspelled name was to be.
 
+ghost use Rattle.std.specs.Prelude.{map, IfOk, IfSome};
+ghost use Rattle.diagnostics.specs.Likely.{FindsEdits, IsLikely};
+
 use std::alloc::{AllocError, Global};
 use std::str;
 use strsim::osa_distance;
@@ -13,7 +16,9 @@ pub fn nearest<'a>(
     alloc: Global,
     name: &[u8],
     words: &[&'a [u8]],
-) -> Result<Option<&'a [u8]>, AllocError> {
+) -> Result<Option<&'a [u8]>, AllocError>
+    ensures { IfOk result (λ found. IfSome found (λ word. IsLikely name.now (map (λ w. w.now) words.now) word.now)) }
+{
     let mut found = None;
     let mut least = name.len() / 3;
     let Ok(name) = str::from_utf8(name) else {
@@ -23,17 +28,33 @@ pub fn nearest<'a>(
         return Ok(None);
     }
     for word in words {
-        let (Ok(other), true) = (
-            str::from_utf8(word),
-            word.len().abs_diff(name.len()) <= least,
-        ) else {
+        let Some(edits) = edits_within(alloc, name, word, least)? else {
             continue;
         };
-        let edits = osa_distance(alloc, name, other)?;
-        if edits <= least && (found.is_none() || edits < least) {
+        // The first one counts of those that differ as little.
+        if found.is_none() || edits < least {
             found = Some(*word);
             least = edits;
         }
     }
     Ok(found)
+}
+
+/// How many letters of a word differ from a name's, if they are so few at most.
+fn edits_within(
+    alloc: Global,
+    name: &str,
+    word: &[u8],
+    most: usize,
+) -> Result<Option<usize>, AllocError>
+    ensures { IfOk result (FindsEdits name.now word.now most) }
+{
+    let Ok(other) = str::from_utf8(word) else {
+        return Ok(None);
+    };
+    if word.len().abs_diff(name.len()) > most {
+        return Ok(None);
+    }
+    let edits = osa_distance(alloc, name, other)?;
+    Ok(if edits <= most { Some(edits) } else { None })
 }

@@ -1,6 +1,6 @@
 //! What is wrong with a text, and where.
 
-ghost use Rattle.std.specs.Prelude.{◌≤◌, length, IfSome};
+ghost use Rattle.std.specs.Prelude.{◌≡◌, ◌+◌, min, IfOk};
 
 use std::alloc::{AllocError, Global};
 
@@ -22,7 +22,10 @@ impl Flaw {
         at: usize,
         sentence: String,
         advice: Option<&str>,
-    ) -> Result<Flaw, AllocError> {
+    ) -> Result<Flaw, AllocError>
+        ensures place { IfOk result (λ flaw. flaw.at ≡ at) }
+        ensures said { IfOk result (λ flaw. flaw.sentence ≡ sentence) }
+    {
         let advice = match advice {
             Some(advice) => Some(String::from_str(alloc, advice)?),
             None => None,
@@ -34,9 +37,12 @@ impl Flaw {
         })
     }
 
-    /// The flaw of a part that begins at this byte of the text, as one of the text.
-    pub fn within(self, text: &[u8], begin: usize) -> Flaw
-        ensures { result.at ≤ length text.now }
+    /// The flaw of a part of a text, which goes from one byte to another, as one of the text: it stands in that part, or at its
+    /// end.
+    pub fn within(self, begin: usize, end: usize) -> Flaw
+        ensures place { result.at ≡ min (begin + self.at) end }
+        ensures said { result.sentence ≡ self.sentence }
+        ensures advised { result.advice ≡ self.advice }
     {
         let Flaw {
             at,
@@ -44,19 +50,9 @@ impl Flaw {
             advice,
         } = self;
         Flaw {
-            at: begin.saturating_add(at).min(text.len()),
+            at: begin.saturating_add(at).min(end),
             sentence,
             advice,
         }
-    }
-}
-
-/// The flaw of a part that begins at this byte of the text, as one of the text, if there is one.
-pub fn within(text: &[u8], begin: usize, flaw: Option<Flaw>) -> Option<Flaw>
-    ensures { IfSome result (λ f. f.at ≤ length text.now) }
-{
-    match flaw {
-        Some(flaw) => Some(flaw.within(text, begin)),
-        None => None,
     }
 }

@@ -3,13 +3,11 @@
 use crate::usage::push_usage;
 use check_flaws::broken_condition;
 use declaration_flaws::declaration_flaw;
-use diagnostics::{
-    Flaw, Severity, Span, TextKind, certificate_flaw, meaning, program_flaw, push_flaw,
-    script_flaw, size_flaw, text_spans, wire_flaw,
-};
+use diagnostics::{Flaw, Severity, Span, TextKind, meaning, push_flaw, text_spans};
 use native_slots::Answering;
 use program_flaws::missing_certificate;
 use std::alloc::{AllocError, Global};
+use text_flaws::{certificate_flaw, program_flaw, script_flaw, size_flaw, wire_flaw};
 use trace_tool::{Fault, Outcome, ProgramOutcome, Refusal, ScriptFault, Why};
 
 /// Explains what the words come to on this input: what it means, in one sentence; and where the input is at fault, what is

@@ -1,6 +1,6 @@
 //! What is found of a program and its certificate.
 
-ghost use Rattle.std.specs.Prelude.{◌≡◌, []};
+ghost use Rattle.std.specs.Prelude.{◌≡◌, ◌<◌, ◌+◌, ◌-◌, ◌^◌, ◌↔◌, ◌++◌, ◌∷◌, [], IsTrue, IsFalse, OnOk, length};
 
 use crate::cycle_set::CycleSet;
 use crate::finding::Finding;
@@ -45,7 +45,13 @@ impl Verdict {
     }
 
     /// Whether one more finding is told; where it isn't, it is counted.
-    pub fn takes_one(&mut self) -> bool {
+    pub fn takes_one(&mut self) -> bool
+        ensures told { IsTrue result ↔ (length self.old.findings.items < 100) }
+        ensures counted { IsFalse result → self.old.more < 2 ^ 64 - 1 → self.new.more ≡ self.old.more + 1 }
+        ensures uncounted { IsTrue result → self.new.more ≡ self.old.more }
+        ensures findings { self.new.findings ≡ self.old.findings }
+        ensures status { self.new.status ≡ self.old.status }
+    {
         let is_taken = self.findings.len() < MOST_TOLD;
         if !is_taken {
             self.more = self.more.saturating_add(1);
@@ -54,7 +60,11 @@ impl Verdict {
     }
 
     /// Adds a finding that is told.
-    pub fn push(&mut self, finding: Finding) -> Result<(), AllocError> {
+    pub fn push(&mut self, finding: Finding) -> Result<(), AllocError>
+        ensures findings { OnOk result (self.new.findings.items ≡ self.old.findings.items ++ finding ∷ []) }
+        ensures more { self.new.more ≡ self.old.more }
+        ensures status { self.new.status ≡ self.old.status }
+    {
         self.findings.push(finding)?;
         Ok(())
     }

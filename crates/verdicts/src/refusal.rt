@@ -1,10 +1,11 @@
 //! Texts that are refused.
 
 use declaration_flaws::declaration_flaw;
-use diagnostics::{Flaw, Place, certificate_flaw, meaning, program_flaw};
+use diagnostics::{Flaw, Place, meaning};
 use findings::{Finding, Rule, TextKind};
 use program_commands::Refusal;
 use std::alloc::{AllocError, Global};
+use text_flaws::{certificate_flaw, program_flaw};
 
 /// Why the text is refused, which is this refusal's.
 pub fn refusal_finding(

@@ -1,6 +1,6 @@
 //! What could come, in words.
 
-use crate::printed::push_printed;
+use diagnostics::push_printed;
 use std::alloc::{AllocError, Global};
 use texts::{GREATEST, Symbol, Wanted, Word};
 

@@ -2,8 +2,8 @@
 
 ghost use Rattle.std.specs.Prelude.{◌≤◌, length, IfOk, IfSome};
 
-use crate::flaw::{Flaw, within};
-use crate::source::Source;
+use crate::source::{Source, within};
+use diagnostics::Flaw;
 use std::alloc::{AllocError, Global};
 use texts::{MOST_BYTES, Symbol, Token, Trail, Word};
 
@@ -131,7 +131,7 @@ pub fn size_flaw(alloc: Global, name: &str, text: &[u8]) -> Result<Option<Flaw>,
     }
     let sentence = format!(in alloc; "the {name} has {size} bytes: at most {MOST_BYTES} may be")?;
     let flaw = Flaw::told(alloc, MOST_BYTES, sentence, None)?;
-    Ok(within(text, 0, Some(flaw)))
+    Ok(within(0, size, Some(flaw)))
 }
 
 /// The first token with which more than 32 of `(` and `{` are open, or more than 200 tokens stand together.

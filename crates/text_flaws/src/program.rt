@@ -3,12 +3,11 @@
 ghost use Rattle.std.specs.Prelude.{◌≤◌, length, IfOk, IfSome};
 
 use crate::bytes::bad_byte;
-use crate::flaw::{Flaw, within};
 use crate::limits::{count_flaw, depth_flaw, parameters_flaw, reference_flaw, size_flaw};
-use crate::meanings::meaning;
 use crate::misfit::Misfit;
-use crate::source::{Source, plain_tokens, whole};
+use crate::source::{Source, plain_tokens, whole, within};
 use class_lang::program_trail;
+use diagnostics::{Flaw, meaning};
 use std::alloc::{AllocError, Global};
 use texts::{PlaceFault, Token, Trail, Word, placed_tokens};
 
@@ -19,7 +18,7 @@ pub fn program_flaw(alloc: Global, text: &[u8], number: u8) -> Result<Option<Fla
     ensures { IfOk result (λ flaw. IfSome flaw (λ f. f.at ≤ length text.now)) }
 {
     let flaw = flaw_of(alloc, text, number)?;
-    Ok(within(text, 0, flaw))
+    Ok(within(0, text.len(), flaw))
 }
 
 fn flaw_of(alloc: Global, text: &[u8], number: u8) -> Result<Option<Flaw>, AllocError> {
@@ -74,7 +73,7 @@ pub fn wire_flaw(alloc: Global, text: &[u8], number: usize) -> Result<Option<Fla
     };
     let sentence = String::from_str(alloc, meaning(70).unwrap_or(""))?;
     let flaw = Flaw::told(alloc, wire.at, sentence, None)?;
-    Ok(within(text, 0, Some(flaw)))
+    Ok(within(0, text.len(), Some(flaw)))
 }
 
 /// Whether a wire begins with the token.

@@ -1,15 +1,13 @@
 //! What to write instead of what can't stand where it does.
 
-use crate::edits::nearest;
 use crate::habits::{
     Habit, in_declarations, in_expressions, in_lines, in_members, in_statements, of_declarations,
     of_members, of_statements, others,
 };
 use crate::misfit::Misfit;
 use crate::pattern::{fits, start_of};
-use crate::place::Place;
-use crate::printed::Printed;
 use crate::source::Part;
+use diagnostics::{Place, Printed, nearest};
 use std::alloc::{AllocError, Global};
 use texts::{Symbol, Token, Wanted, Word};
 

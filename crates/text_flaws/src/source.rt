@@ -1,6 +1,8 @@
 //! A text with its tokens.
 
-use crate::printed::Printed;
+ghost use Rattle.std.specs.Prelude.{◌≤◌, IfSome};
+
+use diagnostics::{Flaw, Printed};
 use sqlite_items::Items;
 use std::alloc::{AllocError, Global};
 use std::fmt;
@@ -150,5 +152,17 @@ pub fn whole(trail: Option<Trail>) -> Result<Trail, AllocError> {
     match trail {
         Some(trail) if trail.is_whole() => Ok(trail),
         _ => Err(AllocError),
+    }
+}
+
+/// The flaw of a part of a text, which goes from one byte to another, as one of the text, if there is one.
+pub fn within(begin: usize, end: usize, flaw: Option<Flaw>) -> Option<Flaw>
+    requires { begin ≤ end }
+    ensures begun { IfSome result (λ f. begin ≤ f.at) }
+    ensures ended { IfSome result (λ f. f.at ≤ end) }
+{
+    match flaw {
+        Some(flaw) => Some(flaw.within(begin, end)),
+        None => None,
     }
 }

@@ -1,7 +1,6 @@
 //! Bytes that begin no token, and what to write instead.
 
-use crate::flaw::Flaw;
-use crate::printed::Printed;
+use diagnostics::{Flaw, Printed};
 use signatures::is_text_byte;
 use std::alloc::{AllocError, Global};
 use std::fmt;

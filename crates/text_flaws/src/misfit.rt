@@ -1,9 +1,9 @@
 //! A token that can't stand where it does, or an end that comes too early.
 
 use crate::advice::advice;
-use crate::flaw::Flaw;
 use crate::source::Source;
 use crate::wanted::push_wanted;
+use diagnostics::Flaw;
 use signatures::LONGEST_TEXT;
 use std::alloc::{AllocError, Global};
 use texts::{Symbol, Token, Trail, Wanted, Word};

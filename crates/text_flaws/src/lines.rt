@@ -1,29 +1,32 @@
 //! What is wrong with a line of a script or of a certificate.
 
 ghost use Rattle.std.specs.Prelude.{◌≤◌, length, IfOk, IfSome};
+ghost use Rattle.text_flaws.specs.LinePlaces.{IsInLine};
 
 use crate::bytes::bad_byte;
-use crate::flaw::{Flaw, within};
 use crate::limits::{parameters_flaw, reference_flaw};
 use crate::misfit::Misfit;
-use crate::source::{Source, plain_tokens, whole};
+use crate::source::{Source, plain_tokens, whole, within};
 use certificate_lang::{Row, Version, row_trail};
+use diagnostics::Flaw;
 use script_lang::event_trail;
 use sqlite_items::Items;
 use std::alloc::{AllocError, Global};
 use texts::{PlaceFault, PlacedToken, Token, Trail, Wanted, number, placed_tokens, split_line};
 
-/// What is wrong with this line of a script, counted from 1.
+/// What is wrong with this line of a script, counted from 1: its place is in that line.
 pub fn script_flaw(alloc: Global, text: &[u8], line: usize) -> Result<Option<Flaw>, AllocError>
-    ensures { IfOk result (λ flaw. IfSome flaw (λ f. f.at ≤ length text.now)) }
+    ensures inside { IfOk result (λ flaw. IfSome flaw (λ f. f.at ≤ length text.now)) }
+    ensures in_line { IfOk result (λ flaw. IfSome flaw (λ f. IsInLine text.now line f.at)) }
 {
     let mut left = text;
     let mut number = 0usize;
     while let Some((content, rest)) = split_line(left) {
-        number = number.saturating_add(1);
+        number += 1;
         if number == line {
+            let begin = text.len() - left.len();
             let flaw = event_flaw(alloc, content)?;
-            return Ok(within(text, text.len().saturating_sub(left.len()), flaw));
+            return Ok(within(begin, begin + content.len(), flaw));
         }
         left = rest;
     }
@@ -56,7 +59,7 @@ pub fn certificate_flaw(alloc: Global, text: &[u8]) -> Result<Option<Flaw>, Allo
         let begin = text.len().saturating_sub(left.len());
         let placed = match placed_line(alloc, line)? {
             Ok(placed) => placed,
-            Err(flaw) => return Ok(within(text, begin, Some(flaw))),
+            Err(flaw) => return Ok(within(begin, text.len(), Some(flaw))),
         };
         if !placed.is_empty() {
             let source = Source {
@@ -64,7 +67,7 @@ pub fn certificate_flaw(alloc: Global, text: &[u8]) -> Result<Option<Flaw>, Allo
                 tokens: placed.as_slice(),
             };
             if let Some(flaw) = row_flaw(alloc, source, row)? {
-                return Ok(within(text, begin, Some(flaw)));
+                return Ok(within(begin, text.len(), Some(flaw)));
             }
             if row == Row::Version {
                 version = version_of(source).unwrap_or(version);
@@ -77,7 +80,7 @@ pub fn certificate_flaw(alloc: Global, text: &[u8]) -> Result<Option<Flaw>, Allo
         Row::Node(_) => None,
         Row::Version | Row::Bound => Some(ends_early(alloc, text.len())?),
     };
-    Ok(within(text, 0, flaw))
+    Ok(within(0, text.len(), flaw))
 }
 
 /// What follows a line of a certificate in this version.
