@@ -29,6 +29,7 @@ LENT = set(
 FREE = set(b"nesting unfit_wire new_tree new_connections new_bindings natives".split())
 MAY_BE_FREE = set(b"value_copy eval_sum type_of adopt connect add post schedule checked unchecked nodes destroys".split())
 # Those on a scan that was just made: its rows give back the room that they don't need, and do without where that is refused.
+# For any other request that is refused they answer as the others do.
 SHRUNK = set(b"scan edges nodes destroys make check".split())
 # The script of `memory_runs`.
 SCRIPT = b"new s Source\nnew l Label\nconnect s valueChanged(int) l show(int) auto\ncall s.setValue(7)\n"
@@ -125,7 +126,7 @@ class RefusedCalls:
     def __call__(self, item, count):
         self.program, self.call = item
         self.bench = self.bench or built.Bench()
-        answer, requests = self.refused(0)
+        answer, requests, _ = self.refused(0)
         is_ample = (answer.output, answer.status) == (self.call.ample, 0) and requests is not None
         if not count.check(is_ample, lambda: f"{self.name()}, nothing refused: {answer}"):
             return
@@ -141,12 +142,12 @@ class RefusedCalls:
         """Refuses each request of the call, and gives the number of the first one."""
         is_told = True
         for number in range(requests, 0, -1):
-            answer, _ = self.refused(number)
+            answer, _, is_shrink = self.refused(number)
             if answer.output == UNMADE:
                 return number + 1
             if is_told and self.call.is_untold(answer.output):
                 continue
-            if self.call.word in SHRUNK and answer.output == self.call.ample:
+            if is_shrink and self.call.word in SHRUNK and answer.output == self.call.ample:
                 count.note(WITHOUT)
                 continue
             is_told = False
@@ -154,7 +155,7 @@ class RefusedCalls:
         return 1
 
     def one(self, number, kind_of, count):
-        answer, _ = self.refused(number)
+        answer, _, _ = self.refused(number)
         self.judge(number, answer, kind_of, count)
 
     def judge(self, number, answer, kind_of, count):
@@ -166,8 +167,9 @@ class RefusedCalls:
         return f"{self.call.word.decode()} of {self.program}"
 
     def refused(self, number):
-        """A call with this request refused, and how many were made, if that is told."""
+        """A call with this request refused, how many were made, if that is told, and whether the one that was refused would have
+        made a block smaller."""
         environment = {"LD_PRELOAD": self.library, "REFUSED": str(number)}
         answer = self.bench.run(self.program, [self.call.word.decode()], b"", environment)
-        told = re.fullmatch(rb"(\d+) \d+\n", answer.told)
-        return answer, int(told[1]) if told else None
+        told = re.fullmatch(rb"(\d+) \d+ (\d+)\n", answer.told)
+        return (answer, int(told[1]), told[2] != b"0") if told else (answer, None, False)

@@ -1,11 +1,13 @@
 /* Refuses one request for memory. Preloaded into a program, it counts the requests that are made from the start of `main`
  * to its end, and answers that there is no memory to the one whose number the environment variable REFUSED has; with 0
- * to none. With a `+` behind the number it refuses all from that one on. When `main` has returned, the number of requests
- * and that of refusals are written to file descriptor 3, as `ASKED REFUSED` and a newline. For glibc. */
+ * to none. With a `+` behind the number it refuses all from that one on. When `main` has returned, the number of requests,
+ * that of refusals and how many of these were of requests that shrink a block are written to file descriptor 3, as
+ * `ASKED REFUSED SHRINKS` and a newline. For glibc. */
 #define _GNU_SOURCE
 #include <dlfcn.h>
 #include <errno.h>
 #include <stddef.h>
+#include <stdint.h>
 #include <stdio.h>
 #include <stdlib.h>
 #include <string.h>
@@ -21,7 +23,42 @@ extern void *__libc_memalign(size_t, size_t);
 
 static main_function *program;
 static int counts, all_after;
-static unsigned long chosen, asked, refused;
+static unsigned long chosen, asked, refused, shrinks;
+
+/* How large each block was asked to be, by its address. A block that is freed stays noted until another one is there. So few
+ * are noted that a free place is always found. */
+enum { PLACES = 1 << 20, MOST_NOTED = PLACES / 2 };
+
+static struct block {
+    void *at;
+    size_t size;
+} blocks[PLACES];
+static unsigned long noted;
+
+/* Where a block is noted, or would be. */
+static struct block *place_of(void *at)
+{
+    size_t place = ((uintptr_t)at >> 4) * 2654435761u % PLACES;
+
+    while (blocks[place].at != NULL && blocks[place].at != at)
+        place = (place + 1) % PLACES;
+    return &blocks[place];
+}
+
+/* Notes how large a block was asked to be, if there is one. */
+static void *sized(void *at, size_t size)
+{
+    struct block *block;
+
+    if (!counts || at == NULL)
+        return at;
+    block = place_of(at);
+    if (block->at == NULL && noted == MOST_NOTED)
+        return at;
+    noted += block->at == NULL;
+    *block = (struct block){ at, size };
+    return at;
+}
 
 /* Counts a request, and says whether it is refused. */
 static int refuses(void)
@@ -38,27 +75,30 @@ static int refuses(void)
 
 void *malloc(size_t size)
 {
-    return refuses() ? NULL : __libc_malloc(size);
+    return refuses() ? NULL : sized(__libc_malloc(size), size);
 }
 
 void *calloc(size_t count, size_t size)
 {
-    return refuses() ? NULL : __libc_calloc(count, size);
+    return refuses() ? NULL : sized(__libc_calloc(count, size), count * size);
 }
 
 void *realloc(void *memory, size_t size)
 {
-    return refuses() ? NULL : __libc_realloc(memory, size);
+    if (!refuses())
+        return sized(__libc_realloc(memory, size), size);
+    shrinks += memory != NULL && place_of(memory)->at == memory && size < place_of(memory)->size;
+    return NULL;
 }
 
 void *aligned_alloc(size_t alignment, size_t size)
 {
-    return refuses() ? NULL : __libc_memalign(alignment, size);
+    return refuses() ? NULL : sized(__libc_memalign(alignment, size), size);
 }
 
 int posix_memalign(void **memory, size_t alignment, size_t size)
 {
-    void *made = refuses() ? NULL : __libc_memalign(alignment, size);
+    void *made = refuses() ? NULL : sized(__libc_memalign(alignment, size), size);
     if (made == NULL)
         return ENOMEM;
     *memory = made;
@@ -67,7 +107,7 @@ int posix_memalign(void **memory, size_t alignment, size_t size)
 
 static int counted(int argc, char **argv, char **environment)
 {
-    char told[64];
+    char told[80];
     const char *number = getenv("REFUSED");
     int status, length;
 
@@ -78,7 +118,7 @@ static int counted(int argc, char **argv, char **environment)
     counts = 1;
     status = program(argc, argv, environment);
     counts = 0;
-    length = snprintf(told, sizeof told, "%lu %lu\n", asked, refused);
+    length = snprintf(told, sizeof told, "%lu %lu %lu\n", asked, refused, shrinks);
     if (write(3, told, length) != length)
         return 120;
     return status;

@@ -134,7 +134,7 @@ class Refusals:
         run came to no end)."""
         environment = {**self.row.environment, "LD_PRELOAD": self.library, "REFUSED": number}
         answer = self.bench.run(self.program, self.row.words, self.row.text, environment)
-        told = re.fullmatch(rb"(\d+) (\d+)\n", answer.told)
+        told = re.fullmatch(rb"(\d+) (\d+) \d+\n", answer.told)
         return (answer, int(told[1]), int(told[2])) if told else (answer, None, None)
 
     def kind_of(self, answer):
