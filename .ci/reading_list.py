@@ -1,11 +1,11 @@
 #!/usr/bin/env python3
 """Lists what a reader of the headline has to read: the definitions in specs/ to which the clauses of a function lead, part by
-part and page by page, with the number of lines that they take, and the sum.
+part and page by page, with the number of lines that they take and of the comments beside them, and the sums.
 Usage: reading_list.py [--names] [ROOT [FILE FUNCTION]]
 (default: the current folder, qt_runtime/src/machine.rt, run; --names prints the definitions of each page too)
 
 A definition is followed by its words, as the `use` lines of its page say where they stand. A comment above a definition or
-in it counts with it; `use` lines, headings and blank lines don't. What the headline doesn't say of a run is named and not followed: the premises
+in it belongs to it; `use` lines, headings and blank lines count for nothing. What the headline doesn't say of a run is named and not followed: the premises
 (what a certificate has to fulfil, what natives promise), and why a machine stops whose program has no certificate; the
 sentence on the claims says that a checked one stops at a limit alone. Types of the code
 (`specs.declared`) and words of the standard library are met by their names. The script fails where a definition leads to
@@ -62,6 +62,10 @@ class Item:
     """A definition: its lines, with the comment above it."""
     def __init__(self, page, name): self.page, self.name, self.lines = page, name, []
     def text(self): return '\n'.join(line for line in self.lines if not line.lstrip().startswith('--'))
+    def size(self):
+        """How many lines the definition takes, and how many the comments."""
+        comments = sum(line.lstrip().startswith('--') for line in self.lines)
+        return len(self.lines) - comments, comments
 
 class Reading:
     """What has to be read, in the order in which it is met."""
@@ -111,18 +115,18 @@ def main():
     file, function = words[1:3] if len(words) > 2 else ('qt_runtime/src/machine.rt', 'run')
     reading = Reading(root)
     reading.follow(*contract_of(f'{root}/crates/{file}', function))
-    pages, total = {}, 0
+    def told(items, what): print('{:5} {:4}  {}'.format(*(sum(sizes) for sizes in zip(*(item.size() for item in items))), what))
+    pages = {}
     for item in reading.items: pages.setdefault(item.page.path[len(root) + 8:], []).append(item)
+    print('definitions and comments, in lines')
     for part, pattern in PARTS:
         here = [path for path in pages if re.match(pattern, path)]
-        count = sum(len(item.lines) for path in here for item in pages[path])
-        total += count
-        if here: print(f'{count:5}  {part}')
+        if here: told([item for path in here for item in pages[path]], part)
         for path in here:
             items = pages.pop(path)
-            print(f'         {sum(len(item.lines) for item in items):4}  {path}')
+            told(items, f'    {path}')
             if '--names' in sys.argv: print('               ' + ', '.join(item.name for item in items))
-    print(f'{total:5}  lines in all')
+    told(reading.items, 'in all')
     print('named and not followed:', ', '.join(BESIDE))
     print('types of the code:', ', '.join(sorted(reading.types)))
     if reading.code: print('in specs/code:', ', '.join(sorted(code[len(root) + 8:] for code in reading.code)))
