@@ -15,8 +15,8 @@ import os, re, sys
 BESIDE = ['IsChecked', 'AreKept', 'StopsFor']
 PARTS = [('the claims, and runs', r'qt_runtime|checked_runs|machine_events/specs/Runs|machine_rules/specs/Good'),
          ('why a run stops', r'machine_events/specs/Causes|machine_rules/specs/Faults'),
-         ('events', r'machine_events'), ('rules', r'machine_rules'), ('the state', r'machine_state'),
-         ('objects, connections, event loops, bindings', r'object_tree|connections|event_loops|prop_bindings|delete_later'),
+         ('events', r'machine_events'), ('rules', r'machine_rules'), ('the state', r'machine_state|trace_entries'),
+         ('objects, connections, event loops, bindings', r'object_tree|connections|event_loops|binding_graph|prop_bindings|delete_later'),
          ('values, expressions, classes', r'')]
 WORD = re.compile(r'[^\s(){},;.\[\]]+')
 HEAD = re.compile(r'^(?:\s*(?:pub )?(?:unfoldable |abbrev |data |record )+(?:pub )?|pub )(\S+)')

@@ -1,6 +1,6 @@
 //! What command lines answer.
 
-use doubler::{class, doubled, effects, twice};
+use built_in_native::{class, doubled, effects, twice};
 use explained_commands::{WriteFault, explained_command};
 use native_slots::{NativeSlot, Natives};
 use signatures::Value;

@@ -3,8 +3,8 @@ use Rattle.std.proofs.Common.{◌≡◌, ℕ, List, [], ◌∷◌, ◌++◌, Err
 use Rattle.std.proofs.lemmas.List.{append-nil}
 use Rattle.std.specs.Prelude.{codes}
 use Rattle.std.specs.List.{AllZip}
-use Rattle.texts.specs.declared.fault.ParseFault.{ParseFault}
-use Rattle.texts.specs.declared.fault.ParseFault.TheVariants as parse
+use Rattle.token_reading.specs.declared.fault.ParseFault.{ParseFault}
+use Rattle.token_reading.specs.declared.fault.ParseFault.TheVariants as parse
 use Rattle.texts.specs.declared.lexer.LexFault.{LexFault}
 use Rattle.texts.specs.declared.lexer.LexFault.TheVariants as lex
 use Rattle.texts.specs.declared.token.Token.{Token}

@@ -1,15 +1,15 @@
 -- Items of destroy sets, one after another up to the end of a line.
 use Rattle.std.proofs.Common.{◌≡◌, ℕ, Result, Ok, Err, List, [], ◌∷◌, ◌++◌, map, refl, sym, ◌∙◌, ap, append_assoc}
 use Rattle.std.proofs.lemmas.List.{append-nil}
-use Rattle.texts.specs.Lists.{spell_each}
-use Rattle.texts.specs.code.Cursor.{NotAt}
-use Rattle.texts.specs.code.Reading.{Found, Reads, EndsAnywhere, IsAtEnd}
-use Rattle.texts.specs.Reading.{spell_name}
-use Rattle.texts.specs.declared.fault.ParseFault.{ParseFault}
+use Rattle.token_reading.specs.Lists.{spell_each}
+use Rattle.token_reading.specs.code.Cursor.{NotAt}
+use Rattle.token_reading.specs.code.Reading.{Found, Reads, EndsAnywhere, IsAtEnd}
+use Rattle.token_reading.specs.Reading.{spell_name}
+use Rattle.token_reading.specs.declared.fault.ParseFault.{ParseFault}
 use Rattle.texts.specs.declared.symbol.Symbol.TheVariants.{Tilde}
 use Rattle.texts.specs.declared.token.Token.{Token}
 use Rattle.texts.specs.declared.token.Token.TheVariants as token
-use Rattle.texts.proofs.Underway.{None, Underway}
+use Rattle.token_reading.proofs.Underway.{None, Underway}
 use Rattle.certificate_lang.specs.declared.certificate.SetItem.{SetItem}
 use Rattle.certificate_lang.specs.declared.certificate.SetItem.TheVariants.{Class, Closure}
 use Rattle.certificate_lang.specs.declared.version.Version.{Version}

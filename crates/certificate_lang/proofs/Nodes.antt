@@ -1,20 +1,20 @@
 -- Reading nodes and lines from their parts.
 use Rattle.std.proofs.Common.{ℕ, ◌≡◌, Result, Ok, Err, List, [], ◌∷◌, map, refl, sym, ◌∙◌, ap}
 use Rattle.signatures.specs.declared.qtype.QType.{QType}
-use Rattle.texts.specs.code.Cursor.{NotAt}
-use Rattle.texts.specs.Lists.{spell_each, spell_listed}
-use Rattle.texts.specs.Literals.{greatest}
+use Rattle.token_reading.specs.code.Cursor.{NotAt}
+use Rattle.token_reading.specs.Lists.{spell_each, spell_listed}
+use Rattle.token_reading.specs.Literals.{greatest}
 use Rattle.texts.specs.Numerals.{spell_numeral, value_of}
-use Rattle.texts.specs.code.Numerals.{ReadsNumeral}
-use Rattle.texts.specs.code.Reading.{Found, EndsAnywhere, IsAtEnd}
-use Rattle.texts.specs.Reading.{spell_name}
-use Rattle.texts.specs.Signatures.{TypeReading, spell_type, tree_of_type, sig}
-use Rattle.texts.specs.declared.fault.ParseFault.{ParseFault}
+use Rattle.token_reading.specs.code.Numerals.{ReadsNumeral}
+use Rattle.token_reading.specs.code.Reading.{Found, EndsAnywhere, IsAtEnd}
+use Rattle.token_reading.specs.Reading.{spell_name}
+use Rattle.token_reading.specs.Signatures.{TypeReading, spell_type, tree_of_type, sig}
+use Rattle.token_reading.specs.declared.fault.ParseFault.{ParseFault}
 use Rattle.texts.specs.declared.symbol.Symbol.TheVariants.{Open, Dot, Tilde}
 use Rattle.texts.specs.declared.token.Token.{Token}
 use Rattle.texts.specs.declared.token.Token.TheVariants as token
-use Rattle.texts.proofs.Signatures.{sig_found}
-use Rattle.texts.proofs.Underway.{None}
+use Rattle.token_reading.proofs.Signatures.{sig_found}
+use Rattle.token_reading.proofs.Underway.{None}
 use Rattle.certificate_lang.specs.declared.certificate.MemberName.{MemberName}
 use Rattle.certificate_lang.specs.declared.certificate.MemberName.TheVariants as member
 use Rattle.certificate_lang.specs.declared.certificate.NodeName.{NodeName}

@@ -1,12 +1,12 @@
 -- No two readings with the same tokens stand for different lines.
 use Rattle.std.proofs.Common.{◌≡◌, ℕ, List, [], ◌∷◌, map, refl, sym, ◌∙◌, ap, subst}
-use Rattle.texts.specs.Lists.{spell_each}
-use Rattle.texts.specs.Literals.{greatest}
+use Rattle.token_reading.specs.Lists.{spell_each}
+use Rattle.token_reading.specs.Literals.{greatest}
 use Rattle.texts.specs.Numerals.{Numeral, spell_numeral, value_of}
-use Rattle.texts.specs.code.Reading.{Found, IsAtEnd}
-use Rattle.texts.specs.Signatures.{sig, HasPlainReference}
+use Rattle.token_reading.specs.code.Reading.{Found, IsAtEnd}
+use Rattle.token_reading.specs.Signatures.{sig, HasPlainReference}
 use Rattle.texts.specs.declared.token.Token.{Token}
-use Rattle.texts.proofs.OneTree.{HasOneTree, one_tree_of_sig}
+use Rattle.token_reading.proofs.OneTree.{HasOneTree, one_tree_of_sig}
 use Rattle.certificate_lang.specs.declared.certificate.MemberName.TheVariants as member
 use Rattle.certificate_lang.specs.declared.certificate.Line.{Line}
 use Rattle.certificate_lang.specs.declared.version.Version.{Version}

@@ -9,10 +9,11 @@
 --
 -- A number is at most 2147483647.
 use Rattle.std.specs.Prelude.{◌≡◌, ℕ, List, [], ◌∷◌, map}
-use Rattle.texts.specs.Lists.{spell_each}
-use Rattle.texts.specs.Literals.{greatest}
+use Rattle.token_reading.specs.Lists.{spell_each}
+use Rattle.token_reading.specs.Literals.{greatest}
 use Rattle.texts.specs.Numerals.{Numeral, spell_numeral, value_of}
-use Rattle.texts.specs.Signatures.{SigReading, spell_sig, tree_of_sig, HasFewTypes, HasPlainReference}
+use Rattle.token_reading.specs.Signatures.{SigReading, spell_sig, tree_of_sig, HasPlainReference}
+use Rattle.syntax_trees.specs.Connections.{HasFewTypes}
 use Rattle.texts.specs.declared.symbol.Symbol.TheVariants.{Dot, Tilde}
 use Rattle.texts.specs.declared.token.Token.{Token}
 use Rattle.texts.specs.declared.token.Token.TheVariants as token

@@ -1,5 +1,5 @@
 pub mod Grammar
 pub mod Reads
 pub mod code
-pub use Rattle.texts.specs.Lists
-pub use Rattle.texts.specs.code.Reading
+pub use Rattle.token_reading.specs.Lists
+pub use Rattle.token_reading.specs.code.Reading

@@ -4,8 +4,9 @@ ghost use Rattle.std.specs.Prelude.{◌≡◌};
 ghost use Rattle.certificate_lang.specs.Reads.{number_of};
 
 use std::alloc::AllocError;
-use texts::{LexFault, ParseFault};
+use texts::LexFault;
 use thiserror::Error;
+use token_reading::ParseFault;
 
 /// Why a text is no certificate.
 #[derive(Debug, Drop, Error)]

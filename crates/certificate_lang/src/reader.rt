@@ -10,7 +10,8 @@ use crate::syntax::{has_few_parameters, line, setting};
 use crate::version::Version;
 use sqlite_items::Items;
 use std::alloc::Global;
-use texts::{Cursor, Token, Trail, has_plain_reference, split_line, tokens};
+use texts::{Token, split_line, tokens};
+use token_reading::{Cursor, Trail, has_plain_reference};
 
 /// Reads a certificate: `certificate 1` or `certificate 2`, `bound N`, and a line `NODE RANK {ITEM}` for each node, where a
 /// node is `C.m(T, ..)`, `C.p` or `~C`, and an item of its set `C`, or in version 2 also `~C`. A line ends at a newline or

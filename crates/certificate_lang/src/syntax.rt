@@ -3,16 +3,18 @@
 ghost use Rattle.std.specs.Prelude.{◌↔◌, ◌<◌, length, map, IsTrue, OnOk};
 ghost use Rattle.certificate_lang.specs.Grammar.{spell_item, tree_of_item, HasFewParameters};
 ghost use Rattle.certificate_lang.specs.code.Grammar.{ReadsSetting, IsAtOpen, ReadsMember, ReadsNode, ReadsItem, ReadsNodeLine};
-ghost use Rattle.texts.specs.Lists.{spell_each};
+ghost use Rattle.token_reading.specs.Lists.{spell_each};
 ghost use Rattle.certificate_lang.specs.declared.certificate.SetItem.TheVariants.{Class};
-ghost use Rattle.texts.specs.Reading.{spell_name};
-ghost use Rattle.texts.specs.code.Reading.{Reads, EndsAnywhere, IsAtEnd};
+ghost use Rattle.token_reading.specs.Reading.{spell_name};
+ghost use Rattle.token_reading.specs.code.Reading.{Reads, EndsAnywhere, IsAtEnd};
 
 use crate::certificate::{Line, MemberName, NodeName, SetItem};
 use crate::version::Version;
 use signatures::Sig;
 use sqlite_items::Items;
-use texts::{Cursor, ParseFault, Symbol, Token, TypePart, Wanted, has_few_types, list};
+use syntax_trees::has_few_types;
+use texts::{Symbol, Token};
+use token_reading::{Cursor, ParseFault, TypePart, Wanted, list};
 
 /// The greatest number of a certificate.
 const GREATEST: u32 = 2147483647;

@@ -5,11 +5,11 @@ use Rattle.std.proofs.lemmas.Option.{same_Some}
 use Rattle.meta_model.specs.Loaded.{Loaded}
 use Rattle.effect_scan.specs.declared.node.Node.{Node}
 use Rattle.effect_scan.specs.Nodes.{nodes_of}
-use Rattle.typing.specs.declared.spot.Spot.{Spot}
-use Rattle.typing.specs.declared.spot.Spot.TheVariants as spot
-use Rattle.typing.specs.Firsts.{LacksFirst}
-use Rattle.typing.specs.Typed.{IsTypedNode, IsTypedSite, IsTypedProgram, FindsUntyped}
-use Rattle.typing.specs.Wires.{IsFitWire, AreFitWires}
+use Rattle.type_check.specs.declared.spot.Spot.{Spot}
+use Rattle.type_check.specs.declared.spot.Spot.TheVariants as spot
+use Rattle.type_check.specs.Firsts.{LacksFirst}
+use Rattle.type_check.specs.Typed.{IsTypedNode, IsTypedSite, IsTypedProgram, FindsUntyped}
+use Rattle.type_check.specs.Wires.{IsFitWire, AreFitWires}
 use Rattle.certificate_lang.specs.declared.certificate.Certificate.{Certificate}
 use Rattle.rank_make.specs.Makes.{NoneIsValid, IsReason}
 use Rattle.rank_make.specs.Walks.{NoCycle, IsToldCycle, NoDestroyPath, IsDestroyPath}

@@ -2,8 +2,8 @@
 use Rattle.std.proofs.Common.{◌≡◌, ◌⊎◌, inl, inr, ℕ, zero, suc, ◌<◌, Result, Ok, Err, refl, sym, ap, ◌∙◌, arith}
 use Rattle.std.proofs.lemmas.Bool.{cases_lt}
 use Rattle.meta_model.specs.Loaded.{Loaded}
-use Rattle.typing.specs.Wires.{AreFitWires}
-use Rattle.typing.specs.Typed.{IsTypedProgram}
+use Rattle.type_check.specs.Wires.{AreFitWires}
+use Rattle.type_check.specs.Typed.{IsTypedProgram}
 use Rattle.certificate_lang.specs.declared.certificate.Certificate.{Certificate}
 use Rattle.rank_check.specs.declared.no.No.{No}
 use Rattle.rank_check.specs.declared.no.No.TheVariants.{Wire, BodyType, Missing, Extra, Edge, Destroys, Bound, Memory}

@@ -1,6 +1,6 @@
 -- Laws on the certificates of a program (docs/certificate.md, "The check" and "The maker").
 use Rattle.std.specs.Prelude.{◌≡◌, ◌⊎◌, ℕ, List, Result, Ok, Err}
-use Rattle.texts.specs.declared.program.Program.{Program}
+use Rattle.syntax_trees.specs.declared.program.Program.{Program}
 use Rattle.class_lang.specs.Reads.{ReadsProgram}
 use Rattle.meta_model.specs.Loaded.{Loaded}
 use Rattle.meta_model.specs.Sound.{IsSound}

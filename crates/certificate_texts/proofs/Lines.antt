@@ -11,8 +11,8 @@ use Rattle.signatures.specs.Tokens.{StopsBy}
 use Rattle.signatures.specs.Words.{IsFree, word_spelling}
 use Rattle.signatures.specs.declared.word.Word.TheVariants as word
 use Rattle.texts.specs.Lines.{AreFrontLines}
-use Rattle.texts.specs.Lists.{spell_each}
-use Rattle.texts.specs.Literals.{greatest}
+use Rattle.token_reading.specs.Lists.{spell_each}
+use Rattle.token_reading.specs.Literals.{greatest}
 use Rattle.texts.specs.Numerals.{value_of}
 use Rattle.texts.specs.Pieces.{AreTokens}
 use Rattle.texts.specs.declared.token.Token.{Token}

@@ -1,6 +1,6 @@
 -- A text names one node.
 use Rattle.std.proofs.Common.{◌≡◌, [], sym, ◌∙◌}
-use Rattle.texts.specs.code.Cursor.{NotAt}
+use Rattle.token_reading.specs.code.Cursor.{NotAt}
 use Rattle.texts.specs.declared.symbol.Symbol.TheVariants.{Open}
 use Rattle.texts.proofs.Cut.{same_tokens}
 use Rattle.certificate_lang.proofs.OneTree.{one_tree_of_node}

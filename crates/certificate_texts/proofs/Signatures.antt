@@ -12,8 +12,8 @@ use Rattle.signatures.specs.declared.normal.ConstPlace.TheVariants.{Nowhere, Bef
 use Rattle.signatures.specs.declared.normal.TypeEnding.TheVariants.{Bare, Pointer}
 use Rattle.signatures.specs.declared.qtype.QType.{QType}
 use Rattle.signatures.specs.declared.sig.Sig.{Sig}
-use Rattle.texts.specs.Lists.{spell_others, spell_listed}
-use Rattle.texts.specs.Signatures.{TypeReading, spelled_type, spell_type, tree_of_type, SigReading, sig, spell_sig, tree_of_sig}
+use Rattle.token_reading.specs.Lists.{spell_others, spell_listed}
+use Rattle.token_reading.specs.Signatures.{TypeReading, spelled_type, spell_type, tree_of_type, SigReading, sig, spell_sig, tree_of_sig}
 use Rattle.texts.specs.declared.symbol.Symbol.TheVariants as s
 use Rattle.texts.specs.declared.token.Token.{Token}
 use Rattle.texts.specs.declared.token.Token.TheVariants as token

@@ -3,7 +3,7 @@ use Rattle.std.specs.Prelude.{ℕ, ◌≡◌, ◌≤◌, List, []}
 use Rattle.std.specs.List.{AllByRecursion}
 use Rattle.signatures.specs.Laws.{IsNormalSig}
 use Rattle.signatures.specs.Signatures.{IsFreeName}
-use Rattle.texts.specs.Literals.{greatest}
+use Rattle.token_reading.specs.Literals.{greatest}
 use Rattle.texts.specs.Pieces.{AreTokens}
 use Rattle.certificate_lang.specs.Grammar.{NodeReading, spell_node, tree_of_node}
 use Rattle.certificate_lang.specs.Reads.{IsCertificate}

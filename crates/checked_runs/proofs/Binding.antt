@@ -19,17 +19,18 @@ use Rattle.object_tree.specs.Objects.{class_of}
 use Rattle.object_tree.specs.Seen.{seen}
 use Rattle.object_tree.specs.Typed.{AreTyped}
 use Rattle.object_tree.proofs.TypedObjects.{has-reads}
-use Rattle.prop_bindings.specs.declared.binding.Binding.{Binding}
-use Rattle.prop_bindings.specs.declared.place.Place.{Place}
-use Rattle.prop_bindings.specs.Bindings.{place_of}
+use Rattle.binding_graph.specs.declared.binding.Binding.{Binding}
+use Rattle.binding_graph.specs.declared.place.Place.{Place}
+use Rattle.binding_graph.specs.Bindings.{source_place}
 use Rattle.prop_bindings.specs.Calls.{IsOf, CoversBinding, binding_of}
 use Rattle.prop_bindings.specs.Fits.{IsFit, Agree}
-use Rattle.prop_bindings.specs.Places.{property_of, values_in}
+use Rattle.binding_graph.specs.Places.{property_of}
+use Rattle.prop_bindings.specs.Values.{values_in}
 use Rattle.prop_bindings.proofs.Alike.{sort_of, BothAlike, values-alike, reads-sort, plain-has}
-use Rattle.typing.specs.Laws.{HasValueOf, SourcesAreTyped}
-use Rattle.typing.specs.Typed.{kind_in, IsTypedSite}
-use Rattle.typing.proofs.Properties.{has_kind}
-use Rattle.typing.proofs.Values.{site_has}
+use Rattle.type_check.specs.Laws.{HasValueOf, SourcesAreTyped}
+use Rattle.type_check.specs.Typed.{kind_in, IsTypedSite}
+use Rattle.type_check.proofs.Properties.{has_kind}
+use Rattle.type_check.proofs.Values.{site_has}
 use Rattle.certificate_lang.specs.declared.certificate.Certificate.{Certificate}
 use Rattle.rank_check.specs.Valid.{IsValid}
 use Rattle.script_lang.specs.declared.event.Event.{Event}
@@ -83,7 +84,7 @@ module _ {p : Loaded} (sound : IsSound p) (objects : List Object) (typed : AreTy
       (seen objects had.0, ap (option_map (seen objects)) had.1, stored-reads field typed had.1)
 
   -- sources that are covered are typed, as they read
-  sources-typed : (sources formals : List ℕ) → AllZip (IsOf p objects) sources formals → SourcesAreTyped p (class_of objects) formals (λ s. option_and_then (as_seen objects) (place_of sources s))
+  sources-typed : (sources formals : List ℕ) → AllZip (IsOf p objects) sources formals → SourcesAreTyped p (class_of objects) formals (λ s. option_and_then (as_seen objects) (source_place sources s))
   sources-typed sources formals all s T kind =
       let formal = then-some (λ (c : ℕ). kind_in p c s.property) (slice_get formals s.source) T kind in
       let property = has_kind p formal.0 s.property T formal.2 in
@@ -97,11 +98,11 @@ module _ {p : Loaded} (sound : IsSound p) (objects : List Object) (typed : AreTy
   -- the binding of a typed site fits
   covered-fits : (site : MetaSite) (number target : ℕ) (sources : List ℕ) → IsSoundSite p site → IsTypedSite p site → CoversBinding p objects site target sources → IsFit p objects (binding_of site number target sources)
   covered-fits site number target sources is site_typed covers =
-      let read : SourceProperty → Option Value = λ s. option_and_then (as_seen objects) (place_of sources s) in
-      let raw : SourceProperty → Option Value = λ s. option_and_then (values_in objects) (place_of sources s) in
+      let read : SourceProperty → Option Value = λ s. option_and_then (as_seen objects) (source_place sources s) in
+      let raw : SourceProperty → Option Value = λ s. option_and_then (values_in objects) (source_place sources s) in
       let property = (is.target).property in
       let has = site_has p sound (class_of objects) site read (sources-typed sources site.formals covers.of_sources) site_typed property (is.target).is in
-      let alike : BothAlike (value_in read site.formula) (value_in raw site.formula) = values-alike read raw (λ s. alike-at (place_of sources s)) site.formula in
+      let alike : BothAlike (value_in read site.formula) (value_in raw site.formula) = values-alike read raw (λ s. alike-at (source_place sources s)) site.formula in
       let given = some-alike (value_in raw site.formula) has.0 (sym (ap (option_map sort_of) has.1) ∙ alike) in
       let x = lives-of-class objects target (covers.of_target).class (covers.of_target).is in
       let At : ℕ → Type 0 = λ k. IsProperty p k site.property property in

@@ -5,8 +5,8 @@ use Rattle.std.specs.Option.{option_map, option_and_then}
 use Rattle.std.proofs.lemmas.Bool.{cases_eq, eq-eqb, ne_eqb}
 use Rattle.std.proofs.lemmas.Option.{none-some, slice_get_within}
 use Rattle.signatures.specs.declared.sig.Sig.{Sig}
-use Rattle.texts.specs.declared.connection.ConnectionType.{ConnectionType}
-use Rattle.texts.specs.declared.connection.Endpoints.{Endpoints as Named}
+use Rattle.syntax_trees.specs.declared.connection.ConnectionType.{ConnectionType}
+use Rattle.syntax_trees.specs.declared.connection.Endpoints.{Endpoints as Named}
 use Rattle.script_lang.specs.declared.event.Event.{Event}
 use Rattle.script_lang.specs.declared.event.Event.TheVariants.{Loop, Turn, New, Adopt, Move, Connect, Disconnect, Set, Bind, Emit as EmitEvent, Call as CallEvent, Block, Unblock, Delete as DeleteEvent, Later as LaterEvent}
 use Rattle.script_lang.specs.declared.event.Input.{Input}
@@ -24,14 +24,14 @@ use Rattle.object_tree.proofs.Changing.{part-change, life-part, length-change, g
 use Rattle.object_tree.proofs.TypedObjects.{get-appended, class-same, shape-moved}
 use Rattle.event_loops.specs.Queues.{Queues, rehomed}
 use Rattle.delete_later.specs.declared.store.Store.{Store}
-use Rattle.prop_bindings.specs.declared.binding.Binding.{Binding}
-use Rattle.prop_bindings.specs.declared.place.Place.{Place}
-use Rattle.prop_bindings.specs.Bindings.{binding_at, without, replaced}
+use Rattle.binding_graph.specs.declared.binding.Binding.{Binding}
+use Rattle.binding_graph.specs.declared.place.Place.{Place}
+use Rattle.binding_graph.specs.Bindings.{binding_at, without, replaced}
 use Rattle.prop_bindings.specs.Calls.{IsOf as IsLivingOf}
 use Rattle.prop_bindings.specs.Fits.{Agree}
-use Rattle.prop_bindings.proofs.Replaced.{installed-is}
-use Rattle.prop_bindings.proofs.Places.{decide_place}
-use Rattle.prop_bindings.proofs.Walks.{bound-other}
+use Rattle.binding_graph.proofs.Replaced.{installed-is}
+use Rattle.binding_graph.proofs.Places.{decide_place}
+use Rattle.binding_graph.proofs.Walks.{bound-other}
 use Rattle.effect_scan.specs.declared.node.Member.TheVariants.{Method, Property, Destruction}
 use Rattle.effect_scan.specs.Nodes.{node, named}
 use Rattle.effect_scan.specs.Destroying.{itself}
@@ -43,7 +43,7 @@ use Rattle.machine_state.specs.State.{State, IsIdle, Activation}
 use Rattle.machine_state.specs.Worlds.{with_store}
 use Rattle.machine_state.proofs.Due.{all-removed}
 use Rattle.machine_state.specs.Telling.{Alone}
-use Rattle.prop_bindings.specs.Places.{property_of}
+use Rattle.binding_graph.specs.Places.{property_of}
 use Rattle.machine_rules.specs.declared.ends.FoundEnds.{FoundEnds}
 use Rattle.machine_rules.specs.Good.{IsWell}
 use Rattle.machine_rules.specs.Judgement.{Numbered, found as finds, holds as so, becomes, goes_on}
@@ -52,7 +52,7 @@ use Rattle.machine_rules.proofs.Keeps.{class-of-lives}
 use Rattle.machine_rules.proofs.Lists.{all-filtered, all-snoc, all-weaken}
 use Rattle.machine_events.specs.declared.events.invoke.Invocation.{Invocation}
 use Rattle.machine_events.specs.declared.events.invoke.Invocation.TheVariants.{Emit as EmitIt, Call as CallIt}
-use Rattle.machine_state.specs.declared.fault.Answer.{Answer}
+use Rattle.trace_entries.specs.declared.fault.Answer.{Answer}
 use Rattle.machine_events.specs.Takes.{judged, Takes, accepts, refuses}
 use Rattle.machine_events.specs.Events.{may_bind, block, find_ends, invoke}
 use Rattle.machine_events.specs.code.Judgement.{IsLiving}

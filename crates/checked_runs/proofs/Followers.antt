@@ -8,11 +8,12 @@ use Rattle.meta_model.specs.Loaded.{Loaded}
 use Rattle.meta_model.specs.Sound.{IsSound}
 use Rattle.object_tree.specs.declared.object.Object.{Object}
 use Rattle.object_tree.specs.Seen.{seen}
-use Rattle.prop_bindings.specs.declared.binding.Binding.{Binding}
-use Rattle.prop_bindings.specs.declared.place.Place.{Place}
-use Rattle.prop_bindings.specs.Bindings.{Settled}
+use Rattle.binding_graph.specs.declared.binding.Binding.{Binding}
+use Rattle.binding_graph.specs.declared.place.Place.{Place}
+use Rattle.binding_graph.specs.Bindings.{Settled}
 use Rattle.prop_bindings.specs.Changes.{DifferInValues, ReadsAlike, AreChanged, none_changed, one_changed, one_stayed}
-use Rattle.prop_bindings.specs.Places.{In, values_in}
+use Rattle.binding_graph.specs.Places.{In}
+use Rattle.prop_bindings.specs.Values.{values_in}
 use Rattle.std.proofs.lemmas.Option.{same_Some}
 use Rattle.prop_bindings.proofs.Fitting.{seen-same}
 use Rattle.effect_scan.specs.declared.node.Node.{Node}

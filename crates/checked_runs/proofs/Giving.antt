@@ -35,9 +35,9 @@ use Rattle.object_tree.specs.declared.object.Object.{Object}
 use Rattle.object_tree.specs.Objects.{Lives, class_of}
 use Rattle.object_tree.specs.Typed.{AreTyped, ReadsAs, ReadAs}
 use Rattle.object_tree.proofs.TypedObjects.{has-reads}
-use Rattle.typing.specs.Bodies.{IsTypedStatement}
-use Rattle.typing.specs.Typed.{IsTypedWork}
-use Rattle.typing.proofs.Values.{body_has, arguments_have}
+use Rattle.type_check.specs.Bodies.{IsTypedStatement}
+use Rattle.type_check.specs.Typed.{IsTypedWork}
+use Rattle.type_check.proofs.Values.{body_has, arguments_have}
 use Rattle.effect_scan.specs.declared.node.Node.{Node}
 use Rattle.certificate_lang.specs.declared.certificate.Certificate.{Certificate}
 use Rattle.rank_check.specs.Valid.{IsValid}
@@ -63,7 +63,7 @@ use Rattle.machine_state.specs.Telling.{Alone, Grouped, writes_of}
 use Rattle.prop_bindings.specs.declared.assignment.Assignment.{Assignment}
 use Rattle.prop_bindings.specs.Calls.{AllFit}
 use Rattle.prop_bindings.specs.Fits.{FitsAt}
-use Rattle.prop_bindings.specs.Places.{property_of}
+use Rattle.binding_graph.specs.Places.{property_of}
 use Rattle.std.proofs.lemmas.List.Elements.{recursion_from_All}
 use Rattle.checked_runs.proofs.Nodes.{body-named}
 

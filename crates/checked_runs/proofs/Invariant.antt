@@ -18,8 +18,8 @@ use Rattle.object_tree.specs.Family.{children_of}
 use Rattle.object_tree.specs.Objects.{class_of}
 use Rattle.object_tree.specs.Typed.{ReadAs}
 use Rattle.connections.specs.declared.connection.Connection.{Connection}
-use Rattle.prop_bindings.specs.declared.binding.Binding.{Binding}
-use Rattle.prop_bindings.specs.declared.place.Place.{Place}
+use Rattle.binding_graph.specs.declared.binding.Binding.{Binding}
+use Rattle.binding_graph.specs.declared.place.Place.{Place}
 use Rattle.effect_scan.specs.declared.node.Node.{Node}
 use Rattle.effect_scan.specs.declared.node.Member.TheVariants.{Method, Property, Destruction}
 use Rattle.effect_scan.specs.Nodes.{node, named}

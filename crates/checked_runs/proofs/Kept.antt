@@ -5,15 +5,15 @@ use Rattle.signatures.specs.declared.value.Value.{Value}
 use Rattle.script_lang.specs.declared.event.Event.{Event}
 use Rattle.meta_model.specs.Loaded.{Loaded}
 use Rattle.meta_model.specs.Sound.{IsSound}
-use Rattle.prop_bindings.specs.declared.place.Place.{Place}
-use Rattle.prop_bindings.specs.Bindings.{binding_at, without, replaced, Chain, direct, further}
+use Rattle.binding_graph.specs.declared.place.Place.{Place}
+use Rattle.binding_graph.specs.Bindings.{binding_at, without, replaced, Chain, direct, further}
 use Rattle.prop_bindings.specs.Fits.{IsFit, IsInOneLoop, Agree}
 use Rattle.effect_scan.specs.declared.node.Node.{Node}
 use Rattle.effect_scan.specs.declared.node.Member.TheVariants.{Property}
 use Rattle.effect_scan.specs.Nodes.{node}
 use Rattle.certificate_lang.specs.declared.certificate.Certificate.{Certificate}
 use Rattle.rank_check.specs.Valid.{IsValid}
-use Rattle.machine_state.specs.declared.fault.Answer.{Answer}
+use Rattle.trace_entries.specs.declared.fault.Answer.{Answer}
 use Rattle.machine_state.specs.State.{Step, Run, State, Activation, Body}
 use Rattle.machine_state.specs.Worlds.{at, untouched}
 use Rattle.machine_rules.specs.Operations.{Write}
@@ -41,7 +41,7 @@ use Rattle.meta_model.specs.declared.object.Statement.{Statement}
 use Rattle.meta_model.specs.declared.object.Statement.TheViews.{out-Statement}
 use Rattle.meta_model.specs.Members.{Below}
 use Rattle.meta_model.specs.Sound.{IsSoundWork}
-use Rattle.typing.specs.Typed.{IsTypedWork}
+use Rattle.type_check.specs.Typed.{IsTypedWork}
 use Rattle.object_tree.specs.declared.object.Object.{Object}
 use Rattle.object_tree.specs.Typed.{AreTyped}
 use Rattle.machine_rules.specs.Operations.{operation}

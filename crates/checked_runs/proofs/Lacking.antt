@@ -5,7 +5,7 @@ use Rattle.std.proofs.lemmas.List.Elements.{recursion_from_All}
 use Rattle.std.specs.Option.{option_and_then, option_map}
 use Rattle.signatures.specs.declared.value.Value.{Value}
 use Rattle.signatures.specs.declared.value.Value.TheVariants as value
-use Rattle.texts.specs.declared.syntax.Expr.{Expr}
+use Rattle.syntax_trees.specs.declared.syntax.Expr.{Expr}
 use Rattle.meta_model.specs.declared.object.MetaPath.{MetaPath}
 use Rattle.meta_model.specs.declared.object.MetaMethod.{MetaMethod}
 use Rattle.meta_model.specs.declared.object.Statement.{Statement}
@@ -22,10 +22,10 @@ use Rattle.object_tree.specs.declared.object.Object.{Object}
 use Rattle.object_tree.specs.Objects.{Lives, class_of}
 use Rattle.object_tree.specs.Typed.{AreTyped, ReadAs, ReadsAs}
 use Rattle.object_tree.proofs.TypedObjects.{has-reads, reads-still}
-use Rattle.typing.specs.Bodies.{IsGivenIn, IsTypedSet, IsTypedStatement}
-use Rattle.typing.specs.Laws.{PathsAreTyped}
-use Rattle.typing.specs.Typed.{IsTypedWork}
-use Rattle.typing.proofs.Values.{body_has, arguments_have}
+use Rattle.type_check.specs.Bodies.{IsGivenIn, IsTypedSet, IsTypedStatement}
+use Rattle.type_check.specs.Laws.{PathsAreTyped}
+use Rattle.type_check.specs.Typed.{IsTypedWork}
+use Rattle.type_check.proofs.Values.{body_has, arguments_have}
 use Rattle.effect_scan.specs.declared.node.Member.TheVariants.{Method}
 use Rattle.effect_scan.specs.Nodes.{node, named}
 use Rattle.certificate_lang.specs.declared.certificate.Certificate.{Certificate}
@@ -46,7 +46,7 @@ use Rattle.prop_bindings.specs.declared.assignment.Assignment.{Assignment}
 use Rattle.prop_bindings.specs.Calls.{AllFit}
 use Rattle.prop_bindings.specs.Changes.{DifferInValues}
 use Rattle.prop_bindings.specs.Fits.{FitsAt}
-use Rattle.prop_bindings.specs.Places.{property_of}
+use Rattle.binding_graph.specs.Places.{property_of}
 use Rattle.prop_bindings.proofs.Fitting.{LivesOn, lives-on}
 use Rattle.object_tree.proofs.Changing.{life-of-lives}
 use Rattle.effect_scan.specs.Effects.{Occurs, after}

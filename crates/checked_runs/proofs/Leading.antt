@@ -7,7 +7,7 @@ use Rattle.std.proofs.lemmas.Option.{same_Some, none-some}
 use Rattle.std.proofs.lemmas.List.Elements.{All-contains}
 use Rattle.signatures.specs.declared.value.Value.{Value}
 use Rattle.signatures.specs.declared.value.Value.TheVariants as value
-use Rattle.texts.specs.declared.syntax.Expr.{Expr}
+use Rattle.syntax_trees.specs.declared.syntax.Expr.{Expr}
 use Rattle.meta_model.specs.declared.effects.MetaEffects.{MetaEffects}
 use Rattle.meta_model.specs.declared.object.MetaPath.{MetaPath}
 use Rattle.meta_model.specs.declared.object.MetaRoot.{MetaRoot}
@@ -53,12 +53,12 @@ use Rattle.machine_state.specs.Telling.{Alone, Grouped, writes_of}
 use Rattle.prop_bindings.specs.declared.assignment.Assignment.{Assignment}
 use Rattle.prop_bindings.specs.Calls.{AllFit}
 use Rattle.prop_bindings.specs.Changes.{DifferInValues}
-use Rattle.prop_bindings.specs.Places.{property_of}
+use Rattle.binding_graph.specs.Places.{property_of}
 use Rattle.prop_bindings.proofs.Fitting.{lives-on}
 use Rattle.object_tree.proofs.Changing.{life-of-lives}
 use Rattle.std.proofs.lemmas.List.Elements.{recursion_from_All}
-use Rattle.typing.specs.Bodies.{IsTypedStatement}
-use Rattle.typing.specs.Typed.{IsTypedWork}
+use Rattle.type_check.specs.Bodies.{IsTypedStatement}
+use Rattle.type_check.specs.Typed.{IsTypedWork}
 use Rattle.certificate_lang.specs.declared.certificate.Certificate.{Certificate}
 use Rattle.rank_check.specs.Valid.{IsValid}
 use Rattle.checked_runs.proofs.Invariant.{BodyStands, IsStepOf, runs, asks, acts}

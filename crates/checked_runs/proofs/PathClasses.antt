@@ -8,7 +8,7 @@ use Rattle.meta_model.specs.declared.object.ValueType.{ValueType}
 use Rattle.meta_model.specs.declared.object.ValueType.TheVariants as type
 use Rattle.meta_model.specs.Loaded.{Loaded}
 use Rattle.meta_model.specs.Sound.{HasRoot, this_has, parameter_has, Leads, here, on, LeadsToClass}
-use Rattle.typing.specs.Bodies.{kind_of_root, kind_after, kind_of_path}
+use Rattle.type_check.specs.Bodies.{kind_of_root, kind_after, kind_of_path}
 
 module _ (me : ℕ) (kinds : List ValueType) where
   root-kind : (root : MetaRoot) (T : ValueType) → HasRoot me kinds root T → kind_of_root me kinds root ≡ Some T

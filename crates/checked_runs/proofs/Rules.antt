@@ -6,7 +6,7 @@ use Rattle.std.proofs.lemmas.Option.{same_Some, none-some}
 use Rattle.signatures.specs.declared.kind.Kind.{Kind}
 use Rattle.signatures.specs.declared.kind.Kind.TheVariants.{Auto, Direct, Queued}
 use Rattle.signatures.specs.declared.value.Value.{Value}
-use Rattle.texts.specs.declared.connection.ConnectionType.{ConnectionType}
+use Rattle.syntax_trees.specs.declared.connection.ConnectionType.{ConnectionType}
 use Rattle.meta_model.specs.declared.effects.MetaEffects.{MetaEffects}
 use Rattle.meta_model.specs.declared.object.MetaMethod.{MetaMethod}
 use Rattle.meta_model.specs.declared.object.Statement.{Statement}
@@ -28,14 +28,15 @@ use Rattle.object_tree.specs.declared.object.Object.{Object}
 use Rattle.object_tree.specs.Family.{children_of, without_life}
 use Rattle.object_tree.specs.Objects.{Lives, class_of, life_of, change_life, scheduled}
 use Rattle.object_tree.specs.Typed.{ReadAs}
-use Rattle.prop_bindings.specs.declared.binding.Binding.{Binding}
-use Rattle.prop_bindings.specs.declared.place.Place.{Place}
+use Rattle.binding_graph.specs.declared.binding.Binding.{Binding}
+use Rattle.binding_graph.specs.declared.place.Place.{Place}
 use Rattle.prop_bindings.specs.declared.assignment.Assignment.{Assignment}
-use Rattle.prop_bindings.specs.Bindings.{binding_at, without, without_all, Settled}
+use Rattle.binding_graph.specs.Bindings.{binding_at, without, without_all, Settled}
 use Rattle.prop_bindings.specs.Changes.{DifferInValues, AreChanged, in_order, once, places_in}
 use Rattle.prop_bindings.specs.Fits.{Agree}
-use Rattle.prop_bindings.specs.Places.{In, same_place, values_in}
-use Rattle.prop_bindings.proofs.Replaced.{without-fewer}
+use Rattle.binding_graph.specs.Places.{In, same_place}
+use Rattle.prop_bindings.specs.Values.{values_in}
+use Rattle.binding_graph.proofs.Replaced.{without-fewer}
 use Rattle.effect_scan.specs.declared.node.Node.{Node}
 use Rattle.effect_scan.specs.declared.node.Member.TheVariants.{Method, Property, Destruction}
 use Rattle.effect_scan.specs.Nodes.{node, named}
@@ -47,8 +48,8 @@ use Rattle.certificate_lang.specs.declared.certificate.Line.{Line}
 use Rattle.certificate_lang.specs.declared.certificate.Certificate.{Certificate}
 use Rattle.rank_check.specs.Valid.{IsLineOf, Destroys, IsValid}
 use Rattle.machine_state.specs.declared.endpoints.Endpoints.{Endpoints}
-use Rattle.machine_state.specs.declared.refusal.Refusal.{Refusal}
-use Rattle.machine_state.specs.declared.entry.Entry.{Entry}
+use Rattle.trace_entries.specs.declared.refusal.Refusal.{Refusal}
+use Rattle.trace_entries.specs.declared.entry.Entry.{Entry}
 use Rattle.machine_state.specs.Telling.{Assigning, writes_of}
 use Rattle.machine_state.specs.declared.turn.Turn.{Turn}
 use Rattle.machine_state.specs.Connections.{is_living, next_used, joins_these}
@@ -77,7 +78,7 @@ use Rattle.checked_runs.proofs.Nodes.{named-node, end-node, body-named, late-nam
 use Rattle.checked_runs.proofs.Ladder.{higher-none, no-higher-self, level-at, level-of, at-node, falls-along, falls-to, line-from, line-unique}
 use Rattle.checked_runs.proofs.Worlds.{Leaves, classes-left, differ-leaves, scheduled-leaves, died-leaves, SparedIn, stacked-still}
 use Rattle.checked_runs.proofs.Followers.{IsKnown, followers}
-use Rattle.prop_bindings.proofs.Places.{decide_place, same_place-refl}
+use Rattle.binding_graph.proofs.Places.{decide_place, same_place-refl}
 use Rattle.checked_runs.proofs.Leading.{does-led}
 use Rattle.machine_rules.proofs.Scheduling.{schedule-cases}
 

@@ -16,23 +16,24 @@ use Rattle.object_tree.specs.declared.object.Object.{Object}
 use Rattle.object_tree.specs.Typed.{AreTyped, ReadsAs, ReadAs}
 use Rattle.object_tree.proofs.Changing.{life-of-lives}
 use Rattle.object_tree.proofs.TypedObjects.{reads-still}
-use Rattle.prop_bindings.specs.declared.binding.Binding.{Binding}
-use Rattle.prop_bindings.specs.declared.place.Place.{Place}
+use Rattle.binding_graph.specs.declared.binding.Binding.{Binding}
+use Rattle.binding_graph.specs.declared.place.Place.{Place}
 use Rattle.prop_bindings.specs.declared.assignment.Assignment.{Assignment}
 use Rattle.prop_bindings.specs.Calls.{AllFit}
-use Rattle.prop_bindings.specs.Bindings.{place_of, read_by, Reads, value_of, binding_at, AreApart, without, without_all, replaced, Settled, Loop}
+use Rattle.binding_graph.specs.Bindings.{source_place, read_by, Reads, value_of, binding_at, AreApart, without, without_all, replaced, Settled, Loop}
 use Rattle.prop_bindings.specs.Changes.{DifferInValues, lasting, places_in}
 use Rattle.prop_bindings.specs.Fits.{IsFit, IsInOneLoop, Agree}
-use Rattle.prop_bindings.specs.code.Orders.{Free, Ordered, IsOrder}
-use Rattle.prop_bindings.specs.Places.{property_of, same_place, is_in, In, values_in}
-use Rattle.prop_bindings.proofs.Acyclic.{order-of}
+use Rattle.binding_graph.specs.code.Orders.{Free, Ordered, IsOrder}
+use Rattle.binding_graph.specs.Places.{property_of, same_place, is_in, In}
+use Rattle.prop_bindings.specs.Values.{values_in}
+use Rattle.binding_graph.proofs.Acyclic.{order-of}
 use Rattle.prop_bindings.proofs.Alike.{sort_of, BothAlike, values-alike, reads-sort, plain-has}
-use Rattle.prop_bindings.proofs.Apart.{apart-replaced}
+use Rattle.binding_graph.proofs.Apart.{apart-replaced}
 use Rattle.prop_bindings.proofs.Fitting.{all-stay, lives-on}
 use Rattle.prop_bindings.proofs.Homes.{all-joined}
 use Rattle.prop_bindings.proofs.Leaving.{agree-fewer}
-use Rattle.prop_bindings.proofs.Naming.{value-agree}
-use Rattle.prop_bindings.proofs.Places.{decide_place, decide_in, is_in-true, is_in-false, same_place-refl}
+use Rattle.binding_graph.proofs.Naming.{value-agree}
+use Rattle.binding_graph.proofs.Places.{decide_place, decide_in, is_in-true, is_in-false, same_place-refl}
 use Rattle.prop_bindings.proofs.There.{bound-has}
 use Rattle.machine_state.specs.State.{State, Activation}
 use Rattle.machine_state.specs.Telling.{Assigning, writes_of}
@@ -67,7 +68,7 @@ module _ (b : Binding) (before now : Place → Option Value) where
     -- what reads values of the same sorts has a value of the same sort
     value-alike : BothAlike (value_of b before) (value_of b now)
     value-alike =
-        values-alike (λ (s : SourceProperty). option_and_then before (place_of b.sources s)) (λ (s : SourceProperty). option_and_then (as_read b before now) (place_of b.sources s)) (λ s. source-alike (place_of b.sources s)) b.formula
+        values-alike (λ (s : SourceProperty). option_and_then before (source_place b.sources s)) (λ (s : SourceProperty). option_and_then (as_read b before now) (source_place b.sources s)) (λ s. source-alike (source_place b.sources s)) b.formula
         ∙ ap (option_map sort_of) (value-agree b (as_read b before now) now is-read)
 
 -- where expressions had values of the sorts of what they bind, and nothing unbound changes its sort, nothing does

@@ -6,20 +6,20 @@ use Rattle.std.specs.Option.{option_map}
 use Rattle.std.proofs.lemmas.Option.{same_Some, none-some}
 use Rattle.std.proofs.lemmas.Bool.{false≢true}
 use Rattle.signatures.specs.declared.value.Value.{Value}
-use Rattle.texts.specs.declared.syntax.Expr.{Expr}
-use Rattle.texts.specs.declared.syntax.Expr.TheOpen as layer
-use Rattle.texts.specs.declared.syntax.Expr.TheViews.{roll-Expr}
-use Rattle.texts.specs.declared.syntax.Expr.TheFolds.{fold-roll-Expr, ind-Expr, map-Expr}
+use Rattle.syntax_trees.specs.declared.syntax.Expr.{Expr}
+use Rattle.syntax_trees.specs.declared.syntax.Expr.TheOpen as layer
+use Rattle.syntax_trees.specs.declared.syntax.Expr.TheViews.{roll-Expr}
+use Rattle.syntax_trees.specs.declared.syntax.Expr.TheFolds.{fold-roll-Expr, ind-Expr, map-Expr}
 use Rattle.meta_model.specs.declared.site.SourceProperty.{SourceProperty}
 use Rattle.meta_model.specs.Loaded.{Loaded}
 use Rattle.meta_model.specs.Sites.{paths_in, paths_step}
 use Rattle.meta_model.specs.Sound.{IsSound}
-use Rattle.prop_bindings.specs.declared.binding.Binding.{Binding}
-use Rattle.prop_bindings.specs.declared.place.Place.{Place}
-use Rattle.prop_bindings.specs.Bindings.{named_in, named_step, place_of, Reads, Settled, Chain, direct, further, Loop}
-use Rattle.prop_bindings.specs.Places.{property_of, same_place, In}
-use Rattle.prop_bindings.proofs.Naming.{value-agree}
-use Rattle.prop_bindings.proofs.Places.{decide_in}
+use Rattle.binding_graph.specs.declared.binding.Binding.{Binding}
+use Rattle.binding_graph.specs.declared.place.Place.{Place}
+use Rattle.binding_graph.specs.Bindings.{named_in, named_step, source_place, Reads, Settled, Chain, direct, further, Loop}
+use Rattle.binding_graph.specs.Places.{property_of, same_place, In}
+use Rattle.binding_graph.proofs.Naming.{value-agree}
+use Rattle.binding_graph.proofs.Places.{decide_in}
 use Rattle.rank_check.proofs.Elements.{element_at}
 use Rattle.effect_scan.specs.declared.node.Node.{Node}
 use Rattle.effect_scan.specs.declared.node.Member.TheVariants.{Property}
@@ -78,7 +78,7 @@ source-of p classes (x ∷ xs) (f ∷ fs) zero o all is = (f, refl, subst (λ (y
 source-of p classes (x ∷ xs) (f ∷ fs) (suc k) o all is = source-of p classes xs fs k o all.1 is
 
 -- the place of a source's property
-source-place : (sources : List ℕ) (s : SourceProperty) (q : Place) → place_of sources s ≡ Some q → (o : ℕ) × (slice_get sources s.source ≡ Some o) × (property_of o s.property ≡ q)
+source-place : (sources : List ℕ) (s : SourceProperty) (q : Place) → source_place sources s ≡ Some q → (o : ℕ) × (slice_get sources s.source ≡ Some o) × (property_of o s.property ≡ q)
 source-place sources s q is = by_source (slice_get sources s.source) refl is
   where
     by_source : (found : Option ℕ) → slice_get sources s.source ≡ found → option_map (λ o. property_of o s.property) found ≡ Some q → (o : ℕ) × (slice_get sources s.source ≡ Some o) × (property_of o s.property ≡ q)
@@ -88,7 +88,7 @@ source-place sources s q is = by_source (slice_get sources s.source) refl is
 -- a property that a binding reads leads to the one that it binds
 pub reads-lead : {p : Loaded} {classes : ℕ → Option ℕ} {b : Binding} {m : Place} → (sited : IsSited p classes b) → Reads b m → (class : ℕ) × (classes m.object ≡ Some class) × MayLead p (node class (Property m.property)) (node sited.target.class (Property b.target.property))
 reads-lead {p} {classes} {b} {m} sited reads =
-    let named = filtered-in (place_of b.sources) (named_in b.formula) m reads in
+    let named = filtered-in (source_place b.sources) (named_in b.formula) m reads in
     let path : slice_get (paths_in sited.site.formula) named.0 ≡ Some named.1 = ap (λ (l : List SourceProperty). slice_get l named.0) (sym (named-paths b.formula ∙ ap (λ (z : Expr SourceProperty). paths_in z) sited.formula)) ∙ named.2 in
     let place = source-place b.sources named.1 m named.3 in
     let formal = source-of p classes b.sources sited.site.formals (named.1).source place.0 sited.sources place.1 in

@@ -10,7 +10,7 @@ use Rattle.object_tree.specs.declared.object.Object.{Object}
 use Rattle.object_tree.specs.Typed.{ReadsAs}
 use Rattle.certificate_lang.specs.declared.certificate.Certificate.{Certificate}
 use Rattle.rank_check.specs.Valid.{IsValid}
-use Rattle.machine_state.specs.declared.fault.Answer.{Answer}
+use Rattle.trace_entries.specs.declared.fault.Answer.{Answer}
 use Rattle.machine_state.specs.State.{State, Activation, Body}
 use Rattle.machine_state.specs.Worlds.{at, untouched}
 use Rattle.machine_state.specs.Telling.{Assigning, writes_of}

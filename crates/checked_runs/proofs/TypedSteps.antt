@@ -5,8 +5,8 @@ use Rattle.std.specs.List.{AllByRecursion, find}
 use Rattle.std.proofs.lemmas.List.Elements.{All-from_recursion}
 use Rattle.signatures.specs.declared.value.Value.{Value}
 use Rattle.signatures.specs.declared.value.Value.TheVariants as variant
-use Rattle.texts.specs.declared.connection.ConnectionType.{ConnectionType}
-use Rattle.texts.specs.declared.connection.Endpoints.{Endpoints as Named}
+use Rattle.syntax_trees.specs.declared.connection.ConnectionType.{ConnectionType}
+use Rattle.syntax_trees.specs.declared.connection.Endpoints.{Endpoints as Named}
 use Rattle.script_lang.specs.declared.event.Event.{Event}
 use Rattle.script_lang.specs.declared.event.Event.TheVariants.{Loop, Turn as TurnEvent, New, Adopt, Move, Connect as ConnectEvent, Disconnect as DisconnectEvent, Set, Bind, Emit as EmitEvent, Call as CallEvent, Block, Unblock, Delete as DeleteEvent, Later as LaterEvent}
 use Rattle.script_lang.specs.declared.event.Input.{Input}
@@ -33,9 +33,9 @@ use Rattle.object_tree.specs.Objects.{life_of, class_with, change_life, blocked}
 use Rattle.object_tree.specs.Seen.{seen}
 use Rattle.object_tree.specs.Typed.{ReadsAs}
 use Rattle.object_tree.proofs.TypedObjects.{typed-change, typed-moved, typed-created}
-use Rattle.prop_bindings.specs.declared.binding.Binding.{Binding}
-use Rattle.prop_bindings.specs.declared.place.Place.{Place}
-use Rattle.prop_bindings.specs.Bindings.{binding_at, without, replaced, Loop as Closed}
+use Rattle.binding_graph.specs.declared.binding.Binding.{Binding}
+use Rattle.binding_graph.specs.declared.place.Place.{Place}
+use Rattle.binding_graph.specs.Bindings.{binding_at, without, replaced, Loop as Closed}
 use Rattle.prop_bindings.specs.Fits.{Agree}
 use Rattle.prop_bindings.proofs.Leaving.{agree-living, left_agree}
 use Rattle.effect_scan.specs.declared.node.Member.TheVariants.{Property}
@@ -44,7 +44,7 @@ use Rattle.certificate_lang.specs.declared.certificate.Certificate.{Certificate}
 use Rattle.rank_check.specs.Valid.{IsValid}
 use Rattle.delete_later.proofs.Agreeing.{live-change, live-moved, live-created}
 use Rattle.machine_state.specs.declared.endpoints.Endpoints.{Endpoints}
-use Rattle.machine_state.specs.declared.refusal.Refusal.{Refusal}
+use Rattle.trace_entries.specs.declared.refusal.Refusal.{Refusal}
 use Rattle.machine_state.specs.declared.turn.Turn.{Turn}
 use Rattle.machine_state.specs.Accepting.{accepted}
 use Rattle.machine_state.specs.Connections.{is_living, next_used}
@@ -65,7 +65,7 @@ use Rattle.machine_rules.proofs.Fields.{field-property}
 use Rattle.machine_rules.proofs.Lists.{all-filtered, all-snoc}
 use Rattle.machine_events.specs.declared.events.invoke.Invocation.{Invocation}
 use Rattle.machine_events.specs.declared.events.invoke.Invocation.TheVariants.{Emit as EmitIt, Call as CallIt}
-use Rattle.machine_state.specs.declared.fault.Answer.{Answer}
+use Rattle.trace_entries.specs.declared.fault.Answer.{Answer}
 use Rattle.machine_events.specs.Takes.{judged, Takes, accepts, refuses}
 use Rattle.machine_events.specs.Events.{block, invoke}
 use Rattle.machine_events.proofs.Settling.{bound-within}

@@ -1,6 +1,6 @@
 //! What holds of every program that loads and has a valid certificate, for every list of events.
 
-ghost use Rattle.machine_state.specs.declared.fault.Fault.TheVariants.{BindingLoop, InUse, TooDeep};
+ghost use Rattle.trace_entries.specs.declared.fault.Fault.TheVariants.{BindingLoop, InUse, TooDeep};
 ghost use Rattle.checked_runs.specs.Claims.{EachIsFaultless, EachRunIsFaultless, NeverLacksValue, NeverStops, NeverStuck, StopsAtLimits};
 
 use native_slots::Answering;

@@ -4,21 +4,21 @@ use Rattle.signatures.specs.declared.value.Value.{Value}
 use Rattle.slot_lang.specs.Expressions.{Expression, tree_of_expression}
 use Rattle.slot_lang.specs.Grammar.{spell_value}
 use Rattle.slot_lang.proofs.Unique.{one_value}
-use Rattle.texts.specs.Lists.{spell_listed}
-use Rattle.texts.specs.code.Reading.{Found, EndsAnywhere}
-use Rattle.texts.specs.Reading.{spell_name}
-use Rattle.texts.specs.declared.program.Formal.{Formal}
+use Rattle.token_reading.specs.Lists.{spell_listed}
+use Rattle.token_reading.specs.code.Reading.{Found, EndsAnywhere}
+use Rattle.token_reading.specs.Reading.{spell_name}
+use Rattle.syntax_trees.specs.declared.program.Formal.{Formal}
 use Rattle.texts.specs.declared.symbol.Symbol.TheVariants.{Dot}
-use Rattle.texts.specs.declared.syntax.Binary.{Binary}
-use Rattle.texts.specs.declared.syntax.Expr.{Expr}
-use Rattle.texts.specs.declared.syntax.Expr.TheVariants as e
-use Rattle.texts.specs.declared.syntax.Expr.TheOpen as layer
-use Rattle.texts.specs.declared.syntax.Expr.TheFolds.{fold-roll-Expr}
-use Rattle.texts.specs.declared.syntax.Path.{Path}
-use Rattle.texts.specs.declared.syntax.Unary.{Unary}
+use Rattle.syntax_trees.specs.declared.syntax.Binary.{Binary}
+use Rattle.syntax_trees.specs.declared.syntax.Expr.{Expr}
+use Rattle.syntax_trees.specs.declared.syntax.Expr.TheVariants as e
+use Rattle.syntax_trees.specs.declared.syntax.Expr.TheOpen as layer
+use Rattle.syntax_trees.specs.declared.syntax.Expr.TheFolds.{fold-roll-Expr}
+use Rattle.syntax_trees.specs.declared.syntax.Path.{Path}
+use Rattle.syntax_trees.specs.declared.syntax.Unary.{Unary}
 use Rattle.texts.specs.declared.token.Token.{Token}
 use Rattle.texts.specs.declared.token.Token.TheVariants as token
-use Rattle.texts.proofs.Underway.{None}
+use Rattle.token_reading.proofs.Underway.{None}
 use Rattle.class_lang.specs.Sites.{is_no_null, is_of_formal, bexpr_step, is_bexpr, FormalReading, formal, spell_formal, tree_of_formal, SiteReading, site, spell_site, tree_of_site}
 
 -- ---- whether an expression may stand in a binding, from its parts

@@ -1,16 +1,16 @@
 -- The declarations of a program, one after another.
 use Rattle.std.proofs.Common.{◌≡◌, List, [], ◌∷◌, refl, sym, ◌∙◌, ap, append_assoc, map, Result, Ok, Err, IfOk, OnOk}
 use Rattle.std.proofs.lemmas.List.{append-nil}
-use Rattle.texts.specs.Lists.{spell_each}
-use Rattle.texts.specs.code.Reading.{Found, Reads, IsAtEnd}
-use Rattle.texts.specs.declared.fault.ParseFault.{ParseFault}
+use Rattle.token_reading.specs.Lists.{spell_each}
+use Rattle.token_reading.specs.code.Reading.{Found, Reads, IsAtEnd}
+use Rattle.token_reading.specs.declared.fault.ParseFault.{ParseFault}
 use Rattle.texts.specs.declared.token.Token.{Token}
 use Rattle.class_lang.specs.Declarations.{DeclarationReading, a_class, a_wire, an_owns, a_site, spell_declaration, tree_of_declaration, tree_of_program, IsProgram}
 use Rattle.class_lang.specs.code.Declarations.{with_declarations, EndsDeclaration}
 use Rattle.class_lang.specs.declared.declarations.Declaration.{Declaration}
 use Rattle.class_lang.specs.declared.declarations.Declaration.TheVariants as declaration
-use Rattle.texts.specs.declared.program.Program.{Program}
-use Rattle.texts.proofs.Underway.{None, Underway}
+use Rattle.syntax_trees.specs.declared.program.Program.{Program}
+use Rattle.token_reading.proofs.Underway.{None, Underway}
 
 -- ---- adding declarations one at a time
 

@@ -1,8 +1,8 @@
 -- The members of a class, one after another.
 use Rattle.std.proofs.Common.{◌≡◌, List, [], ◌∷◌, ℕ, Option, refl, ◌∙◌, ap, append_assoc, map}
 use Rattle.std.proofs.lemmas.List.{append-nil}
-use Rattle.texts.specs.code.Cursor.{NotAt}
-use Rattle.texts.specs.code.Reading.{EndsAnywhere, Found}
+use Rattle.token_reading.specs.code.Cursor.{NotAt}
+use Rattle.token_reading.specs.code.Reading.{EndsAnywhere, Found}
 use Rattle.texts.specs.declared.symbol.Symbol.TheVariants.{CloseBrace}
 use Rattle.texts.specs.declared.token.Token.{Token}
 use Rattle.texts.specs.declared.token.Token.TheVariants as token
@@ -11,8 +11,8 @@ use Rattle.class_lang.specs.code.Members.{with_members}
 use Rattle.class_lang.specs.Declarations.{spell_members, class_of}
 use Rattle.class_lang.specs.declared.members.Member.{Member}
 use Rattle.class_lang.specs.declared.members.Member.TheVariants as member
-use Rattle.texts.specs.declared.program.Class.{Class}
-use Rattle.texts.proofs.Underway.{None, Underway}
+use Rattle.syntax_trees.specs.declared.program.Class.{Class}
+use Rattle.token_reading.proofs.Underway.{None, Underway}
 
 -- ---- adding members one at a time
 

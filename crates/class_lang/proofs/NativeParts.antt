@@ -3,14 +3,14 @@ use Rattle.std.proofs.Common.{◌≡◌, ◌∙◌, ℕ, List, [], ◌∷◌, sy
 use Rattle.std.proofs.lemmas.List.{map-id}
 use Rattle.signatures.specs.declared.sig.Sig.{Sig}
 use Rattle.signatures.specs.declared.word.Word.TheVariants as word
-use Rattle.texts.specs.code.Lists.{EndsAfter}
-use Rattle.texts.specs.Lists.{spell_listed}
-use Rattle.texts.specs.code.Reading.{Found, EndsAnywhere}
-use Rattle.texts.specs.Reading.{spell_name}
-use Rattle.texts.specs.Signatures.{SigReading, tree_of_sig}
-use Rattle.texts.specs.declared.program.EffectNames.{EffectNames}
-use Rattle.texts.specs.declared.program.Parameter.{Parameter}
-use Rattle.texts.specs.declared.program.SlotWork.TheVariants as work
+use Rattle.token_reading.specs.code.Lists.{EndsAfter}
+use Rattle.token_reading.specs.Lists.{spell_listed}
+use Rattle.token_reading.specs.code.Reading.{Found, EndsAnywhere}
+use Rattle.token_reading.specs.Reading.{spell_name}
+use Rattle.token_reading.specs.Signatures.{SigReading, tree_of_sig}
+use Rattle.syntax_trees.specs.declared.program.EffectNames.{EffectNames}
+use Rattle.syntax_trees.specs.declared.program.Parameter.{Parameter}
+use Rattle.syntax_trees.specs.declared.program.SlotWork.TheVariants as work
 use Rattle.texts.specs.declared.symbol.Symbol.TheVariants.{Semicolon}
 use Rattle.texts.specs.declared.token.Token.{Token}
 use Rattle.texts.specs.declared.token.Token.TheVariants as token

@@ -9,7 +9,7 @@ use Rattle.class_lang.specs.Limits.{HasFewParameters, IsWithinLimits}
 use Rattle.class_lang.specs.Reads.{IsShortText, IsLongText, IsDeepText, IsOutsideGrammar, HasBadType, IsProgramText, HasTooManyParameters, IsLargeProgram, ReadsProgram}
 use Rattle.class_lang.specs.declared.fault.TextFault.{TextFault}
 use Rattle.class_lang.specs.declared.fault.TextFault.TheVariants.{TooLarge, BadByte, TooDeepText, Syntax, BadType, TooMany, Memory}
-use Rattle.texts.specs.declared.program.Program.{Program}
+use Rattle.syntax_trees.specs.declared.program.Program.{Program}
 use Rattle.class_lang.proofs.OneTree.{one_program}
 
 pub one_program_text : (bytes : List ℕ) (p q : Program) → IsProgramText bytes p → IsProgramText bytes q → p ≡ q

@@ -1,13 +1,13 @@
 -- What may follow types, and the parts of the lists in parentheses.
 use Rattle.std.proofs.Common.{◌≡◌, ℕ, List, ◌∷◌, Option, Some, None}
-use Rattle.texts.specs.code.Reading.{EndsAnywhere}
-use Rattle.texts.specs.code.Signatures.{EndsType}
+use Rattle.token_reading.specs.code.Reading.{EndsAnywhere}
+use Rattle.token_reading.specs.code.Signatures.{EndsType}
 use Rattle.texts.specs.declared.symbol.Symbol.TheVariants.{Close}
 use Rattle.texts.specs.declared.token.Token.{Token}
 use Rattle.texts.specs.declared.token.Token.TheVariants as token
-use Rattle.texts.specs.code.Lists.{IsPart}
-use Rattle.texts.proofs.Signatures.{types_are_parts}
-use Rattle.texts.specs.Optional.{spell_optional_name}
+use Rattle.token_reading.specs.code.Lists.{IsPart}
+use Rattle.token_reading.proofs.Signatures.{types_are_parts}
+use Rattle.token_reading.specs.Optional.{spell_optional_name}
 use Rattle.class_lang.specs.Parameters.{SignalParameter, signal_parameter, spell_signal_parameter, SlotParameter, slot_parameter, spell_slot_parameter}
 use Rattle.class_lang.specs.code.Members.{EndsSignalParameter}
 use Rattle.class_lang.specs.Sites.{FormalReading, formal, spell_formal}

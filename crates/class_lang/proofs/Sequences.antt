@@ -3,22 +3,22 @@ use Rattle.std.proofs.Common.{◌≡◌, List, ◌∷◌, ℕ, sym, ◌∙◌, a
 use Rattle.signatures.specs.declared.kind.Kind.{Kind}
 use Rattle.signatures.specs.declared.qtype.QType.{QType}
 use Rattle.signatures.specs.declared.sig.Sig.{Sig}
-use Rattle.texts.specs.declared.syntax.Literal.{Literal}
+use Rattle.syntax_trees.specs.declared.syntax.Literal.{Literal}
 use Rattle.signatures.specs.declared.word.Word.TheVariants as word
-use Rattle.texts.specs.code.Cursor.{Eats, NotAt, NotAtWord}
+use Rattle.token_reading.specs.code.Cursor.{Eats, NotAt, NotAtWord}
 use Rattle.slot_lang.specs.Grammar.{spell_block, tree_of_block}
-use Rattle.texts.specs.Lists.{spell_listed}
-use Rattle.texts.specs.Literals.{tree_of_literal}
-use Rattle.texts.specs.code.Reading.{EndsAnywhere, Found}
-use Rattle.texts.specs.Reading.{spell_name}
-use Rattle.texts.specs.Signatures.{spell_type, tree_of_type, SigReading, spell_sig, tree_of_sig, spell_kind}
-use Rattle.texts.specs.code.Signatures.{EndsType}
+use Rattle.token_reading.specs.Lists.{spell_listed}
+use Rattle.token_reading.specs.Literals.{tree_of_literal}
+use Rattle.token_reading.specs.code.Reading.{EndsAnywhere, Found}
+use Rattle.token_reading.specs.Reading.{spell_name}
+use Rattle.token_reading.specs.Signatures.{spell_type, tree_of_type, SigReading, spell_sig, tree_of_sig, spell_kind}
+use Rattle.token_reading.specs.code.Signatures.{EndsType}
 use Rattle.texts.specs.declared.symbol.Symbol.TheVariants.{Semicolon, Colon, Assign, OpenBrace, Arrow}
-use Rattle.texts.specs.declared.syntax.Stmt.{Stmt}
+use Rattle.syntax_trees.specs.declared.syntax.Stmt.{Stmt}
 use Rattle.texts.specs.declared.token.Token.{Token}
 use Rattle.texts.specs.declared.token.Token.TheVariants as token
-use Rattle.texts.specs.Optional.{spell_optional, spell_optional_name}
-use Rattle.texts.specs.code.Optional.{EndsWithout, EndsWithoutName}
+use Rattle.token_reading.specs.Optional.{spell_optional, spell_optional_name}
+use Rattle.token_reading.specs.code.Optional.{EndsWithout, EndsWithoutName}
 use Rattle.class_lang.specs.Parameters.{SignalParameter, signal_parameter, spell_signal_parameter, tree_of_signal_parameter, SlotParameter, slot_parameter, spell_slot_parameter, tree_of_slot_parameter}
 use Rattle.class_lang.specs.code.Members.{EndsSignalParameter}
 use Rattle.class_lang.specs.Natives.{NativeReading, spell_native, tree_of_native}
@@ -28,15 +28,15 @@ use Rattle.class_lang.specs.code.Declarations.{EndsDeclaration}
 use Rattle.class_lang.specs.Sites.{SiteReading, spell_site, tree_of_site}
 use Rattle.class_lang.specs.declared.declarations.Declaration.TheVariants as declaration
 use Rattle.class_lang.specs.declared.members.Member.TheVariants as member
-use Rattle.texts.specs.declared.program.Class.{Class}
-use Rattle.texts.specs.declared.program.Owns.{Owns}
-use Rattle.texts.specs.declared.program.Parameter.{Parameter}
-use Rattle.texts.specs.declared.program.Property.{Property}
-use Rattle.texts.specs.declared.program.Signal.{Signal}
-use Rattle.texts.specs.declared.program.Site.{Site}
-use Rattle.texts.specs.declared.program.Slot.{Slot}
-use Rattle.texts.specs.declared.program.SlotWork.TheVariants as work
-use Rattle.texts.specs.declared.program.Wire.{Wire}
+use Rattle.syntax_trees.specs.declared.program.Class.{Class}
+use Rattle.syntax_trees.specs.declared.program.Owns.{Owns}
+use Rattle.syntax_trees.specs.declared.program.Parameter.{Parameter}
+use Rattle.syntax_trees.specs.declared.program.Property.{Property}
+use Rattle.syntax_trees.specs.declared.program.Signal.{Signal}
+use Rattle.syntax_trees.specs.declared.program.Site.{Site}
+use Rattle.syntax_trees.specs.declared.program.Slot.{Slot}
+use Rattle.syntax_trees.specs.declared.program.SlotWork.TheVariants as work
+use Rattle.syntax_trees.specs.declared.program.Wire.{Wire}
 use Rattle.class_lang.proofs.Parts.{type_ends_at_name, type_ends_at_optional_name}
 
 -- ---- optional parts

@@ -2,9 +2,9 @@
 use Rattle.std.proofs.Common.{◌≡◌, ◌⊎◌, ℕ, List, inr, Err, refl, IsTrue, false, ◌↔◌}
 use Rattle.texts.specs.Nesting.{IsTooDeep}
 use Rattle.texts.specs.Pieces.{AreTokens}
-use Rattle.texts.specs.Signatures.{HasPlainReference}
-use Rattle.texts.specs.declared.fault.ParseFault.{ParseFault}
-use Rattle.texts.specs.declared.fault.ParseFault.TheVariants as parse
+use Rattle.token_reading.specs.Signatures.{HasPlainReference}
+use Rattle.token_reading.specs.declared.fault.ParseFault.{ParseFault}
+use Rattle.token_reading.specs.declared.fault.ParseFault.TheVariants as parse
 use Rattle.texts.specs.declared.lexer.LexFault.{LexFault}
 use Rattle.texts.specs.declared.lexer.LexFault.TheVariants as lex
 use Rattle.texts.specs.declared.token.Token.{Token}
@@ -12,7 +12,7 @@ use Rattle.class_lang.specs.Declarations.{IsProgram}
 use Rattle.class_lang.specs.Limits.{HasFewParameters, IsWithinLimits}
 use Rattle.class_lang.specs.code.Faults.{fault_of_cutting, fault_of_parsing}
 use Rattle.class_lang.specs.Reads.{IsShortText, IsProgramText, HasTooManyParameters, IsLargeProgram, IsLongText, ReadsProgram}
-use Rattle.texts.specs.declared.program.Program.{Program}
+use Rattle.syntax_trees.specs.declared.program.Program.{Program}
 
 -- what a test that fails tests for doesn't hold
 pub not_true : {P : Type 0} → (IsTrue false ↔ P) → ¬ P

@@ -7,22 +7,22 @@
 --   slot     = Name "(" [slot_parameter {"," slot_parameter}] ")" block
 use Rattle.std.specs.Prelude.{ℕ, List, [], ◌∷◌, map, Option, option_map}
 use Rattle.slot_lang.specs.Grammar.{Body, spell_block, tree_of_block}
-use Rattle.texts.specs.Lists.{spell_listed}
-use Rattle.texts.specs.Literals.{LiteralReading, spell_literal, tree_of_literal}
-use Rattle.texts.specs.Signatures.{TypeReading, spell_type, tree_of_type, SigReading, spell_sig, tree_of_sig}
+use Rattle.token_reading.specs.Lists.{spell_listed}
+use Rattle.token_reading.specs.Literals.{LiteralReading, spell_literal, tree_of_literal}
+use Rattle.token_reading.specs.Signatures.{TypeReading, spell_type, tree_of_type, SigReading, spell_sig, tree_of_sig}
 use Rattle.texts.specs.declared.symbol.Symbol.TheVariants.{Semicolon, Assign}
 use Rattle.texts.specs.declared.token.Token.{Token}
 use Rattle.texts.specs.declared.token.Token.TheVariants as token
 use Rattle.signatures.specs.declared.word.Word.TheVariants as word
-use Rattle.texts.specs.Optional.{spell_optional}
+use Rattle.token_reading.specs.Optional.{spell_optional}
 use Rattle.class_lang.specs.Natives.{NativeReading, spell_native, tree_of_native}
 use Rattle.class_lang.specs.Parameters.{SignalParameter, spell_signal_parameter, tree_of_signal_parameter, SlotParameter, spell_slot_parameter, tree_of_slot_parameter}
 use Rattle.class_lang.specs.declared.members.Member.{Member}
 use Rattle.class_lang.specs.declared.members.Member.TheVariants as member
-use Rattle.texts.specs.declared.program.Property.{Property}
-use Rattle.texts.specs.declared.program.Signal.{Signal}
-use Rattle.texts.specs.declared.program.Slot.{Slot}
-use Rattle.texts.specs.declared.program.SlotWork.TheVariants as work
+use Rattle.syntax_trees.specs.declared.program.Property.{Property}
+use Rattle.syntax_trees.specs.declared.program.Signal.{Signal}
+use Rattle.syntax_trees.specs.declared.program.Slot.{Slot}
+use Rattle.syntax_trees.specs.declared.program.SlotWork.TheVariants as work
 
 -- ["=" literal]
 abbrev pub spell_initial : Option LiteralReading → List Token → List Token

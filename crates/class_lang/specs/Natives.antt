@@ -5,15 +5,15 @@
 --   effects = ["reads" Name {"," Name}] ["emits" sig {"," sig}] ["sets" Name {"," Name}] ";"
 use Rattle.std.specs.Prelude.{ℕ, List, ◌∷◌, map}
 use Rattle.signatures.specs.declared.word.Word.TheVariants as word
-use Rattle.texts.specs.Lists.{spell_listed, spell_after}
-use Rattle.texts.specs.Reading.{spell_name}
-use Rattle.texts.specs.Signatures.{SigReading, spell_sig, tree_of_sig}
+use Rattle.token_reading.specs.Lists.{spell_listed, spell_after}
+use Rattle.token_reading.specs.Reading.{spell_name}
+use Rattle.token_reading.specs.Signatures.{SigReading, spell_sig, tree_of_sig}
 use Rattle.texts.specs.declared.symbol.Symbol.TheVariants.{Semicolon}
 use Rattle.texts.specs.declared.token.Token.{Token}
 use Rattle.texts.specs.declared.token.Token.TheVariants as token
-use Rattle.texts.specs.declared.program.EffectNames.{EffectNames}
-use Rattle.texts.specs.declared.program.Slot.{Slot}
-use Rattle.texts.specs.declared.program.SlotWork.TheVariants as work
+use Rattle.syntax_trees.specs.declared.program.EffectNames.{EffectNames}
+use Rattle.syntax_trees.specs.declared.program.Slot.{Slot}
+use Rattle.syntax_trees.specs.declared.program.SlotWork.TheVariants as work
 use Rattle.class_lang.specs.Parameters.{SignalParameter, spell_signal_parameter, tree_of_signal_parameter}
 
 -- ["reads" Name {"," Name}]

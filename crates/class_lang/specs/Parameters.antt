@@ -4,11 +4,11 @@
 --   signal_parameter = type [Name]
 --   slot_parameter   = type Name
 use Rattle.std.specs.Prelude.{ℕ, List, ◌∷◌, Option, Some}
-use Rattle.texts.specs.Signatures.{TypeReading, spell_type, tree_of_type}
+use Rattle.token_reading.specs.Signatures.{TypeReading, spell_type, tree_of_type}
 use Rattle.texts.specs.declared.token.Token.{Token}
 use Rattle.texts.specs.declared.token.Token.TheVariants as token
-use Rattle.texts.specs.Optional.{spell_optional_name}
-use Rattle.texts.specs.declared.program.Parameter.{Parameter}
+use Rattle.token_reading.specs.Optional.{spell_optional_name}
+use Rattle.syntax_trees.specs.declared.program.Parameter.{Parameter}
 
 pub data SignalParameter : Type 0 where
   signal_parameter : TypeReading → Option (List ℕ) → SignalParameter

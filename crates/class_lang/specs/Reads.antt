@@ -3,13 +3,13 @@ use Rattle.std.specs.Prelude.{ℕ, ◌≡◌, ◌<◌, ◌≤◌, ◌⊎◌, Lis
 use Rattle.texts.specs.Limits.{most_bytes}
 use Rattle.texts.specs.Nesting.{IsTooDeep}
 use Rattle.texts.specs.Pieces.{AreTokens, IsUncut}
-use Rattle.texts.specs.Signatures.{HasPlainReference}
+use Rattle.token_reading.specs.Signatures.{HasPlainReference}
 use Rattle.texts.specs.declared.token.Token.{Token}
 use Rattle.class_lang.specs.Declarations.{IsProgram}
 use Rattle.class_lang.specs.Limits.{HasFewParameters, IsWithinLimits}
 use Rattle.class_lang.specs.declared.fault.TextFault.{TextFault}
 use Rattle.class_lang.specs.declared.fault.TextFault.TheVariants.{TooLarge, BadByte, TooDeepText, Syntax, BadType, TooMany, Memory}
-use Rattle.texts.specs.declared.program.Program.{Program}
+use Rattle.syntax_trees.specs.declared.program.Program.{Program}
 
 -- the number of a refusal; want of memory has none
 abbrev pub number_of : TextFault → Option ℕ

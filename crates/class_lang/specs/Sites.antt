@@ -9,18 +9,18 @@ use Rattle.signatures.specs.declared.value.Value.{Value}
 use Rattle.signatures.specs.declared.value.Value.TheVariants as value
 use Rattle.slot_lang.specs.Expressions.{Expression, tree_of_expression}
 use Rattle.slot_lang.specs.Grammar.{spell_value}
-use Rattle.texts.specs.Lists.{spell_listed}
+use Rattle.token_reading.specs.Lists.{spell_listed}
 use Rattle.texts.specs.declared.symbol.Symbol.TheVariants.{Dot}
-use Rattle.texts.specs.declared.syntax.Expr.{Expr}
-use Rattle.texts.specs.declared.syntax.Expr.TheOpen as layer
-use Rattle.texts.specs.declared.syntax.Expr.TheFolds.{fold-Expr}
-use Rattle.texts.specs.declared.syntax.Path.{Path}
-use Rattle.texts.specs.declared.syntax.Root.{Root}
-use Rattle.texts.specs.declared.syntax.Root.TheVariants as root
+use Rattle.syntax_trees.specs.declared.syntax.Expr.{Expr}
+use Rattle.syntax_trees.specs.declared.syntax.Expr.TheOpen as layer
+use Rattle.syntax_trees.specs.declared.syntax.Expr.TheFolds.{fold-Expr}
+use Rattle.syntax_trees.specs.declared.syntax.Path.{Path}
+use Rattle.syntax_trees.specs.declared.syntax.Root.{Root}
+use Rattle.syntax_trees.specs.declared.syntax.Root.TheVariants as root
 use Rattle.texts.specs.declared.token.Token.{Token}
 use Rattle.texts.specs.declared.token.Token.TheVariants as token
-use Rattle.texts.specs.declared.program.Formal.{Formal}
-use Rattle.texts.specs.declared.program.Site.{Site}
+use Rattle.syntax_trees.specs.declared.program.Formal.{Formal}
+use Rattle.syntax_trees.specs.declared.program.Site.{Site}
 
 -- ---- what may stand in a binding's expression
 abbrev pub is_name : Root → Bool

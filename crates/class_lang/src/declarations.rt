@@ -1,8 +1,8 @@
 //! The declarations of a program.
 
 ghost use Rattle.std.specs.Prelude.{◌≡◌, ◌<◌, ◌≤◌, [], ◌∷◌, length, OnOk};
-ghost use Rattle.texts.specs.code.Cursor.{NotAt};
-ghost use Rattle.texts.specs.code.Reading.{Reads, EndsAnywhere};
+ghost use Rattle.token_reading.specs.code.Cursor.{NotAt};
+ghost use Rattle.token_reading.specs.code.Reading.{Reads, EndsAnywhere};
 ghost use Rattle.texts.specs.declared.symbol.Symbol.TheVariants.{Colon};
 ghost use Rattle.class_lang.specs.code.Declarations.{ReadsMembers, ReadsDeclaration, ReadsDeclarations, with_declarations, EndsDeclaration};
 ghost use Rattle.class_lang.specs.Declarations.{spell_class, tree_of_class, spell_base, spell_end, tree_of_end, spell_wire, tree_of_wire, spell_owns, tree_of_owns};
@@ -11,7 +11,9 @@ use crate::members::{add_member, next_member};
 use crate::sites::site;
 use signatures::{Name, Sig};
 use std::alloc::AllocError;
-use texts::{Class, Cursor, Landmark, Owns, ParseFault, Program, Site, Symbol, Wire, Word};
+use syntax_trees::{Class, Owns, Program, Site, Wire};
+use texts::{Symbol, Word};
+use token_reading::{Cursor, Landmark, ParseFault};
 
 /// A declaration of a program.
 #[derive(Drop)]

@@ -1,8 +1,9 @@
 ghost use Rattle.std.specs.Prelude.{◌≡◌};
 ghost use Rattle.class_lang.specs.Reads.{number_of};
 
-use texts::{LexFault, ParseFault};
+use texts::LexFault;
 use thiserror::Error;
+use token_reading::ParseFault;
 
 /// Why a text is no program.
 #[derive(Debug, Drop, Error)]

@@ -12,7 +12,7 @@ mod sites;
 
 pub use fault::TextFault;
 pub use reader::{one_answer, one_reading, program_trail, read_program};
-pub use texts::{
+pub use syntax_trees::{
     Binary, Body, Class, ConnectionType, EffectNames, Endpoints, Expr, Formal, Literal, Owns,
     Parameter, Path, Program, Property, Root, Signal, Site, Slot, SlotWork, Stmt, Unary, Wire,
 };

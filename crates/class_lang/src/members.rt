@@ -1,7 +1,7 @@
 //! The members of a class.
 
 ghost use Rattle.std.specs.Prelude.{◌≡◌, ◌<◌, ◌≤◌, [], ◌∷◌, length, OnOk};
-ghost use Rattle.texts.specs.code.Reading.{Reads, EndsAnywhere};
+ghost use Rattle.token_reading.specs.code.Reading.{Reads, EndsAnywhere};
 ghost use Rattle.class_lang.specs.code.Members.{ReadsInitial, ReadsNotify, ReadsProperty, with_members};
 ghost use Rattle.class_lang.specs.Members.{spell_signal, tree_of_signal, spell_slot, tree_of_slot, spell_member, tree_of_member};
 
@@ -10,10 +10,9 @@ use crate::parameters::{SignalParameterPart, SlotParameterPart};
 use signatures::Sig;
 use slot_lang::block;
 use std::alloc::AllocError;
-use texts::{
-    Class, Cursor, Landmark, Literal, ParseFault, Property, Signal, Slot, SlotWork, Symbol, Word,
-    list,
-};
+use syntax_trees::{Class, Literal, Property, Signal, Slot, SlotWork};
+use texts::{Symbol, Word};
+use token_reading::{Cursor, Landmark, ParseFault, list};
 
 /// A member of a class.
 #[derive(Drop)]

@@ -1,16 +1,16 @@
 //! Natives: slots whose work is done by a closure of the host.
 
 ghost use Rattle.std.specs.Prelude.{◌<◌, ℕ, List, length, OnOk};
-ghost use Rattle.texts.specs.code.Reading.{EndsAnywhere};
-ghost use Rattle.texts.specs.Reading.{spell_name};
-ghost use Rattle.texts.specs.Signatures.{SigReading, spell_sig, tree_of_sig};
+ghost use Rattle.token_reading.specs.code.Reading.{EndsAnywhere};
+ghost use Rattle.token_reading.specs.Reading.{spell_name};
+ghost use Rattle.token_reading.specs.Signatures.{SigReading, spell_sig, tree_of_sig};
 ghost use Rattle.class_lang.specs.code.Members.{ReadsEffects, ReadsNative};
 
 use crate::parameters::SignalParameterPart;
 use signatures::{Name, Sig};
-use texts::{
-    Cursor, EffectNames, ParseFault, Part, Slot, SlotWork, Symbol, Word, list, list_after,
-};
+use syntax_trees::{EffectNames, Slot, SlotWork};
+use texts::{Symbol, Word};
+use token_reading::{Cursor, ParseFault, Part, list, list_after};
 
 /// `Name "(" [signal_parameter {"," signal_parameter}] ")" effects`
 pub fn native(cursor: &mut Cursor) -> Result<Slot, ParseFault>

@@ -1,11 +1,12 @@
 //! The parameters of signals, slots and natives.
 
 ghost use Rattle.std.specs.Prelude.{◌<◌, length, OnOk};
-ghost use Rattle.texts.specs.code.Reading.{EndsAnywhere};
+ghost use Rattle.token_reading.specs.code.Reading.{EndsAnywhere};
 ghost use Rattle.class_lang.specs.code.Members.{ReadsSignalParameter, ReadsSlotParameter, EndsSignalParameter};
 ghost use Rattle.class_lang.specs.Parameters.{SignalParameter, spell_signal_parameter, tree_of_signal_parameter, SlotParameter, spell_slot_parameter, tree_of_slot_parameter};
 
-use texts::{Cursor, Parameter, ParseFault, Part};
+use syntax_trees::Parameter;
+use token_reading::{Cursor, ParseFault, Part};
 
 /// `type [Name]`
 fn signal_parameter(cursor: &mut Cursor) -> Result<Parameter, ParseFault>

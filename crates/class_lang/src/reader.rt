@@ -1,7 +1,7 @@
 //! From a text to its program.
 
 ghost use Rattle.std.specs.Prelude.{◌≡◌, ℕ, List, Err, IfOk};
-ghost use Rattle.texts.specs.declared.fault.ParseFault.TheVariants.{Syntax};
+ghost use Rattle.token_reading.specs.declared.fault.ParseFault.TheVariants.{Syntax};
 ghost use Rattle.texts.specs.declared.token.Token.{Token};
 ghost use Rattle.class_lang.specs.Declarations.{IsProgram};
 ghost use Rattle.class_lang.specs.Reads.{ReadsProgram, IsNoProgram, HasOneReading, HasOneProgram, HasOneAnswer};
@@ -10,9 +10,9 @@ use crate::declarations::program;
 use crate::fault::TextFault;
 use crate::limits::{has_few_parameters, is_within_limits};
 use std::alloc::Global;
-use texts::{
-    Cursor, MOST_BYTES, ParseFault, Program, Token, Trail, has_plain_reference, nesting, tokens,
-};
+use syntax_trees::Program;
+use texts::{MOST_BYTES, Token, nesting, tokens};
+use token_reading::{Cursor, ParseFault, Trail, has_plain_reference};
 
 /// Reads a program from its text: at most 1,048,576 bytes, in time that grows as the text does.
 ///

@@ -1,13 +1,15 @@
 //! Bindings.
 
 ghost use Rattle.std.specs.Prelude.{◌≡◌, ◌<◌, length, OnOk};
-ghost use Rattle.texts.specs.code.Reading.{EndsAnywhere};
+ghost use Rattle.token_reading.specs.code.Reading.{EndsAnywhere};
 ghost use Rattle.class_lang.specs.Sites.{FormalReading, spell_formal, tree_of_formal, is_bexpr, is_of_formal, is_no_null};
 ghost use Rattle.class_lang.specs.code.Declarations.{ReadsFormal, ReadsSite};
 
 use signatures::Value;
 use slot_lang::value;
-use texts::{Cursor, Expr, Formal, ParseFault, Part, Path, Root, Site, Symbol, list};
+use syntax_trees::{Expr, Formal, Path, Root, Site};
+use texts::Symbol;
+use token_reading::{Cursor, ParseFault, Part, list};
 
 /// `Name Name "." Name "(" [formal {"," formal}] ")" "=" bexpr ";"`
 pub fn site(cursor: &mut Cursor) -> Result<Site, ParseFault>

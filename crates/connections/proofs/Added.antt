@@ -9,28 +9,28 @@ use Rattle.connections.specs.declared.groups.Lists.{Lists}
 use Rattle.connections.specs.Connected.{is_of, joins, touches}
 use Rattle.connections.specs.Cells.{counted}
 use Rattle.connections.specs.Groups.{list_of}
-use Rattle.connections.specs.Rooms.{Adds, ends_of, place_of, IsKept}
-use Rattle.connections.specs.Places.{live, shown, Indexes}
-use Rattle.connections.specs.Lists.{same_pair, Ends, same_ends, all_of, of_signal, of_ends, of_object, any_connection, shown_in, Leads, Tied}
+use Rattle.connections.specs.Rooms.{Adds, ends_of, placed_at, IsKept}
+use Rattle.connections.specs.Places.{live, connection_in, Indexes}
+use Rattle.connections.specs.Lists.{same_pair, Ends, same_ends, all_of, of_signal, of_ends, of_object, any_connection, shown_in, ListsLead, Tied}
 use Rattle.connections.proofs.Indexed.{Indexes-pushed, Indexes-added, live-pushed, live-same}
 use Rattle.connections.proofs.Counts.{Marked-kept}
 
 -- a list of the connections that pass the test, with the new one or without it
-Indexes-put : (old new : Slab Cell) (key : ℕ) (c : Connection) (whole : List Connection) (last : ℕ) (test : Connection → Bool) (places : List Place) (b : Bool) → test c ≡ b → Adds old new key c → last < c.number → Indexes old whole last test places → Indexes new (whole ++ c ∷ []) c.number test (cond b (places ++ place_of c key ∷ []) places)
+Indexes-put : (old new : Slab Cell) (key : ℕ) (c : Connection) (whole : List Connection) (last : ℕ) (test : Connection → Bool) (places : List Place) (b : Bool) → test c ≡ b → Adds old new key c → last < c.number → Indexes old whole last test places → Indexes new (whole ++ c ∷ []) c.number test (cond b (places ++ placed_at c key ∷ []) places)
 Indexes-put old new key c whole last test places true t a h i = Indexes-pushed old new key c whole last test places a h t i
 Indexes-put old new key c whole last test places false t a h i = Indexes-added old new key c whole last test places a h t i
 
 module _ (old new : Slab Cell) (lists lists' : Lists) (last key : ℕ) (c : Connection) where
-  pub shown-put : Adds old new key c → last < c.number → all_of lists' ≡ all_of lists ++ place_of c key ∷ [] → Leads old lists last → shown_in new lists' ≡ shown_in old lists ++ c ∷ []
+  pub shown-put : Adds old new key c → last < c.number → all_of lists' ≡ all_of lists ++ placed_at c key ∷ [] → ListsLead old lists last → shown_in new lists' ≡ shown_in old lists ++ c ∷ []
   shown-put a above e l = ap (live new) e ∙ live-pushed old new key c last (all_of lists) a above l.all.rising
 
-  pub Leads-put : Adds old new key c → last < c.number
-      → all_of lists' ≡ all_of lists ++ place_of c key ∷ []
-      → ((q : ℕ × ℕ) → list_of same_pair lists'.by_signal q ≡ cond (same_pair (c.sender, c.signal) q) (list_of same_pair lists.by_signal q ++ place_of c key ∷ []) (list_of same_pair lists.by_signal q))
-      → ((q : Ends) → list_of same_ends lists'.by_ends q ≡ cond (same_ends (ends_of c) q) (list_of same_ends lists.by_ends q ++ place_of c key ∷ []) (list_of same_ends lists.by_ends q))
-      → ((q : ℕ) → list_of eqb lists'.by_object q ≡ cond (touches q c) (list_of eqb lists.by_object q ++ place_of c key ∷ []) (list_of eqb lists.by_object q))
-      → Leads old lists last → Leads new lists' c.number
-  Leads-put a above e s j o l =
+  pub ListsLead-put : Adds old new key c → last < c.number
+      → all_of lists' ≡ all_of lists ++ placed_at c key ∷ []
+      → ((q : ℕ × ℕ) → list_of same_pair lists'.by_signal q ≡ cond (same_pair (c.sender, c.signal) q) (list_of same_pair lists.by_signal q ++ placed_at c key ∷ []) (list_of same_pair lists.by_signal q))
+      → ((q : Ends) → list_of same_ends lists'.by_ends q ≡ cond (same_ends (ends_of c) q) (list_of same_ends lists.by_ends q ++ placed_at c key ∷ []) (list_of same_ends lists.by_ends q))
+      → ((q : ℕ) → list_of eqb lists'.by_object q ≡ cond (touches q c) (list_of eqb lists.by_object q ++ placed_at c key ∷ []) (list_of eqb lists.by_object q))
+      → ListsLead old lists last → ListsLead new lists' c.number
+  ListsLead-put a above e s j o l =
       let whole : shown_in new lists' ≡ shown_in old lists ++ c ∷ [] = shown-put a above e l in
       record {
         all = rw (whole, e) (Indexes-pushed old new key c (shown_in old lists) last any_connection (all_of lists) a above refl l.all);
@@ -41,12 +41,12 @@ module _ (old new : Slab Cell) (lists lists' : Lists) (last key : ℕ) (c : Conn
 
 module _ (old new : Slab Cell) (lists lists' : Lists) (marked marked' : Vec ℕ) (last : ℕ) where
   pub shown-kept : IsKept old lists marked new lists' marked' → shown_in new lists' ≡ shown_in old lists
-  shown-kept k = ap (live new) k.in_lists.all ∙ live-same old new (λ p. ap (λ xs. shown p.number (get_or xs p.key None)) k.in_cells) (all_of lists)
+  shown-kept k = ap (live new) k.in_lists.all ∙ live-same old new (λ p. ap (λ xs. connection_in p.number (get_or xs p.key None)) k.in_cells) (all_of lists)
 
   Indexes-kept : (test : Connection → Bool) (places places' : List Place) → IsKept old lists marked new lists' marked' → places' ≡ places → Indexes old (shown_in old lists) last test places → Indexes new (shown_in new lists') last test places'
   Indexes-kept test places places' k e i = rw (e, shown-kept k) (record {
     rising = i.rising;
-    exact = live-same old new (λ p. ap (λ xs. shown p.number (get_or xs p.key None)) k.in_cells) places ∙ i.exact;
+    exact = live-same old new (λ p. ap (λ xs. connection_in p.number (get_or xs p.key None)) k.in_cells) places ∙ i.exact;
     covers = record { place = λ j cell at alive passes. i.covers.place j cell (sym (ap (λ xs. get_or xs j None) k.in_cells) ∙ at) alive passes };
   })
 

@@ -11,8 +11,8 @@ use Rattle.connections.specs.declared.place.Place.{Place}
 use Rattle.connections.specs.declared.removing.Removal.{Removal}
 use Rattle.connections.specs.Connected.{without}
 use Rattle.connections.specs.Cells.{fits, retired}
-use Rattle.connections.specs.Rooms.{Adds, place_of}
-use Rattle.connections.specs.Places.{shown, live_at, live, Rising, Indexes}
+use Rattle.connections.specs.Rooms.{Adds, placed_at}
+use Rattle.connections.specs.Places.{connection_in, live_at, live, Rising, Indexes}
 
 -- a connection, unless it passes a test
 abbrev pub kept : (Connection → Bool) → Option Connection → Option Connection
@@ -27,7 +27,7 @@ kept-cons test (Some c) cs = by_test (test c)
     by_test true = refl
     by_test false = refl
 
--- what is shown item by item is what is left of the list
+-- what is connection_in item by item is what is left of the list
 pub live-kept : (old new : Slab Cell) (test : Connection → Bool) → ((p : Place) → live_at new p ≡ kept test (live_at old p)) → (places : List Place) → live new places ≡ without test (live old places)
 live-kept old new test h [] = refl
 live-kept old new test h (p ∷ places) =
@@ -47,7 +47,7 @@ filter_both p q (c ∷ cs) = by_tests (p c) (q c) refl refl (filter_both p q cs)
     by_tests false false e f h = grind (arith, h)
 
 -- a cell that was retired shows what it showed, unless it was to be removed
-pub shown-retired : (removal : Removal) (number : ℕ) (x : Option Cell) → shown number (option_map (retired removal) x) ≡ kept (fits removal) (shown number x)
+pub shown-retired : (removal : Removal) (number : ℕ) (x : Option Cell) → connection_in number (option_map (retired removal) x) ≡ kept (fits removal) (connection_in number x)
 shown-retired removal number None = refl
 shown-retired removal number (Some cell) = by_tests cell.live (eqb cell.connection.number number)
   where
@@ -78,7 +78,7 @@ retired-was removal (Some old) cell e h = by_live old.live (fits removal old.con
 pub Indexes-retired : (old new : Slab Cell) (removal : Removal) (whole : List Connection) (last : ℕ) (test : Connection → Bool) (places : List Place) → ((k : ℕ) → get new k ≡ option_map (retired removal) (get old k)) → Indexes old whole last test places → Indexes new (without (fits removal) whole) last test places
 Indexes-retired old new removal whole last test places e i = record {
   rising = i.rising;
-  exact = live-kept old new (fits removal) (λ p. ap (shown p.number) (e p.key) ∙ shown-retired removal p.number (get old p.key)) places
+  exact = live-kept old new (fits removal) (λ p. ap (connection_in p.number) (e p.key) ∙ shown-retired removal p.number (get old p.key)) places
       ∙ ap (without (fits removal)) i.exact
       ∙ filter_both (λ c. not (fits removal c)) test whole;
   covers = record { place = λ k cell at alive passes. i.covers.place k cell (retired-was removal (get old k) cell (sym (e k) ∙ at) alive) alive passes };
@@ -86,14 +86,14 @@ Indexes-retired old new removal whole last test places e i = record {
 
 -- what is there after a removal
 pub live-retired : (old new : Slab Cell) (removal : Removal) (places : List Place) → ((k : ℕ) → get new k ≡ option_map (retired removal) (get old k)) → live new places ≡ without (fits removal) (live old places)
-live-retired old new removal places e = live-kept old new (fits removal) (λ p. ap (shown p.number) (e p.key) ∙ shown-retired removal p.number (get old p.key)) places
+live-retired old new removal places e = live-kept old new (fits removal) (λ p. ap (connection_in p.number) (e p.key) ∙ shown-retired removal p.number (get old p.key)) places
 
 pub live-same : (old new : Slab Cell) → ((p : Place) → live_at new p ≡ live_at old p) → (places : List Place) → live new places ≡ live old places
 live-same old new h [] = refl
 live-same old new h (p ∷ places) =
     ap (λ c. cons_option c (live new places)) (h p) ∙ ap (cons_option (live_at old p)) (live-same old new h places)
 
-pub shown-other : (number : ℕ) (cell : Cell) → cell.connection.number ≢ number → shown number (Some cell) ≡ None
+pub shown-other : (number : ℕ) (cell : Cell) → cell.connection.number ≢ number → connection_in number (Some cell) ≡ None
 shown-other number cell h = by_same (eqb cell.connection.number number) cell.live refl
   where
     by_same : (b a : Bool) → eqb cell.connection.number number ≡ b → cond (a && b) (Some cell.connection) None ≡ None
@@ -107,12 +107,12 @@ live_at-added old new key c p a h = ⊎_elim
     (λ (same : p.key ≡ key).
     let there : get new p.key ≡ Some (record { connection = c; live = true }) = rw same a.updates.changed in
     let gone : get old p.key ≡ None = rw same a.vacant in
-    ap (shown p.number) there ∙ shown-other p.number (record { connection = c; live = true }) (λ e. absurd (omega (arith, e, h))) ∙ sym (ap (shown p.number) gone))
-    (λ (other : p.key ≢ key). ap (shown p.number) (a.updates.others p.key other))
+    ap (connection_in p.number) there ∙ shown-other p.number (record { connection = c; live = true }) (λ e. absurd (omega (arith, e, h))) ∙ sym (ap (connection_in p.number) gone))
+    (λ (other : p.key ≢ key). ap (connection_in p.number) (a.updates.others p.key other))
     (cases_eq p.key key)
 
-pub live_at-place : (old new : Slab Cell) (key : ℕ) (c : Connection) → Adds old new key c → live_at new (place_of c key) ≡ Some c
-live_at-place old new key c a = ap (shown c.number) a.updates.changed ∙ ap (λ b. cond b (Some c) None) (eq-eqb c.number c.number refl)
+pub live_at-place : (old new : Slab Cell) (key : ℕ) (c : Connection) → Adds old new key c → live_at new (placed_at c key) ≡ Some c
+live_at-place old new key c a = ap (connection_in c.number) a.updates.changed ∙ ap (λ b. cond b (Some c) None) (eq-eqb c.number c.number refl)
 
 pub Rising-below : (low : ℕ) (places : List Place) (last : ℕ) → Rising low places last → low ≤ last
 Rising-below low [] last r = r
@@ -133,23 +133,23 @@ Rising-later low last more [] r h = omega (arith, r)
 Rising-later low last more (q ∷ places) r h = (r.0, Rising-later q.number last more places r.1 h)
 
 -- one more place leads to the new connection
-pub live-pushed : (old new : Slab Cell) (key : ℕ) (c : Connection) (last : ℕ) (places : List Place) → Adds old new key c → last < c.number → Rising 0 places last → live new (places ++ place_of c key ∷ []) ≡ live old places ++ c ∷ []
+pub live-pushed : (old new : Slab Cell) (key : ℕ) (c : Connection) (last : ℕ) (places : List Place) → Adds old new key c → last < c.number → Rising 0 places last → live new (places ++ placed_at c key ∷ []) ≡ live old places ++ c ∷ []
 live-pushed old new key c last places a h r =
-    filter_map-append (live_at new) places (place_of c key ∷ [])
-    ∙ ap (λ cs. cs ++ live new (place_of c key ∷ [])) (live-added old new key c 0 last places a h r)
+    filter_map-append (live_at new) places (placed_at c key ∷ [])
+    ∙ ap (λ cs. cs ++ live new (placed_at c key ∷ [])) (live-added old new key c 0 last places a h r)
     ∙ ap (λ x. live old places ++ cons_option x []) (live_at-place old new key c a)
 
 -- a list of the new connection, with its place
-pub Indexes-pushed : (old new : Slab Cell) (key : ℕ) (c : Connection) (whole : List Connection) (last : ℕ) (test : Connection → Bool) (places : List Place) → Adds old new key c → last < c.number → test c ≡ true → Indexes old whole last test places → Indexes new (whole ++ c ∷ []) c.number test (places ++ place_of c key ∷ [])
+pub Indexes-pushed : (old new : Slab Cell) (key : ℕ) (c : Connection) (whole : List Connection) (last : ℕ) (test : Connection → Bool) (places : List Place) → Adds old new key c → last < c.number → test c ≡ true → Indexes old whole last test places → Indexes new (whole ++ c ∷ []) c.number test (places ++ placed_at c key ∷ [])
 Indexes-pushed old new key c whole last test places a h t i = record {
-  rising = Rising-push 0 last places (place_of c key) i.rising h;
+  rising = Rising-push 0 last places (placed_at c key) i.rising h;
   exact = live-pushed old new key c last places a h i.rising ∙ ap (λ cs. cs ++ c ∷ []) i.exact ∙ sym (filter-append test whole (c ∷ []) ∙ ap (λ b. filter test whole ++ cond b (c ∷ []) []) t);
   covers = record {
     place = λ k cell at alive passes. ⊎_elim
         (λ (same : k ≡ key).
         let now : Some cell ≡ Some (record { connection = c; live = true }) = sym at ∙ ap (get new) same ∙ a.updates.changed in
         let this : cell ≡ record { connection = c; live = true } = same_Some _ _ now in
-        rw (this, same) (Contains-push places (place_of c key)))
+        rw (this, same) (Contains-push places (placed_at c key)))
         (λ (other : k ≢ key). Contains-append_left places _ _ (i.covers.place k cell (sym (a.updates.others k other) ∙ at) alive passes))
         (cases_eq k key);
   };

@@ -7,13 +7,13 @@ use Rattle.connections.specs.declared.connection.Connection.{Connection}
 use Rattle.connections.specs.declared.cell.Cell.{Cell}
 use Rattle.connections.specs.declared.place.Place.{Place}
 use Rattle.connections.specs.Connected.{Rises, not_above}
-use Rattle.connections.specs.Places.{shown, live, Rising}
+use Rattle.connections.specs.Places.{connection_in, live, Rising}
 
 Rises-lower : (low less last : ℕ) (cs : List Connection) → less ≤ low → Rises low cs last → Rises less cs last
 Rises-lower low less last [] h r = omega (arith, h, r)
 Rises-lower low less last (c ∷ cs) h r = (omega (arith, h, r.0), r.1)
 
-Rises-cons : (low number last : ℕ) (x : Option Cell) (cs : List Connection) → low < number → Rises number cs last → Rises low (cons_option (shown number x) cs) last
+Rises-cons : (low number last : ℕ) (x : Option Cell) (cs : List Connection) → low < number → Rises number cs last → Rises low (cons_option (connection_in number x) cs) last
 Rises-cons low number last None cs h r = Rises-lower number low last cs (omega (arith, h)) r
 Rises-cons low number last (Some cell) cs h r = by_tests cell.live (eqb cell.connection.number number) refl
   where

@@ -7,7 +7,7 @@ use Rattle.connections.specs.declared.connection.Connection.{Connection}
 use Rattle.connections.specs.declared.cell.Cell.{Cell}
 use Rattle.connections.specs.declared.place.Place.{Place}
 use Rattle.slab.specs.Slab.{Slab, get}
-use Rattle.connections.specs.Places.{live, shown, Rising, SplitsAt}
+use Rattle.connections.specs.Places.{live, connection_in, Rising, SplitsAt}
 
 pub Rising-at : (low last : ℕ) (places : List Place) (k : ℕ) (d : Place) → Rising low places last → k < length places → low < (get_or places k d).number
 Rising-at low last [] k d r h = omega arith
@@ -45,7 +45,7 @@ found_first last places number i p r s (k, within, at) same =
     (cases_lt i k))
     (cases_lt k i)
 
-find-cons : (above number : ℕ) (x : Option Cell) (cs : List Connection) → number < above → find (λ c. nat_lt above c.number) (cons_option (shown number x) cs) ≡ find (λ c. nat_lt above c.number) cs
+find-cons : (above number : ℕ) (x : Option Cell) (cs : List Connection) → number < above → find (λ c. nat_lt above c.number) (cons_option (connection_in number x) cs) ≡ find (λ c. nat_lt above c.number) cs
 find-cons above number None cs h = refl
 find-cons above number (Some cell) cs h = by_tests cell.live (eqb cell.connection.number number) refl
   where

@@ -9,13 +9,13 @@ use Rattle.connections.specs.declared.place.Place.{Place}
 use Rattle.connections.specs.declared.groups.Lists.{Lists}
 use Rattle.connections.specs.declared.removing.Removal.{Removal}
 use Rattle.connections.specs.Connected.{without, is_of, is_later, is_numbered, joins, touches}
-use Rattle.connections.specs.Cells.{fits, retired, Covers}
+use Rattle.connections.specs.Cells.{fits, retired, LeadToEach}
 use Rattle.connections.specs.Places.{live}
-use Rattle.connections.specs.Lists.{all_of, of_signal, any_connection, shown_in, Leads}
+use Rattle.connections.specs.Lists.{all_of, of_signal, any_connection, shown_in, ListsLead}
 use Rattle.connections.proofs.Indexed.{Indexes-retired, live-retired}
 
-pub Leads-retired : (old new : Slab Cell) (lists : Lists) (last : ℕ) (removal : Removal) → ((k : ℕ) → get new k ≡ option_map (retired removal) (get old k)) → Leads old lists last → Leads new lists last
-Leads-retired old new lists last removal e l =
+pub ListsLead-retired : (old new : Slab Cell) (lists : Lists) (last : ℕ) (removal : Removal) → ((k : ℕ) → get new k ≡ option_map (retired removal) (get old k)) → ListsLead old lists last → ListsLead new lists last
+ListsLead-retired old new lists last removal e l =
     let whole : shown_in new lists ≡ without (fits removal) (shown_in old lists) = live-retired old new removal (all_of lists) e in
     record {
       all = rw whole (Indexes-retired old new removal (shown_in old lists) last any_connection _ e l.all);
@@ -35,7 +35,7 @@ find_both p q (c ∷ cs) = by_tests (p c) (q c) refl refl (find_both p q cs)
     by_tests false b e f h = grind (arith, h)
 
 -- what a signal's list leads to, above a number
-pub find-of_signal : (cells : Slab Cell) (lists : Lists) (last s g number : ℕ) → Leads cells lists last → find (λ c. nat_lt number c.number) (live cells (of_signal lists s g)) ≡ find (is_later s g number) (shown_in cells lists)
+pub find-of_signal : (cells : Slab Cell) (lists : Lists) (last s g number : ℕ) → ListsLead cells lists last → find (λ c. nat_lt number c.number) (live cells (of_signal lists s g)) ≡ find (is_later s g number) (shown_in cells lists)
 find-of_signal cells lists last s g number l =
     ap (find (λ (c : Connection). nat_lt number c.number)) (l.by_signal s g).exact
     ∙ sym (find_both (is_of s g) (λ c. nat_lt number c.number) (shown_in cells lists))
@@ -51,7 +51,7 @@ any_filtered p (c ∷ cs) = by_test (p c) refl (any_filtered p cs)
 
 module _ (cells : Slab Cell) (lists : Lists) (last : ℕ) where
   -- the place of a number, where places of that number are found, leads to the connection of that number
-  pub Covers-numbered : (number : ℕ) (places : List Place) → ((p : Place) → Contains (all_of lists) p → p.number ≡ number → Contains places p) → Leads cells lists last → Covers cells (is_numbered number) places
-  Covers-numbered number places h l = record {
+  pub LeadToEach-numbered : (number : ℕ) (places : List Place) → ((p : Place) → Contains (all_of lists) p → p.number ≡ number → Contains places p) → ListsLead cells lists last → LeadToEach cells (is_numbered number) places
+  LeadToEach-numbered number places h l = record {
     place = λ k cell at alive passes. h (record { number = cell.connection.number; key = k }) (l.all.covers.place k cell at alive refl) (eqb-true _ _ passes);
   }

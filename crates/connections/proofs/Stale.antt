@@ -6,9 +6,9 @@ use Rattle.slab.specs.Slab.{Slab, get}
 use Rattle.connections.specs.declared.connection.Connection.{Connection}
 use Rattle.connections.specs.declared.cell.Cell.{Cell}
 use Rattle.connections.specs.declared.place.Place.{Place}
-use Rattle.connections.specs.Places.{shown, live_at, live, Rising, Indexes, is_held, has_number}
+use Rattle.connections.specs.Places.{connection_in, live_at, live, Rising, Indexes, is_held, has_number}
 
-pub shown-stale : (number : ℕ) (x : Option Cell) → has_number number x ≡ false → shown number x ≡ None
+pub shown-stale : (number : ℕ) (x : Option Cell) → has_number number x ≡ false → connection_in number x ≡ None
 shown-stale number None h = refl
 shown-stale number (Some cell) h = by_live cell.live
   where

@@ -7,18 +7,18 @@ use Rattle.connections.specs.declared.place.Place.{Place}
 use Rattle.connections.specs.declared.groups.Lists.{Lists}
 use Rattle.connections.specs.Connected.{is_of, joins, touches}
 use Rattle.connections.specs.Cells.{swept}
-use Rattle.connections.specs.Places.{shown, live, Indexes, is_held, Tidies}
-use Rattle.connections.specs.Lists.{same_pair, Ends, same_ends, all_of, any_connection, shown_in, Leads, TidiesLists}
+use Rattle.connections.specs.Places.{connection_in, live, Indexes, is_held, Tidies}
+use Rattle.connections.specs.Lists.{same_pair, Ends, same_ends, all_of, any_connection, shown_in, ListsLead, TidiesLists}
 use Rattle.std.proofs.lemmas.Bool.{cases_lt, eq-eqb}
 use Rattle.connections.proofs.Indexed.{live-same}
 use Rattle.connections.proofs.Keys.{at_pair, at_ends, at_number}
 use Rattle.connections.proofs.Stale.{live-held, Indexes-held}
 
-pub shown-swept : (number : ℕ) (x : Option Cell) → shown number (swept x) ≡ shown number x
+pub shown-swept : (number : ℕ) (x : Option Cell) → connection_in number (swept x) ≡ connection_in number x
 shown-swept number None = refl
 shown-swept number (Some cell) = by_live cell.live refl
   where
-    by_live : (a : Bool) → cell.live ≡ a → shown number (swept (Some cell)) ≡ shown number (Some cell)
+    by_live : (a : Bool) → cell.live ≡ a → connection_in number (swept (Some cell)) ≡ connection_in number (Some cell)
     by_live true h = rw h refl
     by_live false h = rw h refl
 
@@ -31,7 +31,7 @@ swept-was (Some old) cell e = by_live old.live refl
     by_live false h = grind (arith, swept)
 
 -- a cell that may have been swept
-pub shown-swept_if : (number : ℕ) (b : Bool) (x : Option Cell) → shown number (cond b (swept x) x) ≡ shown number x
+pub shown-swept_if : (number : ℕ) (b : Bool) (x : Option Cell) → connection_in number (cond b (swept x) x) ≡ connection_in number x
 shown-swept_if number true x = shown-swept number x
 shown-swept_if number false x = refl
 
@@ -55,18 +55,18 @@ module _ (old new : Slab Cell) (key : ℕ) where
   Indexes-swept : (whole : List Connection) (last : ℕ) (test : Connection → Bool) (places : List Place) → ((k : ℕ) → get new k ≡ cond (eqb k key) (swept (get old k)) (get old k)) → Indexes old whole last test places → Indexes new whole last test places
   Indexes-swept whole last test places e i = record {
     rising = i.rising;
-    exact = live-same old new (λ p. ap (shown p.number) (e p.key) ∙ shown-swept_if p.number (eqb p.key key) (get old p.key)) places ∙ i.exact;
+    exact = live-same old new (λ p. ap (connection_in p.number) (e p.key) ∙ shown-swept_if p.number (eqb p.key key) (get old p.key)) places ∙ i.exact;
     covers = record { place = λ k cell at alive passes. i.covers.place k cell (swept_if-was (eqb k key) (get old k) cell (sym (e k) ∙ at)) alive passes };
   }
 
   pub shown-swept_one : (lists lists' : Lists) → ((k : ℕ) → get new k ≡ cond (eqb k key) (swept (get old k)) (get old k)) → TidiesLists new lists lists' → shown_in new lists' ≡ shown_in old lists
   shown-swept_one lists lists' e t =
       live-tidied new (all_of lists) (all_of lists') t.all
-      ∙ live-same old new (λ p. ap (shown p.number) (e p.key) ∙ shown-swept_if p.number (eqb p.key key) (get old p.key)) (all_of lists)
+      ∙ live-same old new (λ p. ap (connection_in p.number) (e p.key) ∙ shown-swept_if p.number (eqb p.key key) (get old p.key)) (all_of lists)
 
   -- the lists lead to the same connections
-  pub Leads-swept_one : (lists lists' : Lists) (last : ℕ) → ((k : ℕ) → get new k ≡ cond (eqb k key) (swept (get old k)) (get old k)) → TidiesLists new lists lists' → Leads old lists last → Leads new lists' last
-  Leads-swept_one lists lists' last e t l =
+  pub ListsLead-swept_one : (lists lists' : Lists) (last : ℕ) → ((k : ℕ) → get new k ≡ cond (eqb k key) (swept (get old k)) (get old k)) → TidiesLists new lists lists' → ListsLead old lists last → ListsLead new lists' last
+  ListsLead-swept_one lists lists' last e t l =
       let whole : shown_in new lists' ≡ shown_in old lists = shown-swept_one lists lists' e t in
       record {
         all = rw whole (Indexes-tidied new (shown_in old lists) last any_connection _ _ t.all (Indexes-swept (shown_in old lists) last any_connection _ e l.all));

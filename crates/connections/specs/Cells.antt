@@ -66,5 +66,5 @@ pub record Marked (cells : Slab Cell) (marked : Vec ℕ) : Type 0 where
   pub covers : HoldDead cells marked.items
 
 -- the places lead to each connection that is there and passes the test
-pub record Covers (cells : Slab Cell) (test : Connection → Bool) (places : List Place) : Type 0 where
+pub record LeadToEach (cells : Slab Cell) (test : Connection → Bool) (places : List Place) : Type 0 where
   pub place : (k : ℕ) (cell : Cell) → get cells k ≡ Some cell → cell.live ≡ true → test cell.connection ≡ true → Contains places (record { number = cell.connection.number; key = k })

@@ -7,7 +7,7 @@ use Rattle.connections.specs.declared.cell.Cell.{Cell}
 use Rattle.connections.specs.declared.place.Place.{Place}
 use Rattle.connections.specs.declared.groups.Lists.{Lists}
 use Rattle.connections.specs.Connected.{is_of, joins, touches}
-use Rattle.connections.specs.Cells.{Marked, Covers, counted}
+use Rattle.connections.specs.Cells.{Marked, LeadToEach, counted}
 use Rattle.connections.specs.Places.{live, Indexes, Tidies}
 use Rattle.connections.specs.Groups.{list_of}
 
@@ -48,7 +48,7 @@ abbrev pub shown_in : Slab Cell → Lists → List Connection
 shown_in cells lists = live cells (all_of lists)
 
 -- each list leads to the connections of its own
-pub record Leads (cells : Slab Cell) (lists : Lists) (last : ℕ) : Type 0 where
+pub record ListsLead (cells : Slab Cell) (lists : Lists) (last : ℕ) : Type 0 where
   pub all : Indexes cells (shown_in cells lists) last any_connection (all_of lists)
   pub by_signal : (sender signal : ℕ) → Indexes cells (shown_in cells lists) last (is_of sender signal) (of_signal lists sender signal)
   pub by_ends : (sender signal receiver method : ℕ) → Indexes cells (shown_in cells lists) last (joins sender signal receiver method) (of_ends lists sender signal receiver method)
@@ -56,18 +56,18 @@ pub record Leads (cells : Slab Cell) (lists : Lists) (last : ℕ) : Type 0 where
 
 -- what was led to so still is, and shows the same connections
 abbrev pub StayLed : Slab Cell → Lists → Slab Cell → Lists → Type 0
-StayLed cells lists cells' lists' = (last : ℕ) → Leads cells lists last → Leads cells' lists' last
+StayLed cells lists cells' lists' = (last : ℕ) → ListsLead cells lists last → ListsLead cells' lists' last
 
 abbrev pub StayShown : Slab Cell → Lists → Slab Cell → Lists → Type 0
-StayShown cells lists cells' lists' = (last : ℕ) → Leads cells lists last → shown_in cells' lists' ≡ shown_in cells lists
+StayShown cells lists cells' lists' = (last : ℕ) → ListsLead cells lists last → shown_in cells' lists' ≡ shown_in cells lists
 
 -- the places lead to each connection that passes the test
 abbrev pub LeadTo : Lists → (Connection → Bool) → List Place → Type 0
-LeadTo lists test places = (cells : Slab Cell) (last : ℕ) → Leads cells lists last → Covers cells test places
+LeadTo lists test places = (cells : Slab Cell) (last : ℕ) → ListsLead cells lists last → LeadToEach cells test places
 
 -- and removed connections are marked; whatever is counted, the cells of the others have as many as the lists show
 pub record Tied (cells : Slab Cell) (lists : Lists) (marked : Vec ℕ) (last : ℕ) : Type 0 where
-  pub leads : Leads cells lists last
+  pub leads : ListsLead cells lists last
   pub marks : Marked cells marked
   pub many : (test : Connection → Bool) → count_by (counted test) cells.slots ≡ count_by test (shown_in cells lists)
 

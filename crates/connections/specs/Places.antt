@@ -5,15 +5,15 @@ use Rattle.slab.specs.Slab.{Slab, get}
 use Rattle.connections.specs.declared.connection.Connection.{Connection}
 use Rattle.connections.specs.declared.cell.Cell.{Cell}
 use Rattle.connections.specs.declared.place.Place.{Place}
-use Rattle.connections.specs.Cells.{Covers}
+use Rattle.connections.specs.Cells.{LeadToEach}
 
 -- the connection of a cell, if it is there and has this number
-abbrev pub shown : ℕ → Option Cell → Option Connection
-shown number None = None
-shown number (Some cell) = if cell.live && eqb cell.connection.number number then Some cell.connection else None
+abbrev pub connection_in : ℕ → Option Cell → Option Connection
+connection_in number None = None
+connection_in number (Some cell) = if cell.live && eqb cell.connection.number number then Some cell.connection else None
 
 abbrev pub live_at : Slab Cell → Place → Option Connection
-live_at cells p = shown p.number (get cells p.key)
+live_at cells p = connection_in p.number (get cells p.key)
 
 -- the connections that places lead to, without those removed
 abbrev pub live : Slab Cell → List Place → List Connection
@@ -35,7 +35,7 @@ first_above number connections = find (λ c. nat_lt number c.number) connections
 pub record Indexes (cells : Slab Cell) (whole : List Connection) (last : ℕ) (test : Connection → Bool) (places : List Place) : Type 0 where
   pub rising : Rising 0 places last
   pub exact : live cells places ≡ filter test whole
-  pub covers : Covers cells test places
+  pub covers : LeadToEach cells test places
 
 -- the places before i have lower numbers, and those from i on have not
 pub record SplitsAt (places : List Place) (number i : ℕ) : Type 0 where

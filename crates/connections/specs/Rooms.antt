@@ -19,8 +19,8 @@ pub record Adds (old new : Slab Cell) (key : ℕ) (c : Connection) : Type 0 wher
 abbrev pub ends_of : Connection → Ends
 ends_of c = (c.sender, c.signal, c.receiver, c.method)
 
-abbrev pub place_of : Connection → ℕ → Place
-place_of c key = record { number = c.number; key = key }
+abbrev pub placed_at : Connection → ℕ → Place
+placed_at c key = record { number = c.number; key = key }
 
 -- the lists of each sender and signal, of each pair of ends, and of each object have the place of this connection more
 abbrev pub PushesBySignal : Lists → Lists → Connection → Place → Type 0

@@ -6,7 +6,7 @@ ghost use Rattle.slab.specs.Slab.{slab_len};
 ghost use Rattle.connections.specs.Connected.{touches};
 ghost use Rattle.connections.specs.Groups.{list_of};
 ghost use Rattle.connections.specs.Lists.{same_pair, all_of};
-ghost use Rattle.connections.specs.Rooms.{Rooms, IsKept, Adds, place_of, PushesBySignal, PushesByEnds, PushesByObject};
+ghost use Rattle.connections.specs.Rooms.{Rooms, IsKept, Adds, placed_at, PushesBySignal, PushesByEnds, PushesByObject};
 
 use crate::cell::Cell;
 use crate::connection::Connection;
@@ -42,10 +42,10 @@ pub fn put(cells: &mut Slab<Cell>, lists: &mut Lists, c: Connection) -> usize
     requires { Rooms cells.old lists.old c }
     ensures cell { Adds cells.old cells.new result c }
     ensures len { slab_len cells.new ≡ slab_len cells.old + 1 }
-    ensures all { all_of lists.new ≡ all_of lists.old ++ place_of c result ∷ [] }
-    ensures signals { PushesBySignal lists.old lists.new c (place_of c result) }
-    ensures ends { PushesByEnds lists.old lists.new c (place_of c result) }
-    ensures objects { PushesByObject lists.old lists.new c (place_of c result) }
+    ensures all { all_of lists.new ≡ all_of lists.old ++ placed_at c result ∷ [] }
+    ensures signals { PushesBySignal lists.old lists.new c (placed_at c result) }
+    ensures ends { PushesByEnds lists.old lists.new c (placed_at c result) }
+    ensures objects { PushesByObject lists.old lists.new c (placed_at c result) }
 {
     let key = cells.insert_reserved(Cell {
         connection: c,

@@ -4,9 +4,9 @@ ghost use Rattle.std.specs.Prelude.{◌≡◌, ℕ, if◌then◌else◌, eqb};
 ghost use Rattle.std.specs.Option.{option_map};
 ghost use Rattle.slab.specs.Slab.{Slab as ASlab, get};
 ghost use Rattle.connections.specs.declared.cell.Cell.{Cell as ACell};
-ghost use Rattle.connections.specs.Cells.{fits, Retires, RetiresAt, Marked, Covers, is_due};
+ghost use Rattle.connections.specs.Cells.{fits, Retires, RetiresAt, Marked, LeadToEach, is_due};
 ghost use Rattle.connections.specs.Places.{AreRising};
-ghost use Rattle.connections.specs.Lists.{all_of, Leads, LeadTo};
+ghost use Rattle.connections.specs.Lists.{all_of, ListsLead, LeadTo};
 
 use crate::cell::Cell;
 use crate::connection::Connection;
@@ -44,7 +44,7 @@ impl Removal {
 
 /// Removes the connections that are to be removed, and marks each. Their cells and places stay.
 pub fn remove(cells: &mut Slab<Cell>, lists: &Lists, marked: &mut Vec<usize>, removal: &Removal)
-    requires led { (last : ℕ) × Leads cells.old lists.now last }
+    requires led { (last : ℕ) × ListsLead cells.old lists.now last }
     requires marked { Marked cells.old marked.old }
     ensures cells { Retires removal.now cells.old cells.new }
     ensures marked { Marked cells.new marked.new }
@@ -70,7 +70,7 @@ fn places_for<'a>(lists: &'a Lists, removal: &Removal) -> &'a [Place]
 /// Marks the cells of the connections that are to be removed, where these places lead to all of them.
 fn mark_all(cells: &mut Slab<Cell>, marked: &mut Vec<usize>, places: &[Place], removal: &Removal)
     requires marked { Marked cells.old marked.old }
-    requires covers { Covers cells.old (fits removal.now) places.now }
+    requires covers { LeadToEach cells.old (fits removal.now) places.now }
     ensures cells { Retires removal.now cells.old cells.new }
     ensures marked { Marked cells.new marked.new }
 {

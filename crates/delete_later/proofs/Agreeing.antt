@@ -13,7 +13,7 @@ use Rattle.object_tree.specs.Objects.{life_of, change_life, with_life}
 use Rattle.object_tree.specs.Typed.{AreTyped}
 use Rattle.object_tree.proofs.Changing.{life-of-lives, lives-of-life, life-part, part-change}
 use Rattle.object_tree.proofs.Families.{moved-part}
-use Rattle.prop_bindings.specs.declared.binding.Binding.{Binding}
+use Rattle.binding_graph.specs.declared.binding.Binding.{Binding}
 use Rattle.prop_bindings.specs.Fits.{Agree}
 use Rattle.prop_bindings.proofs.Leaving.{Stays, agree-living}
 

@@ -23,8 +23,8 @@ use Rattle.event_loops.specs.Queues.{Loop, Queues, name_at, rehomed}
 use Rattle.event_loops.specs.Rings.{gathered}
 use Rattle.event_loops.proofs.Names.{none_where}
 use Rattle.event_loops.proofs.Rehoming.{gathered-rehomed}
-use Rattle.prop_bindings.specs.declared.binding.Binding.{Binding}
-use Rattle.prop_bindings.specs.Bindings.{joined_by, leads_out, lead_out}
+use Rattle.binding_graph.specs.declared.binding.Binding.{Binding}
+use Rattle.binding_graph.specs.Bindings.{joined_by, leads_out, lead_out}
 use Rattle.prop_bindings.specs.Fits.{IsInOneLoop, Agree}
 use Rattle.prop_bindings.proofs.Leaving.{LivesOn, agree-still}
 use Rattle.delete_later.specs.declared.store.Store.{Store}

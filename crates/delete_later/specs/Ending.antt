@@ -5,7 +5,7 @@ use Rattle.object_tree.specs.declared.object.Object.{Object}
 use Rattle.object_tree.specs.Family.{children_of, IsChild, IsChildless, without_life}
 use Rattle.connections.specs.Connected.{touches, removed}
 use Rattle.event_loops.specs.Queues.{dropped}
-use Rattle.prop_bindings.specs.Bindings.{dropped as unbound}
+use Rattle.binding_graph.specs.Bindings.{dropped as unbound}
 use Rattle.delete_later.specs.declared.store.Store.{Store}
 
 -- the object lives no more, and the bindings are gone whose target or source it is; the properties that they bound keep

@@ -6,7 +6,7 @@ use Rattle.object_tree.specs.Family.{parent_of}
 use Rattle.object_tree.specs.Moving.{AreBelow, all_in_loop}
 use Rattle.object_tree.specs.Objects.{home_of}
 use Rattle.event_loops.specs.Queues.{rehomed}
-use Rattle.prop_bindings.specs.Bindings.{lead_out}
+use Rattle.binding_graph.specs.Bindings.{lead_out}
 use Rattle.prop_bindings.specs.Fits.{Agree}
 use Rattle.delete_later.specs.declared.fault.MoveFault.{MoveFault}
 use Rattle.delete_later.specs.declared.fault.MoveFault.TheVariants.{NoLoop, HasParent, Bound, Memory}

@@ -4,7 +4,7 @@ use Rattle.std.specs.List.{Contains, list_any}
 use Rattle.std.proofs.lemmas.Bool.{eqb-true}
 use Rattle.std.proofs.lemmas.List.Folds.{Any-from_list_any}
 use Rattle.std.proofs.lemmas.Option.{slice_get_read}
-use Rattle.texts.specs.declared.syntax.Expr.{Expr}
+use Rattle.syntax_trees.specs.declared.syntax.Expr.{Expr}
 use Rattle.meta_model.specs.declared.object.ValueType.{ValueType}
 use Rattle.meta_model.specs.declared.object.MetaPath.{MetaPath}
 use Rattle.meta_model.specs.declared.object.MetaMethod.{MetaMethod}

@@ -4,7 +4,7 @@ use Rattle.std.specs.List.{Contains}
 use Rattle.std.proofs.lemmas.List.{take_more, take_all}
 use Rattle.std.proofs.lemmas.Option.{none-some, same_Some}
 use Rattle.std.proofs.lemmas.List.Elements.{Contains-append_left, Contains-push, Contains-push_cases}
-use Rattle.texts.specs.declared.syntax.Expr.{Expr}
+use Rattle.syntax_trees.specs.declared.syntax.Expr.{Expr}
 use Rattle.meta_model.specs.declared.object.ValueType.{ValueType}
 use Rattle.meta_model.specs.declared.object.MetaPath.{MetaPath}
 use Rattle.meta_model.specs.declared.object.Statement.{Statement}

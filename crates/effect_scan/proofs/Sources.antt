@@ -3,11 +3,11 @@ use Rattle.std.proofs.Common.{◌≡◌, List, [], ◌∷◌, ◌++◌, Result, 
 use Rattle.std.specs.Result.{OnOk}
 use Rattle.std.proofs.lemmas.List.{append-nil}
 use Rattle.signatures.specs.declared.value.Value.{Value}
-use Rattle.texts.specs.declared.syntax.Unary.{Unary}
-use Rattle.texts.specs.declared.syntax.Binary.{Binary}
-use Rattle.texts.specs.declared.syntax.Expr.{Expr}
-use Rattle.texts.specs.declared.syntax.Expr.TheVariants as e
-use Rattle.texts.specs.declared.syntax.Expr.TheOpen as layer
+use Rattle.syntax_trees.specs.declared.syntax.Unary.{Unary}
+use Rattle.syntax_trees.specs.declared.syntax.Binary.{Binary}
+use Rattle.syntax_trees.specs.declared.syntax.Expr.{Expr}
+use Rattle.syntax_trees.specs.declared.syntax.Expr.TheVariants as e
+use Rattle.syntax_trees.specs.declared.syntax.Expr.TheOpen as layer
 use Rattle.meta_model.specs.declared.site.SourceProperty.{SourceProperty}
 use Rattle.meta_model.specs.Sites.{paths_in}
 use Rattle.meta_model.proofs.PathsIn.{paths_of, paths-Path, paths-Unary, paths-Binary}

@@ -1,7 +1,7 @@
 -- What draws an edge (docs/certificate.md, "Edges").
 use Rattle.std.specs.Prelude.{◌≡◌, ◌≢◌, ℕ, List, Some, slice_get}
 use Rattle.std.specs.List.{Contains}
-use Rattle.texts.specs.declared.syntax.Expr.{Expr}
+use Rattle.syntax_trees.specs.declared.syntax.Expr.{Expr}
 use Rattle.signatures.specs.declared.kind.Kind.TheVariants.{Queued}
 use Rattle.meta_model.specs.declared.qobject.TheConstants.{DESTROYED}
 use Rattle.meta_model.specs.declared.object.ValueType.{ValueType}

@@ -21,7 +21,7 @@ use meta_model::{
 use signatures::Kind;
 use sqlite_items::{Items, at};
 use std::alloc::{AllocError, Global};
-use texts::Expr;
+use syntax_trees::Expr;
 
 /// The signal of this number: `destroyed()` is `destroyed(QObject*)`.
 pub fn named(signal: usize) -> usize

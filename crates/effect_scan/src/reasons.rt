@@ -14,7 +14,7 @@ use meta_model::{
 };
 use meta_objects::Meta;
 use signatures::Kind;
-use texts::Expr;
+use syntax_trees::Expr;
 
 /// What draws an edge.
 #[derive(Clone, Copy, Debug, PartialEq, Eq)]

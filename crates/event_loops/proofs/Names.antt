@@ -11,7 +11,7 @@ use Rattle.indexmap.specs.IndexMap.{IndexMap, insert_entry}
 use Rattle.indexmap.proofs.CallerLemmas.{insert_entry-new}
 use Rattle.event_loops.specs.declared.item.Posted.{Posted}
 use Rattle.event_loops.specs.Queues.{Loop, name_at, IsTaken}
-use Rattle.event_loops.specs.Rings.{loops_of, shown}
+use Rattle.event_loops.specs.Rings.{loops_of, loops_in}
 use Rattle.event_loops.proofs.Entries.{loops_of-append}
 
 within : (names : List (List ℕ)) (home : ℕ) (d : List ℕ) → home < length names → slice_get names home ≡ Some (get_or names home d)
@@ -72,9 +72,9 @@ module _ {A : Type 0} where
       by_test false told none = none
 
   -- a ring with no items, put under a name that no loop has, is a loop more
-  pub shown-insert : {S : Type 0} (queues : IndexMap (List ℕ) (VecDeque Posted A) S) (name copy : List ℕ) (ring : VecDeque Posted A) → copy ≡ name → ring.items ≡ [] → ¬ IsTaken (shown queues) name → loops_of (insert_entry (pointwise nat_eq) queues.entries copy ring) ≡ shown queues ++ record { name = name; items = [] } ∷ []
+  pub shown-insert : {S : Type 0} (queues : IndexMap (List ℕ) (VecDeque Posted A) S) (name copy : List ℕ) (ring : VecDeque Posted A) → copy ≡ name → ring.items ≡ [] → ¬ IsTaken (loops_in queues) name → loops_of (insert_entry (pointwise nat_eq) queues.entries copy ring) ≡ loops_in queues ++ record { name = name; items = [] } ∷ []
   shown-insert queues name copy ring same none free =
-      let before : List Loop = shown queues in
+      let before : List Loop = loops_in queues in
       let absent : lookup (pointwise nat_eq copy) queues.entries ≡ None = rw same (free-lookup queues.entries name free) in
       ap loops_of (insert_entry-new (pointwise nat_eq) queues copy ring absent)
       ∙ loops_of-append queues.entries ((copy, ring) ∷ [])

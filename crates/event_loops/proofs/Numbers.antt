@@ -6,7 +6,7 @@ use Rattle.std.proofs.lemmas.List.Filters.{sum_by-filter_both}
 use Rattle.event_loops.specs.declared.item.Posted.{Posted}
 use Rattle.event_loops.specs.declared.item.Item.{Item}
 use Rattle.event_loops.specs.Queues.{Loop, Queues, change, is_before, is_for, without_first, none_for, with_items, with_item, posted_to, taken_before, dropped, with_loop}
-use Rattle.event_loops.specs.Rings.{place_of}
+use Rattle.event_loops.specs.Rings.{place_of_first}
 use Rattle.event_loops.specs.Numbers.{has_number, count_under, IsNumbered}
 use Rattle.event_loops.proofs.Places.{without_first-nowhere, without_first-place, place_of-within}
 
@@ -29,9 +29,9 @@ thins-none_for object = record {
 }
 
 thins-without_first : (test : Posted → Bool) → Thins (without_first test)
-thins-without_first test = record { fewer = λ number items. fewer_at number items (place_of test items) refl }
+thins-without_first test = record { fewer = λ number items. fewer_at number items (place_of_first test items) refl }
   where
-    fewer_at : (number : ℕ) (items : List Posted) (place : Option ℕ) → place_of test items ≡ place → count_in number (without_first test items) ≤ count_in number items
+    fewer_at : (number : ℕ) (items : List Posted) (place : Option ℕ) → place_of_first test items ≡ place → count_in number (without_first test items) ≤ count_in number items
     fewer_at number items None e = rw (without_first-nowhere test items e) (omega arith)
     fewer_at number [] (Some k) e = omega arith
     fewer_at number (p ∷ items) (Some k) e =

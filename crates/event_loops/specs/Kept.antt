@@ -5,16 +5,16 @@ use Rattle.indexmap.specs.IndexMap.{IndexMap}
 use Rattle.event_loops.specs.declared.item.Posted.{Posted}
 use Rattle.event_loops.specs.declared.marks.Marks.{Marks}
 use Rattle.event_loops.specs.Queues.{Loop}
-use Rattle.event_loops.specs.Rings.{shown}
+use Rattle.event_loops.specs.Rings.{loops_in}
 use Rattle.event_loops.specs.Marks.{since_of, visible, AreUpto, MarkedUpto}
 use Rattle.event_loops.specs.Numbers.{IsNumbered}
 
 abbrev pub seen : {A S : Type 0} → IndexMap (List ℕ) (VecDeque Posted A) S → Marks → List Loop
-seen queues marks = visible (since_of marks) (shown queues)
+seen queues marks = visible (since_of marks) (loops_in queues)
 
 -- so many items were posted at least
 pub record Within {A S : Type 0} (last : ℕ) (queues : IndexMap (List ℕ) (VecDeque Posted A) S) (marks : Marks) : Type 0 where
-  pub upto : AreUpto last (shown queues)
+  pub upto : AreUpto last (loops_in queues)
   pub marked : MarkedUpto last (since_of marks)
 
 -- .. and still so

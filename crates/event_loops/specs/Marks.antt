@@ -45,8 +45,8 @@ abbrev pub taken_due : (ℕ → Option ℕ) → ℕ → List Posted → List Pos
 taken_due since number items = trimmed since (without_first (is_due since number) items)
 
 -- the same items wait
-abbrev pub Agree : (ℕ → Option ℕ) → (ℕ → Option ℕ) → Type 0
-Agree old new = (q : ℕ) → new q ≡ old q
+abbrev pub WaitAlike : (ℕ → Option ℕ) → (ℕ → Option ℕ) → Type 0
+WaitAlike old new = (q : ℕ) → new q ≡ old q
 
 -- an object has a mark, and what is posted after so many items waits for it
 abbrev pub Notes : ℕ → ℕ → (ℕ → Option ℕ) → (ℕ → Option ℕ) → Type 0

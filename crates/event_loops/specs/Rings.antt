@@ -12,13 +12,13 @@ module _ {A : Type 0} where
   abbrev pub loops_of : List (List ℕ × VecDeque Posted A) → List Loop
   loops_of entries = map loop_of entries
 
-abbrev pub shown : {A S : Type 0} → IndexMap (List ℕ) (VecDeque Posted A) S → List Loop
-shown queues = loops_of queues.entries
+abbrev pub loops_in : {A S : Type 0} → IndexMap (List ℕ) (VecDeque Posted A) S → List Loop
+loops_in queues = loops_of queues.entries
 
 -- the place of the first item that passes the test
-abbrev pub place_of : (Posted → Bool) → List Posted → Option ℕ
-place_of test [] = None
-place_of test (p ∷ items) = if test p then Some 0 else option_map (λ k. suc k) (place_of test items)
+abbrev pub place_of_first : (Posted → Bool) → List Posted → Option ℕ
+place_of_first test [] = None
+place_of_first test (p ∷ items) = if test p then Some 0 else option_map (λ k. suc k) (place_of_first test items)
 
 -- ---- items that move, where a test of objects says which
 -- the item is for one of these objects

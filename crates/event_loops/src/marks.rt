@@ -2,7 +2,7 @@
 
 ghost use Rattle.std.specs.Prelude.{◌≡◌, [], is_some, OnOk, OnErr};
 ghost use Rattle.std.specs.List.{list_any};
-ghost use Rattle.event_loops.specs.Marks.{since_of, waits, Agree, Notes, Forgets};
+ghost use Rattle.event_loops.specs.Marks.{since_of, waits, WaitAlike, Notes, Forgets};
 
 use crate::item::Posted;
 use indexmap::IndexMap;
@@ -49,7 +49,7 @@ impl Marks {
     pub fn note(&mut self, object: ObjectId, home: LoopId, posted: u64) -> Result<(), AllocError>
         ensures ok { OnOk result
             (Notes object posted (since_of self.old) (since_of self.new)) }
-        ensures err { OnErr result (Agree (since_of self.old) (since_of self.new)) }
+        ensures err { OnErr result (WaitAlike (since_of self.old) (since_of self.new)) }
     {
         if let Some(mark) = self.by_object.get_mut(&object.number()) {
             mark.home = home.number();
@@ -77,7 +77,7 @@ impl Marks {
 
     /// The items that wait for these objects do so in this loop.
     pub fn rehome(&mut self, objects: &[ObjectId], home: LoopId)
-        ensures { Agree (since_of self.old) (since_of self.new) }
+        ensures { WaitAlike (since_of self.old) (since_of self.new) }
     {
         for object in objects {
             self.set_home(*object, home);
@@ -86,7 +86,7 @@ impl Marks {
 
     /// The last item for an object waits in this loop, if one does.
     fn set_home(&mut self, object: ObjectId, home: LoopId)
-        ensures { Agree (since_of self.old) (since_of self.new) }
+        ensures { WaitAlike (since_of self.old) (since_of self.new) }
     {
         if let Some(mark) = self.by_object.get_mut(&object.number()) {
             mark.home = home.number();

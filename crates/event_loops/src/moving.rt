@@ -5,7 +5,7 @@ ghost use Rattle.std.specs.List.{list_any};
 ghost use Rattle.std.specs.VecDeque.{deque_len, deque_capacity};
 ghost use Rattle.indexmap.specs.IndexSet.{contains};
 ghost use Rattle.event_loops.specs.Queues.{all_items, items_at, change, with_items};
-ghost use Rattle.event_loops.specs.Rings.{shown, goes, those_going, those_staying, without_going, gathered};
+ghost use Rattle.event_loops.specs.Rings.{loops_in, goes, those_going, those_staying, without_going, gathered};
 
 use crate::item::Posted;
 use indexmap::{IndexMap, IndexSet};
@@ -36,8 +36,8 @@ pub fn rehome_at(
 ) -> Result<(), AllocError>
     requires { home < length queues.old.entries }
     ensures gathered { OnOk result
-        (shown queues.new ≡ gathered (contains eqb going.now) home (shown queues.old)) }
-    ensures err { OnErr result (shown queues.new ≡ shown queues.old) }
+        (loops_in queues.new ≡ gathered (contains eqb going.now) home (loops_in queues.old)) }
+    ensures err { OnErr result (loops_in queues.new ≡ loops_in queues.old) }
 {
     let mut ring = replace_at(queues, home, VecDeque::new(alloc));
     let gathered = gather(queues, going, &mut ring);
@@ -53,8 +53,8 @@ fn replace_at(
 ) -> VecDeque<Posted>
     requires { home < length queues.old.entries }
     ensures there { length queues.new.entries ≡ length queues.old.entries }
-    ensures put { shown queues.new ≡ change home (with_items (λ items. ring.items)) (shown queues.old) }
-    ensures old { result.items ≡ items_at (shown queues.old) home }
+    ensures put { loops_in queues.new ≡ change home (with_items (λ items. ring.items)) (loops_in queues.old) }
+    ensures old { result.items ≡ items_at (loops_in queues.old) home }
 {
     match queues.get_index_mut(home) {
         None => unreachable!(),
@@ -70,11 +70,11 @@ fn gather(
 ) -> Result<(), AllocError>
     ensures there { length queues.new.entries ≡ length queues.old.entries }
     ensures left { OnOk result
-        (shown queues.new ≡ map (without_going (contains eqb going.now)) (shown queues.old)) }
+        (loops_in queues.new ≡ map (without_going (contains eqb going.now)) (loops_in queues.old)) }
     ensures moved { OnOk result (ring.new.items
-        ≡ ring.old.items ++ those_going (contains eqb going.now) (all_items (shown queues.old))) }
+        ≡ ring.old.items ++ those_going (contains eqb going.now) (all_items (loops_in queues.old))) }
     ensures err { OnErr result
-        ((shown queues.new ≡ shown queues.old) × (ring.new.items ≡ ring.old.items)) }
+        ((loops_in queues.new ≡ loops_in queues.old) × (ring.new.items ≡ ring.old.items)) }
 {
     let Some(count) = count_in_all(queues, going) else {
         return Err(AllocError);
@@ -89,7 +89,7 @@ fn gather(
 /// How many items of all rings are for objects of these numbers; `None` where a `usize` can't say.
 fn count_in_all(queues: &IndexMap<Name, VecDeque<Posted>>, going: &IndexSet<usize>) -> Option<usize>
     ensures { IfSome result (λ count. count
-        ≡ length (those_going (contains eqb going.now) (all_items (shown queues.now)))) }
+        ≡ length (those_going (contains eqb going.now) (all_items (loops_in queues.now)))) }
 {
     let mut count: usize = 0;
     for place in 0..queues.len() {
@@ -105,7 +105,7 @@ fn count_at(
     place: usize,
 ) -> usize
     ensures { result
-        ≡ length (those_going (contains eqb going.now) (items_at (shown queues.now) place)) }
+        ≡ length (those_going (contains eqb going.now) (items_at (loops_in queues.now) place)) }
 {
     match queues.get_index(place) {
         None => 0,
@@ -140,14 +140,14 @@ fn part_at(
     place: usize,
     ring: &mut VecDeque<Posted>,
 )
-    requires room { deque_len ring.old + length (those_going (contains eqb going.now) (items_at (shown queues.old) place))
+    requires room { deque_len ring.old + length (those_going (contains eqb going.now) (items_at (loops_in queues.old) place))
         ≤ deque_capacity ring.old }
-    ensures left { shown queues.new
-        ≡ change place (without_going (contains eqb going.now)) (shown queues.old) }
+    ensures left { loops_in queues.new
+        ≡ change place (without_going (contains eqb going.now)) (loops_in queues.old) }
     ensures moved { ring.new.items
-        ≡ ring.old.items ++ those_going (contains eqb going.now) (items_at (shown queues.old) place) }
+        ≡ ring.old.items ++ those_going (contains eqb going.now) (items_at (loops_in queues.old) place) }
     ensures len { deque_len ring.new ≡ deque_len ring.old
-        + length (those_going (contains eqb going.now) (items_at (shown queues.old) place)) }
+        + length (those_going (contains eqb going.now) (items_at (loops_in queues.old) place)) }
     ensures capacity { deque_capacity ring.new ≡ deque_capacity ring.old }
 {
     match queues.get_index_mut(place) {

@@ -4,7 +4,7 @@ ghost use Rattle.std.specs.Prelude.{◌≡◌, [], ◌∷◌, ◌++◌, OnOk, On
 ghost use Rattle.std.specs.List.{find};
 ghost use Rattle.std.specs.Option.{option_copied};
 ghost use Rattle.event_loops.specs.Queues.{without_first};
-ghost use Rattle.event_loops.specs.Rings.{place_of};
+ghost use Rattle.event_loops.specs.Rings.{place_of_first};
 ghost use Rattle.event_loops.specs.Marks.{since_of, is_due, taken_due, trimmed};
 
 use crate::item::Posted;
@@ -61,7 +61,7 @@ fn remove_before(items: &mut VecDeque<Posted>, marks: &Marks, number: u64) -> Op
 /// The place of the first item that waits and was posted before the one of this number. Where one is there, it mostly is
 /// the first.
 fn first_before(items: &VecDeque<Posted>, marks: &Marks, number: u64) -> Option<usize>
-    ensures { result ≡ place_of (is_due (since_of marks.now) number) items.now.items }
+    ensures { result ≡ place_of_first (is_due (since_of marks.now) number) items.now.items }
 {
     for place in 0..items.len() {
         if is_due(&items[place], marks, number) {

@@ -4,7 +4,7 @@ ghost use Rattle.std.specs.Prelude.{◌≡◌, ◌↔◌, ◌+◌, ◌^◌, ◌<
 ghost use Rattle.std.specs.List.{find};
 ghost use Rattle.std.specs.Option.{option_copied};
 ghost use Rattle.event_loops.specs.Queues.{items_at, change, is_before, next_item, with_item, without_first_before, without_object};
-ghost use Rattle.event_loops.specs.Rings.{shown};
+ghost use Rattle.event_loops.specs.Rings.{loops_in};
 ghost use Rattle.event_loops.specs.Kept.{seen, Within, StayWithin};
 ghost use Rattle.event_loops.specs.declared.fault.PostFault.TheVariants.{NoLoop};
 
@@ -55,8 +55,8 @@ fn push_at(
 ) -> Result<(), AllocError>
     requires { home < length queues.old.entries }
     ensures pushed { OnOk result
-        (shown queues.new ≡ change home (with_item posted) (shown queues.old)) }
-    ensures err { OnErr result (shown queues.new ≡ shown queues.old) }
+        (loops_in queues.new ≡ change home (with_item posted) (loops_in queues.old)) }
+    ensures err { OnErr result (loops_in queues.new ≡ loops_in queues.old) }
 {
     match queues.get_index_mut(home) {
         None => unreachable!(),

@@ -10,15 +10,15 @@ use Rattle.signatures.specs.declared.value.Value.TheVariants as value
 use Rattle.signatures.specs.declared.qtype.QType.{QType}
 use Rattle.signatures.specs.Normal.{pointer_type}
 use Rattle.signatures.specs.Values.{Has, number_has, truth_has, text_has, null_has, object_has}
-use Rattle.texts.specs.declared.syntax.Unary.{Unary}
-use Rattle.texts.specs.declared.syntax.Unary.TheVariants.{Not, Minus}
-use Rattle.texts.specs.declared.syntax.Binary.{Binary}
-use Rattle.texts.specs.declared.syntax.Binary.TheVariants.{Add, Subtract, Multiply, Less, AtMost, Greater, AtLeast, Equal, Different, And, Or}
-use Rattle.texts.specs.declared.syntax.Expr.{Expr}
-use Rattle.texts.specs.declared.syntax.Expr.TheVariants as e
-use Rattle.texts.specs.declared.syntax.Expr.TheOpen as layer
-use Rattle.texts.specs.declared.syntax.Expr.TheViews.{roll-Expr}
-use Rattle.texts.specs.declared.syntax.Expr.TheFolds.{fold-roll-Expr, ind-Expr, map-Expr}
+use Rattle.syntax_trees.specs.declared.syntax.Unary.{Unary}
+use Rattle.syntax_trees.specs.declared.syntax.Unary.TheVariants.{Not, Minus}
+use Rattle.syntax_trees.specs.declared.syntax.Binary.{Binary}
+use Rattle.syntax_trees.specs.declared.syntax.Binary.TheVariants.{Add, Subtract, Multiply, Less, AtMost, Greater, AtLeast, Equal, Different, And, Or}
+use Rattle.syntax_trees.specs.declared.syntax.Expr.{Expr}
+use Rattle.syntax_trees.specs.declared.syntax.Expr.TheVariants as e
+use Rattle.syntax_trees.specs.declared.syntax.Expr.TheOpen as layer
+use Rattle.syntax_trees.specs.declared.syntax.Expr.TheViews.{roll-Expr}
+use Rattle.syntax_trees.specs.declared.syntax.Expr.TheFolds.{fold-roll-Expr, ind-Expr, map-Expr}
 use Rattle.expressions.specs.declared.sort.Sort.{Sort}
 use Rattle.expressions.specs.declared.sort.Sort.TheVariants as sort
 use Rattle.expressions.specs.declared.typing.ExprType.{ExprType}

@@ -7,10 +7,10 @@ use Rattle.std.specs.Int.{saturate_signed, w32}
 use Rattle.signatures.specs.Text.{longest_text}
 use Rattle.signatures.specs.declared.value.Value.{Value}
 use Rattle.signatures.specs.declared.value.Value.TheVariants.{Int, Bool as Truth, Text, Ref}
-use Rattle.texts.specs.declared.syntax.Unary.{Unary}
-use Rattle.texts.specs.declared.syntax.Unary.TheVariants.{Not, Minus}
-use Rattle.texts.specs.declared.syntax.Binary.{Binary}
-use Rattle.texts.specs.declared.syntax.Binary.TheVariants.{Add, Subtract, Multiply, Less, AtMost, Greater, AtLeast, Equal, Different, And, Or}
+use Rattle.syntax_trees.specs.declared.syntax.Unary.{Unary}
+use Rattle.syntax_trees.specs.declared.syntax.Unary.TheVariants.{Not, Minus}
+use Rattle.syntax_trees.specs.declared.syntax.Binary.{Binary}
+use Rattle.syntax_trees.specs.declared.syntax.Binary.TheVariants.{Add, Subtract, Multiply, Less, AtMost, Greater, AtLeast, Equal, Different, And, Or}
 
 -- a number of 32 bits; one that is too large becomes the greatest, one that is too small the least
 abbrev pub number : ℤ → Option Value

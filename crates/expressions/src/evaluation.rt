@@ -8,7 +8,7 @@ ghost use Rattle.signatures.specs.declared.value.Value.{Value as AValue};
 use crate::operators::{apply_binary, apply_unary};
 use signatures::{Arguments, Value};
 use std::alloc::{AllocError, Global};
-use texts::Expr;
+use syntax_trees::Expr;
 use thiserror::Error;
 
 /// Why an expression has no value.

@@ -12,7 +12,7 @@ ghost use Rattle.expressions.specs.Evaluation.{Evaluates};
 use crate::evaluation::EvalFault;
 use signatures::{LONGEST_TEXT, ObjectId, Text, Value};
 use std::alloc::{AllocError, Global};
-use texts::{Binary, Unary};
+use syntax_trees::{Binary, Unary};
 
 /// The number with the other sign. The least number has none among 32 bits: it gives the greatest.
 pub fn negate(number: i32) -> i32

@@ -4,7 +4,7 @@ ghost use Rattle.std.specs.Prelude.{◌≡◌};
 ghost use Rattle.expressions.specs.Typing.{named_sort, value_sort, unary_sort, binary_sort};
 
 use signatures::{Name, Value};
-use texts::{Binary, Unary};
+use syntax_trees::{Binary, Unary};
 
 /// What operators see of a value and of a type.
 #[derive(Clone, Copy, Debug, PartialEq, Eq)]

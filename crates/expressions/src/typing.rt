@@ -9,7 +9,7 @@ use crate::evaluation::World;
 use crate::sort::{Sort, binary_sort, named_sort, unary_sort, value_sort};
 use signatures::{Name, QType, Value};
 use std::alloc::{AllocError, Global};
-use texts::Expr;
+use syntax_trees::Expr;
 
 /// The type of an expression.
 #[derive(Drop)]

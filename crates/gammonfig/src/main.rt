@@ -2,7 +2,7 @@
 //! process's. What another answer than success means goes to standard error.
 #![tactic(auto)]
 
-use doubler::{class, doubled, effects, twice};
+use built_in_native::{class, doubled, effects, twice};
 use explained_commands::{EXPLAIN, WriteFault, explained_command, is_asked, tell_fault};
 use native_slots::{NativeSlot, Natives};
 use signatures::Value;

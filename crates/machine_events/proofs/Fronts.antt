@@ -8,18 +8,18 @@ use Rattle.object_tree.specs.Creating.{fresh, initial_values}
 use Rattle.object_tree.specs.declared.life.Life.{Life}
 use Rattle.event_loops.specs.Queues.{with_loop}
 use Rattle.machine_state.specs.Accepting.{accepted, refused}
-use Rattle.machine_state.specs.Refusals.{refusal_number}
+use Rattle.trace_entries.specs.Refusals.{refusal_number}
 use Rattle.machine_state.specs.State.{State, IsIdle}
 use Rattle.machine_state.specs.Telling.{Alone}
 use Rattle.machine_state.specs.Worlds.{begun_turn, with_connection, without_connections}
-use Rattle.machine_state.specs.declared.entry.Entry.{Entry}
-use Rattle.machine_state.specs.declared.entry.Entry.TheVariants as entry
-use Rattle.machine_state.specs.declared.fault.Answer.{Answer}
-use Rattle.machine_state.specs.declared.fault.Answer.TheVariants.{Refused}
-use Rattle.machine_state.specs.declared.fault.Fault.{Fault}
-use Rattle.machine_state.specs.declared.refusal.Refusal.{Refusal}
-use Rattle.prop_bindings.specs.Places.{property_of}
-use Rattle.prop_bindings.specs.declared.binding.Binding.{Binding}
+use Rattle.trace_entries.specs.declared.entry.Entry.{Entry}
+use Rattle.trace_entries.specs.declared.entry.Entry.TheVariants as entry
+use Rattle.trace_entries.specs.declared.fault.Answer.{Answer}
+use Rattle.trace_entries.specs.declared.fault.Answer.TheVariants.{Refused}
+use Rattle.trace_entries.specs.declared.fault.Fault.{Fault}
+use Rattle.trace_entries.specs.declared.refusal.Refusal.{Refusal}
+use Rattle.binding_graph.specs.Places.{property_of}
+use Rattle.binding_graph.specs.declared.binding.Binding.{Binding}
 use Rattle.machine_rules.specs.Destroying.{deleting, Schedules}
 use Rattle.machine_rules.specs.Faults.{LacksValue}
 use Rattle.machine_rules.specs.Next.{DoesNext, WritesNext, WritesIll}

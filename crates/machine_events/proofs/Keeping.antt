@@ -8,12 +8,12 @@ use Rattle.script_lang.specs.declared.event.Event.TheVariants.{Loop, Turn, New, 
 use Rattle.script_lang.specs.declared.event.Input.{Input}
 use Rattle.meta_model.specs.Loaded.{Loaded}
 use Rattle.meta_model.specs.Sound.{IsSound}
-use Rattle.prop_bindings.specs.Bindings.{binding_at, Settled, Chain, direct, further}
+use Rattle.binding_graph.specs.Bindings.{binding_at, Settled, Chain, direct, further}
 use Rattle.prop_bindings.specs.Fits.{IsFit, IsInOneLoop, Agree}
-use Rattle.prop_bindings.specs.Places.{values_in}
-use Rattle.prop_bindings.specs.declared.place.Place.{Place}
-use Rattle.machine_state.specs.declared.fault.Answer.{Answer}
-use Rattle.machine_state.specs.declared.fault.Fault.{Fault}
+use Rattle.prop_bindings.specs.Values.{values_in}
+use Rattle.binding_graph.specs.declared.place.Place.{Place}
+use Rattle.trace_entries.specs.declared.fault.Answer.{Answer}
+use Rattle.trace_entries.specs.declared.fault.Fault.{Fault}
 use Rattle.machine_state.specs.declared.world.World.{World}
 use Rattle.machine_state.specs.Accepting.{accepted}
 use Rattle.machine_state.specs.State.{State, Activation}

@@ -14,7 +14,7 @@ use Rattle.object_tree.proofs.Moving.{home-in_loop}
 use Rattle.object_tree.proofs.TypedObjects.{shape_in, shape-change}
 use Rattle.event_loops.specs.declared.item.Posted.{Posted}
 use Rattle.event_loops.specs.Queues.{Loop, Queues, items_at, change, with_items, is_for_any, all_items, items_elsewhere, without_objects, rehomed}
-use Rattle.prop_bindings.specs.Bindings.{lead_out}
+use Rattle.binding_graph.specs.Bindings.{lead_out}
 use Rattle.prop_bindings.specs.Fits.{Agree}
 use Rattle.delete_later.specs.declared.store.Store.{Store}
 use Rattle.delete_later.specs.Moving.{moved_to, IsMoved}

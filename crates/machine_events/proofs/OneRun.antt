@@ -4,7 +4,7 @@ use Rattle.std.proofs.lemmas.List.{append-nil}
 use Rattle.script_lang.specs.declared.event.Event.{Event}
 use Rattle.meta_model.specs.Loaded.{Loaded}
 use Rattle.meta_model.specs.Sound.{IsSound}
-use Rattle.machine_state.specs.declared.fault.Answer.{Answer}
+use Rattle.trace_entries.specs.declared.fault.Answer.{Answer}
 use Rattle.machine_state.specs.State.{State, IsIdle, Activation}
 use Rattle.machine_rules.specs.Natives.{NativeAnswers, AnswersOnce}
 use Rattle.machine_rules.specs.Rules.{Rule, RuleAt, TurnRule}

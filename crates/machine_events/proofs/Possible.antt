@@ -26,7 +26,7 @@ use Rattle.native_slots.specs.declared.action.Action.TheVariants as action
 use Rattle.machine_rules.specs.Connecting.{AreThere}
 use Rattle.prop_bindings.specs.declared.assignment.Assignment.{Assignment}
 use Rattle.prop_bindings.specs.Calls.{AllFit}
-use Rattle.prop_bindings.specs.Places.{property_of}
+use Rattle.binding_graph.specs.Places.{property_of}
 use Rattle.machine_state.specs.Telling.{Alone, Grouped, writes_of}
 use Rattle.machine_events.proofs.Grouped.{IfWrites, within-first, set-possible, sets-possible}
 use Rattle.machine_rules.specs.Operations.{set_at, sets_in, operation_of_set, Operation, Write, Begin, Choose, Connect, Disconnect, Delete, Schedule, TakeAnswer, Nothing, on_object, on_ends, chosen_by, operation, operation_of_action, operation_of_step}

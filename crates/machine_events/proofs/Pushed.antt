@@ -9,10 +9,10 @@ use Rattle.meta_model.specs.declared.object.Work.TheVariants.{Signal, Slot, Nati
 use Rattle.meta_model.specs.Loaded.{Loaded}
 use Rattle.object_tree.specs.declared.object.Object.{Object}
 use Rattle.machine_state.specs.Telling.{Alone}
-use Rattle.machine_state.specs.declared.entry.Entry.{Entry}
-use Rattle.machine_state.specs.declared.fault.Answer.{Answer}
-use Rattle.machine_state.specs.declared.fault.Answer.TheVariants.{Done}
-use Rattle.machine_state.specs.declared.fault.Fault.{Fault}
+use Rattle.trace_entries.specs.declared.entry.Entry.{Entry}
+use Rattle.trace_entries.specs.declared.fault.Answer.{Answer}
+use Rattle.trace_entries.specs.declared.fault.Answer.TheVariants.{Done}
+use Rattle.trace_entries.specs.declared.fault.Fault.{Fault}
 use Rattle.machine_state.specs.declared.world.World.{World}
 use Rattle.machine_state.specs.Objects.{all_shown}
 use Rattle.machine_state.specs.State.{Activation, Update}
@@ -21,8 +21,8 @@ use Rattle.machine_state.specs.Worlds.{at, accepting_entries, accepting_turn, wi
 use Rattle.machine_events.specs.Takes.{judged, accepts}
 use Rattle.machine_rules.specs.Natives.{NativeAnswers}
 use Rattle.machine_rules.specs.code.Reaches.{RunsTo, IsActivated, IsBarred}
-use Rattle.prop_bindings.specs.declared.binding.Binding.{Binding}
-use Rattle.prop_bindings.specs.declared.place.Place.{Place}
+use Rattle.binding_graph.specs.declared.binding.Binding.{Binding}
+use Rattle.binding_graph.specs.declared.place.Place.{Place}
 use Rattle.prop_bindings.specs.Calls.{new_binding}
 use Rattle.prop_bindings.specs.Changes.{DifferInValues, IsWritten, IsInstalled, one}
 use Rattle.prop_bindings.specs.Fits.{Agree, FitsAt}

@@ -1,8 +1,8 @@
 -- A rule reads nothing of the trace and only adds to it, so what was written before may be in front of it or not.
 use Rattle.std.proofs.Common.{◌≡◌, ℕ, suc, List, [], ◌∷◌, ◌++◌, length, map, take, Bool, true, false, Option, None, Some, Result, Ok, Err, ap, sym, ◌∙◌, append_assoc}
 use Rattle.signatures.specs.declared.value.Value.{Value}
-use Rattle.texts.specs.declared.connection.ConnectionType.{ConnectionType}
-use Rattle.texts.specs.declared.connection.Endpoints.{Endpoints as Named}
+use Rattle.syntax_trees.specs.declared.connection.ConnectionType.{ConnectionType}
+use Rattle.syntax_trees.specs.declared.connection.Endpoints.{Endpoints as Named}
 use Rattle.meta_model.specs.Loaded.{Loaded}
 use Rattle.meta_model.specs.declared.effects.MetaEffects.{MetaEffects}
 use Rattle.meta_model.specs.declared.object.MetaMethod.{MetaMethod}
@@ -16,8 +16,8 @@ use Rattle.event_loops.specs.declared.item.Posted.{Posted}
 use Rattle.object_tree.specs.Objects.{life_of}
 use Rattle.object_tree.specs.declared.life.Life.{Life}
 use Rattle.object_tree.specs.declared.object.Object.{Object}
-use Rattle.prop_bindings.specs.declared.binding.Binding.{Binding}
-use Rattle.prop_bindings.specs.declared.place.Place.{Place}
+use Rattle.binding_graph.specs.declared.binding.Binding.{Binding}
+use Rattle.binding_graph.specs.declared.place.Place.{Place}
 use Rattle.std.specs.List.{find}
 use Rattle.delete_later.specs.Ending.{died_in}
 use Rattle.delete_later.specs.Scheduling.{scheduled_with}
@@ -28,12 +28,12 @@ use Rattle.machine_state.specs.Telling.{Assigning}
 use Rattle.machine_state.specs.Turns.{running, reaches_at_once}
 use Rattle.machine_state.specs.Worlds.{store_of, with_store, with_connection, without_connections}
 use Rattle.machine_state.specs.declared.endpoints.Endpoints.{Endpoints}
-use Rattle.machine_state.specs.declared.entry.Entry.{Entry}
-use Rattle.machine_state.specs.declared.entry.Entry.TheVariants.{At}
-use Rattle.machine_state.specs.declared.entry.EntryKind.{EntryKind}
-use Rattle.machine_state.specs.declared.entry.EntryKind.TheVariants as entry_kind
-use Rattle.machine_state.specs.declared.entry.Shown.TheVariants as show
-use Rattle.machine_state.specs.declared.refusal.Refusal.{Refusal}
+use Rattle.trace_entries.specs.declared.entry.Entry.{Entry}
+use Rattle.trace_entries.specs.declared.entry.Entry.TheVariants.{At}
+use Rattle.trace_entries.specs.declared.entry.EntryKind.{EntryKind}
+use Rattle.trace_entries.specs.declared.entry.EntryKind.TheVariants as entry_kind
+use Rattle.trace_entries.specs.declared.entry.Shown.TheVariants as show
+use Rattle.trace_entries.specs.declared.refusal.Refusal.{Refusal}
 use Rattle.machine_state.specs.declared.turn.Turn.{Turn}
 use Rattle.meta_model.specs.Outlines.{destroyed}
 use Rattle.meta_model.specs.declared.qobject.TheConstants.{DESTROYED}

@@ -7,14 +7,14 @@ use Rattle.meta_model.specs.Sound.{IsSound, IsPlain}
 use Rattle.object_tree.specs.declared.object.Object.{Object}
 use Rattle.object_tree.specs.Creating.{fresh, initial_values}
 use Rattle.object_tree.specs.Typed.{AreTyped}
-use Rattle.prop_bindings.specs.declared.binding.Binding.{Binding}
+use Rattle.binding_graph.specs.declared.binding.Binding.{Binding}
 use Rattle.prop_bindings.specs.Calls.{binding_of}
 use Rattle.prop_bindings.specs.Fits.{Agree, IsInOneLoop}
 use Rattle.delete_later.proofs.Agreeing.{agree-on, live-created}
 use Rattle.script_lang.specs.declared.event.Event.{Event}
 use Rattle.script_lang.specs.declared.event.Event.TheVariants.{Loop, Turn, New, Adopt, Move, Connect, Disconnect, Set, Bind, Emit, Call, Block, Unblock, Delete, Later}
 use Rattle.script_lang.specs.declared.event.Input.{Input}
-use Rattle.machine_state.specs.declared.fault.Answer.{Answer}
+use Rattle.trace_entries.specs.declared.fault.Answer.{Answer}
 use Rattle.machine_state.specs.Accepting.{accepted}
 use Rattle.machine_state.specs.State.{State, Activation}
 use Rattle.machine_rules.specs.Good.{IsWell, IsAcyclic}

@@ -3,9 +3,9 @@ use Rattle.std.specs.Prelude.{◌≡◌, ◌≢◌, ℕ, ◌<◌, Bool, List, []
 use Rattle.signatures.specs.declared.value.Value.{Value}
 use Rattle.signatures.specs.declared.value.Value.TheVariants.{Ref}
 use Rattle.signatures.specs.declared.sig.Sig.{Sig}
-use Rattle.texts.specs.Literals.{literal_value}
-use Rattle.texts.specs.declared.connection.Endpoints.{Endpoints as Named}
-use Rattle.texts.specs.declared.connection.ConnectionType.{ConnectionType}
+use Rattle.syntax_trees.specs.Literals.{literal_value}
+use Rattle.syntax_trees.specs.declared.connection.Endpoints.{Endpoints as Named}
+use Rattle.syntax_trees.specs.declared.connection.ConnectionType.{ConnectionType}
 use Rattle.meta_model.specs.declared.object.MetaMethod.{MetaMethod}
 use Rattle.meta_model.specs.declared.object.Work.TheVariants.{Signal}
 use Rattle.meta_model.specs.Loaded.{Loaded}
@@ -22,16 +22,16 @@ use Rattle.object_tree.specs.Adopting.{IsAdopted}
 use Rattle.object_tree.specs.Family.{Above}
 use Rattle.object_tree.specs.Typed.{ReadsAs, ReadAs}
 use Rattle.event_loops.specs.Queues.{IsTaken, with_loop, IsNamed as IsLoop, Loop}
-use Rattle.prop_bindings.specs.declared.binding.Binding.{Binding}
+use Rattle.binding_graph.specs.declared.binding.Binding.{Binding}
 use Rattle.prop_bindings.specs.Calls.{CoversBinding, binding_of}
 use Rattle.prop_bindings.specs.Fits.{InOneLoop}
-use Rattle.prop_bindings.specs.Places.{property_of}
+use Rattle.binding_graph.specs.Places.{property_of}
 use Rattle.delete_later.specs.declared.store.Store.{Store}
 use Rattle.delete_later.specs.Moving.{IsMoved, IsBoundOut}
 use Rattle.script_lang.specs.declared.event.Input.{Input}
 use Rattle.script_lang.specs.declared.event.Input.TheVariants as input
-use Rattle.machine_state.specs.declared.refusal.Refusal.{Refusal}
-use Rattle.machine_state.specs.declared.refusal.Refusal.TheVariants.{NoObject, Dead, NoMember, LoopExists, NoLoop, NameUsed, NoClass, TooManyObjects, NotOwned, Cycle, OtherLoop, BadArgs, BadSource, HasParent, Bound}
+use Rattle.trace_entries.specs.declared.refusal.Refusal.{Refusal}
+use Rattle.trace_entries.specs.declared.refusal.Refusal.TheVariants.{NoObject, Dead, NoMember, LoopExists, NoLoop, NameUsed, NoClass, TooManyObjects, NotOwned, Cycle, OtherLoop, BadArgs, BadSource, HasParent, Bound}
 use Rattle.machine_state.specs.Accepting.{accepted}
 use Rattle.machine_state.specs.State.{State}
 use Rattle.machine_state.specs.Worlds.{store_of, with_store, begun_turn, with_connection, without_connections}

@@ -6,9 +6,9 @@ use Rattle.meta_model.specs.Sound.{IsSound}
 use Rattle.native_slots.specs.declared.action.Action.{Action}
 use Rattle.prop_bindings.specs.Fits.{Agree}
 use Rattle.script_lang.specs.declared.event.Event.{Event}
-use Rattle.machine_state.specs.declared.entry.Entry.{Entry}
-use Rattle.machine_state.specs.declared.fault.Answer.{Answer}
-use Rattle.machine_state.specs.declared.refusal.Refusal.{Refusal}
+use Rattle.trace_entries.specs.declared.entry.Entry.{Entry}
+use Rattle.trace_entries.specs.declared.fault.Answer.{Answer}
+use Rattle.trace_entries.specs.declared.refusal.Refusal.{Refusal}
 use Rattle.machine_state.specs.State.{State}
 use Rattle.machine_state.specs.Worlds.{at, untouched}
 use Rattle.machine_rules.specs.Good.{IsWell, IsAcyclic, AreSettled}

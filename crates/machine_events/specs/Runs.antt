@@ -2,7 +2,7 @@
 use Rattle.std.specs.Prelude.{◌≡◌, ℕ, suc, List, [], ◌∷◌, ◌++◌}
 use Rattle.script_lang.specs.declared.event.Event.{Event}
 use Rattle.meta_model.specs.Loaded.{Loaded}
-use Rattle.machine_state.specs.declared.fault.Answer.{Answer}
+use Rattle.trace_entries.specs.declared.fault.Answer.{Answer}
 use Rattle.machine_state.specs.State.{State, IsIdle}
 use Rattle.machine_rules.specs.Natives.{NativeAnswers}
 use Rattle.machine_rules.specs.Rules.{Rule}

@@ -3,10 +3,10 @@ use Rattle.std.specs.Prelude.{◌≡◌, ℕ, true, false, [], Result, Ok, Err}
 use Rattle.meta_model.specs.Loaded.{Loaded}
 use Rattle.script_lang.specs.declared.event.Event.{Event}
 use Rattle.script_lang.specs.declared.event.Event.TheVariants as event
-use Rattle.machine_state.specs.declared.fault.Answer.{Answer}
-use Rattle.machine_state.specs.declared.fault.Answer.TheVariants.{Done, Refused}
-use Rattle.machine_state.specs.declared.refusal.Refusal.{Refusal}
-use Rattle.machine_state.specs.Refusals.{refusal_number}
+use Rattle.trace_entries.specs.declared.fault.Answer.{Answer}
+use Rattle.trace_entries.specs.declared.fault.Answer.TheVariants.{Done, Refused}
+use Rattle.trace_entries.specs.declared.refusal.Refusal.{Refusal}
+use Rattle.trace_entries.specs.Refusals.{refusal_number}
 use Rattle.machine_state.specs.Accepting.{refused}
 use Rattle.machine_state.specs.State.{State, IsIdle}
 use Rattle.machine_state.specs.Worlds.{at, after}

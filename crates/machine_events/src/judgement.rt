@@ -3,8 +3,9 @@
 ghost use Rattle.std.specs.Prelude.{◌<◌, ◌^◌};
 ghost use Rattle.machine_events.specs.code.Taking.{IsRefused};
 
-use machine_state::{Answer, Fault, Refusal, World};
+use machine_state::World;
 use std::alloc::AllocError;
+use trace_entries::{Answer, Fault, Refusal};
 
 /// Why an event isn't accepted.
 #[derive(Clone, Copy, Debug, PartialEq, Eq)]

@@ -2,7 +2,7 @@
 
 ghost use Rattle.std.specs.Prelude.{◌<◌, ◌≡◌, None};
 ghost use Rattle.machine_rules.specs.Natives.{KeepPromises};
-ghost use Rattle.machine_events.specs.code.Taking.{WorldInvariant, Answers};
+ghost use Rattle.machine_events.specs.code.Taking.{WorldInvariant, TookBy};
 
 use crate::events::add_loop::add_loop;
 use crate::events::adopt::adopt;
@@ -18,9 +18,10 @@ use crate::events::later::later;
 use crate::events::move_object::move_object;
 use crate::events::turn::turn;
 use machine_rules::Interpreter;
-use machine_state::{Answer, Fault, World};
+use machine_state::World;
 use native_slots::Answering;
 use script_lang::Event;
+use trace_entries::{Answer, Fault};
 
 /// Takes an event, and runs until nothing is going on. Then no emission stands on a connection that was removed, and what
 /// these still take up is given back.
@@ -33,7 +34,7 @@ pub fn take_event<N: Answering>(
     requires promises { KeepPromises N.takes N.gives interpreter.now.meta interpreter.now.natives }
     requires idle { world.old.turn ≡ None }
     requires keeps { WorldInvariant interpreter.now.meta world.old }
-    ensures { Answers N.gives interpreter.now event.now world.old world.new result }
+    ensures { TookBy N.gives interpreter.now event.now world.old world.new result }
 {
     let result = run_event(interpreter, world, event);
     world.sweep();
@@ -50,7 +51,7 @@ fn run_event<N: Answering>(
     requires promises { KeepPromises N.takes N.gives interpreter.now.meta interpreter.now.natives }
     requires idle { world.old.turn ≡ None }
     requires keeps { WorldInvariant interpreter.now.meta world.old }
-    ensures { Answers N.gives interpreter.now event.now world.old world.new result }
+    ensures { TookBy N.gives interpreter.now event.now world.old world.new result }
 {
     if world.left == 0 {
         return Err(Fault::Steps);

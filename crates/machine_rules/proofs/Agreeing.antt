@@ -3,8 +3,8 @@ use Rattle.std.proofs.Common.{◌≡◌, ℕ, Bool, true, false, not, cond, List
 use Rattle.std.proofs.lemmas.List.Elements.{All-push}
 use Rattle.std.specs.List.{find}
 use Rattle.signatures.specs.declared.value.Value.{Value}
-use Rattle.texts.specs.declared.connection.ConnectionType.{ConnectionType}
-use Rattle.texts.specs.declared.connection.Endpoints.{Endpoints as Named}
+use Rattle.syntax_trees.specs.declared.connection.ConnectionType.{ConnectionType}
+use Rattle.syntax_trees.specs.declared.connection.Endpoints.{Endpoints as Named}
 use Rattle.meta_model.specs.declared.object.MetaMethod.{MetaMethod}
 use Rattle.meta_model.specs.declared.object.Work.{Work}
 use Rattle.meta_model.specs.declared.object.Work.TheVariants.{Signal, Slot, Native}
@@ -21,21 +21,21 @@ use Rattle.object_tree.specs.declared.object.Object.{Object}
 use Rattle.object_tree.specs.Objects.{life_of}
 use Rattle.object_tree.specs.Typed.{AreTyped}
 use Rattle.object_tree.proofs.Changing.{life-of-lives}
-use Rattle.prop_bindings.specs.declared.binding.Binding.{Binding}
-use Rattle.prop_bindings.specs.declared.place.Place.{Place}
-use Rattle.prop_bindings.specs.Bindings.{binding_at, without, without_all, replaced}
+use Rattle.binding_graph.specs.declared.binding.Binding.{Binding}
+use Rattle.binding_graph.specs.declared.place.Place.{Place}
+use Rattle.binding_graph.specs.Bindings.{binding_at, without, without_all, replaced}
 use Rattle.prop_bindings.specs.Changes.{places_in}
 use Rattle.machine_state.specs.Telling.{Assigning, writes_of}
 use Rattle.prop_bindings.specs.Fits.{IsFit, IsInOneLoop, Agree}
-use Rattle.prop_bindings.specs.Places.{same_place}
-use Rattle.prop_bindings.proofs.Apart.{apart-replaced}
+use Rattle.binding_graph.specs.Places.{same_place}
+use Rattle.binding_graph.proofs.Apart.{apart-replaced}
 use Rattle.prop_bindings.proofs.Fitting.{all-stay, lives-on}
-use Rattle.prop_bindings.proofs.Replaced.{without-at, push-none}
+use Rattle.binding_graph.proofs.Replaced.{without-at, push-none}
 use Rattle.prop_bindings.proofs.Homes.{joined-stays, all-joined}
 use Rattle.prop_bindings.proofs.Leaving.{agree-fewer, left_agree}
-use Rattle.prop_bindings.proofs.Places.{same_place-refl}
+use Rattle.binding_graph.proofs.Places.{same_place-refl}
 use Rattle.machine_state.specs.declared.endpoints.Endpoints.{Endpoints}
-use Rattle.machine_state.specs.declared.refusal.Refusal.{Refusal}
+use Rattle.trace_entries.specs.declared.refusal.Refusal.{Refusal}
 use Rattle.machine_state.specs.declared.turn.Turn.{Turn}
 use Rattle.machine_state.specs.Connections.{is_living, next_used}
 use Rattle.machine_state.specs.State.{Step, State, Activation, Body, Emit, Update, Destroy}

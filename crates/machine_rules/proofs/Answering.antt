@@ -11,9 +11,9 @@ use Rattle.object_tree.specs.declared.life.Life.{Life}
 use Rattle.object_tree.specs.declared.object.Object.{Object}
 use Rattle.meta_model.specs.declared.effects.MetaEffects.{MetaEffects}
 use Rattle.native_slots.specs.declared.action.Action.{Action}
-use Rattle.machine_state.specs.declared.entry.ShownAction.{ShownAction}
-use Rattle.machine_state.specs.declared.entry.ShownAction.TheVariants as show
-use Rattle.machine_state.specs.declared.entry.EntryKind.TheVariants.{Answered}
+use Rattle.trace_entries.specs.declared.entry.ShownAction.{ShownAction}
+use Rattle.trace_entries.specs.declared.entry.ShownAction.TheVariants as show
+use Rattle.trace_entries.specs.declared.entry.EntryKind.TheVariants.{Answered}
 use Rattle.machine_state.specs.Objects.{shown, all_shown}
 use Rattle.machine_state.specs.State.{Step, Act, State, Activation, Body}
 use Rattle.machine_rules.specs.Natives.{NativeAnswers, AnswersOnce, DeclaredBy, own, inherited, MayAnswer, IsShownAs, set_shown, emit_shown, AreShownAs}

@@ -10,7 +10,7 @@ use Rattle.object_tree.specs.declared.object.Object.{Object}
 use Rattle.object_tree.specs.Objects.{life_of, class_of, home_of, change_life, scheduled}
 use Rattle.object_tree.specs.Seen.{seen_reference}
 use Rattle.object_tree.proofs.TypedObjects.{typed-change}
-use Rattle.prop_bindings.specs.declared.binding.Binding.{Binding}
+use Rattle.binding_graph.specs.declared.binding.Binding.{Binding}
 use Rattle.prop_bindings.specs.Changes.{valueless, DifferInValues}
 use Rattle.prop_bindings.specs.Fits.{Agree}
 use Rattle.prop_bindings.proofs.Fitting.{lives-alike, seen-same}

@@ -17,7 +17,7 @@ use Rattle.connections.specs.declared.connection.Connection.{Connection}
 use Rattle.machine_state.specs.declared.world.World.{World}
 use Rattle.machine_state.specs.Worlds.{at}
 use Rattle.machine_state.proofs.Due.{last-used, all-used, all-removed}
-use Rattle.prop_bindings.specs.declared.place.Place.{Place}
+use Rattle.binding_graph.specs.declared.place.Place.{Place}
 use Rattle.machine_state.specs.State.{Step, State, Activation, Body, Emit, Update, Destroy}
 use Rattle.machine_rules.specs.Destroying.{Dies, forgotten, NextRule, ChildRule, DestroyRule, living_child, Schedules}
 use Rattle.machine_rules.specs.Rules.{RuleAt, BodyRule, Does, EmitRule, UpdateRule, NotifiesIf, Begins, BeginsIf, begun, with_used, linked, unlinked, TurnRule, Serves, Delivers, Arrives}
@@ -32,14 +32,14 @@ use Rattle.object_tree.specs.Objects.{Lives, life_of, class_of, change_life, sch
 use Rattle.object_tree.specs.Family.{without_life}
 use Rattle.object_tree.proofs.Changing.{life-of-lives, lives-of-life}
 use Rattle.object_tree.specs.Typed.{ReadAs}
-use Rattle.machine_state.specs.declared.entry.Entry.{Entry}
+use Rattle.trace_entries.specs.declared.entry.Entry.{Entry}
 use Rattle.machine_rules.specs.There.{IsMember, IsDead}
 use Rattle.signatures.specs.Types.{Fits}
-use Rattle.texts.specs.declared.connection.ConnectionType.{ConnectionType}
-use Rattle.texts.specs.declared.connection.Endpoints.{Endpoints as Named}
+use Rattle.syntax_trees.specs.declared.connection.ConnectionType.{ConnectionType}
+use Rattle.syntax_trees.specs.declared.connection.Endpoints.{Endpoints as Named}
 use Rattle.meta_model.specs.Sound.{IsSound}
 use Rattle.machine_state.specs.declared.endpoints.Endpoints.{Endpoints}
-use Rattle.machine_state.specs.declared.refusal.Refusal.{Refusal}
+use Rattle.trace_entries.specs.declared.refusal.Refusal.{Refusal}
 use Rattle.machine_rules.specs.Connecting.{AreThere, kept_ends, named_signal, names_of, found_ends, may_connect}
 use Rattle.machine_rules.specs.Judgement.{goes_on, holds}
 use Rattle.machine_rules.proofs.Fitting.{kinds-fit}
@@ -52,7 +52,7 @@ use Rattle.machine_rules.specs.code.Reaches.{Reaches}
 use Rattle.machine_rules.specs.Settling.{Settles, Writes, Installs}
 use Rattle.machine_rules.proofs.Agreeing.{rules-settled}
 use Rattle.machine_rules.proofs.Differing.{differ-stay, differ-home}
-use Rattle.prop_bindings.specs.declared.binding.Binding.{Binding}
+use Rattle.binding_graph.specs.declared.binding.Binding.{Binding}
 use Rattle.prop_bindings.specs.Changes.{DifferInValues}
 use Rattle.machine_rules.specs.code.Keeps.{StayThere, AllJoined, Grows, Keeps, KeepsWorld}
 use Rattle.object_tree.proofs.TypedObjects.{Follow, read-still}

@@ -1,7 +1,7 @@
 -- Connections that statements make and remove.
 use Rattle.std.proofs.Common.{◌≡◌, ◌&&◌, Bool, true, false, IsTrue, Option, Some, ℕ, ◌-◌, List, [], ◌∷◌, length, Result, Ok, Err, MatchResult, refl, sym, ap, ◌∙◌, subst, inr, None, ◌<◌, arith}
-use Rattle.texts.specs.declared.connection.ConnectionType.{ConnectionType}
-use Rattle.texts.specs.declared.connection.Endpoints.{Endpoints as Named}
+use Rattle.syntax_trees.specs.declared.connection.ConnectionType.{ConnectionType}
+use Rattle.syntax_trees.specs.declared.connection.Endpoints.{Endpoints as Named}
 use Rattle.meta_model.specs.Loaded.{Loaded}
 use Rattle.meta_model.specs.declared.object.MetaMethod.{MetaMethod}
 use Rattle.meta_model.specs.Members.{IsMethod}
@@ -22,14 +22,14 @@ use Rattle.machine_rules.specs.Destroying.{Schedules, TellsSchedule, scheduled_n
 use Rattle.machine_rules.proofs.Dying.{scheduled-seen}
 use Rattle.machine_rules.proofs.Differing.{scheduled-agree}
 use Rattle.machine_state.specs.declared.endpoints.Endpoints.{Endpoints}
-use Rattle.machine_state.specs.declared.entry.Entry.{Entry}
-use Rattle.machine_state.specs.declared.entry.Entry.TheVariants.{At}
-use Rattle.machine_state.specs.declared.entry.EntryKind.TheVariants.{Connected, Disconnected, Refused, Scheduled}
-use Rattle.machine_state.specs.declared.fault.Fault.{Fault}
-use Rattle.machine_state.specs.declared.refusal.Refusal.{Refusal}
-use Rattle.machine_state.specs.declared.refusal.Refusal.TheVariants.{NoConnection}
+use Rattle.trace_entries.specs.declared.entry.Entry.{Entry}
+use Rattle.trace_entries.specs.declared.entry.Entry.TheVariants.{At}
+use Rattle.trace_entries.specs.declared.entry.EntryKind.TheVariants.{Connected, Disconnected, Refused, Scheduled}
+use Rattle.trace_entries.specs.declared.fault.Fault.{Fault}
+use Rattle.trace_entries.specs.declared.refusal.Refusal.{Refusal}
+use Rattle.trace_entries.specs.declared.refusal.Refusal.TheVariants.{NoConnection}
 use Rattle.machine_state.specs.declared.world.World.{World}
-use Rattle.machine_state.specs.Refusals.{refusal_number}
+use Rattle.trace_entries.specs.Refusals.{refusal_number}
 use Rattle.machine_state.specs.State.{State, Activation}
 use Rattle.machine_state.specs.Worlds.{at, noted, connecting, disconnecting, scheduling, GoesTo, ticked, Ticks}
 use Rattle.machine_rules.specs.Connecting.{AreThere, kept_ends, may_disconnect}

@@ -1,6 +1,6 @@
 -- Judgements, step by step, have at most one answer.
 use Rattle.std.proofs.Common.{◌≡◌, ℕ, Result, Ok, Err, refl, sym, ap, ◌∙◌, subst}
-use Rattle.machine_state.specs.declared.refusal.Refusal.{Refusal}
+use Rattle.trace_entries.specs.declared.refusal.Refusal.{Refusal}
 use Rattle.machine_rules.specs.Judgement.{Numbered, Find, Check, Gives, Becomes, Then, found, missing, holds, fails, gives, becomes, goes_on, ends, HasOneAnswer}
 
 pub one-find : {X : Type 0} {k : Refusal} {Is : X → Type 0} → ((x y : X) → Is x → Is y → x ≡ y) → HasOneAnswer (Find k Is)

@@ -28,11 +28,11 @@ use Rattle.object_tree.proofs.Changing.{life-of-lives}
 use Rattle.object_tree.specs.Objects.{Lives, class_of, life_of}
 use Rattle.object_tree.specs.Seen.{seen_reference}
 use Rattle.object_tree.specs.Typed.{AreTyped, ReadsAs, ReadAs}
-use Rattle.machine_state.specs.declared.entry.ShownAction.TheVariants as show
+use Rattle.trace_entries.specs.declared.entry.ShownAction.TheVariants as show
 use Rattle.machine_state.specs.Objects.{shown, all_shown}
 use Rattle.machine_rules.specs.Good.{ArgumentsFit}
-use Rattle.machine_state.specs.declared.entry.ShownAction.{ShownAction}
-use Rattle.machine_rules.specs.Natives.{DeclaredBy, own, inherited, IsShownAs, AreRead, HasStored, IsTellable, AreTellable, set_shown, emit_shown, place_of}
+use Rattle.trace_entries.specs.declared.entry.ShownAction.{ShownAction}
+use Rattle.machine_rules.specs.Natives.{DeclaredBy, own, inherited, IsShownAs, AreRead, HasStored, IsTellable, AreTellable, set_shown, emit_shown, member_of_action}
 use Rattle.machine_rules.specs.code.Reaches.{DoesWork}
 use Rattle.machine_rules.specs.There.{IsMember, IsField, LacksMember, LacksField}
 use Rattle.machine_rules.proofs.Fields.{some-is, class-unique, member-method, old-there, stored-reads}
@@ -163,11 +163,11 @@ module _ {p : Loaded} (sound : IsSound p) {objects : List Object} (typed : AreTy
     all-declared actions declared = all-told actions ((and_true (nat_le (length actions) MOST_ACTIONS) (list_all (is_declared class effects) actions) declared).1)
 
 -- what can be written down is in its place
-line-placed : (p : Loaded) (objects : List Object) (o : ℕ) (effects : MetaEffects) (a : Action) (line : ShownAction) → IsShownAs p objects o effects a line → IsTrue (is_some (place_of effects a))
+line-placed : (p : Loaded) (objects : List Object) (o : ℕ) (effects : MetaEffects) (a : Action) (line : ShownAction) → IsShownAs p objects o effects a line → IsTrue (is_some (member_of_action effects a))
 line-placed p objects o effects a line (set_shown at field) = ap (λ (k : Option ℕ). is_some k) at
 line-placed p objects o effects a line (emit_shown at member) = ap (λ (k : Option ℕ). is_some k) at
 
-pub all-placed : (p : Loaded) (objects : List Object) (o : ℕ) (effects : MetaEffects) (actions : List Action) → AreTellable p objects o effects actions → AllByRecursion (λ (a : Action). IsTrue (is_some (place_of effects a))) actions
+pub all-placed : (p : Loaded) (objects : List Object) (o : ℕ) (effects : MetaEffects) (actions : List Action) → AreTellable p objects o effects actions → AllByRecursion (λ (a : Action). IsTrue (is_some (member_of_action effects a))) actions
 all-placed p objects o effects [] all = tt
 all-placed p objects o effects (a ∷ actions) all = (line-placed p objects o effects a all.0.line all.0.is, all-placed p objects o effects actions all.1)
 

@@ -6,8 +6,8 @@ use Rattle.std.specs.Result.{IsErrAnd}
 use Rattle.meta_model.specs.Loaded.{Loaded}
 use Rattle.expressions.specs.declared.evaluation.EvalFault.{EvalFault}
 use Rattle.expressions.specs.declared.evaluation.EvalFault.TheVariants as eval
-use Rattle.machine_state.specs.declared.fault.Fault.{Fault}
-use Rattle.machine_state.specs.declared.fault.Fault.TheVariants.{BadType, TooDeep, InUse, Steps, Memory}
+use Rattle.trace_entries.specs.declared.fault.Fault.{Fault}
+use Rattle.trace_entries.specs.declared.fault.Fault.TheVariants.{BadType, TooDeep, InUse, Steps, Memory}
 use Rattle.machine_state.specs.declared.world.World.{World}
 use Rattle.machine_state.specs.State.{State, Activation, Body, Update, IsIdle}
 use Rattle.machine_rules.specs.Rules.{Rule, RuleAt, StepRule, Does}
@@ -16,7 +16,7 @@ use Rattle.machine_rules.specs.Operations.{Operation, Write, TakeAnswer}
 use Rattle.meta_model.specs.declared.effects.MetaEffects.{MetaEffects}
 use Rattle.signatures.specs.declared.value.Value.{Value}
 use Rattle.prop_bindings.specs.Fits.{Agree}
-use Rattle.prop_bindings.specs.declared.place.Place.{Place}
+use Rattle.binding_graph.specs.declared.place.Place.{Place}
 use Rattle.object_tree.specs.declared.object.Object.{Object}
 use Rattle.machine_rules.specs.There.{IsDead, NoneDied}
 use Rattle.machine_rules.specs.code.Sound.{AgreeIn}
@@ -27,7 +27,7 @@ use Rattle.machine_rules.specs.code.Going.{GoodRules, done, then, IsStuck}
 use Rattle.machine_state.specs.Worlds.{at, Ticks, GoesTo}
 use Rattle.machine_rules.specs.code.Reaches.{Reaches, StopsIn, RunsTo}
 use Rattle.machine_rules.proofs.Frames.{high, shows-over}
-use Rattle.machine_state.specs.Faults.{IsFaultOf}
+use Rattle.trace_entries.specs.Faults.{IsFaultOf}
 use Rattle.machine_rules.specs.Natives.{NativeAnswers}
 
 pub rules-trans : {p : Loaded} {natives : NativeAnswers} {d : ℕ} {s m t : State} {n k j : ℕ} → GoodRules p natives d s n m k → GoodRules p natives d m k t j → GoodRules p natives d s n t j

@@ -8,14 +8,14 @@ use Rattle.meta_model.specs.declared.object.MetaProperty.{MetaProperty}
 use Rattle.meta_model.specs.Loaded.{Loaded}
 use Rattle.object_tree.specs.declared.object.Object.{Object}
 use Rattle.object_tree.specs.Typed.{ReadsAs}
-use Rattle.prop_bindings.specs.declared.binding.Binding.{Binding}
-use Rattle.prop_bindings.specs.declared.place.Place.{Place}
+use Rattle.binding_graph.specs.declared.binding.Binding.{Binding}
+use Rattle.binding_graph.specs.declared.place.Place.{Place}
 use Rattle.prop_bindings.specs.declared.assignment.Assignment.{Assignment}
-use Rattle.prop_bindings.specs.Bindings.{without_all}
+use Rattle.binding_graph.specs.Bindings.{without_all}
 use Rattle.prop_bindings.specs.Calls.{AllFit}
 use Rattle.prop_bindings.specs.Changes.{IsWritten, places_in}
 use Rattle.prop_bindings.specs.Fits.{FitsAt}
-use Rattle.machine_state.specs.declared.fault.Fault.{Fault}
+use Rattle.trace_entries.specs.declared.fault.Fault.{Fault}
 use Rattle.machine_state.specs.declared.world.World.{World}
 use Rattle.machine_state.specs.State.{Step, State, Activation, Body, Update}
 use Rattle.machine_state.specs.Telling.{Assigning, Grouped, IsAssigningTold, writes_of}

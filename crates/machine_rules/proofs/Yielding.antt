@@ -7,7 +7,7 @@ use Rattle.signatures.specs.declared.value.Value.TheVariants as value
 use Rattle.expressions.specs.declared.evaluation.EvalFault.{EvalFault}
 use Rattle.expressions.specs.declared.evaluation.EvalFault.TheVariants.{BadType, Memory}
 use Rattle.expressions.specs.Evaluation.{Evaluates, EvaluatesAll}
-use Rattle.texts.specs.declared.syntax.Expr.{Expr}
+use Rattle.syntax_trees.specs.declared.syntax.Expr.{Expr}
 use Rattle.meta_model.specs.declared.object.MetaPath.{MetaPath}
 use Rattle.meta_model.specs.declared.object.Statement.{Statement}
 use Rattle.meta_model.specs.declared.object.Statement.TheOpen as layer
@@ -18,7 +18,7 @@ use Rattle.meta_model.specs.declared.object.MetaEndpoints.{MetaEndpoints}
 use Rattle.machine_state.specs.declared.endpoints.Endpoints.{Endpoints}
 use Rattle.machine_rules.specs.declared.paths.Scope.{Scope}
 use Rattle.prop_bindings.specs.declared.assignment.Assignment.{Assignment}
-use Rattle.prop_bindings.specs.Places.{property_of}
+use Rattle.binding_graph.specs.Places.{property_of}
 use Rattle.machine_state.specs.Telling.{Grouped}
 use Rattle.machine_rules.specs.Operations.{Operation, Write, Begin, Choose, Nothing, led_to, on_object, on_ends, chosen_by, operation, operation_of_set, set_at, sets_in}
 use Rattle.machine_rules.specs.Paths.{path_value, value_of, values_of}

@@ -3,8 +3,8 @@
 use Rattle.std.specs.Prelude.{◌&&◌, ℕ, eqb, if◌then◌else◌, IsTrue, List, Result}
 use Rattle.signatures.specs.declared.sig.Sig.{Sig}
 use Rattle.signatures.specs.Types.{Fits}
-use Rattle.texts.specs.declared.connection.ConnectionType.{ConnectionType}
-use Rattle.texts.specs.declared.connection.Endpoints.{Endpoints as Named}
+use Rattle.syntax_trees.specs.declared.connection.ConnectionType.{ConnectionType}
+use Rattle.syntax_trees.specs.declared.connection.Endpoints.{Endpoints as Named}
 use Rattle.meta_model.specs.declared.object.MetaMethod.{MetaMethod}
 use Rattle.meta_model.specs.declared.qobject.TheConstants.{DESTROYED, DESTROYED_ALONE}
 use Rattle.meta_model.specs.Loaded.{Loaded}
@@ -12,8 +12,8 @@ use Rattle.meta_model.specs.Members.{Covers}
 use Rattle.object_tree.specs.declared.object.Object.{Object}
 use Rattle.connections.specs.Connected.{Connected}
 use Rattle.machine_state.specs.declared.endpoints.Endpoints.{Endpoints}
-use Rattle.machine_state.specs.declared.refusal.Refusal.{Refusal}
-use Rattle.machine_state.specs.declared.refusal.Refusal.TheVariants.{NotWired, Incompatible, Exists, NoConnection}
+use Rattle.trace_entries.specs.declared.refusal.Refusal.{Refusal}
+use Rattle.trace_entries.specs.declared.refusal.Refusal.TheVariants.{NotWired, Incompatible, Exists, NoConnection}
 use Rattle.machine_state.specs.Connections.{are_joined}
 use Rattle.machine_rules.specs.declared.ends.FoundEnds.{FoundEnds}
 use Rattle.machine_rules.specs.Judgement.{Check, ◌>>=◌}

@@ -11,10 +11,10 @@ use Rattle.event_loops.specs.Queues.{HasName}
 use Rattle.object_tree.specs.declared.life.Life.{Life}
 use Rattle.object_tree.specs.Family.{children_of}
 use Rattle.object_tree.specs.Objects.{name_of}
-use Rattle.machine_state.specs.declared.entry.Entry.{Entry}
-use Rattle.machine_state.specs.declared.entry.Entry.TheVariants.{At}
-use Rattle.machine_state.specs.declared.entry.EntryKind.TheVariants as entry_kind
-use Rattle.machine_state.specs.declared.entry.Shown.TheVariants as show
+use Rattle.trace_entries.specs.declared.entry.Entry.{Entry}
+use Rattle.trace_entries.specs.declared.entry.Entry.TheVariants.{At}
+use Rattle.trace_entries.specs.declared.entry.EntryKind.TheVariants as entry_kind
+use Rattle.trace_entries.specs.declared.entry.Shown.TheVariants as show
 use Rattle.machine_state.specs.Connections.{is_living}
 use Rattle.machine_state.specs.State.{State, Activation, Emit, Destroy}
 use Rattle.machine_state.specs.Worlds.{store_of, with_store}

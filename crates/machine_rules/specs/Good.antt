@@ -10,8 +10,8 @@ use Rattle.meta_model.specs.Loaded.{Loaded}
 use Rattle.object_tree.specs.declared.object.Object.{Object}
 use Rattle.object_tree.specs.Forest.{is_the}
 use Rattle.object_tree.specs.Typed.{ReadAs, AreTyped}
-use Rattle.prop_bindings.specs.Bindings.{binding_at, Loop, Settled}
-use Rattle.prop_bindings.specs.Places.{values_in}
+use Rattle.binding_graph.specs.Bindings.{binding_at, Loop, Settled}
+use Rattle.prop_bindings.specs.Values.{values_in}
 use Rattle.machine_rules.specs.There.{IsMember, IsDead}
 use Rattle.machine_rules.specs.Next.{WritesIll}
 use Rattle.machine_state.specs.State.{State, Activation, Body, Emit}

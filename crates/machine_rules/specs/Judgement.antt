@@ -1,7 +1,7 @@
 -- How an event, or what a statement asks for, is judged: what is found hands on to what is asked after it, and the first
 -- that isn't so is the refusal (docs/machine.md, "Events").
 use Rattle.std.specs.Prelude.{◌≡◌, ℕ, Result, Ok, Err}
-use Rattle.machine_state.specs.declared.refusal.Refusal.{Refusal}
+use Rattle.trace_entries.specs.declared.refusal.Refusal.{Refusal}
 
 -- something that has a number
 pub record Numbered (X : Type 0) : Type 0 where

@@ -16,5 +16,5 @@ pub use Rattle.expressions.specs.Evaluation
 pub use Rattle.meta_model.specs.Members
 pub use Rattle.native_slots.specs.Promises
 pub use Rattle.machine_state.specs.Connections
-pub use Rattle.machine_state.specs.Refusals
+pub use Rattle.trace_entries.specs.Refusals
 pub use Rattle.machine_state.specs.State

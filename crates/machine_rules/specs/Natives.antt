@@ -14,11 +14,11 @@ use Rattle.meta_model.specs.declared.effects.MetaEffects.{MetaEffects}
 use Rattle.native_slots.specs.declared.action.Action.{Action}
 use Rattle.native_slots.specs.declared.action.Action.TheVariants as action
 use Rattle.native_slots.specs.Promises.{Takes, Promises}
-use Rattle.machine_state.specs.declared.entry.Entry.{Entry}
-use Rattle.machine_state.specs.declared.entry.Entry.TheVariants.{At}
-use Rattle.machine_state.specs.declared.entry.EntryKind.TheVariants.{Answered}
-use Rattle.machine_state.specs.declared.entry.ShownAction.{ShownAction}
-use Rattle.machine_state.specs.declared.entry.ShownAction.TheVariants as show
+use Rattle.trace_entries.specs.declared.entry.Entry.{Entry}
+use Rattle.trace_entries.specs.declared.entry.Entry.TheVariants.{At}
+use Rattle.trace_entries.specs.declared.entry.EntryKind.TheVariants.{Answered}
+use Rattle.trace_entries.specs.declared.entry.ShownAction.{ShownAction}
+use Rattle.trace_entries.specs.declared.entry.ShownAction.TheVariants as show
 use Rattle.machine_state.specs.Objects.{shown, all_shown}
 use Rattle.machine_rules.specs.There.{IsMember, IsField}
 
@@ -76,9 +76,9 @@ AreShownAs p objects o effects actions lines = AllZip (IsShownAs p objects o eff
 -- ---- what the code asks
 
 -- the number of the property or of the signal that an action names by its place
-abbrev pub place_of : MetaEffects → Action → Option ℕ
-place_of effects (action.Set k value) = slice_get effects.sets k
-place_of effects (action.Emit k arguments) = slice_get effects.emits k
+abbrev pub member_of_action : MetaEffects → Action → Option ℕ
+member_of_action effects (action.Set k value) = slice_get effects.sets k
+member_of_action effects (action.Emit k arguments) = slice_get effects.emits k
 
 -- the object has a value of the property
 pub record HasStored (objects : List Object) (o q : ℕ) : Type 0 where

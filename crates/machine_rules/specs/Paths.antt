@@ -3,7 +3,7 @@ use Rattle.std.specs.Prelude.{ℕ, List, [], ◌∷◌, Option, None, Some, slic
 use Rattle.std.specs.Option.{option_and_then, option_map}
 use Rattle.signatures.specs.declared.value.Value.{Value}
 use Rattle.signatures.specs.declared.value.Value.TheVariants as value
-use Rattle.texts.specs.declared.syntax.Expr.{Expr}
+use Rattle.syntax_trees.specs.declared.syntax.Expr.{Expr}
 use Rattle.expressions.specs.Evaluation
 use Rattle.expressions.specs.Evaluation.{values}
 use Rattle.meta_model.specs.declared.object.MetaPath.{MetaPath}

@@ -9,11 +9,11 @@ use Rattle.meta_model.specs.Loaded.{Loaded}
 use Rattle.meta_model.specs.Members.{property_at}
 use Rattle.object_tree.specs.declared.object.Object.{Object}
 use Rattle.object_tree.specs.Objects.{class_of}
-use Rattle.prop_bindings.specs.declared.binding.Binding.{Binding}
-use Rattle.prop_bindings.specs.declared.place.Place.{Place}
-use Rattle.prop_bindings.specs.Bindings.{without_all, replaced}
+use Rattle.binding_graph.specs.declared.binding.Binding.{Binding}
+use Rattle.binding_graph.specs.declared.place.Place.{Place}
+use Rattle.binding_graph.specs.Bindings.{without_all, replaced}
 use Rattle.prop_bindings.specs.Changes.{IsWritten, IsInstalled, places_in}
-use Rattle.machine_state.specs.declared.entry.Entry.{Entry}
+use Rattle.trace_entries.specs.declared.entry.Entry.{Entry}
 use Rattle.machine_state.specs.declared.telling.Cause.TheVariants.{Bind}
 use Rattle.machine_state.specs.State.{State, Activation, Update}
 use Rattle.machine_state.specs.Telling.{AreTold, Assigning, IsAssigningTold, writes_of}

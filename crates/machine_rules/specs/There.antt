@@ -9,7 +9,7 @@ use Rattle.object_tree.specs.declared.life.Life.{Life}
 use Rattle.object_tree.specs.declared.object.Object.{Object}
 use Rattle.object_tree.specs.Objects.{Lives}
 use Rattle.object_tree.specs.Seen.{seen_reference}
-use Rattle.prop_bindings.specs.declared.place.Place.{Place}
+use Rattle.binding_graph.specs.declared.place.Place.{Place}
 
 -- a living object and one of its methods
 pub record IsMember (p : Loaded) (objects : List Object) (o m : ℕ) (x : Object) (method : MetaMethod) : Type 0 where

@@ -10,12 +10,13 @@ ghost use Rattle.machine_rules.specs.code.Sound.{IsSoundWorld};
 
 use crate::interpreter::Interpreter;
 use crate::method_call::MethodCall;
-use machine_state::{Entry, EntryKind, ShownAction, World, show, show_all};
+use machine_state::{World, show, show_all};
 use meta_objects::{Meta, MetaEffects};
 use native_slots::{Action, Answering};
 use signatures::{ObjectId, Value};
 use sqlite_items::Items;
 use std::alloc::AllocError;
+use trace_entries::{Entry, EntryKind, ShownAction};
 
 impl<N: Answering> Interpreter<N> {
     /// What a native answers, by the class that declares it, its arguments and the present values of what it reads. The

@@ -15,10 +15,11 @@ use crate::method_call::MethodCall;
 use crate::operation::Operation;
 use crate::paths::Scope;
 use crate::remaining::Remaining;
-use machine_state::{Entry, EntryKind, Fault, World};
+use machine_state::World;
 use meta_objects::Statement;
 use native_slots::Answering;
 use signatures::ObjectId;
+use trace_entries::{Entry, EntryKind, Fault};
 
 impl<N: Answering> Interpreter<N> {
     /// Carries out the statements of a body, and ends it.

@@ -1,19 +1,20 @@
 //! Connections that statements make and remove.
 
 ghost use Rattle.std.specs.Prelude.{◌≡◌, ◌<◌, ◌^◌, ◌-◌, IfOk, IfErr, MatchOption};
-ghost use Rattle.machine_state.specs.Refusals.{refusal_number};
-ghost use Rattle.machine_state.specs.declared.entry.Entry.TheVariants.{At};
-ghost use Rattle.machine_state.specs.declared.entry.EntryKind.TheVariants.{Refused};
+ghost use Rattle.trace_entries.specs.Refusals.{refusal_number};
+ghost use Rattle.trace_entries.specs.declared.entry.Entry.TheVariants.{At};
+ghost use Rattle.trace_entries.specs.declared.entry.EntryKind.TheVariants.{Refused};
 ghost use Rattle.machine_rules.specs.Connecting.{may_connect};
 ghost use Rattle.machine_rules.specs.code.Reaches.{IsJudged, LacksEnds, NamesEnds, LacksNames, ConnectsIn, DisconnectsIn};
 
 use crate::ends::{FoundEnds, kept_ends};
 use crate::interpreter::Interpreter;
-use machine_state::{Endpoints, Entry, EntryKind, Fault, Refusal, World};
+use machine_state::{Endpoints, World};
 use meta_objects::Wired;
 use native_slots::Answering;
 use signatures::{Name, Sig};
-use texts::{self, ConnectionType};
+use syntax_trees::{self, ConnectionType};
+use trace_entries::{Entry, EntryKind, Fault, Refusal};
 
 impl<N: Answering> Interpreter<N> {
     /// Connects by a statement, where `depth` activations are on the stack, or writes down why that is refused: the first
@@ -112,7 +113,7 @@ impl<N: Answering> Interpreter<N> {
     }
 
     /// The names at two ends; `BadType` where an object or its method isn't there.
-    fn names(&self, world: &World, ends: &Endpoints) -> Result<texts::Endpoints<Name>, Fault>
+    fn names(&self, world: &World, ends: &Endpoints) -> Result<syntax_trees::Endpoints<Name>, Fault>
         ensures ok { IfOk result (NamesEnds self.now.meta world.now.store.tree ends.now) }
         ensures err { IfErr result (LacksNames self.now.meta world.now.store.tree ends.now) }
     {
@@ -122,7 +123,7 @@ impl<N: Answering> Interpreter<N> {
         let Some((receiver, method)) = self.member(world, ends.receiver, ends.method) else {
             return Err(Fault::BadType);
         };
-        Ok(texts::Endpoints {
+        Ok(syntax_trees::Endpoints {
             sender: sender.name.copy()?,
             signal: signal.sig.copy(self.alloc)?,
             receiver: receiver.name.copy()?,

@@ -1,7 +1,7 @@
 //! Deletions of objects.
 
 ghost use Rattle.std.specs.Prelude.{◌≡◌, ◌<◌, true, false, [], length, Some, IfOk, OnOk};
-ghost use Rattle.machine_rules.specs.code.Calls.{Finishes, Leads, RunsDeath, RunsDeletion};
+ghost use Rattle.machine_rules.specs.code.Calls.{Finishes, TurnsInto, RunsDeath, RunsDeletion};
 ghost use Rattle.machine_rules.specs.code.Reaches.{entry_of_destroyed, Forgets, SchedulesIn};
 ghost use Rattle.machine_rules.specs.code.Sound.{IsSoundWorld};
 ghost use Rattle.machine_state.specs.Connections.{is_living};
@@ -11,12 +11,13 @@ ghost use Rattle.machine_rules.specs.Natives.{KeepPromises};
 use crate::active::Active;
 use crate::interpreter::Interpreter;
 use crate::method_call::MethodCall;
-use machine_state::{Entry, EntryKind, Fault, Shown, World};
+use machine_state::World;
 use meta_model::DESTROYED;
 use native_slots::Answering;
 use signatures::{Name, ObjectId, Value};
 use sqlite_items::Items;
 use std::alloc::AllocError;
+use trace_entries::{Entry, EntryKind, Fault, Shown};
 
 impl<N: Answering> Interpreter<N> {
     /// Deletes an object, over what is left of the top of the stack.
@@ -83,7 +84,7 @@ impl<N: Answering> Interpreter<N> {
         requires promises { KeepPromises N.takes N.gives self.now.meta self.now.natives }
         requires room { length active.now < self.now.depth }
         requires sound { IsSoundWorld self.now.meta world.old }
-        ensures ends { Leads self.now.meta (N.gives self.now.natives) self.now.depth active.now
+        ensures ends { TurnsInto self.now.meta (N.gives self.now.natives) self.now.depth active.now
             (Destroy (Some object) []) (Destroy (Some object) [])
             world.old world.new result }
         ensures dead { OnOk result (is_living world.new.store.tree object ≡ false) }

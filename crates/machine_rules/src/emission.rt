@@ -13,10 +13,11 @@ use crate::active::Active;
 use crate::interpreter::{Callee, Interpreter};
 use crate::method_call::{MethodCall, front};
 use connections::Connection;
-use machine_state::{Fault, World, reaches_at_once};
+use machine_state::{World, reaches_at_once};
 use meta_objects::Work;
 use native_slots::Answering;
 use signatures::Value;
+use trace_entries::Fault;
 
 impl<N: Answering> Interpreter<N> {
     /// Uses the connections of an emission one after the other, and ends it.

@@ -7,12 +7,13 @@ ghost use Rattle.machine_rules.specs.There.{IsMember, IsField, LacksMember, Lack
 
 use crate::active::Active;
 use crate::method_call::MethodCall;
-use machine_state::{Entry, EntryKind, Fault, World, is_silent, show_all};
+use machine_state::{World, is_silent, show_all};
 use meta_objects::{Meta, MetaMethod, MetaProperty, Work};
 use native_slots::Answering;
 use object_tree::Object;
 use signatures::ObjectId;
 use std::alloc::{AllocError, Global};
+use trace_entries::{Entry, EntryKind, Fault};
 
 /// A program with its natives, and how deep activations may nest.
 #[derive(Drop)]

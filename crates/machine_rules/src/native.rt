@@ -4,18 +4,19 @@ ghost use Rattle.std.specs.Prelude.{◌≡◌, ◌<◌, ◌∷◌, [], IsTrue, i
 ghost use Rattle.meta_model.specs.declared.object.Work.TheVariants.{Native};
 ghost use Rattle.machine_state.specs.State.{Ask, Body};
 ghost use Rattle.machine_rules.specs.code.Calls.{Finishes, CarriesOutAction};
-ghost use Rattle.machine_rules.specs.Natives.{place_of, KeepPromises};
+ghost use Rattle.machine_rules.specs.Natives.{member_of_action, KeepPromises};
 ghost use Rattle.machine_rules.specs.code.Reaches.{CallFits, DoesWork};
 ghost use Rattle.machine_rules.specs.code.Sound.{IsSoundWorld};
 
 use crate::active::Active;
 use crate::interpreter::Interpreter;
 use crate::method_call::MethodCall;
-use machine_state::{Fault, World};
+use machine_state::World;
 use meta_objects::MetaEffects;
 use native_slots::{Action, Answering};
 use prop_bindings::Place;
 use signatures::ObjectId;
+use trace_entries::Fault;
 
 impl<N: Answering> Interpreter<N> {
     /// Takes the answer of a native, carries its actions out, and ends its body. A native that was refused memory stops the
@@ -64,7 +65,7 @@ impl<N: Answering> Interpreter<N> {
         requires room { length active.now < self.now.depth }
         requires sound { IsSoundWorld self.now.meta world.old }
         requires due { 0 < world.old.left }
-        requires within { IsTrue (is_some (place_of effects.now action)) }
+        requires within { IsTrue (is_some (member_of_action effects.now action)) }
         ensures advances { CarriesOutAction self.now.meta (N.gives self.now.natives)
             self.now.depth active.now
             object effects.now action world.old world.new result }

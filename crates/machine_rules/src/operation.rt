@@ -16,7 +16,7 @@ use prop_bindings::{Assignment, Place};
 use signatures::{Arguments, ObjectId, Value};
 use sqlite_items::Items;
 use std::alloc::AllocError;
-use texts::{ConnectionType, Expr};
+use syntax_trees::{ConnectionType, Expr};
 
 /// What one statement does.
 #[derive(Drop)]

@@ -17,7 +17,7 @@ use object_tree::Tree;
 use prop_bindings::{Place, value_ahead};
 use signatures::{Arguments, ObjectId, Value};
 use std::alloc::Global;
-use texts::Expr;
+use syntax_trees::Expr;
 
 /// What a body reads: the objects, the object whose body it is, and the arguments of its call.
 #[derive(Clone, Copy)]

@@ -8,12 +8,13 @@ use crate::interpreter::Interpreter;
 use crate::method_call::MethodCall;
 use connections::Connection;
 use event_loops::Item;
-use machine_state::{Entry, EntryKind, Fault, World, show_all};
+use machine_state::{World, show_all};
 use meta_objects::MetaMethod;
 use native_slots::Answering;
 use object_tree::Object;
 use signatures::{Arguments, Name, Value};
 use std::alloc::AllocError;
+use trace_entries::{Entry, EntryKind, Fault};
 
 impl<N: Answering> Interpreter<N> {
     /// Uses a connection and posts its call to the event loop in which the object that is called lives, where `depth`

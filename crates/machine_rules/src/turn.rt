@@ -9,9 +9,10 @@ use crate::active::Active;
 use crate::interpreter::Interpreter;
 use crate::method_call::MethodCall;
 use event_loops::{Item, Posted};
-use machine_state::{Entry, Fault, Turn, World};
+use machine_state::{Turn, World};
 use native_slots::Answering;
 use signatures::Arguments;
+use trace_entries::{Entry, Fault};
 
 impl<N: Answering> Interpreter<N> {
     /// Carries the turn that goes on to its end, if one does.

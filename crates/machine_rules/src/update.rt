@@ -13,12 +13,13 @@ ghost use Rattle.machine_rules.specs.Natives.{KeepPromises};
 use crate::active::Active;
 use crate::interpreter::Interpreter;
 use crate::method_call::{MethodCall, front};
-use machine_state::{Fault, World};
+use machine_state::World;
 use native_slots::Answering;
 use object_tree::Tree;
 use prop_bindings::{Assignment, Place};
 use signatures::Value;
 use std::alloc::AllocError;
+use trace_entries::Fault;
 
 impl<N: Answering> Interpreter<N> {
     /// Writes a property of an object, over what is left of the top of the stack, and notifies what changes with it;

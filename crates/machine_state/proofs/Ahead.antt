@@ -13,12 +13,12 @@ use Rattle.object_tree.specs.declared.life.Life.{Life}
 use Rattle.object_tree.specs.declared.object.Object.{Object}
 use Rattle.object_tree.specs.Objects.{Lives, name_of}
 use Rattle.object_tree.specs.Seen.{seen_reference}
-use Rattle.prop_bindings.specs.declared.place.Place.{Place}
+use Rattle.binding_graph.specs.declared.place.Place.{Place}
 use Rattle.prop_bindings.specs.Changes.{valueless, DifferInValues}
 use Rattle.prop_bindings.proofs.Fitting.{seen-same}
-use Rattle.machine_state.specs.declared.entry.Entry.{Entry}
-use Rattle.machine_state.specs.declared.entry.Entry.TheVariants.{At}
-use Rattle.machine_state.specs.declared.entry.Shown.{Shown}
+use Rattle.trace_entries.specs.declared.entry.Entry.{Entry}
+use Rattle.trace_entries.specs.declared.entry.Entry.TheVariants.{At}
+use Rattle.trace_entries.specs.declared.entry.Shown.{Shown}
 use Rattle.machine_state.specs.declared.telling.Cause.{Cause}
 use Rattle.machine_state.specs.Objects.{shown, shown_name, shown_reference}
 use Rattle.machine_state.specs.Telling.{HasValue, IsToldWith, entry_kind_of}

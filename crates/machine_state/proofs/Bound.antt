@@ -2,19 +2,19 @@
 use Rattle.std.proofs.Common.{◌≡◌, ℕ, ◌+◌, ◌-◌, List, [], ◌∷◌, ◌++◌, length, take, Result, Ok, Err, IsErrAnd, refl, ap, sym, ◌∙◌, subst}
 use Rattle.meta_model.specs.Loaded.{Loaded}
 use Rattle.object_tree.specs.declared.object.Object.{Object}
-use Rattle.prop_bindings.specs.declared.binding.Binding.{Binding}
+use Rattle.binding_graph.specs.declared.binding.Binding.{Binding}
 use Rattle.prop_bindings.specs.declared.fault.BindFault.{BindFault}
 use Rattle.prop_bindings.specs.declared.fault.BindFault.TheVariants as bind
-use Rattle.prop_bindings.specs.declared.place.Place.{Place}
+use Rattle.binding_graph.specs.declared.place.Place.{Place}
 use Rattle.prop_bindings.specs.declared.planned.Planned.{Planned}
 use Rattle.prop_bindings.specs.declared.planned.PlannedBind.{PlannedBind}
-use Rattle.prop_bindings.specs.Bindings.{without, without_all, replaced}
+use Rattle.binding_graph.specs.Bindings.{without, without_all, replaced}
 use Rattle.prop_bindings.specs.Calls.{IsNotBound, new_binding}
 use Rattle.prop_bindings.specs.Changes.{IsWritten, places_in}
 use Rattle.prop_bindings.specs.Fits.{Agree}
 use Rattle.prop_bindings.specs.Plans.{after, IsPlannedBind}
-use Rattle.machine_state.specs.declared.entry.Entry.{Entry}
-use Rattle.machine_state.specs.declared.entry.Entry.TheVariants.{Accepted}
+use Rattle.trace_entries.specs.declared.entry.Entry.{Entry}
+use Rattle.trace_entries.specs.declared.entry.Entry.TheVariants.{Accepted}
 use Rattle.machine_state.specs.declared.telling.Cause.TheVariants.{Bind}
 use Rattle.machine_state.specs.declared.world.World.{World}
 use Rattle.machine_state.specs.Telling.{AreTold, Assigning, IsAssigningTold, writes_of}

@@ -16,10 +16,10 @@ use Rattle.object_tree.specs.Objects.{Lives, life_of}
 use Rattle.object_tree.specs.Seen.{seen}
 use Rattle.object_tree.specs.Typed.{AreTyped, IsTyped, ReadAs}
 use Rattle.object_tree.proofs.Changing.{lives-of-life}
-use Rattle.prop_bindings.specs.declared.place.Place.{Place}
-use Rattle.prop_bindings.specs.declared.binding.Binding.{Binding}
-use Rattle.prop_bindings.specs.Places.{values_in}
-use Rattle.prop_bindings.specs.Bindings.{without, replaced}
+use Rattle.binding_graph.specs.declared.place.Place.{Place}
+use Rattle.binding_graph.specs.declared.binding.Binding.{Binding}
+use Rattle.prop_bindings.specs.Values.{values_in}
+use Rattle.binding_graph.specs.Bindings.{without, replaced}
 use Rattle.prop_bindings.specs.declared.assignment.Assignment.{Assignment}
 use Rattle.prop_bindings.specs.Changes.{valueless, DifferInValues, ReadsAlike, AreChanged, none_changed, one_changed, one_stayed, IsInstalled, in_order, places_in}
 use Rattle.prop_bindings.specs.declared.planned.Planned.{Planned}

@@ -3,13 +3,14 @@ use Rattle.std.proofs.Common.{◌≡◌, not, ◌||◌, Bool, false, cond, inl, 
 use Rattle.std.specs.List.{AllByRecursion}
 use Rattle.std.proofs.lemmas.Bool.{cases_Bool, or_parts}
 use Rattle.object_tree.specs.declared.object.Object.{Object}
-use Rattle.prop_bindings.specs.declared.binding.Binding.{Binding}
-use Rattle.prop_bindings.specs.declared.place.Place.{Place}
-use Rattle.prop_bindings.specs.Bindings.{without_all}
+use Rattle.binding_graph.specs.declared.binding.Binding.{Binding}
+use Rattle.binding_graph.specs.declared.place.Place.{Place}
+use Rattle.binding_graph.specs.Bindings.{without_all}
 use Rattle.prop_bindings.specs.Changes.{AreChanged, none_changed, one_changed, one_stayed, in_order, once}
-use Rattle.prop_bindings.specs.Places.{Distinct, In, is_in, same_place}
-use Rattle.prop_bindings.proofs.Places.{In-cases, different, is_in-false, same_place-refl}
-use Rattle.prop_bindings.proofs.Several.{is_in-not, is_in-once, left, once-distinct, once-in, without_all-left}
+use Rattle.binding_graph.specs.Places.{Distinct, In, is_in, same_place}
+use Rattle.binding_graph.proofs.Places.{In-cases, different, is_in-false, same_place-refl}
+use Rattle.binding_graph.proofs.Several.{is_in-not, left, without_all-left}
+use Rattle.prop_bindings.proofs.EachOnce.{is_in-once, once-distinct, once-in}
 use Rattle.machine_state.specs.Telling.{others}
 use Rattle.machine_state.specs.code.Planned.{StandFirst, none_left, changes, stays, behind}
 

@@ -11,16 +11,16 @@ use Rattle.meta_model.specs.declared.object.MetaProperty.{MetaProperty}
 use Rattle.meta_model.specs.Loaded.{Loaded}
 use Rattle.object_tree.specs.declared.life.Life.{Life}
 use Rattle.object_tree.specs.declared.object.Object.{Object}
-use Rattle.prop_bindings.specs.declared.place.Place.{Place}
+use Rattle.binding_graph.specs.declared.place.Place.{Place}
 use Rattle.prop_bindings.specs.declared.assignment.Assignment.{Assignment}
 use Rattle.prop_bindings.specs.Changes.{places_in}
-use Rattle.prop_bindings.specs.Places.{values_in}
+use Rattle.prop_bindings.specs.Values.{values_in}
 use Rattle.object_tree.proofs.Changing.{life-of-lives}
-use Rattle.machine_state.specs.declared.entry.Entry.{Entry}
-use Rattle.machine_state.specs.declared.entry.Entry.TheVariants.{At}
+use Rattle.trace_entries.specs.declared.entry.Entry.{Entry}
+use Rattle.trace_entries.specs.declared.entry.Entry.TheVariants.{At}
 use Rattle.machine_state.specs.declared.telling.Cause.{Cause}
 use Rattle.machine_state.specs.declared.telling.Cause.TheVariants.{Write, Follow}
-use Rattle.machine_state.specs.declared.entry.EntryKind.TheVariants as entry_kind
+use Rattle.trace_entries.specs.declared.entry.EntryKind.TheVariants as entry_kind
 use Rattle.machine_state.specs.Objects.{shown}
 use Rattle.machine_state.specs.Telling.{HasValue, IsTold, IsToldWith, IsSetTold, AreTold, IsGroupTold, Assigning, Alone, Grouped, IsAssigningTold, entry_kind_of, others, writes_of}
 use Rattle.machine_state.specs.code.Planned.{AddsFollowers, AddsSets}

@@ -5,7 +5,7 @@ use Rattle.meta_model.specs.declared.qobject.TheConstants.{DESTROYED}
 use Rattle.object_tree.specs.declared.life.Life.{Life}
 use Rattle.object_tree.specs.declared.object.Object.{Object}
 use Rattle.object_tree.specs.Objects.{life_of}
-use Rattle.texts.specs.declared.connection.ConnectionType.{ConnectionType}
+use Rattle.syntax_trees.specs.declared.connection.ConnectionType.{ConnectionType}
 use Rattle.machine_state.specs.declared.endpoints.Endpoints.{Endpoints}
 use Rattle.connections.specs.declared.connection.Connection.{Connection}
 use Rattle.connections.specs.Connected.{Connected, joins, are_connected, connected_by, is_due, is_numbered, removed}

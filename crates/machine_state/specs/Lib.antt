@@ -1,5 +1,3 @@
-pub mod Faults
-pub mod Refusals
 pub mod State
 pub mod Turns
 pub mod Objects
@@ -7,7 +5,6 @@ pub mod Telling
 pub mod Connections
 pub mod Accepting
 pub mod Worlds
-pub mod Lists
 pub mod code
 pub use Rattle.object_tree.specs.Adopting
 pub use Rattle.object_tree.specs.Creating

@@ -5,8 +5,8 @@ use Rattle.signatures.specs.declared.value.Value.TheVariants as value
 use Rattle.object_tree.specs.declared.object.Object.{Object}
 use Rattle.object_tree.specs.Objects.{name_of}
 use Rattle.object_tree.specs.Seen.{seen_reference}
-use Rattle.machine_state.specs.declared.entry.Shown.{Shown}
-use Rattle.machine_state.specs.declared.entry.Shown.TheVariants as show
+use Rattle.trace_entries.specs.declared.entry.Shown.{Shown}
+use Rattle.trace_entries.specs.declared.entry.Shown.TheVariants as show
 
 -- a name, or null where there is none
 abbrev pub shown_name : Option (List ℕ) → Shown

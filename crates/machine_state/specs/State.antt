@@ -7,9 +7,9 @@ use Rattle.native_slots.specs.declared.action.Action.{Action}
 use Rattle.object_tree.specs.declared.object.Object.{Object}
 use Rattle.connections.specs.Connected.{Connected}
 use Rattle.event_loops.specs.Queues.{Queues}
-use Rattle.prop_bindings.specs.declared.binding.Binding.{Binding}
-use Rattle.prop_bindings.specs.declared.place.Place.{Place}
-use Rattle.machine_state.specs.declared.entry.Entry.{Entry}
+use Rattle.binding_graph.specs.declared.binding.Binding.{Binding}
+use Rattle.binding_graph.specs.declared.place.Place.{Place}
+use Rattle.trace_entries.specs.declared.entry.Entry.{Entry}
 use Rattle.machine_state.specs.declared.turn.Turn.{Turn}
 
 -- One thing that is left of a body to be done.

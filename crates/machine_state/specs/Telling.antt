@@ -9,14 +9,14 @@ use Rattle.object_tree.specs.declared.life.Life.{Life}
 use Rattle.object_tree.specs.declared.object.Object.{Object}
 use Rattle.object_tree.specs.Objects.{Lives}
 use Rattle.prop_bindings.specs.declared.assignment.Assignment.{Assignment}
-use Rattle.prop_bindings.specs.declared.place.Place.{Place}
-use Rattle.prop_bindings.specs.Places.{is_in}
+use Rattle.binding_graph.specs.declared.place.Place.{Place}
+use Rattle.binding_graph.specs.Places.{is_in}
 use Rattle.prop_bindings.specs.Changes.{places_in}
-use Rattle.machine_state.specs.declared.entry.Entry.{Entry}
-use Rattle.machine_state.specs.declared.entry.Entry.TheVariants.{At}
-use Rattle.machine_state.specs.declared.entry.EntryKind.{EntryKind}
-use Rattle.machine_state.specs.declared.entry.EntryKind.TheVariants as entry_kind
-use Rattle.machine_state.specs.declared.entry.Shown.{Shown}
+use Rattle.trace_entries.specs.declared.entry.Entry.{Entry}
+use Rattle.trace_entries.specs.declared.entry.Entry.TheVariants.{At}
+use Rattle.trace_entries.specs.declared.entry.EntryKind.{EntryKind}
+use Rattle.trace_entries.specs.declared.entry.EntryKind.TheVariants as entry_kind
+use Rattle.trace_entries.specs.declared.entry.Shown.{Shown}
 use Rattle.machine_state.specs.declared.telling.Cause.{Cause}
 use Rattle.machine_state.specs.declared.telling.Cause.TheVariants.{Write, Bind, Follow}
 use Rattle.machine_state.specs.Objects.{shown}

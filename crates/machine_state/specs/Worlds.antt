@@ -1,7 +1,7 @@
 -- What the world's functions do, and what a world says of the machine's state (docs/machine.md, "The state").
 use Rattle.std.specs.Prelude.{◌≡◌, ℕ, Bool, false, ◌+◌, ◌-◌, ◌<◌, List, [], ◌++◌, Option, None, Some, Result, Ok, Err}
 use Rattle.std.specs.List.{find}
-use Rattle.texts.specs.declared.connection.ConnectionType.{ConnectionType}
+use Rattle.syntax_trees.specs.declared.connection.ConnectionType.{ConnectionType}
 use Rattle.connections.specs.declared.connection.Connection.{Connection}
 use Rattle.connections.specs.Connected.{Connected}
 use Rattle.event_loops.specs.declared.item.Item.{Item}
@@ -11,23 +11,23 @@ use Rattle.meta_model.specs.Loaded.{Loaded}
 use Rattle.object_tree.specs.declared.life.Life.{Life}
 use Rattle.object_tree.specs.declared.object.Object.{Object}
 use Rattle.object_tree.specs.Objects.{life_of, change_life, blocked}
-use Rattle.prop_bindings.specs.declared.binding.Binding.{Binding}
+use Rattle.binding_graph.specs.declared.binding.Binding.{Binding}
 use Rattle.prop_bindings.specs.declared.fault.BindFault.{BindFault}
-use Rattle.prop_bindings.specs.declared.place.Place.{Place}
+use Rattle.binding_graph.specs.declared.place.Place.{Place}
 use Rattle.prop_bindings.specs.Calls.{IsBound, IsNotBound, new_binding}
 use Rattle.prop_bindings.specs.Changes.{IsWritten}
 use Rattle.delete_later.specs.declared.store.Store.{Store}
 use Rattle.delete_later.specs.Ending.{died_in, ended_in}
 use Rattle.delete_later.specs.Scheduling.{empty, scheduled_in}
-use Rattle.machine_state.specs.declared.entry.Entry.{Entry}
-use Rattle.machine_state.specs.declared.fault.Answer.{Answer}
-use Rattle.machine_state.specs.declared.fault.Answer.TheVariants as answer
-use Rattle.machine_state.specs.declared.fault.Fault.{Fault}
-use Rattle.machine_state.specs.declared.fault.Fault.TheVariants.{Steps, Memory}
-use Rattle.machine_state.specs.declared.refusal.Refusal.{Refusal}
+use Rattle.trace_entries.specs.declared.entry.Entry.{Entry}
+use Rattle.trace_entries.specs.declared.fault.Answer.{Answer}
+use Rattle.trace_entries.specs.declared.fault.Answer.TheVariants as answer
+use Rattle.trace_entries.specs.declared.fault.Fault.{Fault}
+use Rattle.trace_entries.specs.declared.fault.Fault.TheVariants.{Steps, Memory}
+use Rattle.trace_entries.specs.declared.refusal.Refusal.{Refusal}
 use Rattle.machine_state.specs.declared.telling.Cause.TheVariants.{Bind}
 use Rattle.machine_state.specs.declared.world.World.{World}
-use Rattle.machine_state.specs.Refusals.{refusal_number}
+use Rattle.trace_entries.specs.Refusals.{refusal_number}
 use Rattle.machine_state.specs.Connections.{after_use, newly_joined, parted}
 use Rattle.machine_state.specs.Accepting.{accepted, refused, with_entries}
 use Rattle.machine_state.specs.declared.endpoints.Endpoints.{Endpoints}

@@ -12,16 +12,14 @@ ghost use Rattle.machine_state.specs.Worlds.{IsUnscheduled, counted, accepting, 
 
 use crate::connecting::{join, part};
 use crate::endpoints::Endpoints;
-use crate::entry::Entry;
-use crate::fault::{Answer, Fault};
-use crate::refusal::Refusal;
 use crate::turn::Turn;
 use crate::world::World;
 use delete_later::MoveFault;
 use meta_objects::Meta;
 use object_tree::{AdoptFault, CreateFault};
 use signatures::{LoopId, Name, ObjectId};
-use texts::ConnectionType;
+use syntax_trees::ConnectionType;
+use trace_entries::{Answer, Entry, Fault, Refusal};
 
 impl World {
     /// Writes down that the event is refused; without memory nothing changes.

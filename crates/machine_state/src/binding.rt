@@ -2,18 +2,16 @@
 //! them, before anything else changes: where memory is refused for one of these, the world is as it was.
 
 ghost use Rattle.std.specs.Prelude.{◌≡◌, [], ◌∷◌, ◌<◌, ◌^◌, IfOk, IfErr};
-ghost use Rattle.prop_bindings.specs.Bindings.{without, without_all};
+ghost use Rattle.binding_graph.specs.Bindings.{without, without_all};
 ghost use Rattle.prop_bindings.specs.Calls.{AllFit};
 ghost use Rattle.prop_bindings.specs.Changes.{once, one, places_in};
 ghost use Rattle.prop_bindings.specs.Fits.{Agree, FitsAt};
 ghost use Rattle.prop_bindings.specs.Plans.{after};
-ghost use Rattle.machine_state.specs.declared.fault.Fault.TheVariants.{Memory};
+ghost use Rattle.trace_entries.specs.declared.fault.Fault.TheVariants.{Memory};
 ghost use Rattle.machine_state.specs.Telling.{Alone, AreTold, Grouped, IsGroupTold, writes_of};
 ghost use Rattle.machine_state.specs.Worlds.{noted, accepting_entries, with_bound, WritesIn, BindsIn};
 ghost use Rattle.machine_state.specs.code.Planned.{CanBeTold, WillWrite, WillWriteOne, WillWriteAll};
 
-use crate::entry::Entry;
-use crate::fault::Fault;
 use crate::telling::{Cause, Telling};
 use crate::world::World;
 use delete_later::Store;
@@ -24,6 +22,7 @@ use prop_bindings::{
 use signatures::{ObjectId, Value};
 use sqlite_items::Items;
 use std::alloc::{AllocError, Global};
+use trace_entries::{Entry, Fault};
 
 impl World {
     /// A rule that writes a property of a living object, which ends its binding; what follows from it changes with it, and

@@ -3,14 +3,13 @@
 ghost use Rattle.std.specs.Prelude.{◌≡◌, ◌∷◌, [], ◌<◌, ◌^◌, ◌-◌, OnOk, IfErr, IsTrue};
 ghost use Rattle.machine_state.specs.Connections.{are_joined, newly_joined, parted};
 ghost use Rattle.machine_state.specs.Worlds.{connecting, disconnecting, GoesTo};
-ghost use Rattle.machine_state.specs.declared.fault.Fault.TheVariants.{Memory};
+ghost use Rattle.trace_entries.specs.declared.fault.Fault.TheVariants.{Memory};
 
 use crate::endpoints::Endpoints;
-use crate::entry::Entry;
-use crate::fault::Fault;
 use crate::world::World;
 use delete_later::LiveConnections;
-use texts::ConnectionType;
+use syntax_trees::ConnectionType;
+use trace_entries::{Entry, Fault};
 
 impl World {
     /// Whether some connection joins these ends.

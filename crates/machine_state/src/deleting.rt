@@ -4,10 +4,9 @@ ghost use Rattle.std.specs.Prelude.{◌≡◌, ◌∷◌, [], ◌<◌, ◌-◌, 
 ghost use Rattle.delete_later.specs.Scheduling.{IsHoused};
 ghost use Rattle.machine_state.specs.Worlds.{GoesTo, IsUnscheduled, dying, ending, scheduling};
 
-use crate::entry::Entry;
-use crate::fault::Fault;
 use crate::world::World;
 use signatures::ObjectId;
+use trace_entries::{Entry, Fault};
 
 impl World {
     /// A rule by which an object lives no more and leaves its parent's children, the bindings go whose target or source it

@@ -6,18 +6,12 @@ mod binding;
 mod connecting;
 mod deleting;
 mod endpoints;
-mod entry;
-mod fault;
-mod refusal;
 mod showing;
 mod telling;
 mod turn;
 mod world;
 
 pub use endpoints::Endpoints;
-pub use entry::{Entry, EntryKind, Shown, ShownAction, Trace};
-pub use fault::{Answer, Fault};
-pub use refusal::Refusal;
 pub use showing::{show, show_all};
 pub use telling::Cause;
 pub use turn::{MAIN, Turn, reaches_at_once};

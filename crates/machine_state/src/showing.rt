@@ -3,11 +3,11 @@
 ghost use Rattle.std.specs.Prelude.{◌≡◌, IfOk};
 ghost use Rattle.machine_state.specs.Objects.{shown, shown_reference, all_shown};
 
-use crate::entry::Shown;
 use object_tree::Tree;
 use signatures::{ObjectId, Value};
 use sqlite_items::Items;
 use std::alloc::{AllocError, Global};
+use trace_entries::Shown;
 
 /// A value as it is written down: a reference, as it reads, by the object's name, or as null.
 pub fn show(objects: &Tree, value: &Value) -> Result<Shown, AllocError>

@@ -4,18 +4,18 @@
 ghost use Rattle.std.specs.Prelude.{◌≡◌, [], ◌∷◌, IfOk, OnOk};
 ghost use Rattle.std.specs.Option.{option_copied};
 ghost use Rattle.prop_bindings.specs.Changes.{DifferInValues, once, places_in};
-ghost use Rattle.prop_bindings.specs.Places.{values_in};
+ghost use Rattle.prop_bindings.specs.Values.{values_in};
 ghost use Rattle.prop_bindings.specs.Plans.{after};
 ghost use Rattle.machine_state.specs.Telling.{HasValue, IsTold, IsToldWith, IsSetTold, AreTold, IsGroupTold, Grouped, entry_kind_of, others, writes_of};
 ghost use Rattle.machine_state.specs.code.Planned.{CanBeTold, HaveValues, AddsFollowers, AddsSets, StandFirst, behind};
 
-use crate::entry::{Entry, EntryKind, Shown};
 use crate::showing::show;
 use meta_objects::Meta;
 use object_tree::Tree;
 use prop_bindings::{Assignment, Place, Planned};
 use signatures::{Name, Value};
 use std::alloc::{AllocError, Global};
+use trace_entries::{Entry, EntryKind, Shown};
 
 /// How a property comes to a value.
 #[derive(Clone, Copy)]

@@ -5,12 +5,11 @@ ghost use Rattle.object_tree.specs.Objects.{home_of};
 ghost use Rattle.machine_state.specs.Turns.{running, reaches_at_once};
 ghost use Rattle.machine_state.specs.Worlds.{GoesTo, TakesFirst, having_used, posting, taking_unwritten, turn_ended};
 
-use crate::entry::Entry;
-use crate::fault::Fault;
 use crate::world::World;
 use connections::Connection;
 use event_loops::{Item, Posted};
 use signatures::{Kind, LoopId, ObjectId};
+use trace_entries::{Entry, Fault};
 
 /// The number of the loop `main`.
 pub const MAIN: usize = 0;

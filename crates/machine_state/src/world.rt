@@ -7,8 +7,6 @@ ghost use Rattle.object_tree.specs.Objects.{IsFree, IsNamed, life_of};
 ghost use Rattle.machine_state.specs.Connections.{next_used, can_be_used, silences, is_silent};
 ghost use Rattle.machine_state.specs.Worlds.{untouched, Ticks, IsLeft, GoesTo, noted, using};
 
-use crate::entry::{Entry, Trace};
-use crate::fault::Fault;
 use crate::turn::Turn;
 use connections::Connection;
 use delete_later::Store;
@@ -16,6 +14,7 @@ use meta_model::DESTROYED;
 use object_tree::{Life, Object};
 use signatures::{Name, ObjectId};
 use std::alloc::{AllocError, Global};
+use trace_entries::{Entry, Fault, Trace};
 
 /// All of a machine's state but the stack, and how many rules are left.
 pub struct World {

@@ -1,9 +1,9 @@
 //! The calls for natives.
 
 ghost use Rattle.std.specs.Prelude.{◌≡◌, ◌<◌, IfOk, Some, length, slice_get};
-ghost use Rattle.doubler.specs.Doubling.{doubling};
+ghost use Rattle.built_in_native.specs.Doubling.{doubling};
 
-use doubler::{class, doubled, effects, twice};
+use built_in_native::{class, doubled, effects, twice};
 use memory_trials::{Answer, Told, loaded, once_or_twice};
 use meta_objects::Meta;
 use native_slots::{Action, Effects, NativeSlot, Natives};

@@ -8,7 +8,7 @@ use script_lang::{ScriptFault, read_script};
 use slot_lang::{BodyFault, LexFault, ParseFault, Token, nesting, parse_body, parse_expr, tokens};
 use sqlite_items::Items;
 use std::alloc::Global;
-use texts::Program;
+use syntax_trees::Program;
 
 /// The body of a slot.
 const BODY: &str = "{ set this.value = v; }";

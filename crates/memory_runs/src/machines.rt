@@ -4,12 +4,12 @@ ghost use Rattle.std.specs.Prelude.{IfOk};
 ghost use Rattle.qt_runtime.specs.Seen.{AreKept};
 
 use crate::commanding::COUNTER;
+use command_output::Output;
 use memory_trials::{Answer, SCRIPT, SOURCE, Told, certificate, loaded};
 use native_slots::{Answering, Natives};
 use qt_runtime::{Answer as Applied, Checked, Entry, Event, Fault, Machine, read_script};
 use rank_check::check;
 use std::alloc::{AllocError, Global};
-use trace_lines::Output;
 
 /// How many rules a machine uses at most.
 const STEPS: u64 = 100;

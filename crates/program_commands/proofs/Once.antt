@@ -27,7 +27,7 @@ use Rattle.rank_make.specs.declared.why.Why.{Why}
 use Rattle.rank_make.specs.declared.why.Why.TheVariants as why
 use Rattle.script_lang.specs.declared.fault.ScriptFault.{ScriptFault}
 use Rattle.script_lang.specs.declared.fault.ScriptFault.TheVariants as of_script
-use Rattle.texts.specs.declared.program.Program.{Program}
+use Rattle.syntax_trees.specs.declared.program.Program.{Program}
 use Rattle.program_commands.specs.Commands.{MetaComesTo, CertifyComesTo, CheckComesTo, IsSameOutcome, OneDescription, OneCertifying, OneCheck}
 use Rattle.program_commands.specs.declared.outcome.Outcome.{Outcome}
 use Rattle.program_commands.specs.declared.outcome.Outcome.TheVariants.{Refused, Uncertified, Certificate as Certified}

@@ -5,7 +5,7 @@ use Rattle.certificate_lang.specs.declared.certificate.Certificate.{Certificate}
 use Rattle.class_lang.specs.Reads.{ReadsProgram}
 use Rattle.meta_model.specs.Loaded.{Loaded}
 use Rattle.meta_objects.specs.Builds.{Builds}
-use Rattle.texts.specs.declared.program.Program.{Program}
+use Rattle.syntax_trees.specs.declared.program.Program.{Program}
 use Rattle.program_commands.specs.Loading.{LoadsProgram}
 use Rattle.program_commands.specs.Steps.{First, fails, goes_on}
 

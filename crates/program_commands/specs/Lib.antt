@@ -10,5 +10,5 @@ pub use Rattle.native_slots.specs.FaultNumbers as NativeSlotsFaultNumbers
 pub use Rattle.certificate_lang.specs.Reads as CertificateLangReads
 pub use Rattle.rank_check.specs.Checks
 pub use Rattle.certificate_texts.specs.Texts as CertificateTexts
-pub use Rattle.trace_lines.specs.MetaLines
-pub use Rattle.trace_lines.specs.Sent
+pub use Rattle.command_output.specs.MetaLines
+pub use Rattle.command_output.specs.Sent

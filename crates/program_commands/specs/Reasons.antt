@@ -3,12 +3,12 @@ use Rattle.std.specs.Prelude.{ℕ, suc, List, [], ◌++◌, codes, decimal, Opti
 use Rattle.meta_model.specs.Loaded.{Loaded}
 use Rattle.meta_model.specs.declared.site.MetaSite.{MetaSite}
 use Rattle.effect_scan.specs.declared.node.Node.{Node}
-use Rattle.typing.specs.declared.spot.Spot.{Spot}
-use Rattle.typing.specs.declared.spot.Spot.TheVariants as spot
+use Rattle.type_check.specs.declared.spot.Spot.{Spot}
+use Rattle.type_check.specs.declared.spot.Spot.TheVariants as spot
 use Rattle.rank_make.specs.declared.why.Why.{Why}
 use Rattle.rank_make.specs.declared.why.Why.TheVariants.{Wire, BodyType, Cycle, DestroyPath, TooHigh, Memory}
-use Rattle.trace_lines.specs.Lines.{newline}
-use Rattle.trace_lines.specs.NodeLines.{text_of_node, text_of_nodes}
+use Rattle.command_output.specs.Lines.{newline}
+use Rattle.command_output.specs.NodeLines.{text_of_node, text_of_nodes}
 use Rattle.program_commands.specs.Refusals.{memory_line}
 
 -- what isn't there has no text

@@ -5,10 +5,10 @@ ghost use Rattle.program_commands.specs.Outcomes.{Writes};
 
 use crate::loading::{load_program, load_valid};
 use crate::outcome::Outcome;
+use command_output::WriteFault;
 use rank_make::make;
 use std::alloc::Global;
 use std::io::Write;
-use trace_lines::WriteFault;
 
 /// What `meta` comes to: the classes of a program with their members, or why it is refused.
 pub fn meta_outcome(alloc: Global, program: &[u8]) -> Outcome

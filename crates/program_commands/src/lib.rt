@@ -9,10 +9,10 @@ mod outcome;
 mod reasons;
 mod refusal;
 
+pub use command_output::WriteFault;
 pub use commands::{certify, certify_outcome, check, check_outcome, meta, meta_outcome};
 pub use laws::{certified_is_agreed, one_outcome};
 pub use loading::{load_certified, load_program, load_valid};
 pub use outcome::Outcome;
 pub use rank_make::Why;
 pub use refusal::Refusal;
-pub use trace_lines::WriteFault;

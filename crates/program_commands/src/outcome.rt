@@ -1,17 +1,17 @@
 //! What the commands that run nothing come to, and how it is written.
 
 ghost use Rattle.std.specs.Prelude.{◌≡◌};
-ghost use Rattle.trace_lines.specs.Sent.{Puts, TakesWith};
+ghost use Rattle.command_output.specs.Sent.{Puts, TakesWith};
 ghost use Rattle.program_commands.specs.Outcomes.{outcome_text, outcome_status};
 
 use crate::reasons::{put_reason, status_of_reason};
 use crate::refusal::Refusal;
 use certificate_lang::Certificate;
+use command_output::{Output, WriteFault};
 use meta_objects::Meta;
 use rank_make::Why;
 use std::alloc::Global;
 use std::io::Write;
-use trace_lines::{Output, WriteFault};
 
 /// The exit status of a command that did what it was asked.
 const DONE: u8 = 0;

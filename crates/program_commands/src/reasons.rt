@@ -1,17 +1,17 @@
 //! Why a program has no certificate, in a line.
 
 ghost use Rattle.std.specs.Prelude.{◌≡◌, ◌++◌, codes};
-ghost use Rattle.trace_lines.specs.Sent.{Puts};
-ghost use Rattle.typing.specs.declared.spot.Spot.TheVariants.{Binding};
+ghost use Rattle.command_output.specs.Sent.{Puts};
+ghost use Rattle.type_check.specs.declared.spot.Spot.TheVariants.{Binding};
 ghost use Rattle.program_commands.specs.Reasons.{spot_text, shown_by, reason_line, reason_status};
 
 use crate::refusal::{DENIED, UNDONE};
+use command_output::Output;
 use effect_scan::Node;
 use meta_objects::Meta;
 use rank_check::Spot;
 use rank_make::Why;
 use std::io::Write;
-use trace_lines::Output;
 
 /// The exit status after a reason.
 pub fn status_of_reason(why: &Why) -> u8

@@ -1,18 +1,18 @@
 //! Why a program isn't checked or run.
 
 ghost use Rattle.std.specs.Prelude.{◌≡◌};
-ghost use Rattle.trace_lines.specs.Sent.{Puts};
+ghost use Rattle.command_output.specs.Sent.{Puts};
 ghost use Rattle.program_commands.specs.Refusals.{refusal_line, refusal_number, refusal_status, line_of, script_line, script_number, status_of};
 
 use certificate_lang::CertificateFault;
 use class_lang::TextFault;
+use command_output::Output;
 use meta_objects::MetaFault;
 use native_slots::NativeFault;
 use rank_check::No;
 use script_lang::ScriptFault;
 use std::io::Write;
 use thiserror::Error;
-use trace_lines::Output;
 
 /// Why a program isn't checked or run, with its certificate, its script and its natives: what is refused, and why.
 #[derive(Debug, Drop, Error)]

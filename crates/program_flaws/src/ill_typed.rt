@@ -7,8 +7,8 @@ use crate::statement::Body;
 use effect_scan::{Member, Node};
 use meta_objects::{Statement, Work};
 use std::alloc::AllocError;
-use texts::Slot;
-use typing::{Spot, flaw_at};
+use syntax_trees::Slot;
+use type_check::{Spot, flaw_at};
 
 /// What isn't typed, and what has to be of which type.
 pub fn untyped_text(source: Source<'_>, spot: Spot) -> Result<String, AllocError> {

@@ -8,7 +8,7 @@ use crate::wire::unfit_text;
 use effect_scan::{Member, Node, Reason, reason_for};
 use rank_make::{Why, make};
 use std::alloc::{AllocError, Global};
-use texts::Program;
+use syntax_trees::Program;
 
 /// So many edges of a chain are told.
 const MOST_EDGES: usize = 12;

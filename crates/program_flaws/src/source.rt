@@ -4,7 +4,7 @@ use class_lang::{TextFault, read_program};
 use meta_model::MetaFault;
 use meta_objects::Meta;
 use std::alloc::{AllocError, Global};
-use texts::{Class, Program, Slot};
+use syntax_trees::{Class, Program, Slot};
 
 /// A program that loads.
 #[derive(Clone, Copy)]

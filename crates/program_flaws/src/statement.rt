@@ -4,7 +4,7 @@ use crate::names::{method_text, property_text, text_of};
 use crate::source::Source;
 use meta_model::{MetaPath, MetaRoot, Statement, ValueType};
 use std::alloc::AllocError;
-use texts::Slot;
+use syntax_trees::Slot;
 
 /// Where a statement stands.
 #[derive(Clone, Copy)]

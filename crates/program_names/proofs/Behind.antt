@@ -7,14 +7,14 @@ use Rattle.signatures.specs.declared.normal.ConstPlace.TheVariants.{Nowhere, Bef
 use Rattle.signatures.specs.declared.normal.TypeEnding.TheVariants.{Bare, Reference, Pointer}
 use Rattle.signatures.specs.declared.word.Word.{Word}
 use Rattle.signatures.specs.declared.word.Word.TheVariants as word
-use Rattle.texts.specs.Connections.{spell_flag}
-use Rattle.texts.specs.Lists.{spell_further, spell_after, spell_others, spell_listed, spell_each}
-use Rattle.texts.specs.Literals.{unsigned, negative, spell_literal}
-use Rattle.texts.specs.Optional.{spell_optional, spell_optional_name}
-use Rattle.texts.specs.Reading.{spell_name}
-use Rattle.texts.specs.Signatures.{spelled_type, spell_ending, spell_named, spell_type, sig, spell_sig, spell_kind}
+use Rattle.token_reading.specs.Connections.{spell_flag}
+use Rattle.token_reading.specs.Lists.{spell_further, spell_after, spell_others, spell_listed, spell_each}
+use Rattle.token_reading.specs.Literals.{unsigned, negative, spell_literal}
+use Rattle.token_reading.specs.Optional.{spell_optional, spell_optional_name}
+use Rattle.token_reading.specs.Reading.{spell_name}
+use Rattle.token_reading.specs.Signatures.{spelled_type, spell_ending, spell_named, spell_type, sig, spell_sig, spell_kind}
 use Rattle.texts.specs.declared.symbol.Symbol.TheVariants as s
-use Rattle.texts.specs.declared.syntax.Root.TheVariants as root
+use Rattle.syntax_trees.specs.declared.syntax.Root.TheVariants as root
 use Rattle.texts.specs.declared.token.Token.{Token}
 use Rattle.texts.specs.declared.token.Token.TheVariants as token
 use Rattle.slot_lang.specs.Expressions.{expression, no_conjunction, or_else, conjunction, no_comparison, and_also, alone, compared, sum, no_term, signed, term, no_factor, times, prefixed, literal, path, grouped, spell_root, spell_names, spell_path, spell_expression, spell_conjunctions, spell_conjunction, spell_comparisons, spell_comparison, spell_sum, spell_terms, spell_term, spell_factors, spell_factor}

@@ -9,11 +9,11 @@ use Rattle.signatures.specs.Name.{is_name_byte}
 use Rattle.signatures.specs.Signatures.{IsFreeName}
 use Rattle.signatures.specs.Words.{IsFree, word_spelling}
 use Rattle.signatures.specs.declared.word.Word.TheVariants as word
-use Rattle.texts.specs.declared.program.Property.{Property}
-use Rattle.texts.specs.declared.program.Signal.{Signal}
-use Rattle.texts.specs.declared.program.Slot.{Slot}
-use Rattle.texts.specs.declared.program.Class.{Class}
-use Rattle.texts.specs.declared.program.Program.{Program}
+use Rattle.syntax_trees.specs.declared.program.Property.{Property}
+use Rattle.syntax_trees.specs.declared.program.Signal.{Signal}
+use Rattle.syntax_trees.specs.declared.program.Slot.{Slot}
+use Rattle.syntax_trees.specs.declared.program.Class.{Class}
+use Rattle.syntax_trees.specs.declared.program.Program.{Program}
 use Rattle.meta_model.specs.declared.object.MetaMethod.{MetaMethod}
 use Rattle.meta_model.specs.declared.object.MetaProperty.{MetaProperty}
 use Rattle.meta_model.specs.declared.object.MetaObject.{MetaObject}

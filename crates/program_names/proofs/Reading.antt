@@ -11,17 +11,17 @@ use Rattle.signatures.specs.Types.{value_type}
 use Rattle.signatures.specs.declared.normal.ConstPlace.TheVariants.{Nowhere, Before, After}
 use Rattle.signatures.specs.declared.normal.TypeEnding.TheVariants.{Bare, Reference, Pointer}
 use Rattle.signatures.specs.declared.word.Word.TheVariants as word
-use Rattle.texts.specs.Lists.{spell_each, spell_further, spell_listed}
-use Rattle.texts.specs.Literals.{spell_literal}
+use Rattle.token_reading.specs.Lists.{spell_each, spell_further, spell_listed}
+use Rattle.token_reading.specs.Literals.{spell_literal}
 use Rattle.texts.specs.Pieces.{AreTokens, Piece, IsCut, tokens_of}
 use Rattle.texts.specs.Pieces as piece
-use Rattle.texts.specs.Signatures.{TypeReading, spelled_type, spell_type, tree_of_type, spell_sig}
-use Rattle.texts.specs.declared.program.Parameter.{Parameter}
-use Rattle.texts.specs.declared.program.Property.{Property}
-use Rattle.texts.specs.declared.program.Signal.{Signal}
-use Rattle.texts.specs.declared.program.Slot.{Slot}
-use Rattle.texts.specs.declared.program.Class.{Class}
-use Rattle.texts.specs.declared.program.Program.{Program}
+use Rattle.token_reading.specs.Signatures.{TypeReading, spelled_type, spell_type, tree_of_type, spell_sig}
+use Rattle.syntax_trees.specs.declared.program.Parameter.{Parameter}
+use Rattle.syntax_trees.specs.declared.program.Property.{Property}
+use Rattle.syntax_trees.specs.declared.program.Signal.{Signal}
+use Rattle.syntax_trees.specs.declared.program.Slot.{Slot}
+use Rattle.syntax_trees.specs.declared.program.Class.{Class}
+use Rattle.syntax_trees.specs.declared.program.Program.{Program}
 use Rattle.texts.specs.declared.symbol.Symbol.TheVariants as s
 use Rattle.texts.specs.declared.token.Token.{Token}
 use Rattle.texts.specs.declared.token.Token.TheVariants as token

@@ -3,11 +3,11 @@ use Rattle.std.specs.Prelude.{ℕ, List, Ok}
 use Rattle.std.specs.List.{AllByRecursion}
 use Rattle.signatures.specs.Laws.{IsNormalSig}
 use Rattle.signatures.specs.Signatures.{IsFreeName}
-use Rattle.texts.specs.declared.program.Property.{Property}
-use Rattle.texts.specs.declared.program.Signal.{Signal}
-use Rattle.texts.specs.declared.program.Slot.{Slot}
-use Rattle.texts.specs.declared.program.Class.{Class}
-use Rattle.texts.specs.declared.program.Program.{Program}
+use Rattle.syntax_trees.specs.declared.program.Property.{Property}
+use Rattle.syntax_trees.specs.declared.program.Signal.{Signal}
+use Rattle.syntax_trees.specs.declared.program.Slot.{Slot}
+use Rattle.syntax_trees.specs.declared.program.Class.{Class}
+use Rattle.syntax_trees.specs.declared.program.Program.{Program}
 use Rattle.class_lang.specs.Reads.{ReadsProgram}
 use Rattle.meta_model.specs.declared.object.MetaMethod.{MetaMethod}
 use Rattle.meta_model.specs.declared.object.MetaProperty.{MetaProperty}

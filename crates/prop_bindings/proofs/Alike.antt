@@ -5,14 +5,14 @@ use Rattle.std.specs.Option.{option_map, option_and_then}
 use Rattle.std.proofs.lemmas.Option.{same_Some}
 use Rattle.signatures.specs.declared.value.Value.{Value}
 use Rattle.signatures.specs.declared.value.Value.TheVariants as value
-use Rattle.texts.specs.declared.syntax.Unary.{Unary}
-use Rattle.texts.specs.declared.syntax.Unary.TheVariants.{Not, Minus}
-use Rattle.texts.specs.declared.syntax.Binary.{Binary}
-use Rattle.texts.specs.declared.syntax.Binary.TheVariants.{Add, Subtract, Multiply, Less, AtMost, Greater, AtLeast, Equal, Different, And, Or}
-use Rattle.texts.specs.declared.syntax.Expr.{Expr}
-use Rattle.texts.specs.declared.syntax.Expr.TheOpen as layer
-use Rattle.texts.specs.declared.syntax.Expr.TheViews.{roll-Expr}
-use Rattle.texts.specs.declared.syntax.Expr.TheFolds.{fold-roll-Expr, ind-Expr, map-Expr}
+use Rattle.syntax_trees.specs.declared.syntax.Unary.{Unary}
+use Rattle.syntax_trees.specs.declared.syntax.Unary.TheVariants.{Not, Minus}
+use Rattle.syntax_trees.specs.declared.syntax.Binary.{Binary}
+use Rattle.syntax_trees.specs.declared.syntax.Binary.TheVariants.{Add, Subtract, Multiply, Less, AtMost, Greater, AtLeast, Equal, Different, And, Or}
+use Rattle.syntax_trees.specs.declared.syntax.Expr.{Expr}
+use Rattle.syntax_trees.specs.declared.syntax.Expr.TheOpen as layer
+use Rattle.syntax_trees.specs.declared.syntax.Expr.TheViews.{roll-Expr}
+use Rattle.syntax_trees.specs.declared.syntax.Expr.TheFolds.{fold-roll-Expr, ind-Expr, map-Expr}
 use Rattle.expressions.specs.Operators.{unary, binary, plus, on_numbers, on_truths, equal}
 use Rattle.expressions.specs.Evaluation.{value as value_in, value_step}
 use Rattle.meta_model.specs.declared.object.ValueType.{ValueType}

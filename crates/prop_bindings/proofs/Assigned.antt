@@ -7,13 +7,14 @@ use Rattle.indexmap.specs.IndexMap.{IndexMap, get}
 use Rattle.signatures.specs.declared.value.Value.{Value}
 use Rattle.object_tree.specs.declared.object.Object.{Object}
 use Rattle.object_tree.specs.Objects.{change_life, written}
-use Rattle.prop_bindings.specs.declared.place.Place.{Place}
-use Rattle.prop_bindings.specs.Places.{property_of, same_place, values_in}
+use Rattle.binding_graph.specs.declared.place.Place.{Place}
+use Rattle.binding_graph.specs.Places.{property_of, same_place}
+use Rattle.prop_bindings.specs.Values.{values_in}
 use Rattle.prop_bindings.specs.Changes.{DifferInValues}
 use Rattle.prop_bindings.specs.Plans.{assigned}
-use Rattle.prop_bindings.specs.code.Keys.{key_of, same_key}
+use Rattle.binding_graph.specs.code.Keys.{key_of, same_key}
 use Rattle.prop_bindings.specs.code.Parts.{ahead, value_ahead}
-use Rattle.prop_bindings.proofs.Keyed.{same_place-sym}
+use Rattle.binding_graph.proofs.Keyed.{same_place-sym}
 use Rattle.prop_bindings.proofs.Values.{written-differs, value-changed, same-objects}
 
 -- nothing else differs

@@ -1,15 +1,15 @@
 -- Which evaluations are counted: those of what chains lead to.
 use Rattle.std.proofs.Common.{◌≡◌, ℕ, suc, ◌⊎◌, List, [], ◌∷◌, length, inl, inr, Option, refl, sym, subst}
 use Rattle.object_tree.specs.declared.object.Object.{Object}
-use Rattle.prop_bindings.specs.declared.place.Place.{Place}
-use Rattle.prop_bindings.specs.declared.binding.Binding.{Binding}
-use Rattle.prop_bindings.specs.Places.{In}
-use Rattle.prop_bindings.specs.Bindings.{Chain, direct, further, Loop}
+use Rattle.binding_graph.specs.declared.place.Place.{Place}
+use Rattle.binding_graph.specs.declared.binding.Binding.{Binding}
+use Rattle.binding_graph.specs.Places.{In}
+use Rattle.binding_graph.specs.Bindings.{Chain, direct, further, Loop}
 use Rattle.prop_bindings.specs.Changes.{ReadsAlike, AreChanged, none_changed, one_changed, one_stayed}
 use Rattle.prop_bindings.specs.Counts.{CountsReached, CountsFrom}
-use Rattle.prop_bindings.specs.code.Orders.{IsAffected, IsLater}
-use Rattle.prop_bindings.proofs.Loops.{chain-of-one}
-use Rattle.prop_bindings.proofs.Places.{decide_in}
+use Rattle.binding_graph.specs.code.Orders.{IsAffected, IsLater}
+use Rattle.binding_graph.proofs.Loops.{chain-of-one}
+use Rattle.binding_graph.proofs.Places.{decide_in}
 
 -- what changed doesn't read as it did
 pub changed-apart : (old new : List Object) (ps cs : List Place) (q : Place) → AreChanged old new ps cs → In q cs → ReadsAlike old new q → ⊥

@@ -18,10 +18,10 @@ use Rattle.object_tree.specs.Seen.{seen, seen_object}
 use Rattle.object_tree.specs.Typed.{AreTyped, IsTyped, ReadAs}
 use Rattle.object_tree.proofs.Changing.{life-of-lives, lives-of-life}
 use Rattle.meta_model.specs.declared.site.SourceProperty.{SourceProperty}
-use Rattle.prop_bindings.specs.declared.place.Place.{Place}
-use Rattle.prop_bindings.specs.declared.binding.Binding.{Binding}
-use Rattle.prop_bindings.specs.Places.{values_in}
-use Rattle.prop_bindings.specs.Bindings.{place_of, value_of}
+use Rattle.binding_graph.specs.declared.place.Place.{Place}
+use Rattle.binding_graph.specs.declared.binding.Binding.{Binding}
+use Rattle.prop_bindings.specs.Values.{values_in}
+use Rattle.binding_graph.specs.Bindings.{source_place, value_of}
 use Rattle.prop_bindings.specs.Changes.{valueless, DifferInValues}
 use Rattle.prop_bindings.specs.Fits.{IsFit}
 use Rattle.prop_bindings.proofs.Alike.{BothAlike, sort_of, values-alike, lists-alike, reads-sort, plain-has}
@@ -112,7 +112,7 @@ module _ (p : Loaded) (old new : List Object) (before : AreTyped p old) (after :
   reads-alike (Some q) = envs-alike q
 
   pub value-alike : (b : Binding) → BothAlike (value_of b (values_in old)) (value_of b (values_in new))
-  value-alike b = values-alike (λ (s : SourceProperty). option_and_then (values_in old) (place_of b.sources s)) (λ (s : SourceProperty). option_and_then (values_in new) (place_of b.sources s)) (λ s. reads-alike (place_of b.sources s)) b.formula
+  value-alike b = values-alike (λ (s : SourceProperty). option_and_then (values_in old) (source_place b.sources s)) (λ (s : SourceProperty). option_and_then (values_in new) (source_place b.sources s)) (λ s. reads-alike (source_place b.sources s)) b.formula
 
   fit-by : (b : Binding) (f : IsFit p old b) (found : Option Value) → value_of b (values_in new) ≡ found → BothAlike (Some f.value) found → IsFit p new b
   fit-by b f None is h = absurd (cc h)

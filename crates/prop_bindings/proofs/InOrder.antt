@@ -1,21 +1,22 @@
 -- The changed ones of those that follow a property, in the order in which their bindings were installed, are those of all
 -- bound properties.
-use Rattle.std.proofs.Common.{◌≡◌, ℕ, zero, suc, ◌+◌, ◌<◌, ◌⊎◌, Bool, true, false, cond, not, List, [], ◌∷◌, ◌++◌, map, inl, inr, None, Some, refl, ap, sym, ◌∙◌, subst, arith}
+use Rattle.std.proofs.Common.{◌≡◌, ℕ, zero, suc, ◌+◌, ◌<◌, ◌⊎◌, Bool, true, false, cond, not, List, [], ◌∷◌, ◌++◌, map, inl, inr, Some, refl, ap, sym, ◌∙◌, subst, arith}
 use Rattle.std.specs.Prelude.{◌↔◌, slice_get}
 use Rattle.std.proofs.lemmas.Bool.{false≢true, cases_Bool}
 use Rattle.std.proofs.lemmas.Option.{same_Some}
 use Rattle.object_tree.specs.declared.object.Object.{Object}
-use Rattle.prop_bindings.specs.declared.place.Place.{Place}
-use Rattle.prop_bindings.specs.declared.binding.Binding.{Binding}
-use Rattle.prop_bindings.specs.declared.numbering.Numbered.{Numbered}
-use Rattle.prop_bindings.specs.Places.{Distinct, In, is_in, same_place}
-use Rattle.prop_bindings.specs.Bindings.{binding_at, AreApart, without_all}
+use Rattle.binding_graph.specs.declared.place.Place.{Place}
+use Rattle.binding_graph.specs.declared.binding.Binding.{Binding}
+use Rattle.binding_graph.specs.declared.numbering.Numbered.{Numbered}
+use Rattle.binding_graph.specs.Places.{Distinct, In, is_in}
+use Rattle.binding_graph.specs.Bindings.{AreApart, without_all}
 use Rattle.prop_bindings.specs.Changes.{in_order, ReadsAlike, AreChanged, none_changed, one_changed, one_stayed}
-use Rattle.prop_bindings.specs.code.Graph.{position_of}
-use Rattle.prop_bindings.specs.code.Numbering.{places_of, Above, Rises, AreBy, IsNumbering}
-use Rattle.prop_bindings.proofs.Places.{decide_in, is_in-false, same_place-refl}
-use Rattle.prop_bindings.proofs.Keyed.{position-target}
-use Rattle.prop_bindings.proofs.Several.{distinct-once, is_in-not, left, without_all-left}
+use Rattle.binding_graph.specs.code.Graph.{position_of}
+use Rattle.binding_graph.specs.code.Numbering.{places_of, Above, Rises, AreBy, IsNumbering}
+use Rattle.binding_graph.proofs.Places.{decide_in, is_in-false}
+use Rattle.binding_graph.proofs.Keyed.{none-stands, position-target}
+use Rattle.prop_bindings.proofs.EachOnce.{distinct-once}
+use Rattle.binding_graph.proofs.Several.{is_in-not, left, without_all-left}
 
 -- each stands at its number among these, which begin at k
 abbrev Stand : ℕ → List Binding → List Numbered → Type 0
@@ -29,19 +30,6 @@ stand-tail k b bs (f ∷ fs) a h = (by-index h.0.0 h.0.1 h.0.2 h.0.3 h.0.4, stan
     by-index : (i : ℕ) (c : Binding) → f.number ≡ k + i → slice_get (b ∷ bs) i ≡ Some c → c.target ≡ f.place → (i : ℕ) × (b : Binding) × (f.number ≡ suc k + i) × (slice_get bs i ≡ Some b) × (b.target ≡ f.place)
     by-index zero c is at to = let over : k < f.number = a.0 in absurd (omega (arith, is, over))
     by-index (suc i) c is at to = let moved : f.number ≡ suc k + i = omega (arith, is) in (i, c, moved, at, to)
-
--- no binding of a property stands where it has none
-pub none-stands : (bs : List Binding) (q : Place) (i : ℕ) (c : Binding) → binding_at bs q ≡ None → slice_get bs i ≡ Some c → c.target ≡ q → ⊥
-none-stands [] q i c none at to = cc at
-none-stands (x ∷ xs) q zero c none at to =
-    let same : x ≡ c = same_Some x c at in
-    let hit : same_place x.target q ≡ true = subst (λ (r : Place). same_place x.target r ≡ true) (ap (λ (z : Binding). z.target) same ∙ to) (same_place-refl x.target) in
-    let some : binding_at (x ∷ xs) q ≡ Some x = ap (λ (y : Bool). cond y (Some x) (binding_at xs q)) hit in
-    cc (some, none)
-none-stands (x ∷ xs) q (suc i) c none at to = elim (cases_Bool (same_place x.target q)) [
-  | inl t ↦ (let some : binding_at (x ∷ xs) q ≡ Some x = ap (λ (y : Bool). cond y (Some x) (binding_at xs q)) t in cc (some, none))
-  | inr g ↦ none-stands xs q i c (sym (ap (λ (y : Bool). cond y (Some x) (binding_at xs q)) g) ∙ none) at to
-]
 
 above-over : (k : ℕ) (gs : List Numbered) (n : ℕ) → k < n → Above n gs → Above k gs
 above-over k [] n less a = tt

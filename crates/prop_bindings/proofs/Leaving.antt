@@ -19,15 +19,16 @@ use Rattle.object_tree.proofs.Changing.{get-change_other, life-of-lives, lives-o
 use Rattle.object_tree.proofs.Families.{leaves-part}
 use Rattle.object_tree.proofs.TypedObjects.{typed-died}
 use Rattle.meta_model.specs.declared.site.SourceProperty.{SourceProperty}
-use Rattle.prop_bindings.specs.declared.place.Place.{Place}
-use Rattle.prop_bindings.specs.declared.binding.Binding.{Binding}
-use Rattle.prop_bindings.specs.Places.{property_of, values_in}
-use Rattle.prop_bindings.specs.Bindings.{binding_at, place_of, touches, dropped, value_of}
+use Rattle.binding_graph.specs.declared.place.Place.{Place}
+use Rattle.binding_graph.specs.declared.binding.Binding.{Binding}
+use Rattle.binding_graph.specs.Places.{property_of}
+use Rattle.prop_bindings.specs.Values.{values_in}
+use Rattle.binding_graph.specs.Bindings.{binding_at, source_place, touches, dropped, value_of}
 use Rattle.prop_bindings.specs.Fits.{IsFit, IsInOneLoop, Agree}
 use Rattle.prop_bindings.specs.Laws.{LeftAgree}
-use Rattle.prop_bindings.proofs.Apart.{some-fewer, apart-fewer, acyclic-fewer}
+use Rattle.binding_graph.proofs.Apart.{some-fewer, apart-fewer, acyclic-fewer}
 use Rattle.prop_bindings.proofs.Alike.{reads-sort, plain-has}
-use Rattle.prop_bindings.proofs.Loops.{chain-ends}
+use Rattle.binding_graph.proofs.Loops.{chain-ends}
 use Rattle.prop_bindings.proofs.More.{values-more}
 use Rattle.prop_bindings.proofs.There.{bound-has}
 
@@ -89,7 +90,7 @@ stays-value old new q stays v is = by-life (life_of old q.object) refl is
         ap (λ (there : Option Life). option_and_then (λ (m : Life). slice_get m.values q.property) there) on.1 ∙ ap (λ (vs : List Value). slice_get vs q.property) on.3 ∙ e
 
 module _ (old new : List Object) (b : Binding) (stays : LiveOnFor old new b) where
-  source-still : (s : SourceProperty) (v : Value) → option_and_then (values_in old) (place_of b.sources s) ≡ Some v → option_and_then (values_in new) (place_of b.sources s) ≡ Some v
+  source-still : (s : SourceProperty) (v : Value) → option_and_then (values_in old) (source_place b.sources s) ≡ Some v → option_and_then (values_in new) (source_place b.sources s) ≡ Some v
   source-still s v is = by-source (slice_get b.sources s.source) refl is
     where
       by-source : (found : Option ℕ) → slice_get b.sources s.source ≡ found → option_and_then (values_in old) (option_map (λ o. property_of o s.property) found) ≡ Some v → option_and_then (values_in new) (option_map (λ o. property_of o s.property) found) ≡ Some v
@@ -97,7 +98,7 @@ module _ (old new : List Object) (b : Binding) (stays : LiveOnFor old new b) whe
       by-source (Some o) at e = stays-value old new (property_of o s.property) (stays o (touches-source b s.source o at)) v e
 
   value-still : (v : Value) → value_of b (values_in old) ≡ Some v → value_of b (values_in new) ≡ Some v
-  value-still = values-more (λ (s : SourceProperty). option_and_then (values_in old) (place_of b.sources s)) (λ (s : SourceProperty). option_and_then (values_in new) (place_of b.sources s)) source-still b.formula
+  value-still = values-more (λ (s : SourceProperty). option_and_then (values_in old) (source_place b.sources s)) (λ (s : SourceProperty). option_and_then (values_in new) (source_place b.sources s)) source-still b.formula
 
   fit-still : (p : Loaded) → IsFit p old b → IsFit p new b
   fit-still p f =

@@ -2,19 +2,19 @@
 use Rattle.std.proofs.Common.{◌≡◌, true, false, List, [], ◌∷◌, inl, inr, Option, Some, None, refl, ap, sym, ◌∙◌, subst}
 use Rattle.std.proofs.Math.Path.{fun_ext}
 use Rattle.signatures.specs.declared.value.Value.{Value}
-use Rattle.prop_bindings.specs.declared.place.Place.{Place}
-use Rattle.prop_bindings.specs.declared.binding.Binding.{Binding}
-use Rattle.prop_bindings.specs.Places.{In, same_place}
-use Rattle.prop_bindings.specs.Bindings.{binding_at, without, without_all, replaced, reads_any, value_of, Chain, Settled, Loop}
-use Rattle.prop_bindings.specs.code.Orders.{AreBound, Ordered, update, given, evaluated, pass, bound, IsAffected, IsLater}
-use Rattle.prop_bindings.proofs.Acyclic.{chain-more}
-use Rattle.prop_bindings.proofs.Naming.{reads_any-true}
-use Rattle.prop_bindings.proofs.Places.{decide_place, different}
-use Rattle.prop_bindings.proofs.Passes.{pass-unbound, settled_by_affected, settled_by_later}
-use Rattle.prop_bindings.proofs.Loops.{chain-ends, chain-of-one, later-acyclic}
-use Rattle.prop_bindings.proofs.Walks.{bound-same, bound-other, chain-on, not-reached}
-use Rattle.prop_bindings.proofs.Replaced.{without-at, without-other, installed-is, loop-installed}
-use Rattle.prop_bindings.proofs.Several.{bound-out, without_all-at, without_all-fewer, without_all-other}
+use Rattle.binding_graph.specs.declared.place.Place.{Place}
+use Rattle.binding_graph.specs.declared.binding.Binding.{Binding}
+use Rattle.binding_graph.specs.Places.{In, same_place}
+use Rattle.binding_graph.specs.Bindings.{binding_at, without, without_all, replaced, reads_any, value_of, Chain, Settled, Loop}
+use Rattle.binding_graph.specs.code.Orders.{AreBound, Ordered, update, given, evaluated, pass, bound, IsAffected, IsLater}
+use Rattle.binding_graph.proofs.Acyclic.{chain-more}
+use Rattle.binding_graph.proofs.Naming.{reads_any-true}
+use Rattle.binding_graph.proofs.Places.{decide_place, different}
+use Rattle.binding_graph.proofs.Passes.{pass-unbound, settled_by_affected, settled_by_later}
+use Rattle.binding_graph.proofs.Loops.{chain-ends, chain-of-one, later-acyclic}
+use Rattle.binding_graph.proofs.Walks.{bound-same, bound-other, chain-on, not-reached}
+use Rattle.binding_graph.proofs.Replaced.{without-at, without-other, installed-is, loop-installed}
+use Rattle.binding_graph.proofs.Several.{bound-out, without_all-at, without_all-fewer, without_all-other}
 
 -- the passes of bindings that agree on the list are one
 pub pass-same : (F G : Place → Option Binding) (xs : List Place) (e : Place → Option Value) → ((q : Place) → In q xs → G q ≡ F q) → pass G xs e ≡ pass F xs e

@@ -4,9 +4,9 @@ use Rattle.std.specs.Prelude.{IfOk, OnErr}
 use Rattle.std.specs.Result.{IsErrAnd}
 use Rattle.meta_model.specs.Loaded.{Loaded}
 use Rattle.object_tree.specs.declared.object.Object.{Object}
-use Rattle.prop_bindings.specs.declared.place.Place.{Place}
+use Rattle.binding_graph.specs.declared.place.Place.{Place}
 use Rattle.prop_bindings.specs.declared.assignment.Assignment.{Assignment}
-use Rattle.prop_bindings.specs.declared.binding.Binding.{Binding}
+use Rattle.binding_graph.specs.declared.binding.Binding.{Binding}
 use Rattle.prop_bindings.specs.declared.fault.BindFault.{BindFault}
 use Rattle.prop_bindings.specs.declared.fault.BindFault.TheVariants as bind
 use Rattle.prop_bindings.specs.declared.fault.WriteFault.{WriteFault}

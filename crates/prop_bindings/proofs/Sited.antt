@@ -5,7 +5,7 @@ use Rattle.std.specs.Option.{option_map, option_and_then}
 use Rattle.std.specs.Result.{IsErrAnd}
 use Rattle.std.proofs.lemmas.Option.{same_Some, slice_get_cases}
 use Rattle.signatures.specs.declared.value.Value.{Value}
-use Rattle.texts.specs.declared.syntax.Expr.{Expr}
+use Rattle.syntax_trees.specs.declared.syntax.Expr.{Expr}
 use Rattle.expressions.specs.declared.evaluation.EvalFault.{EvalFault}
 use Rattle.expressions.specs.declared.evaluation.EvalFault.TheVariants as eval
 use Rattle.expressions.specs.Evaluation.{Evaluates}
@@ -19,14 +19,15 @@ use Rattle.meta_model.specs.Sound.{IsSound, IsSoundSite, IsPlain}
 use Rattle.object_tree.specs.declared.life.Life.{Life}
 use Rattle.object_tree.specs.declared.object.Object.{Object}
 use Rattle.object_tree.proofs.Changing.{life-of-lives}
-use Rattle.prop_bindings.specs.declared.binding.Binding.{Binding}
+use Rattle.binding_graph.specs.declared.binding.Binding.{Binding}
 use Rattle.prop_bindings.specs.declared.fault.BindFault.{BindFault}
 use Rattle.prop_bindings.specs.declared.fault.BindFault.TheVariants as bind
 use Rattle.prop_bindings.specs.declared.planned.PlannedBind.{PlannedBind}
 use Rattle.prop_bindings.specs.declared.preparing.Prepared.{Prepared}
 use Rattle.prop_bindings.specs.FaultNumbers.{fault_of}
-use Rattle.prop_bindings.specs.Places.{property_of, values_in}
-use Rattle.prop_bindings.specs.Bindings.{binding_at, replaced, value_of, Loop}
+use Rattle.binding_graph.specs.Places.{property_of}
+use Rattle.prop_bindings.specs.Values.{values_in}
+use Rattle.binding_graph.specs.Bindings.{binding_at, replaced, value_of, Loop}
 use Rattle.prop_bindings.specs.Calls.{IsOf, MayBind, CoversBinding, binding_of, new_binding, IsNotBound, bad_source, bad_type, closes, no_memory}
 use Rattle.prop_bindings.specs.Plans.{PlansBind, after}
 use Rattle.prop_bindings.specs.code.Parts.{IsPrepared, Prepares, IsNotInstalled, loops, short, Installs}

@@ -5,8 +5,8 @@ use Rattle.std.proofs.Math.Path.{fun_ext}
 use Rattle.signatures.specs.declared.value.Value.{Value}
 use Rattle.object_tree.specs.declared.object.Object.{Object}
 use Rattle.object_tree.specs.Seen.{seen}
-use Rattle.prop_bindings.specs.declared.place.Place.{Place}
-use Rattle.prop_bindings.specs.Places.{values_in}
+use Rattle.binding_graph.specs.declared.place.Place.{Place}
+use Rattle.prop_bindings.specs.Values.{values_in}
 use Rattle.prop_bindings.specs.Changes.{DifferInValues, ReadsAlike}
 use Rattle.prop_bindings.proofs.Fitting.{seen-same}
 

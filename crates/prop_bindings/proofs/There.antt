@@ -13,12 +13,13 @@ use Rattle.object_tree.specs.declared.life.Life.{Life}
 use Rattle.object_tree.specs.declared.object.Object.{Object}
 use Rattle.object_tree.specs.Typed.{AreTyped, IsTyped, ReadAs}
 use Rattle.object_tree.proofs.Changing.{life-of-lives}
-use Rattle.prop_bindings.specs.declared.place.Place.{Place}
-use Rattle.prop_bindings.specs.declared.binding.Binding.{Binding}
-use Rattle.prop_bindings.specs.Places.{same_place, values_in}
-use Rattle.prop_bindings.specs.Bindings.{binding_at}
+use Rattle.binding_graph.specs.declared.place.Place.{Place}
+use Rattle.binding_graph.specs.declared.binding.Binding.{Binding}
+use Rattle.binding_graph.specs.Places.{same_place}
+use Rattle.prop_bindings.specs.Values.{values_in}
+use Rattle.binding_graph.specs.Bindings.{binding_at}
 use Rattle.prop_bindings.specs.Fits.{FitsAt}
-use Rattle.prop_bindings.proofs.Places.{decide_place, same_place-refl}
+use Rattle.binding_graph.proofs.Places.{decide_place, same_place-refl}
 
 -- ---- a list of bindings
 -- the binding of a property is one of the list, and the property is its target

@@ -11,11 +11,12 @@ use Rattle.object_tree.specs.declared.life.Life.{Life}
 use Rattle.object_tree.specs.declared.object.Object.{Object}
 use Rattle.object_tree.specs.Objects.{life_of, change_life, with_life, written}
 use Rattle.object_tree.proofs.Changing.{get-change_same, get-change_other}
-use Rattle.prop_bindings.specs.declared.place.Place.{Place}
-use Rattle.prop_bindings.specs.Places.{property_of, same_place, values_in}
+use Rattle.binding_graph.specs.declared.place.Place.{Place}
+use Rattle.binding_graph.specs.Places.{property_of, same_place}
+use Rattle.prop_bindings.specs.Values.{values_in}
 use Rattle.prop_bindings.specs.Changes.{valueless, DifferInValues}
-use Rattle.prop_bindings.specs.code.Orders.{update}
-use Rattle.prop_bindings.proofs.Places.{decide_place, same_place-refl}
+use Rattle.binding_graph.specs.code.Orders.{update}
+use Rattle.binding_graph.proofs.Places.{decide_place, same_place-refl}
 
 abbrev emptied : Life → Life
 emptied l = record l { values = [] }

@@ -6,15 +6,15 @@ use Rattle.meta_model.specs.Members.{Below}
 use Rattle.object_tree.specs.declared.object.Object.{Object}
 use Rattle.object_tree.specs.Objects.{class_of}
 use Rattle.meta_model.specs.declared.site.MetaSite.{MetaSite}
-use Rattle.prop_bindings.specs.declared.place.Place.{Place}
+use Rattle.binding_graph.specs.declared.place.Place.{Place}
 use Rattle.prop_bindings.specs.declared.assignment.Assignment.{Assignment}
-use Rattle.prop_bindings.specs.declared.binding.Binding.{Binding}
+use Rattle.binding_graph.specs.declared.binding.Binding.{Binding}
 use Rattle.prop_bindings.specs.declared.fault.BindFault.{BindFault}
 use Rattle.prop_bindings.specs.declared.fault.BindFault.TheVariants as bind
 use Rattle.prop_bindings.specs.declared.fault.WriteFault.{WriteFault}
 use Rattle.prop_bindings.specs.declared.fault.WriteFault.TheVariants as write
-use Rattle.prop_bindings.specs.Places.{property_of}
-use Rattle.prop_bindings.specs.Bindings.{binding_at, replaced, Loop}
+use Rattle.binding_graph.specs.Places.{property_of}
+use Rattle.binding_graph.specs.Bindings.{binding_at, replaced, Loop}
 use Rattle.prop_bindings.specs.Changes.{IsWritten, IsInstalled}
 use Rattle.prop_bindings.specs.Fits.{FitsAt, IsFit, InOneLoop}
 

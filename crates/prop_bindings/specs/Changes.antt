@@ -6,11 +6,12 @@ use Rattle.signatures.specs.declared.value.Value.{Value}
 use Rattle.object_tree.specs.declared.life.Life.{Life}
 use Rattle.object_tree.specs.declared.object.Object.{Object}
 use Rattle.object_tree.specs.Seen.{seen}
-use Rattle.prop_bindings.specs.declared.place.Place.{Place}
+use Rattle.binding_graph.specs.declared.place.Place.{Place}
 use Rattle.prop_bindings.specs.declared.assignment.Assignment.{Assignment}
-use Rattle.prop_bindings.specs.declared.binding.Binding.{Binding}
-use Rattle.prop_bindings.specs.Places.{values_in, In, is_in, same_place}
-use Rattle.prop_bindings.specs.Bindings.{binding_at, without_all, replaced, Settled}
+use Rattle.binding_graph.specs.declared.binding.Binding.{Binding}
+use Rattle.prop_bindings.specs.Values.{values_in}
+use Rattle.binding_graph.specs.Places.{In, is_in, same_place}
+use Rattle.binding_graph.specs.Bindings.{binding_at, without_all, replaced, Settled}
 
 -- ---- objects whose values change
 abbrev pub valueless : Object → Object

@@ -6,10 +6,10 @@ use Rattle.meta_model.specs.Sound.{IsPlain}
 use Rattle.object_tree.specs.declared.object.Object.{Object}
 use Rattle.object_tree.specs.Objects.{home_of}
 use Rattle.object_tree.specs.Typed.{AreTyped, FitsProperty}
-use Rattle.prop_bindings.specs.declared.place.Place.{Place}
-use Rattle.prop_bindings.specs.declared.binding.Binding.{Binding}
-use Rattle.prop_bindings.specs.Places.{values_in}
-use Rattle.prop_bindings.specs.Bindings.{value_of, binding_at, AreApart, Settled, Loop}
+use Rattle.binding_graph.specs.declared.place.Place.{Place}
+use Rattle.binding_graph.specs.declared.binding.Binding.{Binding}
+use Rattle.prop_bindings.specs.Values.{values_in}
+use Rattle.binding_graph.specs.Bindings.{value_of, binding_at, AreApart, Settled, Loop}
 
 -- the value is of the type of a living object's property
 abbrev pub FitsAt : Loaded → List Object → Place → Value → Type 0

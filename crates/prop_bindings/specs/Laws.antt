@@ -1,29 +1,15 @@
--- Settled values are determined by the bindings and by what isn't bound, so a write and a bind have one outcome; and what
--- is left after a death agrees (docs/machine.md, "Bindings").
-use Rattle.std.specs.Prelude.{◌≡◌, ℕ, List, Option, None}
-use Rattle.signatures.specs.declared.value.Value.{Value}
+-- A write and a bind have one outcome, as settled values are determined by the bindings and by what isn't bound; and what is
+-- left after a death agrees (docs/machine.md, "Bindings").
+use Rattle.std.specs.Prelude.{◌≡◌, ℕ, List}
 use Rattle.meta_model.specs.Loaded.{Loaded}
 use Rattle.object_tree.specs.declared.object.Object.{Object}
 use Rattle.object_tree.specs.Family.{without_life}
-use Rattle.prop_bindings.specs.declared.place.Place.{Place}
+use Rattle.binding_graph.specs.declared.place.Place.{Place}
 use Rattle.prop_bindings.specs.declared.assignment.Assignment.{Assignment}
-use Rattle.prop_bindings.specs.declared.binding.Binding.{Binding}
-use Rattle.prop_bindings.specs.Bindings.{binding_at, replaced, AreApart, dropped, Settled, Loop}
+use Rattle.binding_graph.specs.declared.binding.Binding.{Binding}
+use Rattle.binding_graph.specs.Bindings.{binding_at, replaced, dropped, Loop}
 use Rattle.prop_bindings.specs.Changes.{IsWritten, IsInstalled}
 use Rattle.prop_bindings.specs.Fits.{Agree}
-
--- the values agree with e on what isn't bound
-abbrev pub AgreesUnbound : (Place → Option Binding) → (Place → Option Value) → (Place → Option Value) → Type 0
-AgreesUnbound F e f = (p : Place) → F p ≡ None → f p ≡ e p
-
--- over whatever other values, there is exactly one settled state
-pub record Determines (F : Place → Option Binding) : Type 0 where
-  pub some : (e : Place → Option Value) → (f : Place → Option Value) × Settled F f × AgreesUnbound F e f
-  pub once : (e f : Place → Option Value) → Settled F e → Settled F f → AgreesUnbound F e f → (p : Place) → f p ≡ e p
-
--- bindings of which no chain leads from a property back to itself have exactly one settled state over given other values
-abbrev pub AcyclicDetermine : Type 0
-AcyclicDetermine = (bs : List Binding) → AreApart bs → (¬ Loop (binding_at bs)) → Determines (binding_at bs)
 
 -- what a write makes of bindings and objects that agree is one thing
 abbrev pub WrittenOnce : Type 0

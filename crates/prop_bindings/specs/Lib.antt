@@ -1,5 +1,4 @@
-pub mod Places
-pub mod Bindings
+pub mod Values
 pub mod Changes
 pub mod Fits
 pub mod Calls
@@ -8,3 +7,6 @@ pub mod Counts
 pub mod Laws
 pub mod FaultNumbers
 pub mod code
+pub use Rattle.binding_graph.specs.Places
+pub use Rattle.binding_graph.specs.Bindings
+pub use Rattle.binding_graph.specs.Laws as BindingGraphLaws

@@ -6,17 +6,17 @@ use Rattle.signatures.specs.declared.value.Value.{Value}
 use Rattle.meta_model.specs.Loaded.{Loaded}
 use Rattle.object_tree.specs.declared.object.Object.{Object}
 use Rattle.object_tree.specs.Objects.{change_life, written}
-use Rattle.prop_bindings.specs.declared.place.Place.{Place}
+use Rattle.binding_graph.specs.declared.place.Place.{Place}
 use Rattle.prop_bindings.specs.declared.assignment.Assignment.{Assignment}
-use Rattle.prop_bindings.specs.declared.binding.Binding.{Binding}
+use Rattle.binding_graph.specs.declared.binding.Binding.{Binding}
 use Rattle.prop_bindings.specs.declared.fault.BindFault.{BindFault}
 use Rattle.prop_bindings.specs.declared.fault.WriteFault.{WriteFault}
 use Rattle.prop_bindings.specs.declared.planned.Planned.{Planned}
 use Rattle.prop_bindings.specs.declared.planned.PlannedBind.{PlannedBind}
 use Rattle.prop_bindings.specs.declared.planned.PlannedGroup.{PlannedGroup}
 use Rattle.prop_bindings.specs.declared.planned.PlannedWrite.{PlannedWrite}
-use Rattle.prop_bindings.specs.Places.{values_in}
-use Rattle.prop_bindings.specs.Bindings.{replaced, without_all}
+use Rattle.prop_bindings.specs.Values.{values_in}
+use Rattle.binding_graph.specs.Bindings.{replaced, without_all}
 use Rattle.prop_bindings.specs.Calls.{AllFit, IsNotWritten, IsNotBound, IsBound, new_binding}
 use Rattle.prop_bindings.specs.Changes.{IsWritten, places_in}
 

@@ -3,11 +3,11 @@
 ghost use Rattle.std.specs.Prelude.{◌≡◌};
 ghost use Rattle.std.specs.Option.{option_copied};
 ghost use Rattle.expressions.specs.Evaluation.{Evaluates};
-ghost use Rattle.prop_bindings.specs.Places.{values_in};
+ghost use Rattle.prop_bindings.specs.Values.{values_in};
 ghost use Rattle.prop_bindings.specs.Plans.{assigned};
 ghost use Rattle.prop_bindings.specs.code.Parts.{value_ahead};
 
-use crate::place::Place;
+use binding_graph::Place;
 use expressions::{self, EvalFault};
 use indexmap::IndexMap;
 use meta_objects::SourceProperty;
@@ -24,10 +24,10 @@ pub struct Ahead<'w> {
 
 impl<'w> expressions::World<SourceProperty> for Ahead<'w> {
     ghost use Rattle.std.specs.Option.{option_and_then};
-    ghost use Rattle.prop_bindings.specs.Bindings.{place_of};
+    ghost use Rattle.binding_graph.specs.Bindings.{source_place};
     ghost use Rattle.prop_bindings.specs.code.Parts.{value_ahead};
 
-    ghost read = { λ w named. option_and_then (value_ahead w.values.now w.objects.now) (place_of w.sources.now named) };
+    ghost read = { λ w named. option_and_then (value_ahead w.values.now w.objects.now) (source_place w.sources.now named) };
 
     fn value(&self, named: &SourceProperty) -> Result<Value, EvalFault> {
         let Some(object) = self.sources.get(named.source) else {

@@ -1,6 +1,6 @@
 //! Values that properties are to have.
 
-use crate::place::Place;
+use binding_graph::Place;
 use signatures::Value;
 
 /// A property is to have this value.

@@ -2,26 +2,22 @@
 
 ghost use Rattle.std.specs.Prelude.{◌≡◌, ◌∷◌, slice_get, IfOk, OnOk, OnErr};
 ghost use Rattle.std.specs.Option.{option_copied};
-ghost use Rattle.prop_bindings.specs.Bindings.{binding_at, dropped, lead_out, replaced, without, without_all};
+ghost use Rattle.binding_graph.specs.Bindings.{binding_at, dropped, lead_out, replaced, without, without_all};
 ghost use Rattle.prop_bindings.specs.Calls.{Binds, Writes};
 ghost use Rattle.prop_bindings.specs.Changes.{once, one, places_in};
 ghost use Rattle.prop_bindings.specs.Counts.{CountsBound, CountsFrom, CountsGroup, CountsWritten, Kept, nothing_kept};
 ghost use Rattle.prop_bindings.specs.Fits.{Agree};
-ghost use Rattle.prop_bindings.specs.Laws.{Determines};
+ghost use Rattle.binding_graph.specs.Laws.{Determines};
 ghost use Rattle.prop_bindings.specs.Plans.{PlansBind, PlansGroup, PlansWrite, after};
 ghost use Rattle.prop_bindings.specs.code.Parts.{AgreesWith, Installs, MayInstall, StayAgreeing};
 
 use crate::assignment::Assignment;
-use crate::binding::Binding;
 use crate::changes::plan;
 use crate::fault::{BindFault, WriteFault};
-use crate::followers::followers;
-use crate::graph::Graph;
-use crate::installed::Reader;
-use crate::place::Place;
 use crate::planned::{Planned, PlannedBind, PlannedGroup, PlannedWrite, assign};
 use crate::preparing::{Prepared, fits, has_value, prepare};
 use crate::writes::{Given, all_fit, give_all, give_one, have_all, plan_given};
+use binding_graph::{Binding, Graph, Place, Reader, followers};
 use meta_objects::Meta;
 use object_tree::Tree;
 use signatures::{ObjectId, Value};
@@ -43,9 +39,9 @@ pub struct Bindings {
 
 impl Model for Bindings {
     ghost use Rattle.std.specs.Coded.{codes};
-    ghost use Rattle.prop_bindings.specs.contracts.binding.Binding as held;
+    ghost use Rattle.binding_graph.specs.contracts.binding.Binding as held;
     ghost use Rattle.prop_bindings.specs.Counts.{Kept};
-    ghost use Rattle.prop_bindings.specs.code.Graph.{IsGraph, bindings_of};
+    ghost use Rattle.binding_graph.specs.code.Graph.{IsGraph, bindings_of};
 
     ghost Value = { Kept };
 

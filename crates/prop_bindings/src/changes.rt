@@ -3,22 +3,21 @@
 ghost use Rattle.std.specs.Prelude.{◌≡◌, ◌↔◌, ◌+◌, ◌<◌, ◌^◌, ◌++◌, length, IfOk, IsTrue, OnOk};
 ghost use Rattle.std.specs.Option.{option_map};
 ghost use Rattle.object_tree.specs.Seen.{seen};
-ghost use Rattle.prop_bindings.specs.declared.place.Place.{Place};
-ghost use Rattle.prop_bindings.specs.Places.{Distinct, In, values_in};
-ghost use Rattle.prop_bindings.specs.Bindings.{AreApart, binding_at};
+ghost use Rattle.binding_graph.specs.declared.place.Place.{Place};
+ghost use Rattle.binding_graph.specs.Places.{Distinct, In};
+ghost use Rattle.prop_bindings.specs.Values.{values_in};
+ghost use Rattle.binding_graph.specs.Bindings.{AreApart, binding_at};
 ghost use Rattle.prop_bindings.specs.Changes.{in_order, DifferInValues, AreChanged};
 ghost use Rattle.prop_bindings.specs.Plans.{after};
-ghost use Rattle.prop_bindings.specs.code.Graph.{AreKeyed, bindings_in, position_of};
-ghost use Rattle.prop_bindings.specs.code.Numbering.{IsNumbering, places_of};
-ghost use Rattle.prop_bindings.specs.code.Orders.{AreBound, pass};
+ghost use Rattle.binding_graph.specs.code.Graph.{AreKeyed, bindings_in};
+ghost use Rattle.binding_graph.specs.code.Numbering.{places_of};
+ghost use Rattle.binding_graph.specs.code.Orders.{AreBound, pass};
 ghost use Rattle.prop_bindings.specs.code.Parts.{AddsChanged, GivesOnly, IsSoundBySome, StaySound, ahead, value_ahead};
 
 use crate::ahead::value_ahead;
 use crate::evaluation::evaluate_all;
-use crate::installed::Installed;
-use crate::numbering::Numbered;
-use crate::place::Place;
 use crate::planned::Planned;
+use binding_graph::{Installed, Numbered, Place, by_position};
 use indexmap::IndexMap;
 use object_tree::Tree;
 use signatures::Value;
@@ -67,32 +66,6 @@ pub fn plan(
         changed,
         evaluated: count,
     })
-}
-
-/// Different properties that are bound, in the order in which their bindings were installed.
-fn by_position(
-    alloc: Global,
-    installed: &Installed,
-    places: &[Place],
-) -> Result<Vec<Numbered>, AllocError>
-    requires keyed { AreKeyed installed.now }
-    requires bound { AreBound (binding_at (bindings_in installed.now)) places.now }
-    requires distinct { Distinct places.now }
-    ensures numbered { IfOk result (λ found.
-        IsNumbering (position_of (bindings_in installed.now)) found.items) }
-    ensures same { IfOk result (λ found.
-        (q : Place) → In q (places_of found.items) ↔ In q places.now) }
-{
-    let mut found = Vec::new(alloc);
-    for place in places {
-        let Some(number) = installed.position(place) else {
-            unreachable!()
-        };
-        let place = *place;
-        found.push(Numbered { number, place })?;
-    }
-    found.sort_by_key(|each| each.number)?;
-    Ok(found)
 }
 
 /// Those of the first properties, and then of the others, in their order, that no longer read as they did once these have

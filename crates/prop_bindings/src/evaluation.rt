@@ -2,18 +2,16 @@
 
 ghost use Rattle.std.specs.Prelude.{◌≡◌, ◌+◌, ◌<◌, ◌^◌, length, OnOk};
 ghost use Rattle.expressions.specs.Evaluation.{Evaluates};
-ghost use Rattle.prop_bindings.specs.declared.place.Place.{Place};
-ghost use Rattle.prop_bindings.specs.Places.{values_in};
-ghost use Rattle.prop_bindings.specs.Bindings.{binding_at, value_of};
+ghost use Rattle.binding_graph.specs.declared.place.Place.{Place};
+ghost use Rattle.prop_bindings.specs.Values.{values_in};
+ghost use Rattle.binding_graph.specs.Bindings.{binding_at, value_of};
 ghost use Rattle.prop_bindings.specs.Changes.{DifferInValues};
-ghost use Rattle.prop_bindings.specs.code.Graph.{AreKeyed, bindings_in};
-ghost use Rattle.prop_bindings.specs.code.Orders.{AreBound, pass};
+ghost use Rattle.binding_graph.specs.code.Graph.{AreKeyed, bindings_in};
+ghost use Rattle.binding_graph.specs.code.Orders.{AreBound, pass};
 ghost use Rattle.prop_bindings.specs.code.Parts.{IsSoundBySome, StaySound, ahead, value_ahead};
 
 use crate::ahead::Ahead;
-use crate::binding::Binding;
-use crate::installed::Installed;
-use crate::place::Place;
+use binding_graph::{Binding, Installed, Place};
 use expressions::{EvalFault, eval};
 use indexmap::IndexMap;
 use object_tree::Tree;

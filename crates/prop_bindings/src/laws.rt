@@ -1,12 +1,6 @@
-//! Laws of settled values.
+//! Laws of writes, binds and deaths.
 
-ghost use Rattle.prop_bindings.specs.Laws.{AcyclicDetermine, WrittenOnce, InstalledOnce, LeftAgree};
-
-/// Bindings of which no chain leads from a property back to itself have exactly one settled state over given other
-/// values.
-pub fn acyclic_determine()
-    ensures { AcyclicDetermine }
-{}
+ghost use Rattle.prop_bindings.specs.Laws.{WrittenOnce, InstalledOnce, LeftAgree};
 
 /// What a write makes of bindings and objects that agree is one thing.
 pub fn written_once()

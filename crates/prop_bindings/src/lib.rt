@@ -3,31 +3,21 @@
 
 mod ahead;
 mod assignment;
-mod binding;
 mod bindings;
 mod changes;
 mod evaluation;
 mod fault;
-mod followers;
-mod graph;
-mod installed;
 mod laws;
-mod lists;
-mod numbering;
-mod place;
 mod planned;
 mod preparing;
-mod ranks;
-mod readers;
 mod uncounted;
 mod writes;
 
 pub use ahead::value_ahead;
 pub use assignment::Assignment;
-pub use binding::Binding;
+pub use binding_graph::{Binding, Place, acyclic_determine};
 pub use bindings::Bindings;
 pub use fault::{BindFault, WriteFault};
-pub use laws::{acyclic_determine, installed_once, left_agree, written_once};
-pub use place::Place;
+pub use laws::{installed_once, left_agree, written_once};
 pub use planned::{Planned, PlannedBind, PlannedGroup, PlannedWrite};
 pub use uncounted::UncountedBindings;

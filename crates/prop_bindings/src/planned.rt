@@ -5,8 +5,7 @@ ghost use Rattle.std.specs.Option.{option_copied};
 ghost use Rattle.prop_bindings.specs.Plans.{WillBe};
 ghost use Rattle.prop_bindings.specs.code.Parts.{ahead};
 
-use crate::installed::Reader;
-use crate::place::Place;
+use binding_graph::{Place, Reader};
 use indexmap::IndexMap;
 use object_tree::Tree;
 use signatures::{ObjectId, Value};

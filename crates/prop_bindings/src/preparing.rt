@@ -4,15 +4,14 @@ ghost use Rattle.std.specs.Prelude.{◌≡◌, ◌↔◌, ◌+◌, ◌<◌, ◌^
 ghost use Rattle.std.specs.List.{AllZip};
 ghost use Rattle.expressions.specs.Evaluation.{Evaluates};
 ghost use Rattle.prop_bindings.specs.Fits.{FitsAt, InOneLoop};
-ghost use Rattle.prop_bindings.specs.Places.{values_in};
-ghost use Rattle.prop_bindings.specs.Bindings.{value_of};
+ghost use Rattle.prop_bindings.specs.Values.{values_in};
+ghost use Rattle.binding_graph.specs.Bindings.{value_of};
 ghost use Rattle.prop_bindings.specs.Calls.{IsOf, CoversBinding};
 ghost use Rattle.prop_bindings.specs.code.Parts.{Prepares};
 
-use crate::binding::Binding;
 use crate::evaluation::value_of;
 use crate::fault::BindFault;
-use crate::place::Place;
+use binding_graph::{Binding, Place};
 use expressions::EvalFault;
 use indexmap::IndexMap;
 use meta_objects::{Meta, MetaSite};

@@ -1,7 +1,7 @@
 //! The installed bindings, without the count of evaluations.
 
 ghost use Rattle.std.specs.Prelude.{◌≡◌, [], IfOk, OnOk, OnErr};
-ghost use Rattle.prop_bindings.specs.Bindings.{dropped, lead_out, replaced, without, without_all};
+ghost use Rattle.binding_graph.specs.Bindings.{dropped, lead_out, replaced, without, without_all};
 ghost use Rattle.prop_bindings.specs.Changes.{once, one, places_in};
 ghost use Rattle.prop_bindings.specs.Fits.{Agree};
 ghost use Rattle.prop_bindings.specs.Plans.{PlansBind, PlansGroup, PlansWrite, after};
@@ -10,8 +10,8 @@ ghost use Rattle.prop_bindings.specs.code.Parts.{MayInstall};
 use crate::assignment::Assignment;
 use crate::bindings::Bindings;
 use crate::fault::{BindFault, WriteFault};
-use crate::place::Place;
 use crate::planned::{PlannedBind, PlannedGroup, PlannedWrite};
+use binding_graph::Place;
 use meta_objects::Meta;
 use object_tree::Tree;
 use signatures::{ObjectId, Value};
@@ -29,8 +29,8 @@ pub struct UncountedBindings {
 impl Model for UncountedBindings {
     ghost use Rattle.std.specs.Coded.{coded_list};
     ghost use Rattle.std.specs.Prelude.{List};
-    ghost use Rattle.prop_bindings.specs.contracts.binding.Binding as held;
-    ghost use Rattle.prop_bindings.specs.declared.binding.Binding.{Binding};
+    ghost use Rattle.binding_graph.specs.contracts.binding.Binding as held;
+    ghost use Rattle.binding_graph.specs.declared.binding.Binding.{Binding};
 
     ghost Value = { List Binding };
 

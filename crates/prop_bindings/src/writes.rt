@@ -1,20 +1,18 @@
 //! Writes of properties, one or several at once, planned.
 
 ghost use Rattle.std.specs.Prelude.{◌≡◌, ◌↔◌, ◌∷◌, [], IfOk, IsTrue};
-ghost use Rattle.prop_bindings.specs.Places.{values_in};
+ghost use Rattle.prop_bindings.specs.Values.{values_in};
 ghost use Rattle.prop_bindings.specs.Calls.{AllFit};
 ghost use Rattle.prop_bindings.specs.Changes.{one};
-ghost use Rattle.prop_bindings.specs.code.Graph.{IsGraph, bindings_of};
+ghost use Rattle.binding_graph.specs.code.Graph.{IsGraph, bindings_of};
 ghost use Rattle.prop_bindings.specs.code.Parts.{AreGiven, HaveAhead, MayGiveSome, PlansGiven, ahead};
 
 use crate::ahead::value_ahead;
 use crate::assignment::Assignment;
 use crate::changes::plan;
-use crate::followers::followers;
-use crate::graph::Graph;
-use crate::place::Place;
 use crate::planned::Planned;
 use crate::preparing::{fits, has_value};
+use binding_graph::{Graph, Place, followers};
 use indexmap::IndexMap;
 use meta_objects::Meta;
 use object_tree::Tree;

@@ -3,11 +3,11 @@ use Rattle.std.proofs.Common.{◌≡◌, ℕ, ◌⊎◌, true, false, List, [], 
 use Rattle.std.specs.Result.{IsErrAnd}
 use Rattle.script_lang.specs.declared.event.Event.{Event}
 use Rattle.meta_model.specs.Loaded.{Loaded}
-use Rattle.machine_state.specs.declared.fault.Fault.{Fault}
+use Rattle.trace_entries.specs.declared.fault.Fault.{Fault}
 use Rattle.machine_state.specs.State.{State}
 use Rattle.machine_rules.specs.Natives.{NativeAnswers}
-use Rattle.prop_bindings.specs.declared.binding.Binding.{Binding}
-use Rattle.machine_state.specs.declared.fault.Answer.{Answer}
+use Rattle.binding_graph.specs.declared.binding.Binding.{Binding}
+use Rattle.trace_entries.specs.declared.fault.Answer.{Answer}
 use Rattle.machine_events.specs.Runs.{done, Follows, by_rule, by_event, IsDue, goes_on, is_next}
 use Rattle.machine_events.specs.Causes.{BindsNext, Brings, StopsFor, spent, short, brings, lacks_value, writes_ill, binds_ill, goes_ill, goes_fatal, binds_loop, writes_deep, goes_deep}
 use Rattle.qt_runtime.specs.Seen.{Seen, Completes, Halts, Stays, RunsAll}

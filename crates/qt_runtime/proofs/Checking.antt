@@ -8,11 +8,11 @@ use Rattle.meta_model.specs.Loaded.{Loaded}
 use Rattle.meta_model.specs.Sound.{IsSound}
 use Rattle.script_lang.specs.declared.event.Event.{Event}
 use Rattle.native_slots.specs.Promises.{Takes}
-use Rattle.machine_state.specs.declared.fault.Answer.{Answer}
-use Rattle.machine_state.specs.declared.fault.Fault.{Fault}
+use Rattle.trace_entries.specs.declared.fault.Answer.{Answer}
+use Rattle.trace_entries.specs.declared.fault.Fault.{Fault}
 use Rattle.machine_state.specs.declared.world.World.{World}
 use Rattle.machine_state.specs.Worlds.{at, untouched}
-use Rattle.machine_state.specs.declared.entry.Entry.{Entry}
+use Rattle.trace_entries.specs.declared.entry.Entry.{Entry}
 use Rattle.machine_state.specs.State.{State}
 use Rattle.machine_rules.specs.Good.{HasArguments, Spares, IsAcyclic, AreSettled}
 use Rattle.machine_rules.specs.Natives.{NativeAnswers}

@@ -2,9 +2,9 @@
 use Rattle.std.proofs.Common.{◌⊎◌, inl, inr, ℕ, Bool, List, ap}
 use Rattle.script_lang.specs.declared.event.Event.{Event}
 use Rattle.meta_model.specs.Loaded.{Loaded}
-use Rattle.machine_state.specs.declared.entry.Entry.{Entry}
-use Rattle.machine_state.specs.declared.fault.Answer.{Answer}
-use Rattle.machine_state.specs.declared.fault.Fault.{Fault}
+use Rattle.trace_entries.specs.declared.entry.Entry.{Entry}
+use Rattle.trace_entries.specs.declared.fault.Answer.{Answer}
+use Rattle.trace_entries.specs.declared.fault.Fault.{Fault}
 use Rattle.machine_state.specs.declared.world.World.{World}
 use Rattle.machine_rules.specs.Natives.{NativeAnswers}
 use Rattle.machine_events.proofs.Fronts.{good-front, stops-front}

@@ -3,13 +3,13 @@ use Rattle.std.specs.Prelude.{◌≡◌, ℕ, ◌⊎◌, Bool, false, true, List
 use Rattle.script_lang.specs.declared.event.Event.{Event}
 use Rattle.meta_model.specs.Loaded.{Loaded}
 use Rattle.machine_state.specs.declared.world.World.{World}
-use Rattle.machine_state.specs.declared.entry.Entry.{Entry}
-use Rattle.machine_state.specs.declared.fault.Answer.{Answer}
-use Rattle.machine_state.specs.declared.fault.Answer.TheVariants.{Refused}
-use Rattle.machine_state.specs.declared.fault.Fault.{Fault}
-use Rattle.machine_state.specs.declared.fault.Fault.TheVariants as fault
-use Rattle.machine_state.specs.declared.refusal.Refusal.{Refusal}
-use Rattle.machine_state.specs.Refusals.{refusal_number}
+use Rattle.trace_entries.specs.declared.entry.Entry.{Entry}
+use Rattle.trace_entries.specs.declared.fault.Answer.{Answer}
+use Rattle.trace_entries.specs.declared.fault.Answer.TheVariants.{Refused}
+use Rattle.trace_entries.specs.declared.fault.Fault.{Fault}
+use Rattle.trace_entries.specs.declared.fault.Fault.TheVariants as fault
+use Rattle.trace_entries.specs.declared.refusal.Refusal.{Refusal}
+use Rattle.trace_entries.specs.Refusals.{refusal_number}
 use Rattle.machine_state.specs.Worlds.{at, untouched}
 use Rattle.native_slots.specs.Promises.{Takes}
 use Rattle.machine_rules.specs.Good.{AreSettled}

@@ -1,5 +1,5 @@
 ghost use Rattle.std.specs.Prelude.{◌≡◌, ◌↔◌, ◌<◌, ◌≤◌, ◌^◌, ◌∷◌, [], length, Err, IfOk, IfErr, true, false, None};
-ghost use Rattle.machine_state.specs.declared.fault.Fault.TheVariants.{Steps};
+ghost use Rattle.trace_entries.specs.declared.fault.Fault.TheVariants.{Steps};
 ghost use Rattle.texts.specs.Limits.{most_depth};
 ghost use Rattle.machine_rules.specs.Natives.{KeepPromises};
 ghost use Rattle.qt_runtime.specs.Checked.{Claims, IsChecked, StopsAtLimit};
@@ -7,7 +7,7 @@ ghost use Rattle.qt_runtime.specs.Seen.{AreKept, Completes, RefusesExactly, IsSe
 
 use machine_events::take_event;
 use machine_rules::Interpreter;
-use machine_state::{Answer, Entry, Fault, Trace, World};
+use machine_state::World;
 use meta_objects::Meta;
 use native_slots::Answering;
 use rank_check::Checked;
@@ -15,6 +15,7 @@ use script_lang::Event;
 use std::alloc::{AllocError, Global};
 use std::marker::Model;
 use std::mem;
+use trace_entries::{Answer, Entry, Fault, Trace};
 
 /// A run of a program, event by event.
 pub struct Machine<N> {
@@ -35,7 +36,7 @@ impl<N: Drop> Drop for Machine<N> {
 
 impl<N> Model for Machine<N> {
     ghost use Rattle.std.specs.Coded.{codes};
-    ghost use Rattle.texts.specs.contracts.syntax.Expr as expr;
+    ghost use Rattle.syntax_trees.specs.contracts.syntax.Expr as expr;
     ghost use Rattle.meta_model.specs.contracts.object.Statement as statement;
     ghost use Rattle.meta_model.specs.contracts.site.SourceProperty as source;
     ghost use Rattle.native_slots.specs.Promises.{Promises};

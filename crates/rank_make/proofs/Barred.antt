@@ -9,8 +9,8 @@ use Rattle.effect_scan.specs.Edges.{MayLead}
 use Rattle.effect_scan.specs.Laws.{IsNode, EdgesJoinNodes}
 use Rattle.certificate_lang.specs.declared.certificate.Line.{Line}
 use Rattle.certificate_lang.specs.declared.certificate.Certificate.{Certificate}
-use Rattle.typing.specs.declared.spot.Spot.TheVariants as spot
-use Rattle.typing.specs.Typed.{FindsUntyped}
+use Rattle.type_check.specs.declared.spot.Spot.TheVariants as spot
+use Rattle.type_check.specs.Typed.{FindsUntyped}
 use Rattle.rank_check.specs.Valid.{IsLineOf, Destroys, HasBody, IsValid}
 use Rattle.rank_check.proofs.Elements.{place_of}
 use Rattle.rank_graph.specs.Walks.{Leads, IsWalk, ComesBack}

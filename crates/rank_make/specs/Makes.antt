@@ -2,9 +2,9 @@
 use Rattle.std.specs.Prelude.{Some, Result, Ok, Err}
 use Rattle.meta_model.specs.Loaded.{Loaded}
 use Rattle.certificate_lang.specs.declared.certificate.Certificate.{Certificate}
-use Rattle.typing.specs.Firsts.{IsFirstWithout}
-use Rattle.typing.specs.Wires.{IsFitWire, AreFitWires}
-use Rattle.typing.specs.Typed.{FindsUntyped}
+use Rattle.type_check.specs.Firsts.{IsFirstWithout}
+use Rattle.type_check.specs.Wires.{IsFitWire, AreFitWires}
+use Rattle.type_check.specs.Typed.{FindsUntyped}
 use Rattle.rank_check.specs.Valid.{IsValid}
 use Rattle.rank_check.specs.Entries.{IsReady}
 use Rattle.rank_make.specs.declared.why.Why.{Why}

@@ -12,5 +12,5 @@ pub use certificate_lang::{Certificate, Line, MemberName, NodeName};
 pub use effect_scan::{Member, Node};
 pub use making::make;
 pub use naming::node_name;
-pub use typing::Spot;
+pub use type_check::Spot;
 pub use why::Why;

@@ -18,7 +18,7 @@ use rank_check::Certificate;
 use rank_graph::{Solution, Unranked, solve};
 use sqlite_items::Items;
 use std::alloc::Global;
-use typing::{unfit_wire, untyped};
+use type_check::{unfit_wire, untyped};
 
 /// The least valid certificate of the program: its lines are those of the nodes in their order, each with the number of
 /// edges of the longest chain from the node and the set of the classes of those objects that may be destroyed from there;

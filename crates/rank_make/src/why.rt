@@ -4,7 +4,7 @@ use effect_scan::Node;
 use sqlite_items::Items;
 use std::alloc::AllocError;
 use thiserror::Error;
-use typing::Spot;
+use type_check::Spot;
 
 /// The first reason why no certificate is valid for a program, or that memory was refused.
 #[derive(Debug, Drop, Error)]

@@ -1,7 +1,7 @@
 //! The activations that a trace tells of.
 
-use machine_state::{Entry, EntryKind};
 use std::alloc::{AllocError, Global};
+use trace_entries::{Entry, EntryKind};
 
 /// The places in a trace of the entries with which the activations were begun that are active at its end, the outermost first.
 /// Where one has ended it is only known once the trace goes on further outside.

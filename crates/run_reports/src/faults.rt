@@ -4,10 +4,10 @@ use crate::active::active;
 use crate::events::nature_in;
 use crate::script::Script;
 use crate::suspects::{Nature, Suspects};
-use machine_state::{Entry, Fault};
+use command_output::Output;
 use std::alloc::{AllocError, Global};
 use std::str;
-use trace_lines::Output;
+use trace_entries::{Entry, Fault};
 
 /// So many lines of what was begun are shown from the front, and as many from the back.
 const SHOWN: usize = 5;

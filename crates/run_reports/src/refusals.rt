@@ -2,8 +2,8 @@
 
 use crate::script::Script;
 use diagnostics::meaning;
-use machine_state::Entry;
 use std::alloc::{AllocError, Global};
+use trace_entries::Entry;
 
 /// So many refused events are told.
 const MOST_TOLD: usize = 100;

@@ -3,8 +3,8 @@
 //! A trace tells which events were taken, and not how far the last one had come. A fault comes in the middle of the last
 //! event, or where the next one was to be taken, which then has no line (docs/machine.md, "Faults").
 
-use machine_state::Fault;
 use script_lang::Event;
+use trace_entries::Fault;
 
 /// How an event may lead to a fault.
 #[derive(Clone, Copy, Debug, PartialEq, Eq)]

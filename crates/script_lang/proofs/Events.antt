@@ -1,21 +1,21 @@
 -- Reading events from their parts.
 use Rattle.std.proofs.Common.{ℕ, ◌≡◌, Option, None as no_separator, Result, Ok, Err, List, ◌∷◌, map, refl, sym, ◌∙◌, ap, subst}
-use Rattle.texts.specs.Connections.{spell_connection_type}
-use Rattle.texts.specs.code.Connections.{EndsConnectionType, ReadsConnectionType}
-use Rattle.texts.specs.Lists.{spell_each, spell_listed}
-use Rattle.texts.specs.Literals.{spell_literal, tree_of_literal}
-use Rattle.texts.specs.Optional.{spell_optional_name}
-use Rattle.texts.specs.code.Optional.{EndsWithoutName}
-use Rattle.texts.specs.code.Reading.{Found, EndsAnywhere, IsAtEnd}
-use Rattle.texts.specs.Reading.{spell_name}
-use Rattle.texts.specs.declared.connection.ConnectionType.{ConnectionType}
-use Rattle.texts.specs.declared.connection.Endpoints.{Endpoints}
-use Rattle.texts.specs.declared.fault.ParseFault.{ParseFault}
-use Rattle.texts.specs.declared.syntax.Literal.{Literal}
+use Rattle.token_reading.specs.Connections.{spell_connection_type}
+use Rattle.token_reading.specs.code.Connections.{EndsConnectionType, ReadsConnectionType}
+use Rattle.token_reading.specs.Lists.{spell_each, spell_listed}
+use Rattle.token_reading.specs.Literals.{spell_literal, tree_of_literal}
+use Rattle.token_reading.specs.Optional.{spell_optional_name}
+use Rattle.token_reading.specs.code.Optional.{EndsWithoutName}
+use Rattle.token_reading.specs.code.Reading.{Found, EndsAnywhere, IsAtEnd}
+use Rattle.token_reading.specs.Reading.{spell_name}
+use Rattle.syntax_trees.specs.declared.connection.ConnectionType.{ConnectionType}
+use Rattle.syntax_trees.specs.declared.connection.Endpoints.{Endpoints}
+use Rattle.token_reading.specs.declared.fault.ParseFault.{ParseFault}
+use Rattle.syntax_trees.specs.declared.syntax.Literal.{Literal}
 use Rattle.texts.specs.declared.token.Token.{Token}
 use Rattle.texts.specs.declared.token.Token.TheVariants as token
-use Rattle.texts.proofs.Both.{both_found}
-use Rattle.texts.proofs.Underway.{None}
+use Rattle.token_reading.proofs.Both.{both_found}
+use Rattle.token_reading.proofs.Underway.{None}
 use Rattle.script_lang.specs.declared.event.Event.{Event}
 use Rattle.script_lang.specs.declared.event.Event.TheVariants as tree
 use Rattle.script_lang.specs.declared.event.Input.{Input}

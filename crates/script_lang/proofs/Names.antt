@@ -1,11 +1,11 @@
 -- Names, one after another up to the end of a line.
 use Rattle.std.proofs.Common.{◌≡◌, ℕ, List, [], ◌∷◌, ◌++◌, refl, sym, ◌∙◌, ap, append_assoc}
 use Rattle.std.proofs.lemmas.List.{append-nil}
-use Rattle.texts.specs.Lists.{spell_each}
-use Rattle.texts.specs.code.Reading.{Found, EndsAnywhere, IsAtEnd}
-use Rattle.texts.specs.Reading.{spell_name}
+use Rattle.token_reading.specs.Lists.{spell_each}
+use Rattle.token_reading.specs.code.Reading.{Found, EndsAnywhere, IsAtEnd}
+use Rattle.token_reading.specs.Reading.{spell_name}
 use Rattle.texts.specs.declared.token.Token.{Token}
-use Rattle.texts.proofs.Underway.{None, Underway}
+use Rattle.token_reading.proofs.Underway.{None, Underway}
 
 abbrev pub NamesSoFar : List Token → List (List ℕ) → List Token → Type 0
 NamesSoFar before names now = Underway (spell_each spell_name) (λ names. names) IsAtEnd (spell_each spell_name) (λ more names. names ++ more) before names now

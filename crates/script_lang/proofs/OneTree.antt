@@ -1,20 +1,20 @@
 -- No two readings with the same tokens stand for different events.
 use Rattle.std.proofs.Common.{◌≡◌, ℕ, true, false, List, [], ◌∷◌, map, Option, Some, None, cond, nat_eq, sum, refl, sym, ◌∙◌, ap, subst}
 use Rattle.signatures.specs.Words.{word_spelling}
-use Rattle.texts.specs.Connections.{spell_connection_type}
-use Rattle.texts.specs.code.Connections.{EndsConnectionType}
-use Rattle.texts.specs.Literals.{UnsignedReading, plain, truth, quoted, null, token_of_unsigned, LiteralReading, unsigned, negative, spell_literal}
-use Rattle.texts.specs.code.Optional.{EndsWithoutName}
-use Rattle.texts.specs.code.Reading.{EndsAnywhere, IsAtEnd}
-use Rattle.texts.specs.Reading.{spell_name}
+use Rattle.token_reading.specs.Connections.{spell_connection_type}
+use Rattle.token_reading.specs.code.Connections.{EndsConnectionType}
+use Rattle.token_reading.specs.Literals.{UnsignedReading, plain, truth, quoted, null, token_of_unsigned, LiteralReading, unsigned, negative, spell_literal}
+use Rattle.token_reading.specs.code.Optional.{EndsWithoutName}
+use Rattle.token_reading.specs.code.Reading.{EndsAnywhere, IsAtEnd}
+use Rattle.token_reading.specs.Reading.{spell_name}
 use Rattle.texts.specs.declared.symbol.Symbol.TheVariants.{Close}
 use Rattle.texts.specs.declared.token.Token.{Token}
 use Rattle.texts.specs.declared.token.Token.TheVariants as token
-use Rattle.texts.specs.code.Lists.{IsPart}
-use Rattle.texts.specs.Lists.{spell_each}
-use Rattle.texts.proofs.Both.{one_tree_of_both}
-use Rattle.texts.proofs.Connections.{one_tree_of_ends, one_tree_of_connection_type}
-use Rattle.texts.proofs.OneTree.{HasOneTree, one_tree_of_listed, one_tree_of_literal, one_tree_of_optional_name}
+use Rattle.token_reading.specs.code.Lists.{IsPart}
+use Rattle.token_reading.specs.Lists.{spell_each}
+use Rattle.token_reading.proofs.Both.{one_tree_of_both}
+use Rattle.token_reading.proofs.Connections.{one_tree_of_ends, one_tree_of_connection_type}
+use Rattle.token_reading.proofs.OneTree.{HasOneTree, one_tree_of_listed, one_tree_of_literal, one_tree_of_optional_name}
 use Rattle.script_lang.specs.declared.event.Event.TheVariants as tree
 use Rattle.script_lang.specs.declared.event.Input.TheVariants as input
 use Rattle.script_lang.specs.declared.verb.Verb.{Verb}

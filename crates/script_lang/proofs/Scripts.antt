@@ -4,10 +4,11 @@ use Rattle.std.proofs.lemmas.List.{append-nil, length-append}
 use Rattle.texts.proofs.Cut.{same_tokens}
 use Rattle.texts.specs.Limits.{most_bytes}
 use Rattle.texts.specs.Pieces.{AreTokens}
-use Rattle.texts.specs.code.Reading.{Found, IsAtEnd}
-use Rattle.texts.specs.Signatures.{HasFewTypes, HasPlainReference}
-use Rattle.texts.specs.declared.fault.ParseFault.{ParseFault}
-use Rattle.texts.specs.declared.fault.ParseFault.TheVariants as parse
+use Rattle.token_reading.specs.code.Reading.{Found, IsAtEnd}
+use Rattle.syntax_trees.specs.Connections.{HasFewTypes}
+use Rattle.token_reading.specs.Signatures.{HasPlainReference}
+use Rattle.token_reading.specs.declared.fault.ParseFault.{ParseFault}
+use Rattle.token_reading.specs.declared.fault.ParseFault.TheVariants as parse
 use Rattle.texts.specs.declared.lexer.LexFault.{LexFault}
 use Rattle.texts.specs.declared.lexer.LexFault.TheVariants as lex
 use Rattle.texts.specs.declared.token.Token.{Token}

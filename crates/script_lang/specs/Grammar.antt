@@ -24,14 +24,16 @@
 use Rattle.std.specs.Prelude.{ℕ, ◌≡◌, List, [], ◌∷◌, map, codes, Option, None, All}
 use Rattle.signatures.specs.declared.sig.Sig.{Sig}
 use Rattle.signatures.specs.declared.word.Word.TheVariants as word
-use Rattle.texts.specs.Connections.{BothEnds, spell_ends, tree_of_ends, spell_connection_type, signatures_at}
-use Rattle.texts.specs.Lists.{spell_each, spell_listed}
-use Rattle.texts.specs.Literals.{LiteralReading, spell_literal, tree_of_literal}
-use Rattle.texts.specs.Optional.{spell_optional_name}
-use Rattle.texts.specs.Reading.{spell_name}
-use Rattle.texts.specs.Signatures.{HasFewTypes, HasPlainReference}
-use Rattle.texts.specs.declared.connection.ConnectionType.{ConnectionType}
-use Rattle.texts.specs.declared.connection.Endpoints.{Endpoints}
+use Rattle.token_reading.specs.Connections.{BothEnds, spell_ends, tree_of_ends, spell_connection_type}
+use Rattle.syntax_trees.specs.Connections.{signatures_at}
+use Rattle.token_reading.specs.Lists.{spell_each, spell_listed}
+use Rattle.token_reading.specs.Literals.{LiteralReading, spell_literal, tree_of_literal}
+use Rattle.token_reading.specs.Optional.{spell_optional_name}
+use Rattle.token_reading.specs.Reading.{spell_name}
+use Rattle.syntax_trees.specs.Connections.{HasFewTypes}
+use Rattle.token_reading.specs.Signatures.{HasPlainReference}
+use Rattle.syntax_trees.specs.declared.connection.ConnectionType.{ConnectionType}
+use Rattle.syntax_trees.specs.declared.connection.Endpoints.{Endpoints}
 use Rattle.texts.specs.declared.symbol.Symbol.TheVariants.{Dot}
 use Rattle.texts.specs.declared.token.Token.{Token}
 use Rattle.texts.specs.declared.token.Token.TheVariants as token

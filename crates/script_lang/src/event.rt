@@ -2,7 +2,7 @@
 
 use signatures::Name;
 use sqlite_items::Items;
-use texts::{ConnectionType, Endpoints, Literal};
+use syntax_trees::{ConnectionType, Endpoints, Literal};
 
 /// A value as a script writes it.
 #[derive(Drop)]

@@ -1,8 +1,9 @@
 //! Why a script, or a line of it, isn't read.
 
 use std::alloc::AllocError;
-use texts::{LexFault, ParseFault};
+use texts::LexFault;
 use thiserror::Error;
+use token_reading::ParseFault;
 
 /// Why a text is no script.
 #[derive(Debug, Drop, Error)]

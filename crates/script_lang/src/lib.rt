@@ -11,4 +11,4 @@ mod verb;
 pub use event::{Event, Input};
 pub use fault::ScriptFault;
 pub use reader::{event_trail, one_answer, one_reading, read_script};
-pub use texts::{ConnectionType, Endpoints, Literal};
+pub use syntax_trees::{ConnectionType, Endpoints, Literal};

@@ -2,7 +2,7 @@
 
 ghost use Rattle.std.specs.Prelude.{◌↔◌, IsTrue, All};
 ghost use Rattle.script_lang.specs.Grammar.{signatures_in};
-ghost use Rattle.texts.specs.Signatures.{HasFewTypes};
+ghost use Rattle.syntax_trees.specs.Connections.{HasFewTypes};
 
 use crate::event::Event;
 

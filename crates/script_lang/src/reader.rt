@@ -10,7 +10,8 @@ use crate::limits::event_has_few_types;
 use crate::syntax::event;
 use sqlite_items::Items;
 use std::alloc::Global;
-use texts::{Cursor, MOST_BYTES, Token, Trail, has_plain_reference, split_line, tokens};
+use texts::{MOST_BYTES, Token, split_line, tokens};
+use token_reading::{Cursor, Trail, has_plain_reference};
 
 /// Reads the events of a script, in their order.
 ///

@@ -4,14 +4,15 @@ ghost use Rattle.std.specs.Prelude.{ℕ, List, ◌<◌, length, OnOk};
 ghost use Rattle.script_lang.specs.Grammar.{InputReading, spell_input, tree_of_input, spell_verb, spell_member, spell_invocation};
 ghost use Rattle.script_lang.specs.code.Grammar.{tree_of_invocation, ReadsNames, ReadsFollow, ReadsEvent};
 ghost use Rattle.script_lang.specs.declared.verb.Verb.TheVariants.{Loop, Turn, New, Adopt, Move, Connect, Disconnect, Set, Emit, Call, Bind, Block, Unblock, Delete, Later};
-ghost use Rattle.texts.specs.code.Reading.{Reads, EndsAnywhere};
-ghost use Rattle.texts.specs.Reading.{spell_name};
+ghost use Rattle.token_reading.specs.code.Reading.{Reads, EndsAnywhere};
+ghost use Rattle.token_reading.specs.Reading.{spell_name};
 
 use crate::event::{Event, Input};
 use crate::verb::Verb;
 use signatures::Name;
 use sqlite_items::Items;
-use texts::{Cursor, ParseFault, Part, Symbol, Token, Wanted, both_ends, list};
+use texts::{Symbol, Token};
+use token_reading::{Cursor, ParseFault, Part, Wanted, both_ends, list};
 
 /// Takes the event that the tokens are to be: what is left behind it has to be judged by the caller.
 pub fn event(cursor: &mut Cursor) -> Result<Event, ParseFault>

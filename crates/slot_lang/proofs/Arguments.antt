@@ -3,11 +3,11 @@ use Rattle.std.proofs.Common.{◌≡◌, List, ◌∷◌, refl}
 use Rattle.slot_lang.specs.Expressions.{Expression, expression, conjunction, alone, compared, Sum, sum, term, Factor, prefixed, literal, path, grouped, spell_expression, spell_sum, spell_factor, spell_names}
 use Rattle.slot_lang.specs.code.Expressions.{EndsExpression}
 use Rattle.texts.specs.declared.symbol.Symbol.TheVariants.{Close, Comma}
-use Rattle.texts.specs.declared.syntax.Unary.TheVariants as unary
+use Rattle.syntax_trees.specs.declared.syntax.Unary.TheVariants as unary
 use Rattle.texts.specs.declared.token.Token.{Token}
 use Rattle.texts.specs.declared.token.Token.TheVariants as token
-use Rattle.texts.specs.code.Lists.{IsPart}
-use Rattle.texts.proofs.Literals.{no_symbol}
+use Rattle.token_reading.specs.code.Lists.{IsPart}
+use Rattle.token_reading.proofs.Literals.{no_symbol}
 use Rattle.slot_lang.proofs.Paths.{root_no_symbol}
 use Rattle.slot_lang.proofs.Precedences.{expression_ends}
 

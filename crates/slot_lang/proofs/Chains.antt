@@ -3,15 +3,15 @@ use Rattle.std.proofs.Common.{◌≡◌, ◌∙◌, ◌⊎◌, List, ◌∷◌, 
 use Rattle.slot_lang.specs.code.Expressions.{EndsChain}
 use Rattle.slot_lang.specs.Precedence.{symbol_of, precedence_of, Operator}
 use Rattle.slot_lang.specs.code.Precedence.{NoOperator}
-use Rattle.texts.specs.code.Reading.{Found}
+use Rattle.token_reading.specs.code.Reading.{Found}
 use Rattle.slot_lang.specs.declared.precedence.Precedence.{Precedence}
-use Rattle.texts.specs.declared.syntax.Binary.{Binary}
-use Rattle.texts.specs.declared.syntax.Expr.{Expr}
-use Rattle.texts.specs.declared.syntax.Expr.TheVariants as expr
-use Rattle.texts.specs.declared.syntax.Path.{Path}
+use Rattle.syntax_trees.specs.declared.syntax.Binary.{Binary}
+use Rattle.syntax_trees.specs.declared.syntax.Expr.{Expr}
+use Rattle.syntax_trees.specs.declared.syntax.Expr.TheVariants as expr
+use Rattle.syntax_trees.specs.declared.syntax.Path.{Path}
 use Rattle.texts.specs.declared.token.Token.{Token}
 use Rattle.texts.specs.declared.token.Token.TheVariants as token
-use Rattle.texts.proofs.Underway.{None, Underway}
+use Rattle.token_reading.proofs.Underway.{None, Underway}
 
 -- R are the readings of the rule, P those of its parts, and M those of what follows its first part
 pub record IsChain {R M P : Type 0} (p : Precedence) (spell : R → List Token → List Token) (tree : R → Expr Path) (spell_more : M → List Token → List Token) (tree_more : M → Expr Path → Expr Path) (spell_part : P → List Token → List Token) (tree_part : P → Expr Path) (EndsPart : List Token → Type 0) : Type 0 where

@@ -3,14 +3,14 @@ use Rattle.std.proofs.Common.{◌≡◌, ◌∙◌, ℕ, zero, suc, ◌<◌, ◌
 use Rattle.std.proofs.lemmas.List.Elements.{All-nil, All-cons, All-head, All-tail, All-append, All-more}
 use Rattle.std.proofs.lemmas.List.{take_all}
 use Rattle.signatures.specs.declared.sig.Sig.{Sig}
-use Rattle.texts.specs.declared.syntax.Expr.{Expr}
-use Rattle.texts.specs.declared.syntax.Path.{Path}
-use Rattle.texts.specs.declared.syntax.Stmt.{Stmt}
-use Rattle.texts.specs.declared.syntax.Stmt.TheVariants as stmt
-use Rattle.texts.specs.declared.syntax.Stmt.TheOpen as layer
-use Rattle.texts.specs.declared.syntax.Stmt.TheFolds.{fold-roll-Stmt}
+use Rattle.syntax_trees.specs.declared.syntax.Expr.{Expr}
+use Rattle.syntax_trees.specs.declared.syntax.Path.{Path}
+use Rattle.syntax_trees.specs.declared.syntax.Stmt.{Stmt}
+use Rattle.syntax_trees.specs.declared.syntax.Stmt.TheVariants as stmt
+use Rattle.syntax_trees.specs.declared.syntax.Stmt.TheOpen as layer
+use Rattle.syntax_trees.specs.declared.syntax.Stmt.TheFolds.{fold-roll-Stmt}
 use Rattle.slot_lang.specs.Bodies.{signatures_step, signatures_of, signatures_in}
-use Rattle.texts.specs.Signatures.{HasFewTypes}
+use Rattle.syntax_trees.specs.Connections.{HasFewTypes}
 
 -- ---- lists one after another
 

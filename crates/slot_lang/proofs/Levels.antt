@@ -5,19 +5,19 @@ use Rattle.slot_lang.specs.code.Expressions.{EndsFactor, EndsTerm, EndsSum, Ends
 use Rattle.slot_lang.specs.code.Levels.{precedence_at, spell_at, tree_at, spell_operand, tree_of_operand, EndsOperand}
 use Rattle.slot_lang.specs.Precedence.{symbol_of, precedence_of, Operator}
 use Rattle.slot_lang.specs.code.Precedence.{NoOperator}
-use Rattle.texts.specs.code.Reading.{Found}
+use Rattle.token_reading.specs.code.Reading.{Found}
 use Rattle.slot_lang.specs.declared.precedence.Level.{Level}
 use Rattle.slot_lang.specs.declared.precedence.Level.TheVariants as level
 use Rattle.slot_lang.specs.declared.precedence.Precedence.TheVariants as precedence
-use Rattle.texts.specs.declared.syntax.Binary.{Binary}
-use Rattle.texts.specs.declared.syntax.Expr.{Expr}
-use Rattle.texts.specs.declared.syntax.Expr.TheVariants as tree
-use Rattle.texts.specs.declared.syntax.Path.{Path}
+use Rattle.syntax_trees.specs.declared.syntax.Binary.{Binary}
+use Rattle.syntax_trees.specs.declared.syntax.Expr.{Expr}
+use Rattle.syntax_trees.specs.declared.syntax.Expr.TheVariants as tree
+use Rattle.syntax_trees.specs.declared.syntax.Path.{Path}
 use Rattle.texts.specs.declared.token.Token.{Token}
 use Rattle.texts.specs.declared.token.Token.TheVariants as token
 use Rattle.slot_lang.proofs.Chains.{IsChain}
 use Rattle.slot_lang.proofs.Precedences.{no_dot, term_ends, sum_ends, comparison_ends, conjunction_ends}
-use Rattle.texts.proofs.Underway.{None}
+use Rattle.token_reading.proofs.Underway.{None}
 
 term_parts : (r : Term) → (q : Factor) × (m : Factors) × ((after : List Token) → spell_term r after ≡ spell_factor q (spell_factors m after))
 term_parts (term f fs) = (f, fs, λ after. refl)

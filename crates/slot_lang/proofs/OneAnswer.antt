@@ -6,10 +6,10 @@ use Rattle.slot_lang.specs.code.Faults.{fault_of_parsing}
 use Rattle.slot_lang.specs.Reads.{HasTooManyParameters, IsNormalBody, ReadsBody}
 use Rattle.slot_lang.specs.declared.fault.BodyFault.{BodyFault}
 use Rattle.slot_lang.specs.declared.fault.BodyFault.TheVariants.{Syntax, BadType, TooMany, Memory}
-use Rattle.texts.specs.Signatures.{HasFewTypes}
-use Rattle.texts.specs.declared.fault.ParseFault.{ParseFault}
-use Rattle.texts.specs.declared.fault.ParseFault.TheVariants as parse
-use Rattle.texts.specs.declared.syntax.Stmt.{Stmt}
+use Rattle.syntax_trees.specs.Connections.{HasFewTypes}
+use Rattle.token_reading.specs.declared.fault.ParseFault.{ParseFault}
+use Rattle.token_reading.specs.declared.fault.ParseFault.TheVariants as parse
+use Rattle.syntax_trees.specs.declared.syntax.Stmt.{Stmt}
 use Rattle.texts.specs.declared.token.Token.{Token}
 use Rattle.slot_lang.proofs.Unique.{one_body_tree}
 

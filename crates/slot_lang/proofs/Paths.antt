@@ -2,20 +2,20 @@
 use Rattle.std.proofs.Common.{◌≡◌, ◌∙◌, ℕ, List, [], ◌∷◌, ◌++◌, refl, sym, ap, append_assoc}
 use Rattle.std.proofs.lemmas.List.{append-nil}
 use Rattle.signatures.specs.declared.word.Word.TheVariants as word
-use Rattle.texts.specs.code.Cursor.{NotAt, NotAtWord}
+use Rattle.token_reading.specs.code.Cursor.{NotAt, NotAtWord}
 use Rattle.slot_lang.specs.Expressions.{spell_root, spell_names, spell_path}
 use Rattle.slot_lang.specs.code.Expressions.{EndsFactor}
 use Rattle.slot_lang.specs.Grammar.{Target, spell_target}
-use Rattle.texts.specs.code.Reading.{EndsAnywhere, Found}
-use Rattle.texts.specs.Reading.{spell_name}
+use Rattle.token_reading.specs.code.Reading.{EndsAnywhere, Found}
+use Rattle.token_reading.specs.Reading.{spell_name}
 use Rattle.texts.specs.declared.symbol.Symbol.{Symbol}
 use Rattle.texts.specs.declared.symbol.Symbol.TheVariants.{Dot}
-use Rattle.texts.specs.declared.syntax.Path.{Path}
-use Rattle.texts.specs.declared.syntax.Root.{Root}
-use Rattle.texts.specs.declared.syntax.Root.TheVariants as root
+use Rattle.syntax_trees.specs.declared.syntax.Path.{Path}
+use Rattle.syntax_trees.specs.declared.syntax.Root.{Root}
+use Rattle.syntax_trees.specs.declared.syntax.Root.TheVariants as root
 use Rattle.texts.specs.declared.token.Token.{Token}
 use Rattle.texts.specs.declared.token.Token.TheVariants as token
-use Rattle.texts.proofs.Underway.{None, Underway}
+use Rattle.token_reading.proofs.Underway.{None, Underway}
 
 -- ---- {"." Name}
 

@@ -1,6 +1,6 @@
 -- Operators by their symbols.
 use Rattle.std.proofs.Common.{◌≡◌, ◌∙◌, List, [], ◌∷◌, Option, Some, None, refl, ap}
-use Rattle.texts.specs.code.Cursor.{NotAt}
+use Rattle.token_reading.specs.code.Cursor.{NotAt}
 use Rattle.slot_lang.specs.code.Expressions.{EndsTerm, EndsSum, EndsComparison, EndsConjunction, EndsExpression}
 use Rattle.slot_lang.specs.Precedence.{symbol_of, precedence_of}
 use Rattle.slot_lang.specs.code.Precedence.{NoOperator}
@@ -8,8 +8,8 @@ use Rattle.slot_lang.specs.declared.precedence.Precedence.{Precedence}
 use Rattle.slot_lang.specs.declared.precedence.Precedence.TheVariants as precedence
 use Rattle.texts.specs.declared.symbol.Symbol.{Symbol}
 use Rattle.texts.specs.declared.symbol.Symbol.TheVariants as symbol
-use Rattle.texts.specs.declared.syntax.Binary.{Binary}
-use Rattle.texts.specs.declared.syntax.Binary.TheVariants as binary
+use Rattle.syntax_trees.specs.declared.syntax.Binary.{Binary}
+use Rattle.syntax_trees.specs.declared.syntax.Binary.TheVariants as binary
 use Rattle.texts.specs.declared.token.Token.{Token}
 use Rattle.texts.specs.declared.token.Token.TheVariants as token
 

@@ -3,15 +3,15 @@ use Rattle.std.proofs.Common.{◌≡◌, ◌∙◌, List, [], ◌∷◌, ◌++�
 use Rattle.std.proofs.lemmas.List.{append-nil}
 use Rattle.signatures.specs.declared.word.Word.TheVariants as word
 use Rattle.slot_lang.specs.Grammar.{Assignment, spell_assignment, tree_of_assignment, spell_set, spell_sets, trees_of_sets}
-use Rattle.texts.specs.Lists.{spell_each}
-use Rattle.texts.specs.code.Cursor.{NotAt, NotAtWord}
-use Rattle.texts.specs.code.Reading.{EndsAnywhere, Found, Reads}
-use Rattle.texts.specs.declared.fault.ParseFault.{ParseFault}
+use Rattle.token_reading.specs.Lists.{spell_each}
+use Rattle.token_reading.specs.code.Cursor.{NotAt, NotAtWord}
+use Rattle.token_reading.specs.code.Reading.{EndsAnywhere, Found, Reads}
+use Rattle.token_reading.specs.declared.fault.ParseFault.{ParseFault}
 use Rattle.texts.specs.declared.symbol.Symbol.TheVariants.{CloseBrace}
-use Rattle.texts.specs.declared.syntax.Stmt.{Stmt}
+use Rattle.syntax_trees.specs.declared.syntax.Stmt.{Stmt}
 use Rattle.texts.specs.declared.token.Token.{Token}
 use Rattle.texts.specs.declared.token.Token.TheVariants as token
-use Rattle.texts.proofs.Underway.{None, Underway}
+use Rattle.token_reading.proofs.Underway.{None, Underway}
 
 -- ---- a set
 

@@ -4,21 +4,21 @@ use Rattle.slot_lang.specs.Expressions.{Expression, spell_expression, spell_path
 use Rattle.slot_lang.specs.code.Expressions.{EndsFactor}
 use Rattle.slot_lang.specs.Grammar.{Target, spell_target, spell_value, spell_arguments, Assignment, spell_assignment, tree_of_assignment, spell_set, Sets, spell_sets, trees_of_sets, Emission, spell_emission, tree_of_emission, Call, spell_call, tree_of_call, spell_condition, spell_path_ends, tree_of_path_ends, spell_how, spell_connection, tree_of_connection, spell_disconnection, tree_of_disconnection, spell_object, Body, no_more, more, Statement, set, emit, call, choice, connect, disconnect, delete, later, group, Else, no_else, else_block, spell_statements, spell_statement, spell_else, spell_block, tree_of_block, tree_of_statement, tree_of_else, IsBody}
 use Rattle.slot_lang.specs.code.Grammar.{EndsStatement}
-use Rattle.texts.specs.code.Connections.{EndsAtSig, EndsConnectionType}
-use Rattle.texts.specs.code.Reading.{EndsAnywhere}
+use Rattle.token_reading.specs.code.Connections.{EndsAtSig, EndsConnectionType}
+use Rattle.token_reading.specs.code.Reading.{EndsAnywhere}
 use Rattle.texts.specs.declared.symbol.Symbol.TheVariants.{Comma, Semicolon, CloseBrace}
-use Rattle.texts.specs.declared.syntax.Path.{Path}
-use Rattle.texts.specs.declared.syntax.Stmt.{Stmt}
-use Rattle.texts.specs.declared.syntax.Stmt.TheVariants as stmt
+use Rattle.syntax_trees.specs.declared.syntax.Path.{Path}
+use Rattle.syntax_trees.specs.declared.syntax.Stmt.{Stmt}
+use Rattle.syntax_trees.specs.declared.syntax.Stmt.TheVariants as stmt
 use Rattle.texts.specs.declared.token.Token.{Token}
 use Rattle.texts.specs.declared.token.Token.TheVariants as token
 use Rattle.slot_lang.proofs.Arguments.{expressions_are_parts}
-use Rattle.texts.proofs.Both.{one_tree_of_both}
-use Rattle.texts.proofs.Connections.{one_tree_of_ends, one_tree_of_connection_type}
+use Rattle.token_reading.proofs.Both.{one_tree_of_both}
+use Rattle.token_reading.proofs.Connections.{one_tree_of_ends, one_tree_of_connection_type}
 use Rattle.slot_lang.proofs.Bodies.{begins_with_no_symbol, ends_in_body, value_meets, arguments_meet}
 use Rattle.slot_lang.proofs.Factors.{ends_at_close}
 use Rattle.slot_lang.proofs.OneExpression.{one_path, one_tree_of_expression}
-use Rattle.texts.proofs.OneTree.{HasOneTree, one_tree_of_listed}
+use Rattle.token_reading.proofs.OneTree.{HasOneTree, one_tree_of_listed}
 use Rattle.slot_lang.proofs.Paths.{whole_path, spelled_whole}
 use Rattle.slot_lang.proofs.Sets.{spell_left}
 use Rattle.slot_lang.proofs.Precedences.{expression_ends}

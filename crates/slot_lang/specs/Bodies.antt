@@ -1,10 +1,10 @@
 -- The signatures in slot bodies (docs/language.md, "Limits").
 use Rattle.std.specs.Prelude.{List, [], ◌++◌, flat_map}
 use Rattle.signatures.specs.declared.sig.Sig.{Sig}
-use Rattle.texts.specs.Connections.{signatures_at}
-use Rattle.texts.specs.declared.syntax.Stmt.{Stmt}
-use Rattle.texts.specs.declared.syntax.Stmt.TheOpen as layer
-use Rattle.texts.specs.declared.syntax.Stmt.TheFolds.{fold-Stmt}
+use Rattle.syntax_trees.specs.Connections.{signatures_at}
+use Rattle.syntax_trees.specs.declared.syntax.Stmt.{Stmt}
+use Rattle.syntax_trees.specs.declared.syntax.Stmt.TheOpen as layer
+use Rattle.syntax_trees.specs.declared.syntax.Stmt.TheFolds.{fold-Stmt}
 
 -- the signatures in a statement, from those in the statements of its blocks
 abbrev pub signatures_step : layer.Stmt-F (List Sig) → List Sig

@@ -10,16 +10,17 @@
 --   path   = ("this" | Name) {"." Name}
 use Rattle.std.specs.Prelude.{ℕ, ◌≡◌, List, [], ◌∷◌}
 use Rattle.signatures.specs.declared.word.Word.TheVariants as word
-use Rattle.texts.specs.Literals.{UnsignedReading, token_of_unsigned, tree_of_unsigned, literal_value}
+use Rattle.token_reading.specs.Literals.{UnsignedReading, token_of_unsigned, tree_of_unsigned}
+use Rattle.syntax_trees.specs.Literals.{literal_value}
 use Rattle.slot_lang.specs.Precedence.{symbol_of, prefix_symbol_of, Operator}
 use Rattle.slot_lang.specs.declared.precedence.Precedence.TheVariants as precedence
 use Rattle.texts.specs.declared.symbol.Symbol.TheVariants.{Dot, Open, Close}
-use Rattle.texts.specs.declared.syntax.Expr.{Expr}
-use Rattle.texts.specs.declared.syntax.Expr.TheVariants as tree
-use Rattle.texts.specs.declared.syntax.Path.{Path}
-use Rattle.texts.specs.declared.syntax.Root.{Root}
-use Rattle.texts.specs.declared.syntax.Root.TheVariants as root
-use Rattle.texts.specs.declared.syntax.Unary.{Unary}
+use Rattle.syntax_trees.specs.declared.syntax.Expr.{Expr}
+use Rattle.syntax_trees.specs.declared.syntax.Expr.TheVariants as tree
+use Rattle.syntax_trees.specs.declared.syntax.Path.{Path}
+use Rattle.syntax_trees.specs.declared.syntax.Root.{Root}
+use Rattle.syntax_trees.specs.declared.syntax.Root.TheVariants as root
+use Rattle.syntax_trees.specs.declared.syntax.Unary.{Unary}
 use Rattle.texts.specs.declared.token.Token.{Token}
 use Rattle.texts.specs.declared.token.Token.TheVariants as token
 

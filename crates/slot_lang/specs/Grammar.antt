@@ -18,15 +18,15 @@
 -- `group` is a name; the other statements begin with reserved words.
 use Rattle.std.specs.Prelude.{ℕ, ◌≡◌, List, [], ◌∷◌, map, codes, Some}
 use Rattle.signatures.specs.declared.word.Word.TheVariants as word
-use Rattle.texts.specs.Connections.{BothEnds, spell_ends, tree_of_ends, spell_connection_type}
+use Rattle.token_reading.specs.Connections.{BothEnds, spell_ends, tree_of_ends, spell_connection_type}
 use Rattle.slot_lang.specs.Expressions.{Expression, spell_expression, spell_group, spell_path, tree_of_expression}
-use Rattle.texts.specs.Lists.{spell_each, spell_listed, trees_of_parts}
-use Rattle.texts.specs.declared.connection.ConnectionType.{ConnectionType}
-use Rattle.texts.specs.declared.connection.Endpoints.{Endpoints}
+use Rattle.token_reading.specs.Lists.{spell_each, spell_listed, trees_of_parts}
+use Rattle.syntax_trees.specs.declared.connection.ConnectionType.{ConnectionType}
+use Rattle.syntax_trees.specs.declared.connection.Endpoints.{Endpoints}
 use Rattle.texts.specs.declared.symbol.Symbol.TheVariants.{Dot, Comma, Assign, Semicolon, Open, OpenBrace, CloseBrace}
-use Rattle.texts.specs.declared.syntax.Path.{Path}
-use Rattle.texts.specs.declared.syntax.Stmt.{Stmt}
-use Rattle.texts.specs.declared.syntax.Stmt.TheVariants as stmt
+use Rattle.syntax_trees.specs.declared.syntax.Path.{Path}
+use Rattle.syntax_trees.specs.declared.syntax.Stmt.{Stmt}
+use Rattle.syntax_trees.specs.declared.syntax.Stmt.TheVariants as stmt
 use Rattle.texts.specs.declared.token.Token.{Token}
 use Rattle.texts.specs.declared.token.Token.TheVariants as token
 

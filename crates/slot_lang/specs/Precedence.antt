@@ -4,10 +4,10 @@ use Rattle.slot_lang.specs.declared.precedence.Precedence.{Precedence}
 use Rattle.slot_lang.specs.declared.precedence.Precedence.TheVariants as precedence
 use Rattle.texts.specs.declared.symbol.Symbol.{Symbol}
 use Rattle.texts.specs.declared.symbol.Symbol.TheVariants as symbol
-use Rattle.texts.specs.declared.syntax.Binary.{Binary}
-use Rattle.texts.specs.declared.syntax.Binary.TheVariants as binary
-use Rattle.texts.specs.declared.syntax.Unary.{Unary}
-use Rattle.texts.specs.declared.syntax.Unary.TheVariants as unary
+use Rattle.syntax_trees.specs.declared.syntax.Binary.{Binary}
+use Rattle.syntax_trees.specs.declared.syntax.Binary.TheVariants as binary
+use Rattle.syntax_trees.specs.declared.syntax.Unary.{Unary}
+use Rattle.syntax_trees.specs.declared.syntax.Unary.TheVariants as unary
 
 abbrev pub symbol_of : Binary → Symbol
 symbol_of binary.Add = symbol.Plus

@@ -4,8 +4,9 @@ use Rattle.slot_lang.specs.Bodies.{signatures_in}
 use Rattle.slot_lang.specs.Grammar.{IsBody, IsNoBody}
 use Rattle.slot_lang.specs.declared.fault.BodyFault.{BodyFault}
 use Rattle.slot_lang.specs.declared.fault.BodyFault.TheVariants.{Syntax, BadType, TooMany, Memory}
-use Rattle.texts.specs.Signatures.{HasFewTypes, HasPlainReference}
-use Rattle.texts.specs.declared.syntax.Stmt.{Stmt}
+use Rattle.syntax_trees.specs.Connections.{HasFewTypes}
+use Rattle.token_reading.specs.Signatures.{HasPlainReference}
+use Rattle.syntax_trees.specs.declared.syntax.Stmt.{Stmt}
 use Rattle.texts.specs.declared.token.Token.{Token}
 
 -- the number of a refusal; want of memory has none

@@ -5,8 +5,8 @@ ghost use Rattle.slot_lang.specs.Expressions.{tree_of_expression};
 ghost use Rattle.slot_lang.specs.Grammar.{IsBody, IsNoBody, OneBody, spell_value, spell_call, tree_of_call, spell_else, tree_of_else, spell_block, tree_of_block};
 ghost use Rattle.slot_lang.specs.code.Grammar.{ReadsStatement, ReadsAssignment, ReadsEmission, ReadsCondition, ReadsArguments, spell_choice, tree_of_choice, EndsStatement};
 ghost use Rattle.slot_lang.specs.Reads.{ReadsBody, OneAnswer};
-ghost use Rattle.texts.specs.code.Reading.{Reads, EndsAnywhere};
-ghost use Rattle.texts.specs.declared.fault.ParseFault.TheVariants.{Syntax};
+ghost use Rattle.token_reading.specs.code.Reading.{Reads, EndsAnywhere};
+ghost use Rattle.token_reading.specs.declared.fault.ParseFault.TheVariants.{Syntax};
 ghost use Rattle.texts.specs.declared.token.Token.TheVariants as token;
 
 use crate::connection::{connection, disconnection};
@@ -19,10 +19,9 @@ use crate::update_group::update_group;
 use signatures::{Name, Word};
 use sqlite_items::Items;
 use std::alloc::Global;
-use texts::{
-    Body, Cursor, Expr, Landmark, ParseFault, Path, Stmt, Symbol, Token, Wanted,
-    has_plain_reference, list,
-};
+use syntax_trees::{Body, Expr, Path, Stmt};
+use texts::{Symbol, Token};
+use token_reading::{Cursor, Landmark, ParseFault, Wanted, has_plain_reference, list};
 
 /// What begins a statement.
 const STATEMENTS: [Wanted; 9] = [

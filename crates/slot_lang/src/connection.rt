@@ -3,10 +3,12 @@
 ghost use Rattle.std.specs.Prelude.{◌<◌, length, OnOk};
 ghost use Rattle.slot_lang.specs.code.Grammar.{ReadsConnection, ReadsDisconnection};
 ghost use Rattle.slot_lang.specs.Grammar.{spell_how};
-ghost use Rattle.texts.specs.code.Reading.{Reads, EndsAnywhere};
+ghost use Rattle.token_reading.specs.code.Reading.{Reads, EndsAnywhere};
 
 use crate::path::PathPart;
-use texts::{ConnectionType, Cursor, ParseFault, Stmt, Symbol, both_ends};
+use syntax_trees::{ConnectionType, Stmt};
+use texts::Symbol;
+use token_reading::{Cursor, ParseFault, both_ends};
 
 /// What separates the parts of a connection.
 const SEPARATOR: Option<Symbol> = Some(Symbol::Comma);

@@ -3,10 +3,12 @@
 ghost use Rattle.std.specs.Prelude.{◌<◌, length, OnOk};
 ghost use Rattle.slot_lang.specs.code.Grammar.{ReadsDeletion, ReadsLaterDeletion};
 ghost use Rattle.slot_lang.specs.Grammar.{spell_object};
-ghost use Rattle.texts.specs.code.Reading.{Reads, EndsAnywhere};
+ghost use Rattle.token_reading.specs.code.Reading.{Reads, EndsAnywhere};
 
 use crate::path::path;
-use texts::{Cursor, ParseFault, Path, Stmt, Symbol};
+use syntax_trees::{Path, Stmt};
+use texts::Symbol;
+use token_reading::{Cursor, ParseFault};
 
 /// What follows `delete`.
 pub fn deletion(cursor: &mut Cursor) -> Result<Stmt, ParseFault>

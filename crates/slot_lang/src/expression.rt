@@ -4,21 +4,20 @@ ghost use Rattle.std.specs.Prelude.{◌≡◌, ◌<◌, ◌≤◌, length, IfOk,
 ghost use Rattle.slot_lang.specs.Expressions.{Expression, IsExpr, OneExpression, spell_expression, tree_of_expression, spell_factor, tree_of_factor, spell_group};
 ghost use Rattle.slot_lang.specs.code.Expressions.{EndsExpression, EndsFactor, ReadsExpression, ReadsComparison, ReadsPrefixed, ReadsPathFrom, Closes};
 ghost use Rattle.slot_lang.specs.code.Levels.{ReadsChain, ReadsOperand};
-ghost use Rattle.texts.specs.code.Reading.{Reads, EndsAnywhere};
-ghost use Rattle.texts.specs.declared.fault.ParseFault.TheVariants.{Syntax};
-ghost use Rattle.texts.specs.declared.syntax.Expr.{Expr};
-ghost use Rattle.texts.specs.declared.syntax.Expr.TheVariants as tree;
-ghost use Rattle.texts.specs.declared.syntax.Path.{Path};
+ghost use Rattle.token_reading.specs.code.Reading.{Reads, EndsAnywhere};
+ghost use Rattle.token_reading.specs.declared.fault.ParseFault.TheVariants.{Syntax};
+ghost use Rattle.syntax_trees.specs.declared.syntax.Expr.{Expr};
+ghost use Rattle.syntax_trees.specs.declared.syntax.Expr.TheVariants as tree;
+ghost use Rattle.syntax_trees.specs.declared.syntax.Path.{Path};
 
 use crate::path::names;
 use crate::precedence::{Level, Precedence, operator};
 use signatures::Word;
 use sqlite_items::Boxed;
 use std::alloc::{AllocError, Global};
-use texts::{
-    Binary, Cursor, Expr, GREATEST, ParseFault, Part, Path, Root, Symbol, Token, Unary, Wanted,
-    unsigned_literal,
-};
+use syntax_trees::{Binary, Expr, Path, Root, Unary};
+use texts::{Symbol, Token};
+use token_reading::{Cursor, GREATEST, ParseFault, Part, Wanted, unsigned_literal};
 
 /// What an operand begins with, besides `this`.
 const OPERAND: [Wanted; 9] = [

@@ -3,8 +3,8 @@
 ghost use Rattle.std.specs.Prelude.{◌≡◌};
 ghost use Rattle.slot_lang.specs.Reads.{number_of};
 
-use texts::ParseFault;
 use thiserror::Error;
+use token_reading::ParseFault;
 
 /// Why tokens aren't a slot's body.
 #[derive(Debug, Drop, Error)]

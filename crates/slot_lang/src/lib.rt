@@ -17,7 +17,8 @@ pub use expressions::{Classes, EvalFault, ExprType, Names, World, eval, type_of}
 pub use fault::BodyFault;
 pub use limits::body_has_few_parameters;
 pub use precedence::Precedence;
-pub use texts::{
-    Binary, Body, ConnectionType, Endpoints, Expr, LexFault, Literal, ParseFault, Path, Root, Stmt,
-    Token, Unary, nesting, tokens,
+pub use syntax_trees::{
+    Binary, Body, ConnectionType, Endpoints, Expr, Literal, Path, Root, Stmt, Unary,
 };
+pub use texts::{LexFault, Token, nesting, tokens};
+pub use token_reading::ParseFault;

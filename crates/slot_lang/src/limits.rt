@@ -2,9 +2,9 @@
 
 ghost use Rattle.std.specs.Prelude.{◌↔◌, IsTrue, All};
 ghost use Rattle.slot_lang.specs.Bodies.{signatures_of, signatures_in};
-ghost use Rattle.texts.specs.Signatures.{HasFewTypes};
+ghost use Rattle.syntax_trees.specs.Connections.{HasFewTypes};
 
-use texts::Stmt;
+use syntax_trees::Stmt;
 
 /// Whether no signature in the body has more than 8 types.
 #[cycle(bodies)]

@@ -4,12 +4,14 @@ ghost use Rattle.std.specs.Prelude.{◌≡◌, ◌<◌, ◌≤◌, length, OnOk}
 ghost use Rattle.slot_lang.specs.Expressions.{spell_root, spell_names, spell_path};
 ghost use Rattle.slot_lang.specs.code.Expressions.{EndsFactor};
 ghost use Rattle.slot_lang.specs.Grammar.{spell_target};
-ghost use Rattle.texts.specs.code.Reading.{Reads, EndsAnywhere};
-ghost use Rattle.texts.specs.declared.syntax.Path.{Path};
+ghost use Rattle.token_reading.specs.code.Reading.{Reads, EndsAnywhere};
+ghost use Rattle.syntax_trees.specs.declared.syntax.Path.{Path};
 
 use signatures::{Name, Word};
 use sqlite_items::Items;
-use texts::{Cursor, ParseFault, Part, Path, Root, Symbol};
+use syntax_trees::{Path, Root};
+use texts::Symbol;
+use token_reading::{Cursor, ParseFault, Part};
 
 /// `("this" | Name) {"." Name}`
 ///

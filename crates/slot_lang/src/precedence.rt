@@ -5,7 +5,9 @@ ghost use Rattle.slot_lang.specs.code.Levels.{precedence_at};
 ghost use Rattle.slot_lang.specs.Precedence.{symbol_of, precedence_of};
 ghost use Rattle.slot_lang.specs.code.Precedence.{IsOperatorOf, IsNextOperator, TakesOperator};
 
-use texts::{Binary, Cursor, Symbol, Token, Wanted};
+use syntax_trees::Binary;
+use texts::{Symbol, Token};
+use token_reading::{Cursor, Wanted};
 
 /// How tight an operator binds, the loosest first.
 #[derive(Clone, Copy, Debug, PartialEq, Eq)]

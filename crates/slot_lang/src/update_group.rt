@@ -3,12 +3,14 @@
 ghost use Rattle.std.specs.Prelude.{◌<◌, length, OnOk};
 ghost use Rattle.slot_lang.specs.Grammar.{spell_set, tree_of_assignment};
 ghost use Rattle.slot_lang.specs.code.Grammar.{ReadsSets, ReadsUpdateGroup};
-ghost use Rattle.texts.specs.code.Reading.{Reads, EndsAnywhere};
+ghost use Rattle.token_reading.specs.code.Reading.{Reads, EndsAnywhere};
 
 use crate::body::assignment;
 use signatures::Word;
 use sqlite_items::Items;
-use texts::{Cursor, Landmark, ParseFault, Stmt, Symbol};
+use syntax_trees::Stmt;
+use texts::Symbol;
+use token_reading::{Cursor, Landmark, ParseFault};
 
 /// What follows `group`.
 pub fn update_group(cursor: &mut Cursor) -> Result<Stmt, ParseFault>

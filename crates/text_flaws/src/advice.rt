@@ -9,7 +9,8 @@ use crate::pattern::{fits, start_of};
 use crate::source::Part;
 use diagnostics::{Place, Printed, nearest};
 use std::alloc::{AllocError, Global};
-use texts::{Symbol, Token, Wanted, Word};
+use texts::{Symbol, Token, Word};
+use token_reading::Wanted;
 
 /// The first words of events.
 const VERBS: [&[u8]; 15] = [

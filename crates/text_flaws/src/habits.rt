@@ -6,7 +6,8 @@
 //! front of the misfit, without its first one. The first line that fits counts.
 
 use crate::misfit::Misfit;
-use texts::{Symbol, Wanted, Word};
+use texts::{Symbol, Word};
+use token_reading::Wanted;
 
 /// Where a habit is met: by what could come there.
 #[derive(Clone, Copy, Debug, PartialEq, Eq)]

@@ -5,7 +5,8 @@ ghost use Rattle.std.specs.Prelude.{◌≤◌, length, IfOk, IfSome};
 use crate::source::{Source, within};
 use diagnostics::Flaw;
 use std::alloc::{AllocError, Global};
-use texts::{MOST_BYTES, Symbol, Token, Trail, Word};
+use texts::{MOST_BYTES, Symbol, Token, Word};
+use token_reading::Trail;
 
 /// A limit of how many declarations there may be.
 struct Limit {

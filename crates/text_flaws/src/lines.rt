@@ -12,7 +12,8 @@ use diagnostics::Flaw;
 use script_lang::event_trail;
 use sqlite_items::Items;
 use std::alloc::{AllocError, Global};
-use texts::{PlaceFault, PlacedToken, Token, Trail, Wanted, number, placed_tokens, split_line};
+use texts::{PlaceFault, PlacedToken, Token, number, placed_tokens, split_line};
+use token_reading::{Trail, Wanted};
 
 /// What is wrong with this line of a script, counted from 1: its place is in that line.
 pub fn script_flaw(alloc: Global, text: &[u8], line: usize) -> Result<Option<Flaw>, AllocError>

@@ -6,7 +6,8 @@ use crate::wanted::push_wanted;
 use diagnostics::Flaw;
 use signatures::LONGEST_TEXT;
 use std::alloc::{AllocError, Global};
-use texts::{Symbol, Token, Trail, Wanted, Word};
+use texts::{Symbol, Token, Word};
+use token_reading::{Trail, Wanted};
 
 /// A token that can't stand where it does, or the end where it comes too early.
 #[derive(Clone, Copy)]

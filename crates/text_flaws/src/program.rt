@@ -9,7 +9,8 @@ use crate::source::{Source, plain_tokens, whole, within};
 use class_lang::program_trail;
 use diagnostics::{Flaw, meaning};
 use std::alloc::{AllocError, Global};
-use texts::{PlaceFault, Token, Trail, Word, placed_tokens};
+use texts::{PlaceFault, Token, Word, placed_tokens};
+use token_reading::Trail;
 
 /// What is wrong with a program that is refused for the reason of this number, where that has a place in its text: a
 /// byte that begins no token (4), the first token that can't stand where it does (5), one that nests too deep (6), a

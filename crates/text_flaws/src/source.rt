@@ -6,7 +6,8 @@ use diagnostics::{Flaw, Printed};
 use sqlite_items::Items;
 use std::alloc::{AllocError, Global};
 use std::fmt;
-use texts::{LexFault, PlacedToken, Symbol, Token, Trail, tokens};
+use texts::{LexFault, PlacedToken, Symbol, Token, tokens};
+use token_reading::Trail;
 
 /// So many tokens are shown at most.
 const MOST_SHOWN: usize = 40;

@@ -2,7 +2,8 @@
 
 use diagnostics::push_printed;
 use std::alloc::{AllocError, Global};
-use texts::{GREATEST, Symbol, Wanted, Word};
+use texts::{Symbol, Word};
+use token_reading::{GREATEST, Wanted};
 
 /// What is looked for at once, and how it is called.
 struct Group {

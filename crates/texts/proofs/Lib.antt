@@ -1,11 +1,3 @@
-pub mod OneTree
-pub mod Both
-pub mod Connections
-pub mod Underway
-pub mod Listed
-pub mod Signatures
-pub mod PlainReferences
-pub mod Literals
 pub mod Numbers
 pub mod Runs
 pub mod Table
@@ -15,7 +7,4 @@ pub mod Cut
 pub mod Counting
 pub mod FrontLines
 pub mod Partings
-pub mod NormalTypes
-pub mod SignatureTexts
-pub mod SignatureCuts
 pub mod Placing

@@ -4,14 +4,6 @@ pub mod Symbols
 pub mod Pieces
 pub mod Nesting
 pub mod Lines
-pub mod Reading
-pub mod Lists
-pub mod Optional
 pub mod Numerals
-pub mod Literals
-pub mod Signatures
-pub mod SignatureTexts
-pub mod Connections
-pub mod Trees
 pub mod code
 pub use Rattle.signatures.specs.Name

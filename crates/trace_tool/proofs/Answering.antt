@@ -5,7 +5,7 @@ use Rattle.meta_model.specs.Loaded.{Loaded}
 use Rattle.machine_rules.specs.Natives.{NativeAnswers}
 use Rattle.qt_runtime.specs.Checked.{Claims, StopsAtLimit}
 use Rattle.qt_runtime.specs.Seen.{Seen, begun}
-use Rattle.machine_state.specs.declared.fault.Fault.{Fault}
+use Rattle.trace_entries.specs.declared.fault.Fault.{Fault}
 use Rattle.trace_tool.specs.Commands.{EndsAtLimit}
 use Rattle.trace_tool.specs.Cut.{AreTexts}
 

@@ -1,6 +1,6 @@
 -- What is written where nothing was done.
 use Rattle.std.proofs.Common.{◌≡◌, ◌≤◌, ◌⊎◌, inl, inr, ℕ, List, [], Option, Some, None, Result, Ok, Err, codes, refl, arith}
-use Rattle.machine_state.specs.declared.fault.Fault.{Fault}
+use Rattle.trace_entries.specs.declared.fault.Fault.{Fault}
 use Rattle.rank_make.specs.declared.why.Why.{Why}
 use Rattle.rank_make.specs.declared.why.Why.TheVariants as why
 use Rattle.script_lang.specs.declared.fault.ScriptFault.{ScriptFault}

@@ -5,16 +5,16 @@ use Rattle.std.proofs.lemmas.List.Concat.{flat_map-append}
 use Rattle.script_lang.specs.declared.event.Event.{Event}
 use Rattle.meta_model.specs.Loaded.{Loaded}
 use Rattle.native_slots.specs.Promises.{Takes}
-use Rattle.machine_state.specs.Faults.{number_of as fault_number}
-use Rattle.machine_state.specs.declared.entry.Entry.{Entry}
-use Rattle.machine_state.specs.declared.fault.Fault.{Fault}
+use Rattle.trace_entries.specs.Faults.{number_of as fault_number}
+use Rattle.trace_entries.specs.declared.entry.Entry.{Entry}
+use Rattle.trace_entries.specs.declared.fault.Fault.{Fault}
 use Rattle.machine_rules.specs.Natives.{NativeAnswers}
 use Rattle.qt_runtime.specs.Checked.{IsChecked, Claims, StopsAtLimit}
 use Rattle.qt_runtime.specs.Seen.{Seen, AreKept, RunsAll, begun, with_front}
 use Rattle.program_commands.specs.Refusals.{fault_line}
-use Rattle.trace_lines.specs.Lines.{entry_line, trace_text}
-use Rattle.trace_lines.specs.Sent.{TakesWith}
-use Rattle.trace_lines.specs.declared.output.Output.{Output}
+use Rattle.command_output.specs.Lines.{entry_line, trace_text}
+use Rattle.command_output.specs.Sent.{TakesWith}
+use Rattle.command_output.specs.declared.output.Output.{Output}
 use Rattle.trace_tool.specs.Commands.{Runs, RunsFaultless, ran, ran_faultless}
 use Rattle.trace_tool.specs.Outcomes.{Writes, outcome_text, outcome_status, run_text, run_status}
 use Rattle.trace_tool.specs.Prepared.{RunsSo, Prepares, ComesOf, ComesOfRun, CarriesOut, with_gone}

@@ -2,20 +2,20 @@
 use Rattle.std.proofs.Common.{◌≡◌, ℕ, ◌⊎◌, inr, List, [], ◌∷◌, ◌++◌, Option, None, Ok, Err, true, false, refl, sym, ap, ◌∙◌, subst, append-nil}
 use Rattle.std.proofs.lemmas.List.Concat.{flat_map-append}
 use Rattle.script_lang.specs.declared.event.Event.{Event}
-use Rattle.machine_state.specs.declared.entry.Entry.{Entry}
-use Rattle.machine_state.specs.declared.fault.Answer.{Answer}
-use Rattle.machine_state.specs.declared.fault.Fault.{Fault}
-use Rattle.machine_state.specs.declared.fault.Fault.TheVariants.{Stopped}
+use Rattle.trace_entries.specs.declared.entry.Entry.{Entry}
+use Rattle.trace_entries.specs.declared.fault.Answer.{Answer}
+use Rattle.trace_entries.specs.declared.fault.Fault.{Fault}
+use Rattle.trace_entries.specs.declared.fault.Fault.TheVariants.{Stopped}
 use Rattle.machine_rules.specs.Natives.{NativeAnswers}
 use Rattle.qt_runtime.specs.Checked.{StopsAtLimit}
 use Rattle.qt_runtime.specs.Seen.{Seen, Completes, Halts, Stays, cleared, with_front}
 use Rattle.qt_runtime.proofs.Applying.{completes-none, completes-then, run-stops}
 use Rattle.qt_runtime.proofs.Checking.{limit-behind}
 use Rattle.qt_runtime.proofs.Fronts.{completes-front, stop-front}
-use Rattle.trace_lines.specs.Lines.{entry_line, trace_text}
-use Rattle.trace_lines.specs.Sent.{Puts}
-use Rattle.trace_lines.specs.declared.output.Output.{Output}
-use Rattle.trace_lines.proofs.Sending.{sent, as_text, none_sent}
+use Rattle.command_output.specs.Lines.{entry_line, trace_text}
+use Rattle.command_output.specs.Sent.{Puts}
+use Rattle.command_output.specs.declared.output.Output.{Output}
+use Rattle.command_output.proofs.Sending.{sent, as_text, none_sent}
 use Rattle.trace_tool.specs.code.Streaming.{Streams}
 
 -- these events were taken, and what they wrote down was handed over, and put into the output

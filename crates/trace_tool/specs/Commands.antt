@@ -11,7 +11,7 @@ use Rattle.rank_check.specs.Checks.{Checking, Checks}
 use Rattle.script_lang.specs.Reads.{ReadsScript}
 use Rattle.script_lang.specs.declared.event.Event.{Event}
 use Rattle.machine_rules.specs.Natives.{NativeAnswers}
-use Rattle.machine_state.specs.declared.fault.Fault.{Fault}
+use Rattle.trace_entries.specs.declared.fault.Fault.{Fault}
 use Rattle.qt_runtime.specs.Checked.{Claims}
 use Rattle.qt_runtime.specs.Seen.{Seen, RunsAll, begun}
 use Rattle.program_commands.specs.declared.outcome.Outcome.{Outcome as ProgramOutcome}

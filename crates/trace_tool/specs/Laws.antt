@@ -5,9 +5,9 @@ use Rattle.meta_model.specs.Sound.{IsSound}
 use Rattle.native_slots.specs.declared.action.Action.{Action}
 use Rattle.native_slots.specs.declared.head.NativeHead.{NativeHead}
 use Rattle.script_lang.specs.declared.event.Event.{Event}
-use Rattle.machine_state.specs.declared.fault.Answer.{Answer}
-use Rattle.machine_state.specs.declared.fault.Fault.{Fault}
-use Rattle.machine_state.specs.declared.fault.Fault.TheVariants.{Steps}
+use Rattle.trace_entries.specs.declared.fault.Answer.{Answer}
+use Rattle.trace_entries.specs.declared.fault.Fault.{Fault}
+use Rattle.trace_entries.specs.declared.fault.Fault.TheVariants.{Steps}
 use Rattle.machine_state.specs.State.{State}
 use Rattle.machine_state.specs.Worlds.{at, untouched}
 use Rattle.machine_rules.specs.Natives.{NativeAnswers, AnswersOnce}

@@ -1,11 +1,11 @@
 -- What command lines write of what they come to, and their exit status (docs/commands.md, "Exit status").
 use Rattle.std.specs.Prelude.{◌≡◌, ℕ, List, [], ◌++◌, Option, Result, Ok, Err}
-use Rattle.machine_state.specs.Faults.{number_of as fault_number}
-use Rattle.machine_state.specs.declared.entry.Entry.{Entry}
-use Rattle.machine_state.specs.declared.fault.Fault.{Fault}
+use Rattle.trace_entries.specs.Faults.{number_of as fault_number}
+use Rattle.trace_entries.specs.declared.entry.Entry.{Entry}
+use Rattle.trace_entries.specs.declared.fault.Fault.{Fault}
 use Rattle.program_commands.specs.Outcomes.{outcome_text as program_text, outcome_status as program_status, WritesAs, IsShortAs}
 use Rattle.program_commands.specs.Refusals.{memory_line, usage_line, fault_line}
-use Rattle.trace_lines.specs.Lines.{trace_text}
+use Rattle.command_output.specs.Lines.{trace_text}
 use Rattle.trace_tool.specs.declared.input.InputFault.{InputFault}
 use Rattle.trace_tool.specs.declared.input.InputFault.TheVariants as input
 use Rattle.trace_tool.specs.declared.outcome.Outcome.{Outcome}

@@ -3,11 +3,11 @@
 use Rattle.std.specs.Prelude.{◌≡◌, ℕ, List, Option, Result, IfErr}
 use Rattle.script_lang.specs.declared.event.Event.{Event}
 use Rattle.native_slots.specs.Promises.{Takes}
-use Rattle.machine_state.specs.declared.entry.Entry.{Entry}
+use Rattle.trace_entries.specs.declared.entry.Entry.{Entry}
 use Rattle.machine_rules.specs.Natives.{NativeAnswers}
 use Rattle.qt_runtime.specs.Checked.{IsChecked, Claims, StopsAtLimit}
 use Rattle.qt_runtime.specs.Seen.{Seen, AreKept, RunsAll, with_front}
-use Rattle.trace_lines.specs.Sent.{TakesWith}
+use Rattle.command_output.specs.Sent.{TakesWith}
 use Rattle.trace_tool.specs.Outcomes.{outcome_text, outcome_status}
 use Rattle.trace_tool.specs.declared.outcome.Outcome.{Outcome}
 use Rattle.trace_tool.specs.declared.outcome.Outcome.TheVariants.{Ran as OfRun}

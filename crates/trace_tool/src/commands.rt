@@ -14,11 +14,11 @@ use crate::outcome::{Outcome, UsageFault};
 use crate::prepared::{Carried, Prepared};
 use crate::runs::{prepare_run, prepare_unchecked_run, written};
 use crate::words::Command;
+use command_output::WriteFault;
 use native_slots::{Answering, Natives};
 use program_commands::{Outcome as ProgramOutcome, certify_outcome, check_outcome, meta_outcome};
 use std::alloc::Global;
 use std::io::{Read, Write};
-use trace_lines::WriteFault;
 
 /// What was done for a command line, with the input that was read for it.
 #[derive(Drop)]

@@ -10,6 +10,7 @@ mod prepared;
 mod runs;
 mod words;
 
+pub use command_output::WriteFault;
 pub use commands::{Answered, answer, command, respond};
 pub use input::{InputFault, LARGEST_INPUT};
 pub use laws::{one_command_outcome, one_run_outcome, stopped_is_front, undone_is_a_line};
@@ -18,4 +19,3 @@ pub use prepared::Carried;
 pub use program_commands::{Outcome as ProgramOutcome, Refusal, Why, certify, check, meta};
 pub use qt_runtime::{Entry, Fault, ScriptFault};
 pub use runs::{run, run_outcome, run_unchecked, unchecked_run_outcome};
-pub use trace_lines::WriteFault;

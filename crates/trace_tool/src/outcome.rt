@@ -1,16 +1,16 @@
 //! What a command line comes to, and how it is written.
 
 ghost use Rattle.std.specs.Prelude.{◌≡◌};
-ghost use Rattle.trace_lines.specs.Sent.{Puts, TakesWith};
+ghost use Rattle.command_output.specs.Sent.{Puts, TakesWith};
 ghost use Rattle.trace_tool.specs.Outcomes.{outcome_text, outcome_status, run_text, run_status};
 
 use crate::input::InputFault;
+use command_output::{Output, WriteFault};
 use native_slots::Answering;
 use program_commands::Outcome as ProgramOutcome;
 use qt_runtime::{Entry, Fault, Machine};
 use std::alloc::Global;
 use std::io::Write;
-use trace_lines::{Output, WriteFault};
 
 /// The exit status after a whole run.
 const WHOLE: u8 = 0;

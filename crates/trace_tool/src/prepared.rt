@@ -7,12 +7,12 @@ ghost use Rattle.trace_tool.specs.Prepared.{ComesOf, ComesOfRun, CarriesOut, May
 ghost use Rattle.trace_tool.specs.code.Streaming.{Streams};
 
 use crate::outcome::{Outcome, Ran};
+use command_output::{Output, WriteFault};
 use native_slots::Answering;
 use qt_runtime::{Entry, Event, Fault, Machine, Trace};
 use sqlite_items::Items;
 use std::alloc::Global;
 use std::io::Write;
-use trace_lines::{Output, WriteFault};
 
 /// A run that is about to begin.
 #[derive(Drop)]

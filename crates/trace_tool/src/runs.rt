@@ -13,6 +13,7 @@ ghost use Rattle.trace_tool.specs.declared.prepared.Prepared.TheVariants.{Done};
 
 use crate::outcome::Outcome;
 use crate::prepared::{Carried, Prepared, Ready};
+use command_output::WriteFault;
 use native_slots::{Answering, Natives};
 use program_commands::{Outcome as ProgramOutcome, Refusal, load_certified, load_program};
 use qt_runtime::{Event, Machine, Meta, read_script};
@@ -20,7 +21,6 @@ use rank_check::{Checked, check};
 use sqlite_items::Items;
 use std::alloc::Global;
 use std::io::Write;
-use trace_lines::WriteFault;
 
 /// What `run` comes to: the run of a program on a script, or why there is none.
 ///

@@ -15,7 +15,7 @@ use meta_objects::Meta;
 use program_commands::{Outcome, Refusal, certify_outcome, check_outcome};
 use program_flaws::Source;
 use std::alloc::{AllocError, Global};
-use texts::Program;
+use syntax_trees::Program;
 
 /// The exit status where nothing is found.
 const CLEAN: u8 = 0;

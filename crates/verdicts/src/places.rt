@@ -3,9 +3,8 @@
 use class_lang::program_trail;
 use diagnostics::Place;
 use std::alloc::{AllocError, Global};
-use texts::{
-    Begun, Landmark, LexFault, PlaceFault, PlacedToken, Token, Word, placed_tokens, tokens,
-};
+use texts::{LexFault, PlaceFault, PlacedToken, Token, Word, placed_tokens, tokens};
+use token_reading::{Begun, Landmark};
 
 /// Where a slot or native stands, and the statements of its body, in the order of the text.
 #[derive(Drop)]

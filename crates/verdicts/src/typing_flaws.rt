@@ -9,7 +9,7 @@ use meta_objects::{Meta, MetaWire};
 use program_flaws::{unfit_text, untyped_text};
 use signatures::fits;
 use std::alloc::AllocError;
-use typing::{Spot, flaw_at};
+use type_check::{Spot, flaw_at};
 
 /// Adds each wire whose method doesn't fit its signal.
 pub fn gather_wires(located: Located<'_>, found: &mut Verdict) -> Result<(), AllocError> {

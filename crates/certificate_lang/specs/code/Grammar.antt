@@ -1,9 +1,9 @@
 -- What the readers of a line's parts do.
 use Rattle.std.specs.Prelude.{◌≡◌, ℕ, List, ◌∷◌, Result}
-use Rattle.texts.specs.code.Cursor.{NotAt}
-use Rattle.texts.specs.code.Reading.{Reads, EndsAnywhere, IsAtEnd}
+use Rattle.token_reading.specs.code.Cursor.{NotAt}
+use Rattle.token_reading.specs.code.Reading.{Reads, EndsAnywhere, IsAtEnd}
 use Rattle.texts.specs.Numerals.{value_of}
-use Rattle.texts.specs.declared.fault.ParseFault.{ParseFault}
+use Rattle.token_reading.specs.declared.fault.ParseFault.{ParseFault}
 use Rattle.texts.specs.declared.symbol.Symbol.TheVariants.{Open}
 use Rattle.texts.specs.declared.token.Token.{Token}
 use Rattle.texts.specs.declared.token.Token.TheVariants as token

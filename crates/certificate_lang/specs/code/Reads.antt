@@ -2,8 +2,8 @@
 use Rattle.std.specs.Borrow.{Bor}
 use Rattle.std.specs.Prelude.{◌≡◌, ℕ, List, [], ◌∷◌, Option, Some, None, MatchOption, Result, Ok, Err}
 use Rattle.std.specs.List.{AllZip}
-use Rattle.texts.specs.declared.fault.ParseFault.{ParseFault}
-use Rattle.texts.specs.declared.fault.ParseFault.TheVariants as parse
+use Rattle.token_reading.specs.declared.fault.ParseFault.{ParseFault}
+use Rattle.token_reading.specs.declared.fault.ParseFault.TheVariants as parse
 use Rattle.texts.specs.declared.lexer.LexFault.{LexFault}
 use Rattle.texts.specs.declared.lexer.LexFault.TheVariants as lex
 use Rattle.texts.specs.declared.token.Token.{Token}

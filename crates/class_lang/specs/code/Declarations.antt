@@ -1,17 +1,17 @@
 -- What the readers of declarations do, where a declaration may end, and what a program with some more is.
 use Rattle.std.specs.Prelude.{ℕ, List, Result, ◌++◌, Option}
-use Rattle.texts.specs.code.Reading.{Reads, EndsAnywhere, IsAtEnd}
-use Rattle.texts.specs.declared.fault.ParseFault.{ParseFault}
+use Rattle.token_reading.specs.code.Reading.{Reads, EndsAnywhere, IsAtEnd}
+use Rattle.token_reading.specs.declared.fault.ParseFault.{ParseFault}
 use Rattle.texts.specs.declared.token.Token.{Token}
-use Rattle.texts.specs.declared.program.Formal.{Formal}
-use Rattle.texts.specs.declared.program.Site.{Site}
+use Rattle.syntax_trees.specs.declared.program.Formal.{Formal}
+use Rattle.syntax_trees.specs.declared.program.Site.{Site}
 use Rattle.class_lang.specs.Sites.{spell_formal, tree_of_formal, spell_site, tree_of_site}
-use Rattle.texts.specs.code.Cursor.{NotAt}
-use Rattle.texts.specs.Lists.{spell_each}
+use Rattle.token_reading.specs.code.Cursor.{NotAt}
+use Rattle.token_reading.specs.Lists.{spell_each}
 use Rattle.texts.specs.declared.symbol.Symbol.TheVariants.{Semicolon}
 use Rattle.class_lang.specs.declared.declarations.Declaration.{Declaration}
-use Rattle.texts.specs.declared.program.Class.{Class}
-use Rattle.texts.specs.declared.program.Program.{Program}
+use Rattle.syntax_trees.specs.declared.program.Class.{Class}
+use Rattle.syntax_trees.specs.declared.program.Program.{Program}
 use Rattle.class_lang.specs.Declarations.{spell_members, class_of, spell_declaration, tree_of_declaration, classes_in, wires_in, owns_in, sites_in, tree_of_program}
 
 abbrev pub ReadsFormal : List Token → Result Formal ParseFault → List Token → Type 0

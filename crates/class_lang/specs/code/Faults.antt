@@ -1,6 +1,6 @@
 -- Faults of cutting and of reading tokens, as faults of the text.
-use Rattle.texts.specs.declared.fault.ParseFault.{ParseFault}
-use Rattle.texts.specs.declared.fault.ParseFault.TheVariants as parse
+use Rattle.token_reading.specs.declared.fault.ParseFault.{ParseFault}
+use Rattle.token_reading.specs.declared.fault.ParseFault.TheVariants as parse
 use Rattle.texts.specs.declared.lexer.LexFault.{LexFault}
 use Rattle.texts.specs.declared.lexer.LexFault.TheVariants as lex
 use Rattle.class_lang.specs.declared.fault.TextFault.{TextFault}

@@ -6,12 +6,12 @@ use Rattle.meta_model.specs.Loaded.{Loaded}
 use Rattle.object_tree.specs.declared.life.Life.{Life}
 use Rattle.object_tree.specs.declared.object.Object.{Object}
 use Rattle.object_tree.specs.Typed.{ReadsAs}
-use Rattle.prop_bindings.specs.declared.place.Place.{Place}
+use Rattle.binding_graph.specs.declared.place.Place.{Place}
 use Rattle.prop_bindings.specs.Fits.{FitsAt}
-use Rattle.prop_bindings.specs.Places.{property_of}
+use Rattle.binding_graph.specs.Places.{property_of}
 use Rattle.script_lang.specs.declared.event.Event.TheVariants.{Set}
 use Rattle.script_lang.specs.declared.event.Input.{Input}
-use Rattle.machine_state.specs.declared.refusal.Refusal.TheVariants.{NoMember, BadArgs}
+use Rattle.trace_entries.specs.declared.refusal.Refusal.TheVariants.{NoMember, BadArgs}
 use Rattle.machine_state.specs.declared.world.World.{World}
 use Rattle.machine_state.specs.Worlds.{at}
 use Rattle.machine_rules.specs.There.{IsField}

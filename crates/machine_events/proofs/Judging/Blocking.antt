@@ -4,12 +4,12 @@ use Rattle.meta_model.specs.Loaded.{Loaded}
 use Rattle.object_tree.specs.declared.life.Life.{Life}
 use Rattle.object_tree.specs.declared.object.Object.{Object}
 use Rattle.object_tree.specs.Objects.{change_life, blocked}
-use Rattle.machine_state.specs.declared.refusal.Refusal.{Refusal}
+use Rattle.trace_entries.specs.declared.refusal.Refusal.{Refusal}
 use Rattle.machine_state.specs.declared.world.World.{World}
 use Rattle.machine_state.specs.Accepting.{accepted}
 use Rattle.machine_state.specs.State.{State}
 use Rattle.machine_state.specs.Worlds.{at}
-use Rattle.prop_bindings.specs.declared.binding.Binding.{Binding}
+use Rattle.binding_graph.specs.declared.binding.Binding.{Binding}
 use Rattle.prop_bindings.specs.Fits.{Agree}
 use Rattle.delete_later.proofs.Agreeing.{agree-on, live-change}
 use Rattle.machine_events.specs.declared.judgement.NotAccepted.{NotAccepted}

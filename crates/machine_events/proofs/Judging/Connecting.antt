@@ -1,8 +1,8 @@
 -- `disconnect`, where both ends are found.
 use Rattle.std.proofs.Common.{ℕ, IsTrue, List, Ok, Err}
-use Rattle.texts.specs.declared.connection.Endpoints.{Endpoints as Named}
+use Rattle.syntax_trees.specs.declared.connection.Endpoints.{Endpoints as Named}
 use Rattle.meta_model.specs.Loaded.{Loaded}
-use Rattle.machine_state.specs.declared.refusal.Refusal.TheVariants.{NoConnection}
+use Rattle.trace_entries.specs.declared.refusal.Refusal.TheVariants.{NoConnection}
 use Rattle.machine_state.specs.Accepting.{accepted}
 use Rattle.machine_state.specs.Connections.{are_joined}
 use Rattle.machine_state.specs.State.{State}

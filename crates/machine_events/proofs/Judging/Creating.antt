@@ -9,10 +9,10 @@ use Rattle.object_tree.specs.Creating.{IsCreated, IsNotCreated, BeginsWell, name
 use Rattle.object_tree.specs.Objects.{IsFree, IsNamed}
 use Rattle.object_tree.proofs.TypedObjects.{typed-fresh, typed-created as typed-made, get-last}
 use Rattle.script_lang.specs.declared.event.Event.TheVariants.{New}
-use Rattle.machine_state.specs.declared.fault.Fault.{Fault}
-use Rattle.machine_state.specs.declared.fault.Fault.TheVariants.{BadType}
-use Rattle.machine_state.specs.declared.refusal.Refusal.{Refusal}
-use Rattle.machine_state.specs.declared.refusal.Refusal.TheVariants.{NameUsed, NoClass, NoLoop}
+use Rattle.trace_entries.specs.declared.fault.Fault.{Fault}
+use Rattle.trace_entries.specs.declared.fault.Fault.TheVariants.{BadType}
+use Rattle.trace_entries.specs.declared.refusal.Refusal.{Refusal}
+use Rattle.trace_entries.specs.declared.refusal.Refusal.TheVariants.{NameUsed, NoClass, NoLoop}
 use Rattle.machine_state.specs.declared.world.World.{World}
 use Rattle.machine_state.specs.Accepting.{accepted}
 use Rattle.machine_state.specs.State.{State}

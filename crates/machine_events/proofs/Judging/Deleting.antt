@@ -10,11 +10,11 @@ use Rattle.prop_bindings.specs.Fits.{Agree}
 use Rattle.delete_later.proofs.Agreeing.{agree-on, live-change}
 use Rattle.object_tree.proofs.TypedObjects.{typed-change}
 use Rattle.script_lang.specs.declared.event.Event.TheVariants.{Delete, Later}
-use Rattle.machine_state.specs.declared.entry.Entry.{Entry}
-use Rattle.machine_state.specs.declared.entry.Entry.TheVariants.{At}
-use Rattle.machine_state.specs.declared.entry.EntryKind.TheVariants.{Scheduled}
-use Rattle.machine_state.specs.declared.fault.Answer.TheVariants as answer
-use Rattle.machine_state.specs.declared.fault.Fault.{Fault}
+use Rattle.trace_entries.specs.declared.entry.Entry.{Entry}
+use Rattle.trace_entries.specs.declared.entry.Entry.TheVariants.{At}
+use Rattle.trace_entries.specs.declared.entry.EntryKind.TheVariants.{Scheduled}
+use Rattle.trace_entries.specs.declared.fault.Answer.TheVariants as answer
+use Rattle.trace_entries.specs.declared.fault.Fault.{Fault}
 use Rattle.machine_state.specs.declared.world.World.{World}
 use Rattle.machine_state.specs.Accepting.{accepted, with_entries}
 use Rattle.machine_state.specs.State.{State, Activation, Destroy}

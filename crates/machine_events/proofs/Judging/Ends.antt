@@ -1,14 +1,14 @@
 -- What a connect or a disconnect names.
 use Rattle.std.proofs.Common.{◌≡◌, ℕ, List, Err, subst}
 use Rattle.signatures.specs.declared.sig.Sig.{Sig}
-use Rattle.texts.specs.declared.connection.Endpoints.{Endpoints as Named}
+use Rattle.syntax_trees.specs.declared.connection.Endpoints.{Endpoints as Named}
 use Rattle.meta_model.specs.declared.object.MetaMethod.{MetaMethod}
 use Rattle.meta_model.specs.declared.object.Work.TheVariants.{Signal}
 use Rattle.meta_model.specs.Loaded.{Loaded}
 use Rattle.meta_model.specs.Members.{IsMethod, HasSig}
 use Rattle.object_tree.specs.declared.life.Life.{Life}
 use Rattle.object_tree.specs.declared.object.Object.{Object}
-use Rattle.machine_state.specs.declared.refusal.Refusal.TheVariants.{NoMember}
+use Rattle.trace_entries.specs.declared.refusal.Refusal.TheVariants.{NoMember}
 use Rattle.machine_rules.proofs.Fields.{method-unique}
 use Rattle.machine_rules.specs.Judgement.{Numbered, found, missing, gives, goes_on, ends}
 use Rattle.machine_rules.specs.Connecting.{named_signal}

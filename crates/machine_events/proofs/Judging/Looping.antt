@@ -3,9 +3,9 @@ use Rattle.std.proofs.Common.{ℕ, List, [], None, Result, Ok, Err, OnOk, MatchR
 use Rattle.meta_model.specs.Loaded.{Loaded}
 use Rattle.event_loops.specs.Queues.{IsNamed, IsTaken, HasName, with_loop}
 use Rattle.script_lang.specs.declared.event.Event.TheVariants.{Loop, Turn}
-use Rattle.machine_state.specs.declared.fault.Answer.TheVariants as answer
-use Rattle.machine_state.specs.declared.fault.Fault.{Fault}
-use Rattle.machine_state.specs.declared.refusal.Refusal.TheVariants.{LoopExists, NoLoop}
+use Rattle.trace_entries.specs.declared.fault.Answer.TheVariants as answer
+use Rattle.trace_entries.specs.declared.fault.Fault.{Fault}
+use Rattle.trace_entries.specs.declared.refusal.Refusal.TheVariants.{LoopExists, NoLoop}
 use Rattle.machine_state.specs.declared.world.World.{World}
 use Rattle.machine_state.specs.Accepting.{accepted}
 use Rattle.machine_state.specs.State.{State}

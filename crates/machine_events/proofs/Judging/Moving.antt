@@ -13,9 +13,9 @@ use Rattle.delete_later.specs.declared.fault.MoveFault.{MoveFault}
 use Rattle.delete_later.specs.declared.store.Store.{Store}
 use Rattle.delete_later.specs.Moving.{IsMoved, IsNotMoved, no_loop, has_parent, bound, no_memory}
 use Rattle.script_lang.specs.declared.event.Event.TheVariants.{Move}
-use Rattle.machine_state.specs.declared.fault.Fault.{Fault}
-use Rattle.machine_state.specs.declared.refusal.Refusal.{Refusal}
-use Rattle.machine_state.specs.declared.refusal.Refusal.TheVariants.{NoLoop}
+use Rattle.trace_entries.specs.declared.fault.Fault.{Fault}
+use Rattle.trace_entries.specs.declared.refusal.Refusal.{Refusal}
+use Rattle.trace_entries.specs.declared.refusal.Refusal.TheVariants.{NoLoop}
 use Rattle.machine_state.specs.declared.world.World.{World}
 use Rattle.machine_state.specs.Accepting.{accepted}
 use Rattle.machine_state.specs.Worlds.{at, with_store}

@@ -4,7 +4,7 @@ use Rattle.object_tree.specs.declared.life.Life.{Life}
 use Rattle.object_tree.specs.declared.object.Object.{Object}
 use Rattle.object_tree.specs.Objects.{Lives, IsNamed, IsFree, life_of}
 use Rattle.object_tree.proofs.Changing.{lives-of-life}
-use Rattle.machine_state.specs.declared.refusal.Refusal.TheVariants.{NoObject, Dead}
+use Rattle.trace_entries.specs.declared.refusal.Refusal.TheVariants.{NoObject, Dead}
 use Rattle.machine_rules.specs.Judgement.{Numbered, found, missing, gives, goes_on, ends}
 use Rattle.machine_events.specs.declared.judgement.NotAccepted.{NotAccepted}
 use Rattle.machine_events.specs.code.Judgement.{IsNotAccepted, IsLiving}

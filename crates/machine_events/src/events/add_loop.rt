@@ -2,12 +2,13 @@
 
 ghost use Rattle.std.specs.Prelude.{◌≡◌, ◌<◌, None};
 ghost use Rattle.script_lang.specs.declared.event.Event.TheVariants.{Loop};
-ghost use Rattle.machine_events.specs.code.Taking.{WorldInvariant, Answers};
+ghost use Rattle.machine_events.specs.code.Taking.{WorldInvariant, TookBy};
 
 use machine_rules::Interpreter;
-use machine_state::{Answer, Fault, Refusal, World};
+use machine_state::World;
 use native_slots::Answering;
 use signatures::Name;
+use trace_entries::{Answer, Fault, Refusal};
 
 /// Adds an event loop.
 pub fn add_loop<N: Answering>(
@@ -18,7 +19,7 @@ pub fn add_loop<N: Answering>(
     requires left { 0 < world.old.left }
     requires idle { world.old.turn ≡ None }
     requires keeps { WorldInvariant interpreter.now.meta world.old }
-    ensures { Answers N.gives interpreter.now (Loop name.now) world.old world.new result }
+    ensures { TookBy N.gives interpreter.now (Loop name.now) world.old world.new result }
 {
     match world.store.loops.find(name) {
         Some(_) => world.refuse(Refusal::LoopExists),

@@ -2,16 +2,17 @@
 
 ghost use Rattle.std.specs.Prelude.{◌≡◌, ◌<◌, [], IfOk, IfErr, None};
 ghost use Rattle.script_lang.specs.declared.event.Event.TheVariants.{Adopt};
-ghost use Rattle.machine_events.specs.code.Taking.{WorldInvariant, Answers};
+ghost use Rattle.machine_events.specs.code.Taking.{WorldInvariant, TookBy};
 ghost use Rattle.machine_events.specs.code.Taking.{adoption_reason};
 
 use crate::events::named::find_living;
 use crate::judgement::refuse;
 use machine_rules::Interpreter;
-use machine_state::{Answer, Fault, Refusal, World};
+use machine_state::World;
 use native_slots::Answering;
 use object_tree::AdoptFault;
 use signatures::{Name, ObjectId};
+use trace_entries::{Answer, Fault, Refusal};
 
 /// Makes one object the parent of another.
 pub fn adopt<N: Answering>(
@@ -23,7 +24,7 @@ pub fn adopt<N: Answering>(
     requires left { 0 < world.old.left }
     requires idle { world.old.turn ≡ None }
     requires keeps { WorldInvariant interpreter.now.meta world.old }
-    ensures { Answers N.gives interpreter.now (Adopt parent.now child.now)
+    ensures { TookBy N.gives interpreter.now (Adopt parent.now child.now)
         world.old world.new result }
 {
     let parent = match find_living(world, parent) {

@@ -7,7 +7,7 @@ ghost use Rattle.machine_state.specs.Worlds.{at};
 ghost use Rattle.machine_rules.specs.Judgement.{NothingIs, numbered};
 ghost use Rattle.machine_rules.specs.Natives.{KeepPromises};
 ghost use Rattle.machine_events.specs.code.Judgement.{IsNotAccepted};
-ghost use Rattle.machine_events.specs.code.Taking.{WorldInvariant, Answers, WritesTo};
+ghost use Rattle.machine_events.specs.code.Taking.{WorldInvariant, TookBy, WritesTo};
 ghost use Rattle.machine_events.specs.Events.{assign, IsPropertyOf};
 ghost use Rattle.script_lang.specs.declared.event.Event.{Event as AnEvent};
 
@@ -15,12 +15,13 @@ use crate::events::named::find_living;
 use crate::events::values::read_input;
 use crate::judgement::{NotAccepted, refuse};
 use machine_rules::{Active, Interpreter};
-use machine_state::{Answer, Fault, Refusal, World};
+use machine_state::World;
 use meta_objects::{Meta, MetaProperty};
 use native_slots::Answering;
 use prop_bindings::{Assignment, Place};
 use script_lang::Input;
 use signatures::{Name, ObjectId, Value};
+use trace_entries::{Answer, Fault, Refusal};
 
 /// Writes a property, and runs what it notifies.
 pub fn assign<N: Answering>(
@@ -35,7 +36,7 @@ pub fn assign<N: Answering>(
     requires left { 0 < world.old.left }
     requires idle { world.old.turn ≡ None }
     requires keeps { WorldInvariant interpreter.now.meta world.old }
-    ensures { Answers N.gives interpreter.now (Set name.now property.now input.now)
+    ensures { TookBy N.gives interpreter.now (Set name.now property.now input.now)
         world.old world.new result }
 {
     match judge(interpreter, world, name, property, input) {
@@ -107,7 +108,7 @@ fn write<N: Answering>(
     requires fits { FitsAt interpreter.now.meta world.old.store.tree place.now value }
     ensures { (e : AnEvent) →
         WritesTo interpreter.now.meta world.old place.now value e →
-        Answers N.gives interpreter.now e world.old world.new result }
+        TookBy N.gives interpreter.now e world.old world.new result }
 {
     let changed = world.accept_write(&interpreter.meta, place, value)?;
     interpreter.run_update(world, &Active::nothing(), changed.as_slice())?;

@@ -5,17 +5,18 @@ ghost use Rattle.script_lang.specs.declared.event.Event.TheVariants.{Bind};
 ghost use Rattle.machine_state.specs.Worlds.{at};
 ghost use Rattle.machine_rules.specs.Natives.{KeepPromises};
 ghost use Rattle.machine_events.specs.code.Judgement.{IsNotAccepted};
-ghost use Rattle.machine_events.specs.code.Taking.{WorldInvariant, Answers, AsksToBind, binding_reason};
+ghost use Rattle.machine_events.specs.code.Taking.{WorldInvariant, TookBy, AsksToBind, binding_reason};
 ghost use Rattle.machine_events.specs.Events.{may_bind};
 
 use crate::events::named::{find_all_living, find_living};
 use crate::judgement::{NotAccepted, refuse};
 use machine_rules::{Active, Interpreter};
-use machine_state::{Answer, Fault, Refusal, World};
+use machine_state::World;
 use native_slots::Answering;
 use prop_bindings::BindFault;
 use signatures::{Name, ObjectId};
 use sqlite_items::Items;
+use trace_entries::{Answer, Fault, Refusal};
 
 /// A binding site, and the objects whose properties it is to join.
 #[derive(Drop)]
@@ -38,7 +39,7 @@ pub fn bind<N: Answering>(
     requires left { 0 < world.old.left }
     requires idle { world.old.turn ≡ None }
     requires keeps { WorldInvariant interpreter.now.meta world.old }
-    ensures { Answers N.gives interpreter.now (Bind site.now target.now sources.now)
+    ensures { TookBy N.gives interpreter.now (Bind site.now target.now sources.now)
         world.old world.new result }
 {
     match judge(interpreter, world, site, target, sources) {
@@ -93,7 +94,7 @@ fn install<N: Answering>(
     ensures { (site target : List ℕ) (sources : List (List ℕ)) →
         AsksToBind interpreter.now.meta world.old site target sources
         asked.now.site asked.now.target asked.now.sources →
-        Answers N.gives interpreter.now (Bind site target sources) world.old world.new result }
+        TookBy N.gives interpreter.now (Bind site target sources) world.old world.new result }
 {
     let sources = asked.sources.as_slice();
     match world.accept_bind(&interpreter.meta, asked.site, asked.target, sources) {

@@ -1,14 +1,15 @@
 //! `block` and `unblock`: an object's emissions call nothing, or call again.
 
 ghost use Rattle.std.specs.Prelude.{◌<◌, ◌≡◌, None};
-ghost use Rattle.machine_events.specs.code.Taking.{WorldInvariant, Answers, blocking};
+ghost use Rattle.machine_events.specs.code.Taking.{WorldInvariant, TookBy, blocking};
 
 use crate::events::named::find_living;
 use crate::judgement::refuse;
 use machine_rules::Interpreter;
-use machine_state::{Answer, Fault, World};
+use machine_state::World;
 use native_slots::Answering;
 use signatures::{Name, ObjectId};
+use trace_entries::{Answer, Fault};
 
 /// Blocks an object, or lets it emit again.
 pub fn block<N: Answering>(
@@ -20,7 +21,7 @@ pub fn block<N: Answering>(
     requires left { 0 < world.old.left }
     requires idle { world.old.turn ≡ None }
     requires keeps { WorldInvariant interpreter.now.meta world.old }
-    ensures { Answers N.gives interpreter.now (blocking on name.now) world.old world.new result }
+    ensures { TookBy N.gives interpreter.now (blocking on name.now) world.old world.new result }
 {
     let object = match find_living(world, name) {
         Ok((number, _)) => ObjectId::new(number),

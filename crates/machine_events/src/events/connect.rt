@@ -4,28 +4,29 @@ ghost use Rattle.std.specs.Prelude.{◌≡◌, ◌<◌, [], IfOk, IfErr, None};
 ghost use Rattle.script_lang.specs.declared.event.Event.TheVariants.{Connect};
 ghost use Rattle.machine_state.specs.Worlds.{at};
 ghost use Rattle.machine_events.specs.code.Judgement.{IsNotAccepted};
-ghost use Rattle.machine_events.specs.code.Taking.{WorldInvariant, Answers, ConnectsThese};
+ghost use Rattle.machine_events.specs.code.Taking.{WorldInvariant, TookBy, ConnectsThese};
 ghost use Rattle.machine_events.specs.Events.{connect};
 
 use crate::events::ends::find_ends;
 use crate::judgement::{NotAccepted, refuse};
 use machine_rules::Interpreter;
-use machine_state::{Answer, Endpoints, Fault, World};
+use machine_state::{Endpoints, World};
 use native_slots::Answering;
 use signatures::Name;
-use texts::{self, ConnectionType};
+use syntax_trees::{self, ConnectionType};
+use trace_entries::{Answer, Fault};
 
 /// Makes a connection.
 pub fn connect<N: Answering>(
     interpreter: &Interpreter<N>,
     world: &mut World,
-    named: &texts::Endpoints<Name>,
+    named: &syntax_trees::Endpoints<Name>,
     how: ConnectionType,
 ) -> Result<Answer, Fault>
     requires left { 0 < world.old.left }
     requires idle { world.old.turn ≡ None }
     requires keeps { WorldInvariant interpreter.now.meta world.old }
-    ensures { Answers N.gives interpreter.now (Connect named.now how) world.old world.new result }
+    ensures { TookBy N.gives interpreter.now (Connect named.now how) world.old world.new result }
 {
     match judge(interpreter, world, named, how) {
         Err(reason) => refuse(world, reason),
@@ -40,7 +41,7 @@ pub fn connect<N: Answering>(
 fn judge<N: Answering>(
     interpreter: &Interpreter<N>,
     world: &World,
-    named: &texts::Endpoints<Name>,
+    named: &syntax_trees::Endpoints<Name>,
     how: ConnectionType,
 ) -> Result<Endpoints, NotAccepted>
     ensures accepted { IfOk result

@@ -2,17 +2,18 @@
 
 ghost use Rattle.std.specs.Prelude.{◌≡◌, ◌<◌, None, ℕ, List, [], Option, Err, MatchOption};
 ghost use Rattle.script_lang.specs.declared.event.Event.TheVariants.{New};
-ghost use Rattle.machine_events.specs.code.Taking.{WorldInvariant, Answers};
+ghost use Rattle.machine_events.specs.code.Taking.{WorldInvariant, TookBy};
 ghost use Rattle.machine_state.specs.Worlds.{at};
 ghost use Rattle.machine_rules.specs.Judgement.{NothingIs};
 ghost use Rattle.machine_events.specs.code.Taking.{creation_reason};
 ghost use Rattle.machine_events.specs.Events.{create, IsHome};
 
 use machine_rules::Interpreter;
-use machine_state::{Answer, Fault, MAIN, Refusal, World};
+use machine_state::{MAIN, World};
 use native_slots::Answering;
 use object_tree::CreateFault;
 use signatures::{LoopId, Name};
+use trace_entries::{Answer, Fault, Refusal};
 
 /// Creates an object in the event loop of a name, or in `main` where none is named.
 pub fn create<N: Answering>(
@@ -25,7 +26,7 @@ pub fn create<N: Answering>(
     requires left { 0 < world.old.left }
     requires idle { world.old.turn ≡ None }
     requires keeps { WorldInvariant interpreter.now.meta world.old }
-    ensures { Answers N.gives interpreter.now (New name.now class.now home.now)
+    ensures { TookBy N.gives interpreter.now (New name.now class.now home.now)
         world.old world.new result }
 {
     let Some(home) = home_of(world, home) else {

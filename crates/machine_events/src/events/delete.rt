@@ -3,14 +3,15 @@
 ghost use Rattle.std.specs.Prelude.{◌<◌, ◌≡◌, None};
 ghost use Rattle.script_lang.specs.declared.event.Event.TheVariants.{Delete};
 ghost use Rattle.machine_rules.specs.Natives.{KeepPromises};
-ghost use Rattle.machine_events.specs.code.Taking.{WorldInvariant, Answers};
+ghost use Rattle.machine_events.specs.code.Taking.{WorldInvariant, TookBy};
 
 use crate::events::named::find_living;
 use crate::judgement::refuse;
 use machine_rules::{Active, Interpreter};
-use machine_state::{Answer, Fault, World};
+use machine_state::World;
 use native_slots::Answering;
 use signatures::{Name, ObjectId};
+use trace_entries::{Answer, Fault};
 
 /// Begins the deletion of an object, and carries it out.
 pub fn delete<N: Answering>(
@@ -23,7 +24,7 @@ pub fn delete<N: Answering>(
     requires left { 0 < world.old.left }
     requires idle { world.old.turn ≡ None }
     requires keeps { WorldInvariant interpreter.now.meta world.old }
-    ensures { Answers N.gives interpreter.now (Delete name.now) world.old world.new result }
+    ensures { TookBy N.gives interpreter.now (Delete name.now) world.old world.new result }
 {
     let object = match find_living(world, name) {
         Ok((number, _)) => ObjectId::new(number),

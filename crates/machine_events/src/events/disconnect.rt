@@ -5,27 +5,28 @@ ghost use Rattle.script_lang.specs.declared.event.Event.TheVariants.{Disconnect}
 ghost use Rattle.machine_state.specs.Connections.{are_joined};
 ghost use Rattle.machine_state.specs.Worlds.{at};
 ghost use Rattle.machine_events.specs.code.Judgement.{IsNotAccepted};
-ghost use Rattle.machine_events.specs.code.Taking.{WorldInvariant, Answers, DisconnectsThese};
+ghost use Rattle.machine_events.specs.code.Taking.{WorldInvariant, TookBy, DisconnectsThese};
 ghost use Rattle.machine_events.specs.Events.{disconnect};
 
 use crate::events::ends::find_ends;
 use crate::judgement::{NotAccepted, refuse};
 use machine_rules::Interpreter;
-use machine_state::{Answer, Endpoints, Fault, Refusal, World};
+use machine_state::{Endpoints, World};
 use native_slots::Answering;
 use signatures::Name;
 use texts;
+use trace_entries::{Answer, Fault, Refusal};
 
 /// Removes the connections between two objects' methods.
 pub fn disconnect<N: Answering>(
     interpreter: &Interpreter<N>,
     world: &mut World,
-    named: &texts::Endpoints<Name>,
+    named: &syntax_trees::Endpoints<Name>,
 ) -> Result<Answer, Fault>
     requires left { 0 < world.old.left }
     requires idle { world.old.turn ≡ None }
     requires keeps { WorldInvariant interpreter.now.meta world.old }
-    ensures { Answers N.gives interpreter.now (Disconnect named.now) world.old world.new result }
+    ensures { TookBy N.gives interpreter.now (Disconnect named.now) world.old world.new result }
 {
     match judge(interpreter, world, named) {
         Err(reason) => refuse(world, reason),
@@ -40,7 +41,7 @@ pub fn disconnect<N: Answering>(
 fn judge<N: Answering>(
     interpreter: &Interpreter<N>,
     world: &World,
-    named: &texts::Endpoints<Name>,
+    named: &syntax_trees::Endpoints<Name>,
 ) -> Result<Endpoints, NotAccepted>
     ensures accepted { IfOk result (DisconnectsThese interpreter.now.meta world.now named.now) }
     ensures joined { IfOk result (λ ends. IsTrue (are_joined ends world.now.store.connections)) }

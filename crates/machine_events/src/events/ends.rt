@@ -9,17 +9,18 @@ ghost use Rattle.machine_events.specs.Events.{find_ends, IsSignalOf};
 use crate::events::named::find_living;
 use crate::judgement::NotAccepted;
 use machine_rules::{FoundEnds, Interpreter, named_signal};
-use machine_state::{Endpoints, Refusal, World};
+use machine_state::{Endpoints, World};
 use meta_objects::{Meta, MetaMethod, Work};
 use native_slots::Answering;
 use signatures::{Name, ObjectId, Sig};
 use texts;
+use trace_entries::Refusal;
 
 /// The objects and methods that are named, or why the event isn't accepted.
 pub fn find_ends<N: Answering>(
     interpreter: &Interpreter<N>,
     world: &World,
-    named: &texts::Endpoints<Name>,
+    named: &syntax_trees::Endpoints<Name>,
 ) -> Result<FoundEnds, NotAccepted>
     ensures found { IfOk result
         (λ f. FindsEnds interpreter.now.meta world.now.store.tree named.now f) }

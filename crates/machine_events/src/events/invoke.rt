@@ -7,7 +7,7 @@ ghost use Rattle.machine_rules.specs.Good.{ArgumentsFit};
 ghost use Rattle.machine_rules.specs.Judgement.{NothingIs, numbered};
 ghost use Rattle.machine_rules.specs.Natives.{KeepPromises};
 ghost use Rattle.machine_events.specs.code.Judgement.{IsNotAccepted};
-ghost use Rattle.machine_events.specs.code.Taking.{WorldInvariant, Answers, AsksFor, invoking};
+ghost use Rattle.machine_events.specs.code.Taking.{WorldInvariant, TookBy, AsksFor, invoking};
 ghost use Rattle.machine_events.specs.Events.{invoke, May, IsAskedOf};
 ghost use Rattle.script_lang.specs.declared.event.Event.{Event as AnEvent};
 
@@ -16,12 +16,13 @@ use crate::events::named::find_living;
 use crate::events::values::read_inputs;
 use crate::judgement::{NotAccepted, refuse};
 use machine_rules::{Active, Interpreter, MethodCall};
-use machine_state::{Answer, Fault, Refusal, World};
+use machine_state::World;
 use meta_model::OBJECT_NAME_CHANGED;
 use meta_objects::{Meta, MetaMethod};
 use native_slots::Answering;
 use script_lang::Input;
 use signatures::{Arguments, Name, ObjectId};
+use trace_entries::{Answer, Fault, Refusal};
 
 /// What an event asks of a method.
 #[derive(Clone, Copy, Debug, PartialEq, Eq)]
@@ -66,7 +67,7 @@ pub fn invoke<N: Answering>(
     requires left { 0 < world.old.left }
     requires idle { world.old.turn ≡ None }
     requires keeps { WorldInvariant interpreter.now.meta world.old }
-    ensures { Answers N.gives interpreter.now (invoking invocation name.now called.now inputs.now)
+    ensures { TookBy N.gives interpreter.now (invoking invocation name.now called.now inputs.now)
         world.old world.new result }
 {
     match judge(interpreter, world, invocation, name, called, inputs) {
@@ -170,7 +171,7 @@ fn begin<N: Answering>(
     ensures { (e : AnEvent) →
         AsksFor interpreter.now.meta world.old
         call.now.object call.now.method call.now.arguments.now e →
-        Answers N.gives interpreter.now e world.old world.new result }
+        TookBy N.gives interpreter.now e world.old world.new result }
 {
     let below = Active::nothing();
     let (line, callee) = interpreter.activate(world, &below, call)?;

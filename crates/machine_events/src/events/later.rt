@@ -2,14 +2,15 @@
 
 ghost use Rattle.std.specs.Prelude.{◌<◌, ◌≡◌, None};
 ghost use Rattle.script_lang.specs.declared.event.Event.TheVariants.{Later};
-ghost use Rattle.machine_events.specs.code.Taking.{WorldInvariant, Answers};
+ghost use Rattle.machine_events.specs.code.Taking.{WorldInvariant, TookBy};
 
 use crate::events::named::find_living;
 use crate::judgement::refuse;
 use machine_rules::Interpreter;
-use machine_state::{Answer, Entry, EntryKind, Fault, World};
+use machine_state::World;
 use native_slots::Answering;
 use signatures::{Name, ObjectId};
+use trace_entries::{Answer, Entry, EntryKind, Fault};
 
 /// Schedules an object for deletion, unless it is scheduled already.
 pub fn later<N: Answering>(
@@ -20,7 +21,7 @@ pub fn later<N: Answering>(
     requires left { 0 < world.old.left }
     requires idle { world.old.turn ≡ None }
     requires keeps { WorldInvariant interpreter.now.meta world.old }
-    ensures { Answers N.gives interpreter.now (Later name.now) world.old world.new result }
+    ensures { TookBy N.gives interpreter.now (Later name.now) world.old world.new result }
 {
     let (object, life) = match find_living(world, name) {
         Ok((number, life)) => (ObjectId::new(number), life),

@@ -2,16 +2,17 @@
 
 ghost use Rattle.std.specs.Prelude.{◌≡◌, ◌<◌, None};
 ghost use Rattle.script_lang.specs.declared.event.Event.TheVariants.{Move};
-ghost use Rattle.machine_events.specs.code.Taking.{WorldInvariant, Answers};
+ghost use Rattle.machine_events.specs.code.Taking.{WorldInvariant, TookBy};
 ghost use Rattle.machine_events.specs.code.Taking.{moving_reason};
 
 use crate::events::named::find_living;
 use crate::judgement::refuse;
 use delete_later::MoveFault;
 use machine_rules::Interpreter;
-use machine_state::{Answer, Fault, Refusal, World};
+use machine_state::World;
 use native_slots::Answering;
 use signatures::{Name, ObjectId};
+use trace_entries::{Answer, Fault, Refusal};
 
 /// Moves an object and all that is below it to another event loop, with what waits for them.
 pub fn move_object<N: Answering>(
@@ -23,7 +24,7 @@ pub fn move_object<N: Answering>(
     requires left { 0 < world.old.left }
     requires idle { world.old.turn ≡ None }
     requires keeps { WorldInvariant interpreter.now.meta world.old }
-    ensures { Answers N.gives interpreter.now (Move name.now event_loop.now)
+    ensures { TookBy N.gives interpreter.now (Move name.now event_loop.now)
         world.old world.new result }
 {
     let object = match find_living(world, name) {

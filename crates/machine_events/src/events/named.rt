@@ -6,11 +6,12 @@ ghost use Rattle.machine_events.specs.code.Judgement.{IsNotAccepted, IsLiving};
 ghost use Rattle.machine_events.specs.Events.{living, all_living};
 
 use crate::judgement::NotAccepted;
-use machine_state::{Refusal, World};
+use machine_state::World;
 use object_tree::Life;
 use signatures::{Name, ObjectId};
 use sqlite_items::Items;
 use std::alloc::Global;
+use trace_entries::Refusal;
 
 /// The number of the living object of this name, and its life.
 pub fn find_living<'w>(world: &'w World, name: &Name) -> Result<(usize, &'w Life), NotAccepted>

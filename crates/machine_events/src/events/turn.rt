@@ -3,12 +3,13 @@
 ghost use Rattle.std.specs.Prelude.{◌≡◌, ◌<◌, None};
 ghost use Rattle.script_lang.specs.declared.event.Event.TheVariants.{Turn};
 ghost use Rattle.machine_rules.specs.Natives.{KeepPromises};
-ghost use Rattle.machine_events.specs.code.Taking.{WorldInvariant, Answers};
+ghost use Rattle.machine_events.specs.code.Taking.{WorldInvariant, TookBy};
 
 use machine_rules::Interpreter;
-use machine_state::{Answer, Fault, Refusal, World};
+use machine_state::World;
 use native_slots::Answering;
 use signatures::Name;
+use trace_entries::{Answer, Fault, Refusal};
 
 /// Begins a turn of an event loop, and carries it to its end.
 pub fn turn<N: Answering>(
@@ -21,7 +22,7 @@ pub fn turn<N: Answering>(
     requires left { 0 < world.old.left }
     requires idle { world.old.turn ≡ None }
     requires keeps { WorldInvariant interpreter.now.meta world.old }
-    ensures { Answers N.gives interpreter.now (Turn name.now) world.old world.new result }
+    ensures { TookBy N.gives interpreter.now (Turn name.now) world.old world.new result }
 {
     let Some(home) = world.store.loops.find(name) else {
         return world.refuse(Refusal::NoLoop);

@@ -4,7 +4,7 @@ use Rattle.std.specs.Prelude.{◌≡◌, ℕ, List, [], ◌∷◌, ◌++◌, map
 use Rattle.signatures.specs.declared.value.Value.{Value}
 use Rattle.meta_model.specs.declared.object.Statement.{Statement}
 use Rattle.connections.specs.declared.connection.Connection.{Connection}
-use Rattle.machine_state.specs.declared.fault.Fault.{Fault}
+use Rattle.trace_entries.specs.declared.fault.Fault.{Fault}
 use Rattle.machine_state.specs.declared.world.World.{World}
 use Rattle.machine_state.specs.Connections.{next_used}
 use Rattle.machine_state.specs.Worlds.{having_used}
@@ -15,18 +15,18 @@ use Rattle.machine_state.specs.Telling.{Assigning}
 use Rattle.machine_rules.specs.Operations.{Operation, operation_of_step}
 use Rattle.machine_rules.specs.code.Reaches.{RunsTo, Advances, CallsIn, Calls, OnlyCalls, Sets, Deletes, Kills}
 use Rattle.machine_rules.specs.declared.method_call.MethodCall.{MethodCall}
-use Rattle.prop_bindings.specs.declared.place.Place.{Place}
+use Rattle.binding_graph.specs.declared.place.Place.{Place}
 use Rattle.machine_rules.specs.Natives.{NativeAnswers}
 use Rattle.meta_model.specs.Loaded.{Loaded}
 use Rattle.machine_rules.specs.Good.{shows}
 
 -- one activation on top of the stack leads to another
-abbrev pub Leads : Loaded → NativeAnswers → ℕ → List (Option ℕ) → Activation → Activation → World → World → Result (Unit {0}) Fault → Type 0
-Leads p natives depth active a b w v result = RunsTo p natives depth active w (a ∷ []) v (b ∷ []) result
+abbrev pub TurnsInto : Loaded → NativeAnswers → ℕ → List (Option ℕ) → Activation → Activation → World → World → Result (Unit {0}) Fault → Type 0
+TurnsInto p natives depth active a b w v result = RunsTo p natives depth active w (a ∷ []) v (b ∷ []) result
 
 -- the first of the properties that an update holds is notified, whatever comes after it
 abbrev pub NotifiesFirst : Loaded → NativeAnswers → ℕ → List (Option ℕ) → Place → World → World → Result (Unit {0}) Fault → Type 0
-NotifiesFirst p natives depth active place w v result = (rest : List Place) → Leads p natives depth active (Update (place ∷ rest)) (Update rest) w v result
+NotifiesFirst p natives depth active place w v result = (rest : List Place) → TurnsInto p natives depth active (Update (place ∷ rest)) (Update rest) w v result
 
 -- an activation on top of the stack is carried out to its end
 abbrev pub Finishes : Loaded → NativeAnswers → ℕ → List (Option ℕ) → Activation → World → World → Result (Unit {0}) Fault → Type 0
@@ -36,7 +36,7 @@ Finishes p natives depth active a w v result = RunsTo p natives depth active w (
 abbrev pub UsesNext : Loaded → NativeAnswers → ℕ → List (Option ℕ) → Connection → List Value → World → World → Result (Unit {0}) Fault → Type 0
 UsesNext p natives depth active c arguments w v result =
     (o g used last : ℕ) → next_used w.store.tree w.store.connections.connections o g used last ≡ Some c →
-    Leads p natives depth active (Emit o g arguments used last) (Emit o g arguments c.number last) w v result
+    TurnsInto p natives depth active (Emit o g arguments used last) (Emit o g arguments c.number last) w v result
 
 -- this is done by the next step, in every body of the object in which it does that and the statements `rest` follow; the
 -- statements `left` are left of the body then
@@ -93,4 +93,4 @@ RunsDeletion p natives depth active x w v result =
 abbrev pub RunsDeath : Loaded → NativeAnswers → ℕ → List (Option ℕ) → ℕ → World → World → Result (Unit {0}) Fault → Type 0
 RunsDeath p natives depth active x w v result =
     (next : Option ℕ) (before torn : List ℕ) → Kills p natives w next before torn x →
-    Leads p natives depth active (Destroy next before) (Destroy (Some x) torn) w v result
+    TurnsInto p natives depth active (Destroy next before) (Destroy (Some x) torn) w v result

@@ -13,21 +13,21 @@ use Rattle.event_loops.specs.declared.item.Posted.{Posted}
 use Rattle.event_loops.specs.Queues.{HasName, items_at, is_before}
 use Rattle.machine_state.specs.declared.turn.Turn.{Turn}
 use Rattle.std.specs.List.{find}
-use Rattle.machine_state.specs.declared.entry.Entry.{Entry}
-use Rattle.machine_state.specs.declared.entry.Entry.TheVariants.{At}
-use Rattle.machine_state.specs.declared.entry.EntryKind.TheVariants as entry_kind
+use Rattle.trace_entries.specs.declared.entry.Entry.{Entry}
+use Rattle.trace_entries.specs.declared.entry.Entry.TheVariants.{At}
+use Rattle.trace_entries.specs.declared.entry.EntryKind.TheVariants as entry_kind
 use Rattle.object_tree.specs.declared.object.Object.{Object}
-use Rattle.machine_state.specs.declared.fault.Fault.{Fault}
-use Rattle.machine_state.specs.declared.fault.Fault.TheVariants.{BadType as IllTyped, TooDeep, Steps, Memory}
+use Rattle.trace_entries.specs.declared.fault.Fault.{Fault}
+use Rattle.trace_entries.specs.declared.fault.Fault.TheVariants.{BadType as IllTyped, TooDeep, Steps, Memory}
 use Rattle.machine_state.specs.declared.world.World.{World}
 use Rattle.machine_state.specs.Connections.{is_living}
 use Rattle.machine_state.specs.State.{State, Activation, Destroy, IsIdle}
 use Rattle.machine_state.specs.Objects.{all_shown}
 use Rattle.machine_state.specs.Telling.{Assigning}
-use Rattle.texts.specs.declared.connection.ConnectionType.{ConnectionType}
-use Rattle.texts.specs.declared.connection.Endpoints.{Endpoints as Named}
+use Rattle.syntax_trees.specs.declared.connection.ConnectionType.{ConnectionType}
+use Rattle.syntax_trees.specs.declared.connection.Endpoints.{Endpoints as Named}
 use Rattle.machine_state.specs.declared.endpoints.Endpoints.{Endpoints}
-use Rattle.machine_state.specs.declared.refusal.Refusal.{Refusal}
+use Rattle.trace_entries.specs.declared.refusal.Refusal.{Refusal}
 use Rattle.machine_rules.specs.Connecting.{AreThere, may_connect, found_ends, names_of}
 use Rattle.machine_rules.specs.declared.method_call.MethodCall.{MethodCall}
 use Rattle.machine_rules.specs.Good.{ArgumentsFit, shows}
@@ -38,7 +38,7 @@ use Rattle.machine_rules.specs.Settling.{Writes}
 use Rattle.meta_model.specs.Outlines.{destroyed}
 use Rattle.object_tree.specs.Objects.{life_of, home_of}
 use Rattle.prop_bindings.specs.Fits.{Agree}
-use Rattle.machine_state.specs.declared.entry.Shown.TheVariants as show
+use Rattle.trace_entries.specs.declared.entry.Shown.TheVariants as show
 use Rattle.machine_rules.specs.Destroying.{deleting, Dies, Schedules}
 use Rattle.machine_rules.specs.There.{IsMember, NoneDied}
 use Rattle.machine_rules.specs.Next.{DoesNext, WritesNext}

@@ -18,7 +18,7 @@ use Rattle.object_tree.specs.declared.life.Life.{Life}
 use Rattle.object_tree.specs.declared.object.Object.{Object}
 use Rattle.object_tree.specs.Objects.{Lives, home_of}
 use Rattle.object_tree.specs.Typed.{ReadAs}
-use Rattle.prop_bindings.specs.declared.binding.Binding.{Binding}
+use Rattle.binding_graph.specs.declared.binding.Binding.{Binding}
 use Rattle.prop_bindings.specs.Fits.{Agree}
 use Rattle.signatures.specs.declared.value.Value.{Value}
 use Rattle.machine_rules.specs.There.{IsMember, IsDead}

@@ -7,23 +7,24 @@ use Rattle.meta_model.specs.Loaded.{Loaded}
 use Rattle.object_tree.specs.declared.object.Object.{Object}
 use Rattle.object_tree.specs.Objects.{change_life, written}
 use Rattle.object_tree.specs.Typed.{AreTyped}
-use Rattle.prop_bindings.specs.declared.place.Place.{Place}
+use Rattle.binding_graph.specs.declared.place.Place.{Place}
 use Rattle.prop_bindings.specs.declared.assignment.Assignment.{Assignment}
-use Rattle.prop_bindings.specs.declared.binding.Binding.{Binding}
+use Rattle.binding_graph.specs.declared.binding.Binding.{Binding}
 use Rattle.prop_bindings.specs.declared.fault.BindFault.{BindFault}
 use Rattle.prop_bindings.specs.declared.fault.BindFault.TheVariants as bind
 use Rattle.prop_bindings.specs.declared.planned.Planned.{Planned}
 use Rattle.prop_bindings.specs.declared.planned.PlannedBind.{PlannedBind}
 use Rattle.prop_bindings.specs.declared.preparing.Prepared.{Prepared}
-use Rattle.prop_bindings.specs.Places.{In, is_in, values_in}
-use Rattle.prop_bindings.specs.Bindings.{binding_at, replaced, without_all, value_of, Loop}
+use Rattle.binding_graph.specs.Places.{In, is_in}
+use Rattle.prop_bindings.specs.Values.{values_in}
+use Rattle.binding_graph.specs.Bindings.{binding_at, replaced, without_all, value_of, Loop}
 use Rattle.prop_bindings.specs.Calls.{AllFit, MayBind, IsNotBound, new_binding}
 use Rattle.prop_bindings.specs.Changes.{AreChanged, IsInstalled, IsWritten, once, places_in}
 use Rattle.prop_bindings.specs.Counts.{CountsReached}
 use Rattle.prop_bindings.specs.Fits.{IsFit, IsInOneLoop, Agree}
 use Rattle.prop_bindings.specs.Plans.{assigned, after}
-use Rattle.prop_bindings.specs.code.Keys.{key_of, same_key}
-use Rattle.prop_bindings.specs.code.Orders.{IsLater}
+use Rattle.binding_graph.specs.code.Keys.{key_of, same_key}
+use Rattle.binding_graph.specs.code.Orders.{IsLater}
 
 -- ---- values to come
 -- the objects once these properties have their values

@@ -1,9 +1,9 @@
 -- What the readers of an event do.
 use Rattle.std.specs.Prelude.{ℕ, ◌≡◌, ◌≢◌, List, map, Option, Some, None, Result}
-use Rattle.texts.specs.Lists.{spell_each}
-use Rattle.texts.specs.code.Reading.{Reads, IsAtEnd}
-use Rattle.texts.specs.Reading.{spell_name}
-use Rattle.texts.specs.declared.fault.ParseFault.{ParseFault}
+use Rattle.token_reading.specs.Lists.{spell_each}
+use Rattle.token_reading.specs.code.Reading.{Reads, IsAtEnd}
+use Rattle.token_reading.specs.Reading.{spell_name}
+use Rattle.token_reading.specs.declared.fault.ParseFault.{ParseFault}
 use Rattle.texts.specs.declared.token.Token.{Token}
 use Rattle.script_lang.specs.declared.event.Event.{Event}
 use Rattle.script_lang.specs.declared.event.Input.{Input}

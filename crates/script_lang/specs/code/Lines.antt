@@ -1,7 +1,7 @@
 -- What the reader of a line does.
 use Rattle.std.specs.Prelude.{ℕ, ◌≡◌, List, Option, Result, Ok, Err}
-use Rattle.texts.specs.declared.fault.ParseFault.{ParseFault}
-use Rattle.texts.specs.declared.fault.ParseFault.TheVariants as parse
+use Rattle.token_reading.specs.declared.fault.ParseFault.{ParseFault}
+use Rattle.token_reading.specs.declared.fault.ParseFault.TheVariants as parse
 use Rattle.texts.specs.declared.lexer.LexFault.{LexFault}
 use Rattle.texts.specs.declared.lexer.LexFault.TheVariants as lex
 use Rattle.script_lang.specs.declared.event.Event.{Event}

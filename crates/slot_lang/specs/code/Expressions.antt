@@ -1,19 +1,19 @@
 -- What the readers of expressions do, and where a part of an expression may end.
 use Rattle.std.specs.Prelude.{◌≡◌, List, ◌∷◌, Result, MatchResult}
-use Rattle.texts.specs.code.Cursor.{NotAt}
-use Rattle.texts.specs.code.Reading.{Reads}
+use Rattle.token_reading.specs.code.Cursor.{NotAt}
+use Rattle.token_reading.specs.code.Reading.{Reads}
 use Rattle.slot_lang.specs.code.Precedence.{NoOperator}
 use Rattle.slot_lang.specs.declared.precedence.Precedence.{Precedence}
 use Rattle.slot_lang.specs.declared.precedence.Precedence.TheVariants as precedence
-use Rattle.texts.specs.declared.fault.ParseFault.{ParseFault}
-use Rattle.texts.specs.declared.fault.ParseFault.TheVariants.{Syntax}
+use Rattle.token_reading.specs.declared.fault.ParseFault.{ParseFault}
+use Rattle.token_reading.specs.declared.fault.ParseFault.TheVariants.{Syntax}
 use Rattle.texts.specs.declared.symbol.Symbol.TheVariants.{Dot, Close}
-use Rattle.texts.specs.declared.syntax.Expr.{Expr}
-use Rattle.texts.specs.declared.syntax.Expr.TheVariants as tree
-use Rattle.texts.specs.declared.syntax.Path.{Path}
-use Rattle.texts.specs.declared.syntax.Root.{Root}
-use Rattle.texts.specs.declared.syntax.Root.TheVariants as root
-use Rattle.texts.specs.declared.syntax.Unary.{Unary}
+use Rattle.syntax_trees.specs.declared.syntax.Expr.{Expr}
+use Rattle.syntax_trees.specs.declared.syntax.Expr.TheVariants as tree
+use Rattle.syntax_trees.specs.declared.syntax.Path.{Path}
+use Rattle.syntax_trees.specs.declared.syntax.Root.{Root}
+use Rattle.syntax_trees.specs.declared.syntax.Root.TheVariants as root
+use Rattle.syntax_trees.specs.declared.syntax.Unary.{Unary}
 use Rattle.texts.specs.declared.token.Token.{Token}
 use Rattle.texts.specs.declared.token.Token.TheVariants as token
 use Rattle.slot_lang.specs.Expressions.{Comparison, Sum, Term, spell_names, spell_expression, spell_comparison, spell_factor, tree_of_expression, tree_of_comparison, tree_of_factor}

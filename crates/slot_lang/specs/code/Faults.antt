@@ -1,8 +1,8 @@
 -- A fault of reading tokens, as a fault of the body.
 use Rattle.slot_lang.specs.declared.fault.BodyFault.{BodyFault}
 use Rattle.slot_lang.specs.declared.fault.BodyFault.TheVariants.{Syntax, Memory}
-use Rattle.texts.specs.declared.fault.ParseFault.{ParseFault}
-use Rattle.texts.specs.declared.fault.ParseFault.TheVariants as parse
+use Rattle.token_reading.specs.declared.fault.ParseFault.{ParseFault}
+use Rattle.token_reading.specs.declared.fault.ParseFault.TheVariants as parse
 
 -- a fault of reading tokens, as a fault of the body
 abbrev pub fault_of_parsing : ParseFault → BodyFault

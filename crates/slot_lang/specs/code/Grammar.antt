@@ -1,14 +1,14 @@
 -- What the readers of statements do, and where a statement may end.
 use Rattle.std.specs.Prelude.{List, map, Result}
 use Rattle.signatures.specs.declared.word.Word.TheVariants as word
-use Rattle.texts.specs.code.Cursor.{NotAtWord}
+use Rattle.token_reading.specs.code.Cursor.{NotAtWord}
 use Rattle.slot_lang.specs.Expressions.{Expression, tree_of_expression}
-use Rattle.texts.specs.code.Reading.{Reads, EndsAnywhere}
-use Rattle.texts.specs.declared.fault.ParseFault.{ParseFault}
-use Rattle.texts.specs.declared.syntax.Expr.{Expr}
-use Rattle.texts.specs.declared.syntax.Path.{Path}
-use Rattle.texts.specs.declared.syntax.Stmt.{Stmt}
-use Rattle.texts.specs.declared.syntax.Stmt.TheVariants as stmt
+use Rattle.token_reading.specs.code.Reading.{Reads, EndsAnywhere}
+use Rattle.token_reading.specs.declared.fault.ParseFault.{ParseFault}
+use Rattle.syntax_trees.specs.declared.syntax.Expr.{Expr}
+use Rattle.syntax_trees.specs.declared.syntax.Path.{Path}
+use Rattle.syntax_trees.specs.declared.syntax.Stmt.{Stmt}
+use Rattle.syntax_trees.specs.declared.syntax.Stmt.TheVariants as stmt
 use Rattle.texts.specs.declared.token.Token.{Token}
 use Rattle.slot_lang.specs.Grammar.{spell_arguments, spell_condition, spell_assignment, tree_of_assignment, spell_sets, trees_of_sets, spell_update_group, tree_of_update_group, spell_emission, tree_of_emission, spell_connection, tree_of_connection, spell_disconnection, tree_of_disconnection, spell_object, tree_of_deletion, tree_of_later_deletion, Body, Else, spell_statement, spell_else, spell_block, tree_of_block, tree_of_statement, tree_of_else}
 

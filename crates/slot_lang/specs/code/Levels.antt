@@ -7,9 +7,9 @@ use Rattle.slot_lang.specs.declared.precedence.Level.{Level}
 use Rattle.slot_lang.specs.declared.precedence.Level.TheVariants as level
 use Rattle.slot_lang.specs.declared.precedence.Precedence.{Precedence}
 use Rattle.slot_lang.specs.declared.precedence.Precedence.TheVariants as precedence
-use Rattle.texts.specs.code.Reading.{Reads}
-use Rattle.texts.specs.declared.syntax.Expr.{Expr}
-use Rattle.texts.specs.declared.syntax.Path.{Path}
+use Rattle.token_reading.specs.code.Reading.{Reads}
+use Rattle.syntax_trees.specs.declared.syntax.Expr.{Expr}
+use Rattle.syntax_trees.specs.declared.syntax.Path.{Path}
 use Rattle.texts.specs.declared.token.Token.{Token}
 
 -- the operators of the rule

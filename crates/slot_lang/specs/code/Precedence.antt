@@ -1,9 +1,9 @@
 -- What comes next: operators, and none of them.
 use Rattle.std.specs.Prelude.{◌≡◌, List, ◌∷◌, Option, MatchOption}
-use Rattle.texts.specs.code.Cursor.{NotAt}
+use Rattle.token_reading.specs.code.Cursor.{NotAt}
 use Rattle.slot_lang.specs.declared.precedence.Precedence.{Precedence}
 use Rattle.texts.specs.declared.symbol.Symbol.{Symbol}
-use Rattle.texts.specs.declared.syntax.Binary.{Binary}
+use Rattle.syntax_trees.specs.declared.syntax.Binary.{Binary}
 use Rattle.texts.specs.declared.token.Token.{Token}
 use Rattle.texts.specs.declared.token.Token.TheVariants as token
 use Rattle.slot_lang.specs.Precedence.{symbol_of, precedence_of, Operator}

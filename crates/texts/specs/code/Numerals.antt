@@ -1,9 +1,6 @@
 -- What the readers of numbers do.
-use Rattle.std.specs.Prelude.{ℕ, ◌≡◌, ◌≤◌, ◌<◌, List, Option, Some, None, Result}
-use Rattle.texts.specs.code.Reading.{Reads, EndsAnywhere}
-use Rattle.texts.specs.declared.fault.ParseFault.{ParseFault}
-use Rattle.texts.specs.declared.token.Token.{Token}
-use Rattle.texts.specs.Numerals.{value_of, IsNumeral, spell_numeral}
+use Rattle.std.specs.Prelude.{ℕ, ◌≡◌, ◌≤◌, ◌<◌, List, Option, Some, None}
+use Rattle.texts.specs.Numerals.{value_of, IsNumeral}
 
 -- the number that the digits write, or none where it is more than `most`
 abbrev pub ValueUpTo : ℕ → List ℕ → Option ℕ → Type 0
@@ -14,7 +11,3 @@ ValueUpTo most digits None = most < value_of digits
 abbrev pub FindsNumeral : ℕ → List ℕ → Option ℕ → Type 0
 FindsNumeral most word (Some n) = IsNumeral word n × (n ≤ most)
 FindsNumeral most word None = (n : ℕ) → IsNumeral word n → most < n
-
--- the number that comes next, if it is at most so much, whatever follows it
-abbrev pub ReadsNumeral : ℕ → List Token → Result ℕ ParseFault → List Token → Type 0
-ReadsNumeral most before result after = Reads (spell_numeral most) (λ n. value_of n.digits) EndsAnywhere before result after

@@ -1,13 +1,13 @@
 -- Events that are applied one after the other, each of which is written out when it is done.
 use Rattle.std.specs.Prelude.{ℕ, List, Option, Result}
 use Rattle.script_lang.specs.declared.event.Event.{Event}
-use Rattle.machine_state.specs.declared.entry.Entry.{Entry}
-use Rattle.machine_state.specs.declared.fault.Fault.{Fault}
+use Rattle.trace_entries.specs.declared.entry.Entry.{Entry}
+use Rattle.trace_entries.specs.declared.fault.Fault.{Fault}
 use Rattle.machine_rules.specs.Natives.{NativeAnswers}
 use Rattle.qt_runtime.specs.Seen.{Seen, RunsAll, with_front}
-use Rattle.trace_lines.specs.Lines.{trace_text}
-use Rattle.trace_lines.specs.Sent.{Puts}
-use Rattle.trace_lines.specs.declared.output.Output.{Output}
+use Rattle.command_output.specs.Lines.{trace_text}
+use Rattle.command_output.specs.Sent.{Puts}
+use Rattle.command_output.specs.declared.output.Output.{Output}
 
 -- the machine ran on these events, and the lines that it handed over were put into the output
 pub record Streams {N W : Type 0} (gives : N → NativeAnswers) (contents : W → Option (List ℕ)) (m : Seen N) (events : List Event)

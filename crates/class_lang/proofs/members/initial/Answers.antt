@@ -1,4 +1,4 @@
-use Rattle.texts.specs.Literals.{spell_literal, tree_of_literal}
+use Rattle.token_reading.specs.Literals.{spell_literal, tree_of_literal}
 use Rattle.class_lang.proofs.Sequences.{optional_found}
 use Rattle.class_lang.proofs.members.initial.Goals as goal
 

@@ -1,4 +1,4 @@
-use Rattle.texts.specs.Signatures.{spell_sig, tree_of_sig}
+use Rattle.token_reading.specs.Signatures.{spell_sig, tree_of_sig}
 use Rattle.class_lang.proofs.Sequences.{optional_found}
 use Rattle.class_lang.proofs.members.notify.Goals as goal
 

@@ -1,4 +1,4 @@
-use Rattle.connections.proofs.Removed.{Covers-numbered}
+use Rattle.connections.proofs.Removed.{LeadToEach-numbered}
 use Rattle.connections.proofs.removing.places_for.Goals as goal
 
 pub place_of_number-requires : goal.place_of_number-requires
@@ -6,5 +6,5 @@ place_of_number-requires c = rw c.deref.ensures.value c.requires
 
 pub returns-in-Numbered : goal.returns-in-Numbered
 returns-in-Numbered c = λ cells last l.
-    rw c.in-Numbered.is (Covers-numbered cells c.args.lists.now last c.in-Numbered.number c.place_of_number.result.now
+    rw c.in-Numbered.is (LeadToEach-numbered cells c.args.lists.now last c.in-Numbered.number c.place_of_number.result.now
     (λ p among same. c.place_of_number.ensures.held p (rw c.deref.ensures.value among) same) l)

@@ -1,7 +1,7 @@
 use Rattle.std.proofs.Common.{◌≡◌, ◌<◌, ◌≤◌, ◌⊎◌, ℕ, get_or}
 use Rattle.slab.specs.Slab.{get, slab_len}
 use Rattle.connections.specs.Cells.{swept}
-use Rattle.connections.specs.Lists.{Leads, shown_in}
+use Rattle.connections.specs.Lists.{ListsLead, shown_in}
 use Rattle.connections.proofs.sweeping.sweep_keys.Given as goal
 
 -- each cell is as it was or swept, and it is swept where a key so far is its own; the lists lead to the same connections
@@ -10,6 +10,6 @@ invariant-loop-key l = record {
   either : (k : ℕ) → (get l.cells k ≡ get l.fn.cells k) ⊎ (get l.cells k ≡ swept (get l.fn.cells k));
   done : (j : ℕ) (d : ℕ) → j < l.key-index → get l.cells (get_or l.keys j d) ≡ swept (get l.fn.cells (get_or l.keys j d));
   len : slab_len l.cells ≤ slab_len l.fn.cells;
-  lists : (last : ℕ) → Leads l.fn.cells l.fn.lists last → Leads l.cells l.lists last;
-  shown : (last : ℕ) → Leads l.fn.cells l.fn.lists last → shown_in l.cells l.lists ≡ shown_in l.fn.cells l.fn.lists;
+  lists : (last : ℕ) → ListsLead l.fn.cells l.fn.lists last → ListsLead l.cells l.lists last;
+  shown : (last : ℕ) → ListsLead l.fn.cells l.fn.lists last → shown_in l.cells l.lists ≡ shown_in l.fn.cells l.fn.lists;
 }

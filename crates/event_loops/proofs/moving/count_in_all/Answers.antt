@@ -3,14 +3,14 @@ use Rattle.std.proofs.lemmas.List.{length-append}
 use Rattle.indexmap.specs.IndexSet.{contains}
 use Rattle.event_loops.specs.declared.item.Posted.{Posted}
 use Rattle.event_loops.specs.Queues.{items_at}
-use Rattle.event_loops.specs.Rings.{shown, those_going}
+use Rattle.event_loops.specs.Rings.{loops_in, those_going}
 use Rattle.event_loops.proofs.Gathering.{going_from, going-step}
 use Rattle.event_loops.proofs.moving.count_in_all.Goals as goal
 
 pub loop-place-preserved : goal.loop-place-preserved
 loop-place-preserved c =
     let going = contains eqb c.args.going.now in
-    let loops = shown c.args.queues.now in
+    let loops = loops_in c.args.queues.now in
     let k = c.loop-place.place in
     omega (
       arith,

@@ -4,7 +4,7 @@ use Rattle.std.proofs.lemmas.List.{length-append, append_assoc, length-map}
 use Rattle.indexmap.specs.IndexSet.{contains}
 use Rattle.event_loops.specs.declared.item.Posted.{Posted}
 use Rattle.event_loops.specs.Queues.{Loop, all_items, items_at}
-use Rattle.event_loops.specs.Rings.{loop_of, shown, those_going, without_going}
+use Rattle.event_loops.specs.Rings.{loop_of, loops_in, those_going, without_going}
 use Rattle.event_loops.proofs.Gathering.{map_from, map_from-start, map_from-step, map_from-end, length-change, going_from, going-step, going-changed}
 use Rattle.event_loops.proofs.moving.gather.Goals as goal
 
@@ -12,8 +12,8 @@ pub loop-place-init : goal.loop-place-init
 loop-place-init c =
     let going = contains eqb c.args.going.now in
     record {
-      left = map_from-start (without_going going) (shown c.args.queues.now);
-      moved = ap (λ (items : List Posted). items ++ those_going going (all_items (shown c.args.queues.now))) c.in_ok-reserve.ensures.items;
+      left = map_from-start (without_going going) (loops_in c.args.queues.now);
+      moved = ap (λ (items : List Posted). items ++ those_going going (all_items (loops_in c.args.queues.now))) c.in_ok-reserve.ensures.items;
       room = subst (λ (count : ℕ). deque_len c.reserve.new.self + count ≤ deque_capacity c.reserve.new.self) c.in-Some.ensures c.in_ok-reserve.ensures.ok;
       there = refl;
     }
@@ -21,7 +21,7 @@ loop-place-init c =
 pub part_at-requires : goal.part_at-requires
 part_at-requires c =
     let going = contains eqb c.args.going.now in
-    let loops = shown c.loop-place.queues in
+    let loops = loops_in c.loop-place.queues in
     let k = c.loop-place.place in
     record {
       room = omega (
@@ -35,8 +35,8 @@ part_at-requires c =
 pub loop-place-preserved : goal.loop-place-preserved
 loop-place-preserved c =
     let going = contains eqb c.args.going.now in
-    let loops = shown c.loop-place.queues in
-    let after = shown c.part_at.new.queues in
+    let loops = loops_in c.loop-place.queues in
+    let after = loops_in c.part_at.new.queues in
     let k = c.loop-place.place in
     let ring = c.loop-place.ring.items in
     let here = those_going going (items_at loops k) in
@@ -64,6 +64,6 @@ loop-place-preserved c =
 pub returns-clause-left : goal.returns-clause-left
 returns-clause-left c =
     let going = contains eqb c.args.going.now in
-    let past : length (shown c.loop-place.queues) ≤ c.loop-place.place =
+    let past : length (loops_in c.loop-place.queues) ≤ c.loop-place.place =
     omega (arith, c.loop-place.invariant.there, length-map c.args.queues.now.entries loop_of, c.len-place-end.ensures.len, c.loop-place-test.false) in
-    sym (map_from-end c.loop-place.place (without_going going) (shown c.loop-place.queues) past) ∙ c.loop-place.invariant.left
+    sym (map_from-end c.loop-place.place (without_going going) (loops_in c.loop-place.queues) past) ∙ c.loop-place.invariant.left

@@ -3,7 +3,7 @@ use Rattle.std.specs.VecDeque.{deque_len, deque_capacity}
 use Rattle.indexmap.specs.IndexSet.{contains}
 use Rattle.event_loops.specs.declared.item.Posted.{Posted}
 use Rattle.event_loops.specs.Queues.{items_at}
-use Rattle.event_loops.specs.Rings.{shown, those_going, those_staying}
+use Rattle.event_loops.specs.Rings.{loops_in, those_going, those_staying}
 use Rattle.event_loops.proofs.Entries.{change-ring, change-nowhere, items_at-ring, items_at-nowhere}
 use Rattle.event_loops.proofs.moving.part_at.Goals as goal
 
@@ -27,7 +27,7 @@ returns-in-None-clause-moved c =
 pub returns-in-None-clause-len : goal.returns-in-None-clause-len
 returns-in-None-clause-len c =
     let going = contains eqb c.args.going.now in
-    let none : length (those_going going (items_at (shown c.args.queues.now) c.args.place)) ≡ 0 =
+    let none : length (those_going going (items_at (loops_in c.args.queues.now) c.args.place)) ≡ 0 =
     ap (λ (items : List Posted). length (those_going going items)) (items_at-nowhere c.args.queues.now.entries c.args.place (sym c.in-None.ensures.value)) in
     omega (arith, none)
 

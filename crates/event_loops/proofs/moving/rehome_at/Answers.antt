@@ -2,7 +2,7 @@ use Rattle.std.proofs.Common.{List, ap, ◌∙◌}
 use Rattle.std.proofs.lemmas.Result.{on_err_weaker}
 use Rattle.event_loops.specs.declared.item.Posted.{Posted}
 use Rattle.event_loops.specs.Queues.{Loop, change, with_items}
-use Rattle.event_loops.specs.Rings.{shown}
+use Rattle.event_loops.specs.Rings.{loops_in}
 use Rattle.event_loops.proofs.Entries.{put-twice, put-same}
 use Rattle.event_loops.proofs.moving.rehome_at.Goals as goal
 
@@ -10,7 +10,7 @@ use Rattle.event_loops.proofs.moving.rehome_at.Goals as goal
 pub returns-clause-err : goal.returns-clause-err
 returns-clause-err c =
     let home = c.args.home in
-    let loops = shown c.args.queues.now in
+    let loops = loops_in c.args.queues.now in
     let ring = c.gather-gathered.new.ring.items in
     on_err_weaker c.gather-gathered.result
     (λ still.

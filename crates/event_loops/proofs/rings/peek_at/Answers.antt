@@ -1,7 +1,7 @@
 use Rattle.std.proofs.Common.{sym, ◌∙◌, ap}
 use Rattle.std.specs.List.{find}
 use Rattle.event_loops.specs.Queues.{is_before}
-use Rattle.event_loops.specs.Rings.{shown}
+use Rattle.event_loops.specs.Rings.{loops_in}
 use Rattle.event_loops.specs.Marks.{since_of, waiting}
 use Rattle.event_loops.proofs.Entries.{items_at-entry, items_at-none}
 use Rattle.event_loops.proofs.Waiting.{find-waiting, items_at-visible}
@@ -11,7 +11,7 @@ pub returns-in-None : goal.returns-in-None
 returns-in-None c =
     let since = since_of c.args.marks.now in
     sym (ap (find (is_before c.args.number))
-    (items_at-visible since (shown c.args.queues.now) c.args.home
+    (items_at-visible since (loops_in c.args.queues.now) c.args.home
     ∙ ap (waiting since) (items_at-none c.args.queues.now.entries c.args.home (sym c.in-None.ensures.entry))))
 
 pub returns-in-Some : goal.returns-in-Some
@@ -20,5 +20,5 @@ returns-in-Some c =
     c.peek_before.ensures
     ∙ find-waiting since c.args.number c.in-Some.items.now.items
     ∙ ap (find (is_before c.args.number))
-    (sym (items_at-visible since (shown c.args.queues.now) c.args.home
+    (sym (items_at-visible since (loops_in c.args.queues.now) c.args.home
     ∙ ap (waiting since) (items_at-entry c.args.queues.now.entries c.args.home (c.in-Some.field-0-0.now, c.in-Some.items.now) (sym c.in-Some.ensures.entry))))

@@ -1,7 +1,7 @@
 use Rattle.std.proofs.Common.{List, sym, subst, ◌∙◌, ap}
 use Rattle.std.specs.List.{find}
 use Rattle.event_loops.specs.Queues.{Loop, is_before}
-use Rattle.event_loops.specs.Rings.{shown}
+use Rattle.event_loops.specs.Rings.{loops_in}
 use Rattle.event_loops.specs.Marks.{since_of, waiting, visible, taken_due, AreUpto}
 use Rattle.event_loops.proofs.Entries.{change-ring, change-nowhere, items_at-ring, items_at-nowhere}
 use Rattle.event_loops.proofs.Waiting.{find-waiting, items_at-visible, visible-taken, upto-taken}
@@ -11,14 +11,14 @@ pub returns-in-None-clause-taken : goal.returns-in-None-clause-taken
 returns-in-None-clause-taken c =
     let since = since_of c.args.marks.now in
     sym (ap (find (is_before c.args.number))
-    (items_at-visible since (shown c.args.queues.now) c.args.home
+    (items_at-visible since (loops_in c.args.queues.now) c.args.home
     ∙ ap (waiting since) (items_at-nowhere c.args.queues.now.entries c.args.home (sym c.in-None.ensures.value))))
 
 pub returns-in-None-clause-rest : goal.returns-in-None-clause-rest
 returns-in-None-clause-rest c =
     let since = since_of c.args.marks.now in
     ap (visible since) (sym (change-nowhere _ c.args.queues.now.entries c.args.home (sym c.in-None.ensures.value)))
-    ∙ visible-taken since c.args.number c.args.home (shown c.args.queues.now)
+    ∙ visible-taken since c.args.number c.args.home (loops_in c.args.queues.now)
 
 pub returns-in-Some-clause-taken : goal.returns-in-Some-clause-taken
 returns-in-Some-clause-taken c =
@@ -26,14 +26,14 @@ returns-in-Some-clause-taken c =
     c.take_before.ensures.taken
     ∙ find-waiting since c.args.number c.in-Some.items.now.items
     ∙ ap (find (is_before c.args.number))
-    (sym (items_at-visible since (shown c.args.queues.now) c.args.home
+    (sym (items_at-visible since (loops_in c.args.queues.now) c.args.home
     ∙ ap (waiting since) (items_at-ring c.args.queues.now.entries c.args.home c.in-Some.items.now (sym c.in-Some.ensures.value))))
 
 pub returns-in-Some-clause-rest : goal.returns-in-Some-clause-rest
 returns-in-Some-clause-rest c =
     let since = since_of c.args.marks.now in
     ap (visible since) (change-ring (taken_due since c.args.number) c.args.queues.now.entries c.args.home c.in-Some.items.now c.take_before.new.items (sym c.in-Some.ensures.value) c.take_before.ensures.rest)
-    ∙ visible-taken since c.args.number c.args.home (shown c.args.queues.now)
+    ∙ visible-taken since c.args.number c.args.home (loops_in c.args.queues.now)
 
 pub returns-in-Some-clause-within : goal.returns-in-Some-clause-within
 returns-in-Some-clause-within c = λ last w.
@@ -42,6 +42,6 @@ returns-in-Some-clause-within c = λ last w.
     record {
       upto = subst Upto
           (sym (change-ring (taken_due since c.args.number) c.args.queues.now.entries c.args.home c.in-Some.items.now c.take_before.new.items (sym c.in-Some.ensures.value) c.take_before.ensures.rest))
-          (upto-taken since c.args.number c.args.home (shown c.args.queues.now) last w.upto);
+          (upto-taken since c.args.number c.args.home (loops_in c.args.queues.now) last w.upto);
       marked = w.marked;
     }

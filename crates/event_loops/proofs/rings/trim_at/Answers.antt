@@ -1,6 +1,6 @@
 use Rattle.std.proofs.Common.{List, sym, subst, ◌∙◌, ap}
 use Rattle.event_loops.specs.Queues.{Loop}
-use Rattle.event_loops.specs.Rings.{shown}
+use Rattle.event_loops.specs.Rings.{loops_in}
 use Rattle.event_loops.specs.Marks.{since_of, visible, trimmed, AreUpto}
 use Rattle.event_loops.proofs.Entries.{change-ring}
 use Rattle.event_loops.proofs.Waiting.{visible-trimmed, upto-trimmed}
@@ -10,7 +10,7 @@ pub returns-in-Some-clause-seen : goal.returns-in-Some-clause-seen
 returns-in-Some-clause-seen c =
     let since = since_of c.args.marks.now in
     ap (visible since) (change-ring (trimmed since) c.args.queues.now.entries c.args.home c.in-Some.items.now c.trim.new.items (sym c.in-Some.ensures.value) c.trim.ensures)
-    ∙ visible-trimmed since c.args.home (shown c.args.queues.now)
+    ∙ visible-trimmed since c.args.home (loops_in c.args.queues.now)
 
 pub returns-in-Some-clause-within : goal.returns-in-Some-clause-within
 returns-in-Some-clause-within c = λ last w.
@@ -19,6 +19,6 @@ returns-in-Some-clause-within c = λ last w.
     record {
       upto = subst Upto
           (sym (change-ring (trimmed since) c.args.queues.now.entries c.args.home c.in-Some.items.now c.trim.new.items (sym c.in-Some.ensures.value) c.trim.ensures))
-          (upto-trimmed since c.args.home (shown c.args.queues.now) last w.upto);
+          (upto-trimmed since c.args.home (loops_in c.args.queues.now) last w.upto);
       marked = w.marked;
     }

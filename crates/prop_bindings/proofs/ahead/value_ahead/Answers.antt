@@ -1,7 +1,7 @@
 use Rattle.std.proofs.Common.{rules, ◌≡◌, ◌∙◌, ap, sym}
 use Rattle.std.specs.Option.{option_copied}
 use Rattle.indexmap.specs.IndexMap.{get}
-use Rattle.prop_bindings.specs.code.Keys.{same_key}
+use Rattle.binding_graph.specs.code.Keys.{same_key}
 use Rattle.prop_bindings.specs.code.Parts.{value_ahead}
 use Rattle.prop_bindings.proofs.Assigned.{ahead-values, given-ahead, own-ahead}
 use Rattle.prop_bindings.proofs.ahead.value_ahead.Goals as goal

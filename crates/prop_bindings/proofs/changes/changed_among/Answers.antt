@@ -1,13 +1,13 @@
 use Rattle.std.proofs.Common.{◌++◌, ◌∷◌, ◌∙◌, [], List, take, ap, sym, subst}
 use Rattle.std.proofs.lemmas.List.{append-nil, append_assoc}
-use Rattle.prop_bindings.specs.declared.numbering.Numbered.{Numbered}
-use Rattle.prop_bindings.specs.declared.place.Place.{Place}
+use Rattle.binding_graph.specs.declared.numbering.Numbered.{Numbered}
+use Rattle.binding_graph.specs.declared.place.Place.{Place}
 use Rattle.prop_bindings.specs.Changes.{AreChanged, none_changed}
-use Rattle.prop_bindings.specs.code.Numbering.{places_of}
+use Rattle.binding_graph.specs.code.Numbering.{places_of}
 use Rattle.prop_bindings.specs.code.Parts.{ahead}
-use Rattle.prop_bindings.proofs.Numbers.{taken-all}
-use Rattle.prop_bindings.proofs.Ranked.{next-taken, taken-places}
-use Rattle.prop_bindings.proofs.Sorting.{next-numbered}
+use Rattle.binding_graph.proofs.Numbers.{taken-all}
+use Rattle.binding_graph.proofs.Ranked.{next-taken, taken-places}
+use Rattle.binding_graph.proofs.Sorting.{next-numbered}
 use Rattle.prop_bindings.proofs.changes.changed_among.Goals as goal
 
 pub loop-target-init : goal.loop-target-init

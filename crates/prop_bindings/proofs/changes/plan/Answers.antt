@@ -1,15 +1,15 @@
 use Rattle.std.proofs.Common.{◌≡◌, ◌++◌, ℕ, List, ap, sym, subst}
 use Rattle.signatures.specs.declared.value.Value.{Value}
 use Rattle.object_tree.specs.declared.object.Object.{Object}
-use Rattle.prop_bindings.specs.declared.numbering.Numbered.{Numbered}
-use Rattle.prop_bindings.specs.declared.place.Place.{Place}
-use Rattle.prop_bindings.specs.Places.{values_in}
-use Rattle.prop_bindings.specs.Bindings.{binding_at}
+use Rattle.binding_graph.specs.declared.numbering.Numbered.{Numbered}
+use Rattle.binding_graph.specs.declared.place.Place.{Place}
+use Rattle.prop_bindings.specs.Values.{values_in}
+use Rattle.binding_graph.specs.Bindings.{binding_at}
 use Rattle.prop_bindings.specs.Changes.{AreChanged}
 use Rattle.prop_bindings.specs.Plans.{assigned}
-use Rattle.prop_bindings.specs.code.Graph.{bindings_in}
-use Rattle.prop_bindings.specs.code.Numbering.{places_of}
-use Rattle.prop_bindings.specs.code.Orders.{pass}
+use Rattle.binding_graph.specs.code.Graph.{bindings_in}
+use Rattle.binding_graph.specs.code.Numbering.{places_of}
+use Rattle.binding_graph.specs.code.Orders.{pass}
 use Rattle.prop_bindings.specs.code.Parts.{IsSoundBySome, StaySound, ahead}
 use Rattle.prop_bindings.proofs.Assigned.{assigned-differs}
 use Rattle.prop_bindings.proofs.Evaluating.{rest-alike}

@@ -2,17 +2,17 @@ use Rattle.std.proofs.Common.{◌≡◌, ◌∙◌, None, Some, List, Option, ma
 use Rattle.signatures.specs.declared.value.Value.{Value}
 use Rattle.object_tree.specs.declared.object.Object.{Object}
 use Rattle.object_tree.specs.Objects.{change_life, written}
-use Rattle.prop_bindings.specs.declared.binding.Binding.{Binding}
-use Rattle.prop_bindings.specs.declared.place.Place.{Place}
-use Rattle.prop_bindings.specs.Places.{values_in}
-use Rattle.prop_bindings.specs.Bindings.{binding_at, value_of}
+use Rattle.binding_graph.specs.declared.binding.Binding.{Binding}
+use Rattle.binding_graph.specs.declared.place.Place.{Place}
+use Rattle.prop_bindings.specs.Values.{values_in}
+use Rattle.binding_graph.specs.Bindings.{binding_at, value_of}
 use Rattle.prop_bindings.specs.Changes.{valueless}
-use Rattle.prop_bindings.specs.code.Graph.{bindings_in}
+use Rattle.binding_graph.specs.code.Graph.{bindings_in}
 use Rattle.prop_bindings.specs.code.Parts.{StaySound, ahead, value_ahead}
 use Rattle.prop_bindings.proofs.Assigned.{ahead-env, ahead-more}
 use Rattle.prop_bindings.proofs.Evaluating.{evaluated-there, evaluated-values, evaluated-sound}
-use Rattle.prop_bindings.proofs.Passes.{pass-step}
-use Rattle.prop_bindings.proofs.Ranked.{in-at, next-is}
+use Rattle.binding_graph.proofs.Passes.{pass-step}
+use Rattle.binding_graph.proofs.Ranked.{in-at, next-is}
 use Rattle.prop_bindings.proofs.Values.{written-differs}
 use Rattle.prop_bindings.proofs.evaluation.evaluate_all.Goals as goal
 

@@ -1,10 +1,10 @@
 use Rattle.std.proofs.Common.{◌≡◌, ◌+◌, drop}
-use Rattle.prop_bindings.specs.declared.place.Place.{Place}
-use Rattle.prop_bindings.specs.Places.{values_in}
-use Rattle.prop_bindings.specs.Bindings.{binding_at}
+use Rattle.binding_graph.specs.declared.place.Place.{Place}
+use Rattle.prop_bindings.specs.Values.{values_in}
+use Rattle.binding_graph.specs.Bindings.{binding_at}
 use Rattle.prop_bindings.specs.Changes.{DifferInValues}
-use Rattle.prop_bindings.specs.code.Graph.{bindings_in}
-use Rattle.prop_bindings.specs.code.Orders.{pass}
+use Rattle.binding_graph.specs.code.Graph.{bindings_in}
+use Rattle.binding_graph.specs.code.Orders.{pass}
 use Rattle.prop_bindings.specs.code.Parts.{IsSoundBySome, StaySound, ahead}
 use Rattle.prop_bindings.proofs.evaluation.evaluate_all.Given as goal
 

@@ -1,8 +1,8 @@
 use Rattle.std.proofs.Common.{Option, subst}
 use Rattle.signatures.specs.declared.value.Value.{Value}
 use Rattle.expressions.specs.Evaluation.{Evaluates}
-use Rattle.prop_bindings.specs.declared.place.Place.{Place}
-use Rattle.prop_bindings.specs.Bindings.{value_of}
+use Rattle.binding_graph.specs.declared.place.Place.{Place}
+use Rattle.binding_graph.specs.Bindings.{value_of}
 use Rattle.prop_bindings.proofs.Assigned.{ahead-present}
 use Rattle.prop_bindings.proofs.preparing.present_value.Goals as goal
 

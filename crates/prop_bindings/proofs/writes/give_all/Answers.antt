@@ -3,9 +3,9 @@ use Rattle.std.specs.Option.{is_some}
 use Rattle.std.proofs.lemmas.List.{take_more}
 use Rattle.indexmap.specs.IndexMap.{get}
 use Rattle.signatures.specs.declared.value.Value.{Value}
-use Rattle.prop_bindings.specs.declared.place.Place.{Place}
+use Rattle.binding_graph.specs.declared.place.Place.{Place}
 use Rattle.prop_bindings.specs.declared.assignment.Assignment.{Assignment}
-use Rattle.prop_bindings.specs.code.Keys.{key_of, same_key}
+use Rattle.binding_graph.specs.code.Keys.{key_of, same_key}
 use Rattle.prop_bindings.specs.code.Parts.{AreGiven}
 use Rattle.prop_bindings.proofs.Giving.{given-again, given-new}
 use Rattle.prop_bindings.proofs.writes.give_all.Goals as goal

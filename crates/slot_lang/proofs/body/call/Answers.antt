@@ -2,9 +2,9 @@ use Rattle.std.proofs.Common.{map}
 use Rattle.slot_lang.specs.Expressions.{tree_of_expression}
 use Rattle.slot_lang.specs.code.Expressions.{EndsFactor}
 use Rattle.slot_lang.specs.Grammar.{Target, spell_target, spell_arguments}
-use Rattle.texts.specs.code.Reading.{EndsAnywhere}
-use Rattle.texts.specs.declared.syntax.Stmt.TheVariants as stmt
-use Rattle.texts.proofs.Both.{both_found}
+use Rattle.token_reading.specs.code.Reading.{EndsAnywhere}
+use Rattle.syntax_trees.specs.declared.syntax.Stmt.TheVariants as stmt
+use Rattle.token_reading.proofs.Both.{both_found}
 use Rattle.slot_lang.proofs.Bodies.{arguments_meet}
 use Rattle.slot_lang.proofs.body.call.Goals as goal
 

@@ -1,10 +1,10 @@
 use Rattle.std.proofs.Common.{map}
 use Rattle.slot_lang.specs.Expressions.{tree_of_expression}
 use Rattle.slot_lang.specs.Grammar.{spell_arguments}
-use Rattle.texts.specs.code.Reading.{EndsAnywhere}
-use Rattle.texts.specs.Reading.{spell_name}
-use Rattle.texts.specs.declared.syntax.Stmt.TheVariants as stmt
-use Rattle.texts.proofs.Both.{both_found}
+use Rattle.token_reading.specs.code.Reading.{EndsAnywhere}
+use Rattle.token_reading.specs.Reading.{spell_name}
+use Rattle.syntax_trees.specs.declared.syntax.Stmt.TheVariants as stmt
+use Rattle.token_reading.proofs.Both.{both_found}
 use Rattle.slot_lang.proofs.body.emission.Goals as goal
 
 pub returns-clause-reads : goal.returns-clause-reads

@@ -1,6 +1,6 @@
-use Rattle.texts.proofs.Both.{both_found}
-use Rattle.texts.specs.code.Reading.{EndsAnywhere}
-use Rattle.texts.specs.declared.syntax.Stmt.TheVariants as stmt
+use Rattle.token_reading.proofs.Both.{both_found}
+use Rattle.token_reading.specs.code.Reading.{EndsAnywhere}
+use Rattle.syntax_trees.specs.declared.syntax.Stmt.TheVariants as stmt
 use Rattle.slot_lang.specs.Grammar.{spell_path_ends, tree_of_path_ends, spell_how}
 use Rattle.slot_lang.proofs.connection.connection.Goals as goal
 

@@ -3,8 +3,8 @@ use Rattle.std.proofs.lemmas.Result.{err_from_is_err_and}
 use Rattle.slot_lang.proofs.Chains.{chain_no_first, chain_start, chain_step, chain_stuck, chain_done}
 use Rattle.slot_lang.proofs.Factors.{prefix_reads, group_reads, path_reads, literal_found, no_factor_at_symbol, no_factor_at_token, no_factor_at_end}
 use Rattle.slot_lang.proofs.Levels.{chain_at, no_left, alone_found, no_right, compared_found}
-use Rattle.texts.specs.declared.syntax.Root.TheVariants as root
-use Rattle.texts.specs.declared.syntax.Unary.TheVariants as unary
+use Rattle.syntax_trees.specs.declared.syntax.Root.TheVariants as root
+use Rattle.syntax_trees.specs.declared.syntax.Unary.TheVariants as unary
 use Rattle.slot_lang.proofs.expression.+expression.Goals as goal
 
 -- ---- rules that group to the left

@@ -2,7 +2,7 @@ use Rattle.std.proofs.Common.{◌≡◌, sym, ◌∙◌, ap, ◌∷◌, [], ◌+
 use Rattle.connections.specs.Connected.{Held}
 use Rattle.connections.proofs.Counts.{Marked-added}
 use Rattle.connections.proofs.Many.{many-added}
-use Rattle.connections.proofs.Added.{Leads-put, shown-put, Tied-kept, shown-kept}
+use Rattle.connections.proofs.Added.{ListsLead-put, shown-put, Tied-kept, shown-kept}
 use Rattle.connections.proofs.connections.Connections.append.Goals as goal
 
 pub invariant_of-self : goal.invariant_of-self
@@ -15,7 +15,7 @@ invariant_of-self-2 c =
     let n : c.args.connection.number ≡ c.self.inside.last + 1 = c.requires.number ∙ ap (λ (h : Held). h.connected.last + 1) (sym c.self.view_is) in
     let above : c.self.inside.last < c.args.connection.number = omega (arith, n) in
     record {
-      leads = Leads-put c.make_rooms.new.cells c.put.new.cells c.make_rooms.new.lists c.put.new.lists c.self.inside.last c.put.result c.args.connection c.put.ensures.cell above c.put.ensures.all c.put.ensures.signals c.put.ensures.ends c.put.ensures.objects kept.leads;
+      leads = ListsLead-put c.make_rooms.new.cells c.put.new.cells c.make_rooms.new.lists c.put.new.lists c.self.inside.last c.put.result c.args.connection c.put.ensures.cell above c.put.ensures.all c.put.ensures.signals c.put.ensures.ends c.put.ensures.objects kept.leads;
       marks = Marked-added c.make_rooms.new.cells c.put.new.cells c.put.result c.args.connection c.make_rooms.new.marked c.put.ensures.cell c.put.ensures.len c.in_ok-make_rooms.ensures.mark kept.marks;
       many = many-added c.make_rooms.new.cells c.put.new.cells c.make_rooms.new.lists c.put.new.lists c.put.result c.args.connection c.put.ensures.cell (shown-put c.make_rooms.new.cells c.put.new.cells c.make_rooms.new.lists c.put.new.lists c.self.inside.last c.put.result c.args.connection c.put.ensures.cell above c.put.ensures.all kept.leads) kept.many;
     }

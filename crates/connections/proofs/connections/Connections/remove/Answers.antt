@@ -5,7 +5,7 @@ use Rattle.connections.specs.Cells.{fits}
 use Rattle.connections.specs.Lists.{all_of, shown_in}
 use Rattle.connections.specs.declared.connection.Connection.{Connection}
 use Rattle.connections.proofs.Indexed.{live-retired}
-use Rattle.connections.proofs.Removed.{Leads-retired}
+use Rattle.connections.proofs.Removed.{ListsLead-retired}
 use Rattle.connections.proofs.Many.{many-retired, more_marked}
 use Rattle.connections.proofs.connections.Connections.remove.Goals as goal
 
@@ -14,7 +14,7 @@ remove-requires-clause-led c = (c.self.inside.last, c.self.invariant.leads)
 
 pub invariant_of-self : goal.invariant_of-self
 invariant_of-self c = record {
-  leads = Leads-retired c.self.inside.cells c.remove.new.cells c.self.inside.lists c.self.inside.last c.args.removal c.remove.ensures.cells c.self.invariant.leads;
+  leads = ListsLead-retired c.self.inside.cells c.remove.new.cells c.self.inside.lists c.self.inside.last c.args.removal c.remove.ensures.cells c.self.invariant.leads;
   marks = c.remove.ensures.marked;
   many = many-retired c.self.inside.cells c.remove.new.cells c.self.inside.lists c.args.removal c.remove.ensures.cells c.self.invariant.many;
 }

@@ -5,7 +5,7 @@ use Rattle.object_tree.specs.Moving.{AreBelow}
 use Rattle.object_tree.specs.Objects.{home_of}
 use Rattle.object_tree.proofs.Moving.{whole-below}
 use Rattle.event_loops.specs.Queues.{Queues}
-use Rattle.prop_bindings.specs.Bindings.{lead_out}
+use Rattle.binding_graph.specs.Bindings.{lead_out}
 use Rattle.prop_bindings.specs.Fits.{Agree}
 use Rattle.delete_later.specs.Moving.{no_loop, has_parent, bound}
 use Rattle.delete_later.proofs.Moving.{agree-moved, not-there, not-at-home, has-none, moves-short, moves-refused}

@@ -1,6 +1,6 @@
 use Rattle.std.proofs.Common.{◌≡◌, ◌∷◌, [], ◌++◌, sym, ◌∙◌, ap, subst, List}
 use Rattle.event_loops.specs.Queues.{Queues, Loop, IsTaken, with_loop}
-use Rattle.event_loops.specs.Rings.{shown, loops_of}
+use Rattle.event_loops.specs.Rings.{loops_in, loops_of}
 use Rattle.event_loops.specs.Marks.{since_of, visible, AreUpto}
 use Rattle.event_loops.specs.Kept.{seen}
 use Rattle.event_loops.specs.Numbers.{IsNumbered}
@@ -12,11 +12,11 @@ use Rattle.event_loops.proofs.loops.Loops.append.Goals as goal
 pub invariant_of-self-2 : goal.invariant_of-self-2
 invariant_of-self-2 c =
     let since = since_of c.self.inside.marks in
-    let rings : List Loop = shown c.self.inside.queues in
+    let rings : List Loop = loops_in c.self.inside.queues in
     let IsFree : Queues → Type 0 = λ s. ¬ IsTaken s.loops c.args.name.now in
     let free = subst IsFree (sym c.self.view_is) c.requires in
     let free_ring : ¬ IsTaken rings c.args.name.now = λ taken. free (taken.0, name_at-visible since rings taken.0 ∙ taken.1) in
-    let added : shown c.insert.new.self ≡ rings ++ record { name = c.args.name.now; items = [] } ∷ [] =
+    let added : loops_in c.insert.new.self ≡ rings ++ record { name = c.args.name.now; items = [] } ∷ [] =
     ap loops_of c.in_ok-insert.ensures.entries
     ∙ shown-insert c.self.inside.queues c.args.name.now c.in_ok-name.name c.new.result c.in_ok-name.ensures c.new.ensures.items free_ring in
     let Numbered : List Loop → Type 0 = λ loops. IsNumbered (record { loops = loops; posted = c.self.inside.posted }) in
@@ -34,7 +34,7 @@ invariant_of-self-2 c =
 pub returns-clause-added : goal.returns-clause-added
 returns-clause-added c =
     let since = since_of c.self.inside.marks in
-    let rings : List Loop = shown c.self.inside.queues in
+    let rings : List Loop = loops_in c.self.inside.queues in
     let IsFree : Queues → Type 0 = λ s. ¬ IsTaken s.loops c.args.name.now in
     let free = subst IsFree (sym c.self.view_is) c.requires in
     let free_ring : ¬ IsTaken rings c.args.name.now = λ taken. free (taken.0, name_at-visible since rings taken.0 ∙ taken.1) in

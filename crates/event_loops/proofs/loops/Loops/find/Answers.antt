@@ -1,6 +1,6 @@
 use Rattle.std.proofs.Common.{ℕ, sym, ◌∙◌, ap, subst}
 use Rattle.event_loops.specs.Queues.{Queues, IsNamed, name_at}
-use Rattle.event_loops.specs.Rings.{shown}
+use Rattle.event_loops.specs.Rings.{loops_in}
 use Rattle.event_loops.specs.Marks.{since_of}
 use Rattle.event_loops.specs.Kept.{seen}
 use Rattle.event_loops.proofs.Names.{name_at-found, name_at-first, taken-lookup, none_where}
@@ -11,13 +11,13 @@ pub returns-in-Some-clause-value : goal.returns-in-Some-clause-value
 returns-in-Some-clause-value c =
     ap (λ (s : Queues). name_at s.loops c.new.result) (sym c.self.view_is)
     ∙ ap (λ home. name_at (seen c.self.inside.queues c.self.inside.marks) home) c.new.ensures
-    ∙ name_at-visible (since_of c.self.inside.marks) (shown c.self.inside.queues) c.in-Some.place
+    ∙ name_at-visible (since_of c.self.inside.marks) (loops_in c.self.inside.queues) c.in-Some.place
     ∙ name_at-found c.self.inside.queues.entries c.args.name.now c.in-Some.place (sym c.in-Some.ensures.index)
 
 pub returns-in-Some-clause-named : goal.returns-in-Some-clause-named
 returns-in-Some-clause-named c =
     let found = sym c.in-Some.ensures.index in
-    let visible = name_at-visible (since_of c.self.inside.marks) (shown c.self.inside.queues) in
+    let visible = name_at-visible (since_of c.self.inside.marks) (loops_in c.self.inside.queues) in
     let In : Queues → ℕ → Type 0 = λ s home. IsNamed s.loops c.args.name.now home in
     let Home : ℕ → Type 0 = λ home. In c.args.self.now home in
     let At : Queues → Type 0 = λ s. In s c.in-Some.place in
@@ -30,5 +30,5 @@ returns-in-Some-clause-named c =
 pub returns-in-None-clause-value : goal.returns-in-None-clause-value
 returns-in-None-clause-value c = λ taken.
     taken-lookup c.self.inside.queues.entries c.args.name.now taken.0
-    (sym (name_at-visible (since_of c.self.inside.marks) (shown c.self.inside.queues) taken.0) ∙ ap (λ (s : Queues). name_at s.loops taken.0) c.self.view_is ∙ taken.1)
+    (sym (name_at-visible (since_of c.self.inside.marks) (loops_in c.self.inside.queues) taken.0) ∙ ap (λ (s : Queues). name_at s.loops taken.0) c.self.view_is ∙ taken.1)
     (none_where _ c.in-None.ensures.found)

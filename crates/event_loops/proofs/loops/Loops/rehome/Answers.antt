@@ -3,7 +3,7 @@ use Rattle.std.specs.List.{list_any}
 use Rattle.std.proofs.Math.Path.{fun_ext}
 use Rattle.indexmap.specs.IndexSet.{contains}
 use Rattle.event_loops.specs.Queues.{Queues, Loop, rehomed}
-use Rattle.event_loops.specs.Rings.{shown, gathered}
+use Rattle.event_loops.specs.Rings.{loops_in, gathered}
 use Rattle.event_loops.specs.Marks.{since_of, visible, AreUpto, MarkedUpto}
 use Rattle.event_loops.specs.Kept.{seen}
 use Rattle.event_loops.specs.Numbers.{IsNumbered}
@@ -13,13 +13,13 @@ use Rattle.event_loops.proofs.loops.Loops.rehome.Goals as goal
 pub invariant_of-self-2 : goal.invariant_of-self-2
 invariant_of-self-2 c =
     let since = since_of c.self.inside.marks in
-    let rings = shown c.self.inside.queues in
+    let rings = loops_in c.self.inside.queues in
     let going = contains eqb c.in_ok-going.going in
     let home = c.number-2.result in
     let posted = c.self.inside.posted in
     let alike : since_of c.rehome.new.self ≡ since = fun_ext c.rehome.ensures in
     let now : seen c.rehome_at.new.queues c.rehome.new.self ≡ gathered going home (visible since rings) =
-    ap (λ (s : ℕ → Option ℕ). visible s (shown c.rehome_at.new.queues)) alike
+    ap (λ (s : ℕ → Option ℕ). visible s (loops_in c.rehome_at.new.queues)) alike
     ∙ ap (visible since) c.in_ok-rehome_at.ensures.gathered
     ∙ visible-gathered since going home rings in
     let Numbered : List Loop → Type 0 = λ loops. IsNumbered (record { loops = loops; posted = posted }) in
@@ -37,13 +37,13 @@ invariant_of-self-2 c =
 pub returns-clause-rehomed : goal.returns-clause-rehomed
 returns-clause-rehomed c =
     let since = since_of c.self.inside.marks in
-    let rings = shown c.self.inside.queues in
+    let rings = loops_in c.self.inside.queues in
     let going = contains eqb c.in_ok-going.going in
     let posted = c.self.inside.posted in
     let alike : since_of c.rehome.new.self ≡ since = fun_ext c.rehome.ensures in
     let before : Queues = record { loops = visible since rings; posted = posted } in
     let now : seen c.rehome_at.new.queues c.rehome.new.self ≡ (rehomed c.args.objects.now c.args.home before).loops =
-    ap (λ (s : ℕ → Option ℕ). visible s (shown c.rehome_at.new.queues)) alike
+    ap (λ (s : ℕ → Option ℕ). visible s (loops_in c.rehome_at.new.queues)) alike
     ∙ ap (visible since) c.in_ok-rehome_at.ensures.gathered
     ∙ visible-gathered since going c.number-2.result rings
     ∙ ap (λ (h : ℕ). gathered going h (visible since rings)) c.number-2.ensures
@@ -55,7 +55,7 @@ pub returns-then-not-awaits_any-clause-rehomed : goal.returns-then-not-awaits_an
 returns-then-not-awaits_any-clause-rehomed c =
     let since = since_of c.self.inside.marks in
     let posted = c.self.inside.posted in
-    let rings = shown c.self.inside.queues in
+    let rings = loops_in c.self.inside.queues in
     let none : list_any (λ o. is_some (since o)) c.args.objects.now ≡ false = sym c.awaits_any.ensures ∙ c.if-not-awaits_any.true in
     let with : List Loop → Queues = λ loops. record { loops = loops; posted = posted } in
     sym c.self.view_is ∙ sym (ap with (nothing-moves since c.args.objects.now none c.args.home posted rings)) ∙ ap (rehomed c.args.objects.now c.args.home) c.self.view_is

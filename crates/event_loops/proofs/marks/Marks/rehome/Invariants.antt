@@ -1,6 +1,6 @@
-use Rattle.event_loops.specs.Marks.{since_of, Agree}
+use Rattle.event_loops.specs.Marks.{since_of, WaitAlike}
 use Rattle.event_loops.proofs.marks.Marks.rehome.Given as goal
 
 -- the same items wait
 abbrev pub invariant-loop-object : goal.invariant-loop-object
-invariant-loop-object l = Agree (since_of l.fn.self) (since_of l.self)
+invariant-loop-object l = WaitAlike (since_of l.fn.self) (since_of l.self)

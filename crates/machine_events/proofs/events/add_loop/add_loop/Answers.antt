@@ -2,7 +2,7 @@ use Rattle.std.proofs.Common.{[], refl}
 use Rattle.event_loops.specs.Queues.{with_loop}
 use Rattle.machine_state.specs.Accepting.{accepted}
 use Rattle.machine_state.specs.Worlds.{at}
-use Rattle.machine_state.specs.declared.refusal.Refusal.TheVariants.{LoopExists}
+use Rattle.trace_entries.specs.declared.refusal.Refusal.TheVariants.{LoopExists}
 use Rattle.machine_events.proofs.Judging.Looping.{loop-exists, loop-added}
 use Rattle.machine_events.proofs.Taken.{ready, took-quiet, took-refused, took-unchanged}
 use Rattle.machine_events.proofs.events.add_loop.add_loop.Goals as goal

@@ -2,7 +2,7 @@ use Rattle.std.proofs.Common.{[], refl}
 use Rattle.object_tree.specs.declared.life.Life.{Life}
 use Rattle.machine_state.specs.Accepting.{accepted}
 use Rattle.machine_state.specs.Worlds.{at, with_store}
-use Rattle.machine_state.specs.declared.refusal.Refusal.TheVariants.{NoLoop}
+use Rattle.trace_entries.specs.declared.refusal.Refusal.TheVariants.{NoLoop}
 use Rattle.machine_rules.specs.Judgement.{Numbered}
 use Rattle.machine_events.proofs.Judging.Moving.{not-mover, no-such-loop, moves-so, moving-stops, moving-refuses}
 use Rattle.machine_events.proofs.Taken.{took-quiet, took-halted, took-refused, took-refused-from, took-not-accepted, ready}

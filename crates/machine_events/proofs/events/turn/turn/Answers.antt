@@ -1,5 +1,5 @@
 use Rattle.std.proofs.Common.{Ok, Err}
-use Rattle.machine_state.specs.declared.refusal.Refusal.TheVariants.{NoLoop}
+use Rattle.trace_entries.specs.declared.refusal.Refusal.TheVariants.{NoLoop}
 use Rattle.machine_events.proofs.Judging.Looping.{no-loop, turned}
 use Rattle.machine_events.proofs.Pushed.{sound-turn}
 use Rattle.machine_events.proofs.Taken.{ready, took-refused, took-unchanged, took-stopped}

@@ -6,7 +6,7 @@ use Rattle.machine_rules.proofs.Reaching.{not-idle, reaches-same, reaches-then, 
 use Rattle.machine_state.specs.Connections.{is_living}
 use Rattle.machine_state.specs.State.{Run, Act}
 use Rattle.machine_state.specs.Telling.{Alone}
-use Rattle.prop_bindings.specs.Places.{property_of}
+use Rattle.binding_graph.specs.Places.{property_of}
 use Rattle.std.specs.Option.{option_map}
 use Rattle.machine_rules.specs.Operations.{Write, Begin, operation_of_action}
 use Rattle.machine_rules.specs.Good.{ArgumentsFit}

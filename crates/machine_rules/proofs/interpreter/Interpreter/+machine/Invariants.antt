@@ -3,7 +3,7 @@ use Rattle.std.specs.List.{AllByRecursion}
 use Rattle.machine_state.specs.State.{Run, Ask, Act, Body, Emit, Update, Destroy}
 use Rattle.std.specs.Prelude.{IsTrue, is_some}
 use Rattle.native_slots.specs.declared.action.Action.{Action}
-use Rattle.machine_rules.specs.Natives.{place_of}
+use Rattle.machine_rules.specs.Natives.{member_of_action}
 use Rattle.machine_rules.specs.Settling.{notified}
 use Rattle.machine_rules.specs.code.Writing.{MayNotify}
 use Rattle.machine_rules.specs.code.Sound.{IsSoundWorld, MayBeHeardIn}
@@ -121,7 +121,7 @@ abbrev pub invariant-run_native-loop-action : goal.invariant-run_native-loop-act
 invariant-run_native-loop-action g l =
     record {
       reaches : Reaches l.self.meta (g.N.Answering.gives l.self.natives) l.self.depth l.active l.fn.world (Body l.call.object l.call.method l.call.arguments.now (Ask l.effects ∷ []) ∷ []) l.world (Body l.call.object l.call.method l.call.arguments.now (map (Act l.effects) l.action-iterator.rest.items) ∷ []);
-      within : AllByRecursion (λ (a : Action). IsTrue (is_some (place_of l.effects a))) l.action-iterator.rest.items;
+      within : AllByRecursion (λ (a : Action). IsTrue (is_some (member_of_action l.effects a))) l.action-iterator.rest.items;
       fewer : l.world.left ≤ l.fn.world.left;
       sound : IsSoundWorld l.self.meta l.world;
     }

@@ -3,9 +3,9 @@ use Rattle.std.specs.Prelude.{IfSome}
 use Rattle.std.proofs.lemmas.List.{take_more}
 use Rattle.std.proofs.lemmas.List.Elements.{All-from_recursion}
 use Rattle.prop_bindings.specs.declared.assignment.Assignment.{Assignment}
-use Rattle.prop_bindings.specs.declared.place.Place.{Place}
+use Rattle.binding_graph.specs.declared.place.Place.{Place}
 use Rattle.prop_bindings.specs.Plans.{after}
-use Rattle.machine_state.specs.declared.entry.Entry.{Entry}
+use Rattle.trace_entries.specs.declared.entry.Entry.{Entry}
 use Rattle.machine_state.specs.declared.telling.Cause.TheVariants.{Write}
 use Rattle.machine_state.specs.Telling.{HasValue, IsSetTold, IsToldWith}
 use Rattle.machine_state.specs.code.Planned.{AddsSets}

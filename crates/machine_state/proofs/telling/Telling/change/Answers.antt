@@ -1,6 +1,6 @@
 use Rattle.std.proofs.Common.{[], ◌∷◌, sym, subst}
 use Rattle.std.specs.List.{AllByRecursion}
-use Rattle.prop_bindings.specs.declared.place.Place.{Place}
+use Rattle.binding_graph.specs.declared.place.Place.{Place}
 use Rattle.prop_bindings.specs.Plans.{after}
 use Rattle.machine_state.specs.Telling.{HasValue}
 use Rattle.machine_state.proofs.Followers.{others-have}

@@ -1,11 +1,11 @@
 use Rattle.std.proofs.Common.{◌≡◌, ◌++◌, [], ◌∷◌, List, ap, sym, ◌∙◌, subst}
 use Rattle.std.specs.List.{AllByRecursion}
-use Rattle.prop_bindings.specs.declared.place.Place.{Place}
+use Rattle.binding_graph.specs.declared.place.Place.{Place}
 use Rattle.prop_bindings.specs.Changes.{places_in}
 use Rattle.prop_bindings.specs.Plans.{after}
-use Rattle.machine_state.specs.declared.entry.Entry.{Entry}
-use Rattle.machine_state.specs.declared.entry.Entry.TheVariants.{At}
-use Rattle.machine_state.specs.declared.entry.EntryKind.TheVariants as entry_kind
+use Rattle.trace_entries.specs.declared.entry.Entry.{Entry}
+use Rattle.trace_entries.specs.declared.entry.Entry.TheVariants.{At}
+use Rattle.trace_entries.specs.declared.entry.EntryKind.TheVariants as entry_kind
 use Rattle.machine_state.specs.Telling.{Grouped, HasValue, others, writes_of}
 use Rattle.machine_state.specs.code.Planned.{StandFirst}
 use Rattle.machine_state.proofs.Followers.{others-have, others-once}

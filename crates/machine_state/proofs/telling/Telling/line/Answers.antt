@@ -1,7 +1,7 @@
 use Rattle.std.proofs.Common.{sym}
 use Rattle.std.proofs.lemmas.Result.{IfOk-weaker}
 use Rattle.prop_bindings.specs.Plans.{after}
-use Rattle.machine_state.specs.declared.entry.Entry.{Entry}
+use Rattle.trace_entries.specs.declared.entry.Entry.{Entry}
 use Rattle.machine_state.specs.Telling.{IsTold, IsToldWith}
 use Rattle.machine_state.proofs.Told.{told-now}
 use Rattle.machine_state.proofs.telling.Telling.line.Goals as goal

@@ -1,5 +1,5 @@
 use Rattle.std.proofs.Common.{ℕ, List, ap, ◌∙◌}
-use Rattle.machine_state.specs.declared.entry.Entry.TheVariants.{At}
+use Rattle.trace_entries.specs.declared.entry.Entry.TheVariants.{At}
 use Rattle.machine_state.specs.Telling.{entry_kind_of}
 use Rattle.prop_bindings.specs.Plans.{after}
 use Rattle.machine_state.proofs.Ahead.{told-ahead}

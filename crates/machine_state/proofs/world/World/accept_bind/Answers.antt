@@ -1,10 +1,10 @@
 use Rattle.std.proofs.Common.{[], ◌∷◌, List, refl, ap, sym, subst}
-use Rattle.prop_bindings.specs.declared.place.Place.{Place}
+use Rattle.binding_graph.specs.declared.place.Place.{Place}
 use Rattle.prop_bindings.specs.declared.planned.Planned.{Planned}
 use Rattle.prop_bindings.specs.Plans.{after}
 use Rattle.machine_state.specs.declared.telling.Cause.TheVariants.{Bind}
 use Rattle.prop_bindings.specs.Calls.{IsNotBound}
-use Rattle.machine_state.specs.declared.entry.Entry.{Entry}
+use Rattle.trace_entries.specs.declared.entry.Entry.{Entry}
 use Rattle.machine_state.specs.Telling.{AreTold}
 use Rattle.machine_state.specs.Worlds.{accepting_entries}
 use Rattle.machine_state.specs.code.Planned.{CanBeTold}

@@ -1,6 +1,6 @@
 use Rattle.std.proofs.Common.{◌≡◌, ap}
-use Rattle.prop_bindings.specs.declared.place.Place.{Place}
-use Rattle.prop_bindings.specs.Bindings.{without}
+use Rattle.binding_graph.specs.declared.place.Place.{Place}
+use Rattle.binding_graph.specs.Bindings.{without}
 use Rattle.prop_bindings.specs.Changes.{one}
 use Rattle.machine_state.specs.Telling.{Alone}
 use Rattle.machine_state.specs.Worlds.{accepting_entries}

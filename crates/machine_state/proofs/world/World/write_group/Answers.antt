@@ -1,4 +1,4 @@
-use Rattle.prop_bindings.specs.Bindings.{without_all}
+use Rattle.binding_graph.specs.Bindings.{without_all}
 use Rattle.prop_bindings.specs.Plans.{after}
 use Rattle.machine_state.specs.Telling.{Grouped, writes_of}
 use Rattle.machine_state.specs.Worlds.{noted}

@@ -2,13 +2,13 @@ use Rattle.std.proofs.Common.{◌≡◌, ◌∙◌, ℕ, List, ap, refl, sym, su
 use Rattle.std.proofs.lemmas.Option.{same_Some}
 use Rattle.meta_model.specs.declared.site.MetaSite.{MetaSite}
 use Rattle.object_tree.specs.declared.object.Object.{Object}
-use Rattle.prop_bindings.specs.declared.place.Place.{Place}
-use Rattle.prop_bindings.specs.declared.binding.Binding.{Binding}
-use Rattle.prop_bindings.specs.Bindings.{binding_at, replaced}
+use Rattle.binding_graph.specs.declared.place.Place.{Place}
+use Rattle.binding_graph.specs.declared.binding.Binding.{Binding}
+use Rattle.binding_graph.specs.Bindings.{binding_at, replaced}
 use Rattle.prop_bindings.specs.Calls.{IsBound, no_memory}
 use Rattle.prop_bindings.specs.Counts.{Kept, CountsFrom}
 use Rattle.prop_bindings.specs.Fits.{Agree}
-use Rattle.prop_bindings.specs.Places.{property_of}
+use Rattle.binding_graph.specs.Places.{property_of}
 use Rattle.prop_bindings.specs.Plans.{after}
 use Rattle.prop_bindings.proofs.Short.{on-err, binds-err}
 use Rattle.prop_bindings.proofs.bindings.Bindings.bind.Goals as goal

@@ -1,6 +1,6 @@
 use Rattle.std.proofs.Common.{List, ap, ◌∙◌}
-use Rattle.prop_bindings.specs.declared.binding.Binding.{Binding}
-use Rattle.prop_bindings.specs.Bindings.{without}
+use Rattle.binding_graph.specs.declared.binding.Binding.{Binding}
+use Rattle.binding_graph.specs.Bindings.{without}
 use Rattle.prop_bindings.specs.Counts.{Kept}
 use Rattle.prop_bindings.proofs.bindings.Bindings.carry_out.Goals as goal
 

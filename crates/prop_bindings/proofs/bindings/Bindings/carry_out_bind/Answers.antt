@@ -1,10 +1,10 @@
 use Rattle.std.proofs.Common.{◌≡◌, ◌∙◌, List, ap, refl, sym, subst}
-use Rattle.prop_bindings.specs.declared.place.Place.{Place}
-use Rattle.prop_bindings.specs.declared.binding.Binding.{Binding}
-use Rattle.prop_bindings.specs.Bindings.{binding_at, replaced}
+use Rattle.binding_graph.specs.declared.place.Place.{Place}
+use Rattle.binding_graph.specs.declared.binding.Binding.{Binding}
+use Rattle.binding_graph.specs.Bindings.{binding_at, replaced}
 use Rattle.prop_bindings.specs.Counts.{Kept}
-use Rattle.prop_bindings.specs.code.Graph.{bindings_of}
-use Rattle.prop_bindings.specs.code.Orders.{IsLater}
+use Rattle.binding_graph.specs.code.Graph.{bindings_of}
+use Rattle.binding_graph.specs.code.Orders.{IsLater}
 use Rattle.prop_bindings.proofs.Short.{on-err}
 use Rattle.prop_bindings.proofs.bindings.Bindings.carry_out_bind.Goals as goal
 

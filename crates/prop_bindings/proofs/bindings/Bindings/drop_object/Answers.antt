@@ -1,6 +1,6 @@
 use Rattle.std.proofs.Common.{List, ap, ◌∙◌}
-use Rattle.prop_bindings.specs.declared.binding.Binding.{Binding}
-use Rattle.prop_bindings.specs.Bindings.{dropped}
+use Rattle.binding_graph.specs.declared.binding.Binding.{Binding}
+use Rattle.binding_graph.specs.Bindings.{dropped}
 use Rattle.prop_bindings.specs.Counts.{Kept}
 use Rattle.prop_bindings.proofs.bindings.Bindings.drop_object.Goals as goal
 

@@ -1,22 +1,23 @@
 use Rattle.std.proofs.Common.{◌≡◌, ◌∙◌, ◌-◌, ◌∷◌, [], ◌⊎◌, Option, Some, false, suc, List, length, take, drop, ap, sym, subst, refl, arith}
 use Rattle.signatures.specs.declared.value.Value.{Value}
-use Rattle.prop_bindings.specs.declared.place.Place.{Place}
-use Rattle.prop_bindings.specs.declared.binding.Binding.{Binding}
+use Rattle.binding_graph.specs.declared.place.Place.{Place}
+use Rattle.binding_graph.specs.declared.binding.Binding.{Binding}
 use Rattle.prop_bindings.specs.declared.fault.BindFault.TheVariants.{BindingLoop}
-use Rattle.prop_bindings.specs.Places.{Distinct, In, values_in}
-use Rattle.prop_bindings.specs.Bindings.{binding_at, Loop, replaced, reads_any, without}
+use Rattle.binding_graph.specs.Places.{Distinct, In}
+use Rattle.prop_bindings.specs.Values.{values_in}
+use Rattle.binding_graph.specs.Bindings.{binding_at, Loop, replaced, reads_any, without}
 use Rattle.prop_bindings.specs.Changes.{in_order, one, IsInstalled}
 use Rattle.prop_bindings.specs.Counts.{Kept, CountsFrom}
 use Rattle.prop_bindings.specs.Fits.{Agree}
 use Rattle.prop_bindings.specs.Plans.{after}
-use Rattle.prop_bindings.specs.code.Graph.{bindings_of}
-use Rattle.prop_bindings.specs.code.Orders.{AreBound, IsAffected, IsLater, bound, pass, update}
+use Rattle.binding_graph.specs.code.Graph.{bindings_of}
+use Rattle.binding_graph.specs.code.Orders.{AreBound, IsAffected, IsLater, bound, pass, update}
 use Rattle.prop_bindings.specs.code.Parts.{IsNotInstalled, IsSoundBySome, ahead, loops}
 use Rattle.prop_bindings.proofs.Calling.{tail-is, install_loops, is_moved, is_installed, is_later, closes_none, agree_installed, fits-of}
 use Rattle.prop_bindings.proofs.Counting.{changed-among, counts-later}
 use Rattle.prop_bindings.proofs.Evaluating.{rest-alike}
 use Rattle.prop_bindings.proofs.Giving.{given-only, given-update, sound-ahead}
-use Rattle.prop_bindings.proofs.Replaced.{installed-is}
+use Rattle.binding_graph.proofs.Replaced.{installed-is}
 use Rattle.prop_bindings.proofs.Settling.{affected-away, affected-bound}
 use Rattle.prop_bindings.proofs.Short.{installs-short}
 use Rattle.prop_bindings.proofs.bindings.Bindings.plan_install.Goals as goal

@@ -1,11 +1,11 @@
 use Rattle.std.proofs.Common.{List, ap, subst}
-use Rattle.prop_bindings.specs.declared.binding.Binding.{Binding}
-use Rattle.prop_bindings.specs.Bindings.{binding_at}
+use Rattle.binding_graph.specs.declared.binding.Binding.{Binding}
+use Rattle.binding_graph.specs.Bindings.{binding_at}
 use Rattle.prop_bindings.specs.Counts.{Kept}
-use Rattle.prop_bindings.specs.Laws.{Determines}
-use Rattle.prop_bindings.specs.code.Graph.{bindings_of}
-use Rattle.prop_bindings.proofs.Acyclic.{acyclic_determine}
-use Rattle.prop_bindings.proofs.Ranking.{ranked-acyclic}
+use Rattle.binding_graph.specs.Laws.{Determines}
+use Rattle.binding_graph.specs.code.Graph.{bindings_of}
+use Rattle.binding_graph.proofs.Acyclic.{acyclic_determine}
+use Rattle.binding_graph.proofs.Ranking.{ranked-acyclic}
 use Rattle.prop_bindings.proofs.bindings.Bindings.settle_once.Goals as goal
 
 pub returns : goal.returns

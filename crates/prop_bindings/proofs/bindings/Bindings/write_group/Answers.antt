@@ -1,8 +1,8 @@
 use Rattle.std.proofs.Common.{◌≡◌, ◌∙◌, ℕ, List, refl, sym, subst}
 use Rattle.object_tree.specs.declared.object.Object.{Object}
-use Rattle.prop_bindings.specs.declared.place.Place.{Place}
-use Rattle.prop_bindings.specs.declared.binding.Binding.{Binding}
-use Rattle.prop_bindings.specs.Bindings.{binding_at, without_all}
+use Rattle.binding_graph.specs.declared.place.Place.{Place}
+use Rattle.binding_graph.specs.declared.binding.Binding.{Binding}
+use Rattle.binding_graph.specs.Bindings.{binding_at, without_all}
 use Rattle.prop_bindings.specs.Changes.{IsWritten, places_in}
 use Rattle.prop_bindings.specs.Counts.{CountsGroup}
 use Rattle.prop_bindings.specs.Fits.{Agree}

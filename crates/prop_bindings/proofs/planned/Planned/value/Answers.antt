@@ -2,8 +2,8 @@ use Rattle.std.proofs.Common.{Option, ap, sym, ◌∙◌}
 use Rattle.std.specs.Option.{option_map, unwrap_or}
 use Rattle.indexmap.specs.IndexMap.{get}
 use Rattle.signatures.specs.declared.value.Value.{Value}
-use Rattle.prop_bindings.specs.Places.{values_in}
-use Rattle.prop_bindings.specs.code.Keys.{same_key}
+use Rattle.prop_bindings.specs.Values.{values_in}
+use Rattle.binding_graph.specs.code.Keys.{same_key}
 use Rattle.prop_bindings.proofs.Assigned.{assigned-values}
 use Rattle.prop_bindings.proofs.planned.Planned.value.Goals as goal
 

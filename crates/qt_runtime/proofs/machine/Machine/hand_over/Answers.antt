@@ -1,5 +1,5 @@
 use Rattle.std.proofs.Common.{List, sym, ap, ◌∙◌, subst}
-use Rattle.machine_state.specs.declared.entry.Entry.{Entry}
+use Rattle.trace_entries.specs.declared.entry.Entry.{Entry}
 use Rattle.qt_runtime.specs.Checked.{IsChecked}
 use Rattle.qt_runtime.specs.Seen.{Seen, cleared}
 use Rattle.qt_runtime.proofs.Checking.{cleared-checked}

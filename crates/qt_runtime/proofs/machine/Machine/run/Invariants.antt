@@ -1,5 +1,5 @@
 use Rattle.std.proofs.Common.{List, take}
-use Rattle.machine_state.specs.declared.fault.Answer.{Answer}
+use Rattle.trace_entries.specs.declared.fault.Answer.{Answer}
 use Rattle.qt_runtime.specs.Checked.{IsChecked}
 use Rattle.qt_runtime.specs.Seen.{AreKept, Completes}
 use Rattle.qt_runtime.proofs.machine.Machine.run.Given as goal

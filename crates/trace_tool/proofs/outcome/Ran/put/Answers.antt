@@ -1,4 +1,4 @@
-use Rattle.trace_lines.proofs.Sending.{sent}
+use Rattle.command_output.proofs.Sending.{sent}
 use Rattle.trace_tool.proofs.outcome.Ran.put.Goals as goal
 
 pub returns-in-Ok : goal.returns-in-Ok

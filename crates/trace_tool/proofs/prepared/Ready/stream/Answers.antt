@@ -1,5 +1,5 @@
 use Rattle.std.proofs.Common.{rules}
-use Rattle.trace_lines.proofs.Sending.{sent, finished}
+use Rattle.command_output.proofs.Sending.{sent, finished}
 use Rattle.trace_tool.proofs.Preparing.{carried-run}
 use Rattle.trace_tool.proofs.prepared.Ready.stream.Goals as goal
 

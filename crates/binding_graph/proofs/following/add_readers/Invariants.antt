@@ -1,0 +1,10 @@
+use Rattle.std.proofs.Common.{take}
+use Rattle.binding_graph.specs.Bindings.{binding_at}
+use Rattle.binding_graph.specs.code.Graph.{bindings_of}
+use Rattle.binding_graph.specs.code.Ranks.{rank_of}
+use Rattle.binding_graph.specs.code.Numbering.{Gains}
+use Rattle.binding_graph.proofs.following.add_readers.Given as goal
+
+abbrev pub invariant-loop-reader : goal.invariant-loop-reader
+invariant-loop-reader l =
+    Gains (binding_at (bindings_of l.graph)) (rank_of l.graph.ranks) l.source (take l.reader-index l.readers) l.initial.found.items l.found.items

@@ -1,0 +1,4 @@
+pub mod Places
+pub mod Bindings
+pub mod Laws
+pub mod code

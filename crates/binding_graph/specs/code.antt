@@ -1,0 +1,7 @@
+-- What the contracts of this crate's functions need besides: how bindings are kept, and orders of evaluation.
+pub mod Keys
+pub mod Lists
+pub mod Orders
+pub mod Numbering
+pub mod Ranks
+pub mod Graph

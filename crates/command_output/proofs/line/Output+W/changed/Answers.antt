@@ -1,0 +1,5 @@
+use Rattle.command_output.proofs.Sending.{sent}
+use Rattle.command_output.proofs.line.Output+W.changed.Goals as goal
+
+pub returns : goal.returns
+returns g c = sent (sent (sent c.put.ensures c.member.ensures) c.put-2.ensures) c.value.ensures

@@ -1,0 +1,5 @@
+use Rattle.command_output.proofs.Sending.{sent}
+use Rattle.command_output.proofs.line.Output+W.refused_statement.Goals as goal
+
+pub returns : goal.returns
+returns g c = sent c.put.ensures c.number.ensures

@@ -1,0 +1,99 @@
+//! The text of certificates.
+
+ghost use Rattle.std.specs.Prelude.{◌++◌, codes, decimal};
+ghost use Rattle.std.specs.List.{flat_map};
+ghost use Rattle.signatures.specs.Spelling.{text_of_sig};
+ghost use Rattle.certificate_texts.specs.Texts.{node_text, item_text, listed_text, node_line, certificate_text};
+ghost use Rattle.command_output.specs.Lines.{member_text};
+ghost use Rattle.command_output.specs.Sent.{Puts};
+
+use crate::output::Output;
+use certificate_lang::{Certificate, Line, MemberName, NodeName, SetItem};
+use signatures::{Name, Sig};
+use std::io::Write;
+
+impl<W: Write> Output<'_, W> {
+    /// Adds a certificate's lines.
+    pub fn certificate(&mut self, certificate: &Certificate)
+        ensures { Puts W.contents self.old self.new (certificate_text certificate.now) }
+    {
+        self.put(b"certificate 2\n");
+        self.numbered(b"bound ", certificate.bound);
+        self.node_lines(certificate.lines.as_slice());
+    }
+
+    /// Adds the lines of nodes.
+    fn node_lines(&mut self, lines: &[Line])
+        ensures { Puts W.contents self.old self.new (flat_map node_line lines.now) }
+    {
+        for line in lines {
+            self.node_line(line);
+        }
+    }
+
+    /// Adds the line of a node.
+    fn node_line(&mut self, line: &Line)
+        ensures { Puts W.contents self.old self.new (node_line line.now) }
+    {
+        self.node(&line.node);
+        self.rank(line.rank);
+        self.destroyed(line.destroys.as_slice());
+        self.put(b"\n");
+    }
+
+    /// Adds a rank, a blank in front of it.
+    fn rank(&mut self, rank: u32)
+        ensures { Puts W.contents self.old self.new (codes " " ++ decimal rank) }
+    {
+        self.put(b" ");
+        self.number(rank);
+    }
+
+    /// Adds a node.
+    pub fn node(&mut self, node: &NodeName)
+        ensures { Puts W.contents self.old self.new (node_text node.now) }
+    {
+        match &node.member {
+            MemberName::Method(sig) => self.method_of(&node.class, sig),
+            MemberName::Property(name) => self.member(&node.class, name),
+            MemberName::Destruction => self.tilde_name(&node.class),
+        }
+    }
+
+    /// Adds `~C`.
+    fn tilde_name(&mut self, class: &Name)
+        ensures { Puts W.contents self.old self.new (codes "~" ++ class.now) }
+    {
+        self.put(b"~");
+        self.name(class);
+    }
+
+    /// Adds `C.m(types)`.
+    fn method_of(&mut self, class: &Name, sig: &Sig)
+        ensures { Puts W.contents self.old self.new (member_text class.now (text_of_sig sig.now)) }
+    {
+        self.name(class);
+        self.put(b".");
+        self.sig(sig);
+    }
+
+    /// Adds the items of a destroy set, a blank in front of each.
+    fn destroyed(&mut self, items: &[SetItem])
+        ensures { Puts W.contents self.old self.new (flat_map listed_text items.now) }
+    {
+        for item in items {
+            self.put(b" ");
+            self.set_item(item);
+        }
+    }
+
+    /// Adds an item of a destroy set.
+    fn set_item(&mut self, item: &SetItem)
+        ensures { Puts W.contents self.old self.new (item_text item.now) }
+    {
+        match item {
+            SetItem::Class(name) => self.name(name),
+            SetItem::Closure(name) => self.tilde_name(name),
+        }
+    }
+}

@@ -1,8 +1,0 @@
-use Rattle.std.proofs.Common.{◌≡◌, drop, not}
-use Rattle.std.specs.List.{list_any}
-use Rattle.object_tree.specs.Children.{is_among}
-use Rattle.prop_bindings.proofs.binding.is_one_outside.Given as goal
-
--- of those that are left one isn't among them exactly where one of all isn't
-abbrev pub invariant-loop-source : goal.invariant-loop-source
-invariant-loop-source l = list_any (λ o. not (is_among o l.objects)) (drop l.source-index l.sources) ≡ list_any (λ o. not (is_among o l.objects)) l.sources

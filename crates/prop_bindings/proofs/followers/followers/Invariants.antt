@@ -1,7 +1,0 @@
-use Rattle.std.proofs.Common.{◌≡◌, ◌++◌, drop}
-use Rattle.prop_bindings.specs.code.Numbering.{places_of}
-use Rattle.prop_bindings.proofs.Reaching.{outside}
-use Rattle.prop_bindings.proofs.followers.followers.Given as goal
-
-abbrev pub invariant-loop-each : goal.invariant-loop-each
-invariant-loop-each l = l.places.items ++ outside l.from (places_of (drop l.each-index l.each-items)) ≡ outside l.from (places_of l.each-items)

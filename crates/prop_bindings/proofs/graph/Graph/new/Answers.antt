@@ -1,5 +1,0 @@
-use Rattle.prop_bindings.proofs.Graphs.{empty-graph}
-use Rattle.prop_bindings.proofs.graph.Graph.new.Goals as goal
-
-pub returns-clause-graph : goal.returns-clause-graph
-returns-clause-graph c = empty-graph _ c.new-installed.ensures.keyed c.new-installed.ensures.none c.new-ranks.ensures

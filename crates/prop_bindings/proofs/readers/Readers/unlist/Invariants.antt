@@ -1,5 +1,0 @@
-use Rattle.prop_bindings.specs.code.Graph.{LosesReader}
-use Rattle.prop_bindings.proofs.readers.Readers.unlist.Given as goal
-
-abbrev pub invariant-loop-source : goal.invariant-loop-source
-invariant-loop-source l = LosesReader l.kept l.target l.initial.self l.self

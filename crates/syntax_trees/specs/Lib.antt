@@ -1,0 +1,3 @@
+pub mod Literals
+pub mod Connections
+pub mod Trees

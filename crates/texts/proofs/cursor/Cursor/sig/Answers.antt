@@ -1,8 +1,0 @@
-use Rattle.texts.proofs.Signatures.{types_are_parts, sig_found}
-use Rattle.texts.proofs.cursor.Cursor.sig.Goals as goal
-
-pub list-requires : goal.list-requires
-list-requires c = types_are_parts
-
-pub returns-clause-reads : goal.returns-clause-reads
-returns-clause-reads c = sig_found c.in_ok-name.ensures.reads c.in_ok-types.ensures.reads

@@ -1,0 +1,11 @@
+pub mod OneTree
+pub mod Both
+pub mod Connections
+pub mod Underway
+pub mod Listed
+pub mod Signatures
+pub mod PlainReferences
+pub mod Literals
+pub mod NormalTypes
+pub mod SignatureTexts
+pub mod SignatureCuts

@@ -1,0 +1,10 @@
+//! What a run writes down and answers: the entries of its trace, what became of events, and why a run stops.
+#![tactic(auto)]
+
+mod entry;
+mod fault;
+mod refusal;
+
+pub use entry::{Entry, EntryKind, Shown, ShownAction, Trace};
+pub use fault::{Answer, Fault};
+pub use refusal::Refusal;

@@ -1,5 +1,0 @@
-use Rattle.trace_lines.proofs.Sending.{sent}
-use Rattle.trace_lines.proofs.certificate_line.Output+W.certificate.Goals as goal
-
-pub returns : goal.returns
-returns g c = sent (sent c.put.ensures c.numbered.ensures) (rw c.as_slice.ensures at c.node_lines.ensures)

@@ -1,5 +1,0 @@
-use Rattle.trace_lines.proofs.Sending.{sent}
-use Rattle.trace_lines.proofs.certificate_line.Output+W.method_of.Goals as goal
-
-pub returns : goal.returns
-returns g c = sent (sent c.name.ensures c.put.ensures) c.sig.ensures

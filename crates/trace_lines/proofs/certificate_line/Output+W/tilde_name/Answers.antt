@@ -1,5 +1,0 @@
-use Rattle.trace_lines.proofs.Sending.{sent}
-use Rattle.trace_lines.proofs.certificate_line.Output+W.tilde_name.Goals as goal
-
-pub returns : goal.returns
-returns g c = sent c.put.ensures c.name.ensures

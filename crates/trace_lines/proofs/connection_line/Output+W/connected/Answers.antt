@@ -1,5 +1,0 @@
-use Rattle.trace_lines.proofs.Sending.{sent}
-use Rattle.trace_lines.proofs.connection_line.Output+W.connected.Goals as goal
-
-pub returns : goal.returns
-returns g c = sent c.put.ensures (sent c.ends.ensures (sent c.put-2.ensures c.connection_type.ensures))

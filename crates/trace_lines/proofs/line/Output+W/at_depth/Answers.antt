@@ -1,5 +1,0 @@
-use Rattle.trace_lines.proofs.Sending.{sent}
-use Rattle.trace_lines.proofs.line.Output+W.at_depth.Goals as goal
-
-pub returns : goal.returns
-returns g c = sent (sent (sent c.depth.ensures c.put.ensures) c.entry_kind.ensures) c.put-2.ensures

@@ -1,5 +1,0 @@
-use Rattle.trace_lines.proofs.Sending.{sent}
-use Rattle.trace_lines.proofs.line.Output+W.call.Goals as goal
-
-pub returns : goal.returns
-returns g c = sent (sent (sent c.member.ensures c.put.ensures) c.arguments.ensures) c.put-2.ensures

@@ -1,5 +1,0 @@
-use Rattle.trace_lines.proofs.Sending.{sent}
-use Rattle.trace_lines.proofs.line.Output+W.refused_event.Goals as goal
-
-pub returns : goal.returns
-returns g c = sent (sent c.put.ensures c.number.ensures) c.numbered.ensures

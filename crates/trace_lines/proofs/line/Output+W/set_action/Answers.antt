@@ -1,5 +1,0 @@
-use Rattle.trace_lines.proofs.Sending.{sent}
-use Rattle.trace_lines.proofs.line.Output+W.set_action.Goals as goal
-
-pub returns : goal.returns
-returns g c = sent (sent (sent c.put.ensures c.name.ensures) c.put-2.ensures) c.value.ensures

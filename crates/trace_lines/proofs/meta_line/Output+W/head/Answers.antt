@@ -1,7 +1,0 @@
-use Rattle.trace_lines.proofs.Sending.{sent}
-use Rattle.trace_lines.proofs.meta_line.Output+W.head.Goals as goal
-
-pub returns : goal.returns
-returns g c =
-    sent (sent (sent (sent (sent (sent (sent c.put.ensures c.name.ensures) c.under.ensures) c.put-2.ensures)
-    (rw c.method_offset.ensures at c.number.ensures)) c.put-3.ensures) (rw c.len.ensures at c.number-2.ensures)) c.put-4.ensures

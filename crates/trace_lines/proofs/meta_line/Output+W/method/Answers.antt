@@ -1,5 +1,0 @@
-use Rattle.trace_lines.proofs.Sending.{sent}
-use Rattle.trace_lines.proofs.meta_line.Output+W.method.Goals as goal
-
-pub returns : goal.returns
-returns g c = sent (sent (sent c.number.ensures (rw c.work_text.ensures at c.put.ensures)) c.sig.ensures) c.put-2.ensures

@@ -1,5 +1,0 @@
-use Rattle.trace_lines.proofs.Sending.{sent}
-use Rattle.trace_lines.proofs.meta_line.Output+W.sig.Goals as goal
-
-pub returns : goal.returns
-returns g c = sent c.name.ensures (sent c.put.ensures (sent (rw c.as_slice.ensures at c.kinds.ensures) c.put-2.ensures))

@@ -1,5 +1,0 @@
-use Rattle.trace_lines.proofs.Sending.{sent}
-use Rattle.trace_lines.proofs.node_line.Output+W.node_in.Goals as goal
-
-pub returns-in-Destruction : goal.returns-in-Destruction
-returns-in-Destruction g c = rw c.in-Destruction.is (sent c.put.ensures c.name.ensures)

@@ -1,0 +1,7 @@
+use Rattle.type_check.proofs.naming.ClassNamesClasses.inherits.Goals as goal
+
+pub returns-in_default : goal.returns-in_default
+returns-in_default c = (λ t. absurd (cc), λ h. absurd (c.in_default.ensures.value h.class h.is_class.named))
+
+pub returns-in-None : goal.returns-in-None
+returns-in-None c = (λ t. absurd (cc), λ h. absurd (c.in-None.ensures.value h.base h.is_base.named))

@@ -1,0 +1,106 @@
+-- Typed programs (docs/certificate.md, "Typing").
+use Rattle.std.specs.Prelude.{◌≡◌, ℕ, List, Option, None, Some, slice_get}
+use Rattle.std.specs.Option.{option_and_then, option_map}
+use Rattle.meta_model.specs.declared.object.ValueType.{ValueType}
+use Rattle.meta_model.specs.declared.object.Work.{Work}
+use Rattle.meta_model.specs.declared.object.Work.TheVariants.{Slot}
+use Rattle.meta_model.specs.declared.object.MetaMethod.{MetaMethod}
+use Rattle.meta_model.specs.declared.object.MetaProperty.{MetaProperty}
+use Rattle.meta_model.specs.declared.site.SourceProperty.{SourceProperty}
+use Rattle.meta_model.specs.declared.site.MetaSite.{MetaSite}
+use Rattle.meta_model.specs.Loaded.{Loaded}
+use Rattle.meta_model.specs.Members.{IsMethod, IsProperty, property_at, Below, Declares}
+use Rattle.meta_model.specs.Values.{Has}
+use Rattle.effect_scan.specs.declared.node.Node.{Node}
+use Rattle.effect_scan.specs.declared.node.Member.{Member}
+use Rattle.effect_scan.specs.declared.node.Member.TheVariants.{Method, Property, Destruction}
+use Rattle.effect_scan.specs.Nodes.{nodes_of}
+use Rattle.type_check.specs.declared.spot.Spot.{Spot}
+use Rattle.type_check.specs.declared.spot.Spot.TheVariants as spot
+use Rattle.type_check.specs.Firsts.{AllHave, LacksFirst, IsFirstWithout}
+use Rattle.type_check.specs.Accepting.{IsGiven}
+use Rattle.type_check.specs.Bodies.{IsTypedBody}
+
+-- ---- members
+-- a slot's body is typed, where class d declares the slot; nothing else of a method needs a type
+abbrev pub IsTypedWork : Loaded → ℕ → List ValueType → Work → Type 0
+IsTypedWork p d kinds (Slot body) = IsTypedBody p d kinds body
+IsTypedWork p d kinds work = Unit {0}
+
+-- method m of class c, in the class that declares it
+abbrev pub IsTypedMethod : Loaded → ℕ → ℕ → Type 0
+IsTypedMethod p c m =
+    (d : ℕ) (method : MetaMethod) → Below p c d → Declares p d m → IsMethod p d m method → IsTypedWork p d method.kinds method.work
+
+-- property q of class c: its value at first is of its type, whatever objects there are
+abbrev pub IsTypedProperty : Loaded → ℕ → ℕ → Type 0
+IsTypedProperty p c q =
+    (property : MetaProperty) (classes : ℕ → Option ℕ) → IsProperty p c q property → Has p classes property.initial property.kind
+
+-- a node
+abbrev pub IsTypedMember : Loaded → ℕ → Member → Type 0
+IsTypedMember p c (Method m) = IsTypedMethod p c m
+IsTypedMember p c (Property q) = IsTypedProperty p c q
+IsTypedMember p c Destruction = Unit {0}
+
+abbrev pub IsTypedNode : Loaded → Node → Type 0
+IsTypedNode p x = IsTypedMember p x.class x.member
+
+-- ---- bindings
+-- the declared type of a property of a formal source
+abbrev pub kind_in : Loaded → ℕ → ℕ → Option ValueType
+kind_in p c q = option_map (λ (property : MetaProperty). property.kind) (property_at p c q)
+
+abbrev pub kind_of_source : Loaded → List ℕ → SourceProperty → Option ValueType
+kind_of_source p formals s = option_and_then (λ c. kind_in p c s.property) (slice_get formals s.source)
+
+-- the expression is of the target's type, which is a value type
+pub record IsTypedSite (p : Loaded) (site : MetaSite) : Type 0 where
+  pub property : MetaProperty
+  pub is : IsProperty p site.class site.property property
+  pub given : IsGiven p (kind_of_source p site.formals) property.kind site.formula
+
+-- ---- the program
+abbrev pub AreTypedNodes : Loaded → Type 0
+AreTypedNodes p = AllHave (IsTypedNode p) (nodes_of p)
+
+abbrev pub AreTypedSites : Loaded → Type 0
+AreTypedSites p = AllHave (IsTypedSite p) p.sites
+
+pub record IsTypedProgram (p : Loaded) : Type 0 where
+  pub nodes : AreTypedNodes p
+  pub sites : AreTypedSites p
+
+-- all nodes are typed, but the binding site of this number is the first that isn't
+pub record IsUntypedSite (p : Loaded) (site : ℕ) : Type 0 where
+  pub nodes : AreTypedNodes p
+  pub first : IsFirstWithout (IsTypedSite p) p.sites site
+
+-- this node is the first that isn't typed
+pub record IsUntypedNode (p : Loaded) (x : Node) : Type 0 where
+  pub number : ℕ
+  pub first : LacksFirst (IsTypedNode p) (nodes_of p) number x
+
+-- the first node that isn't typed, else the first such binding site, and nothing where all are typed
+abbrev pub FindsNode : Loaded → Option Node → Type 0
+FindsNode p None = AreTypedNodes p
+FindsNode p (Some x) = IsUntypedNode p x
+
+abbrev pub FindsUntyped : Loaded → Option Spot → Type 0
+FindsUntyped p None = IsTypedProgram p
+FindsUntyped p (Some (spot.Node x)) = IsUntypedNode p x
+FindsUntyped p (Some (spot.Binding site)) = IsUntypedSite p site
+
+-- ---- what is told of a node by itself: an inherited method is judged where it is declared
+abbrev pub IsTypedMemberHere : Loaded → ℕ → Member → Type 0
+IsTypedMemberHere p c (Method m) = Declares p c m → IsTypedMethod p c m
+IsTypedMemberHere p c (Property q) = IsTypedProperty p c q
+IsTypedMemberHere p c Destruction = Unit {0}
+
+abbrev pub IsTypedHere : Loaded → Node → Type 0
+IsTypedHere p x = IsTypedMemberHere p x.class x.member
+
+-- .. of a part of the program; what isn't there is taken to be typed
+abbrev pub IsTypedSpot : Loaded → Spot → Type 0
+IsTypedSpot p (spot.Node x) = IsTypedHere p x
+IsTypedSpot p (spot.Binding k) = (site : MetaSite) → slice_get p.sites k ≡ Some site → IsTypedSite p site

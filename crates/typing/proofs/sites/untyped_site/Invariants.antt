@@ -1,7 +1,0 @@
-use Rattle.typing.specs.Typed.{IsTypedSite}
-use Rattle.typing.proofs.Firsts.{HaveBefore}
-use Rattle.typing.proofs.sites.untyped_site.Given as goal
-
--- the earlier sites are typed
-abbrev pub invariant-loop-number : goal.invariant-loop-number
-invariant-loop-number l = HaveBefore (IsTypedSite l.meta) l.site-items l.number
