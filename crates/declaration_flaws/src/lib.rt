@@ -1,24 +1,15 @@
-//! Which declaration of a program breaks a rule of loading, and where.
+//! Which declaration of a program breaks a rule of loading, where, and in which words that is told.
 #![tactic(auto)]
 
-mod ancestry;
-mod bindings;
-mod bodies;
-mod class_names;
-mod counting;
-mod declared;
-mod ends;
+mod declarations;
 mod finding;
 mod flaws;
-mod kinds;
 mod likely;
-mod members;
 mod natives;
-mod notifiers;
-mod outer_uses;
-mod repeats;
-mod scope;
 mod sentence;
-mod uses;
+mod types;
+mod undeclared;
+mod walk;
+mod words;
 
 pub use flaws::declaration_flaw;

@@ -3,7 +3,7 @@
 use diagnostics::nearest;
 use signatures::Name;
 use std::alloc::{AllocError, Global};
-use texts::{Class, Parameter, Program};
+use syntax_trees::{Class, Parameter, Program};
 
 /// What to write in place of a name that the program declares nowhere: one that it declares, if they differ in few letters.
 pub fn likely(alloc: Global, program: &Program, name: &Name) -> Result<Option<String>, AllocError> {

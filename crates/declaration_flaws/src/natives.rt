@@ -1,30 +1,67 @@
 //! Natives for which the program `gammonfig` has no closure, or one with other effects.
 
-use crate::ancestry::lineage;
-use crate::counting::names_of_parameters;
-use crate::finding::Finding;
-use crate::members::{Held, property_of};
-use crate::sentence::{Piece, sentence};
+use crate::finding::{Finding, found};
+use crate::sentence::Piece;
+use meta_model::{Declaration, Member, ValueType, names_before_work};
+use meta_objects::Meta;
 use signatures::{Name, QType, Sig};
 use std::alloc::{AllocError, Global};
-use texts::{Class, EffectNames, Slot, SlotWork};
+use syntax_trees::{Class, EffectNames, Program, Slot, SlotWork};
 
-/// A native that has no closure: it isn't `twice(int)` of a class `Doubler`.
-pub fn missing_native(
+/// What is wrong with a native.
+#[derive(Drop)]
+pub struct NativeFlaw {
+    pub declaration: Declaration,
+    /// Which of the declaration's names it is about.
+    pub name: usize,
+    pub finding: Finding,
+}
+
+/// The first native of a loaded program that has no closure, which is refusal 17, or whose closure has other effects, which
+/// is 18.
+pub fn native_flaw(
     alloc: Global,
-    class: &Class,
-    slot: &Slot,
-) -> Result<Option<Finding>, AllocError> {
+    program: &Program,
+    meta: &Meta,
+    number: u8,
+) -> Result<Option<NativeFlaw>, AllocError> {
+    for (place, class) in program.classes.as_slice().iter().enumerate() {
+        for (slot_place, slot) in class.slots.as_slice().iter().enumerate() {
+            let wrong = if number == 17 {
+                no_closure(class, slot)
+            } else {
+                other_effects(meta, class, slot)
+            };
+            if let Some(wrong) = wrong {
+                let finding = found(alloc, &[Piece::Words(wrong.words)], Some(wrong.advice))?;
+                return Ok(Some(NativeFlaw {
+                    declaration: Declaration::Member(place, Member::Slot(slot_place)),
+                    name: wrong.name,
+                    finding,
+                }));
+            }
+        }
+    }
+    Ok(None)
+}
+
+/// In what a native is wrong.
+#[derive(Clone, Copy)]
+struct Wrong {
+    name: usize,
+    words: &'static str,
+    advice: &'static str,
+}
+
+/// That a native has no closure: it isn't `twice(int)` of a class `Doubler`.
+fn no_closure(class: &Class, slot: &Slot) -> Option<Wrong> {
     match &slot.work {
-        SlotWork::Native(_) if !is_doubler(class, slot) => Ok(Some(Finding {
+        SlotWork::Native(_) if !is_doubler(class, slot) => Some(Wrong {
             name: 0,
-            sentence: sentence(
-                alloc,
-                &[Piece::Words("the native has no code in this tool")],
-            )?,
-            advice: Some("this tool has code for one native, `twice(int)` of a class `Doubler`"),
-        })),
-        _ => Ok(None),
+            words: "the native has no code in this tool",
+            advice: "this tool has code for one native, `twice(int)` of a class `Doubler`",
+        }),
+        _ => None,
     }
 }
 
@@ -42,56 +79,45 @@ fn is_int(kind: &QType) -> bool {
     !kind.pointer && kind.name.bytes() == b"int".as_slice()
 }
 
-/// The native `twice(int)` of `Doubler` with other effects than its closure has: it reads nothing, emits `done(int)` alone
+/// That the native `twice(int)` of `Doubler` has other effects than its closure, which reads nothing, emits `done(int)` alone
 /// and sets `out`, an `int`, alone.
-pub fn other_effects(
-    alloc: Global,
-    classes: &[Class],
-    class: &Class,
-    slot: &Slot,
-) -> Result<Option<Finding>, AllocError> {
+fn other_effects(meta: &Meta, class: &Class, slot: &Slot) -> Option<Wrong> {
     let SlotWork::Native(effects) = &slot.work else {
-        return Ok(None);
+        return None;
     };
     if !is_doubler(class, slot) {
-        return Ok(None);
+        return None;
     }
-    let first = names_of_parameters(slot.parameters.as_slice()).saturating_add(1);
-    let Some((name, words)) = difference(alloc, classes, class, effects, first)? else {
-        return Ok(None);
-    };
-    Ok(Some(Finding {
+    let first = names_before_work(slot.parameters.as_slice());
+    let (name, words) = difference(meta, class, effects, first)?;
+    Some(Wrong {
         name,
-        sentence: sentence(alloc, &[Piece::Words(words)])?,
-        advice: Some(
-            "write `native twice(int v) emits done(int) sets out;`, where `out` is an `int`",
-        ),
-    }))
+        words,
+        advice: "write `native twice(int v) emits done(int) sets out;`, where `out` is an `int`",
+    })
 }
 
 /// In what the effects are others, and the name that it is about, where the lists begin with the name of this number.
 fn difference(
-    alloc: Global,
-    classes: &[Class],
+    meta: &Meta,
     class: &Class,
     effects: &EffectNames,
     first: usize,
-) -> Result<Option<(usize, &'static str)>, AllocError> {
+) -> Option<(usize, &'static str)> {
     if !effects.reads.is_empty() {
-        return Ok(Some((first, "the native's code reads no property")));
+        return Some((first, "the native's code reads no property"));
     }
     if !emits_done(effects.emits.as_slice()) {
         let name = if effects.emits.is_empty() { 0 } else { first };
-        return Ok(Some((name, "the native's code emits `done(int)` and nothing else")));
+        return Some((name, "the native's code emits `done(int)` and nothing else"));
     }
-    let set = first.saturating_add(2);
-    let line = lineage(alloc, classes, &class.name)?;
-    if !sets_out(line.as_slice(), effects.sets.as_slice()) {
+    if !sets_out(meta, &class.name, effects.sets.as_slice()) {
+        let set = first.saturating_add(2);
         let name = if effects.sets.is_empty() { 0 } else { set };
         let words = "the native's code sets `out`, a property of the type `int`, and nothing else";
-        return Ok(Some((name, words)));
+        return Some((name, words));
     }
-    Ok(None)
+    None
 }
 
 /// Whether the list is `done(int)`.
@@ -105,13 +131,18 @@ fn emits_done(emits: &[Sig]) -> bool {
     }
 }
 
-/// Whether the list is `out`, which is an `int`.
-fn sets_out(line: &[&Class], sets: &[Name]) -> bool {
+/// Whether the list is `out`, which is an `int` of the class.
+fn sets_out(meta: &Meta, class: &Name, sets: &[Name]) -> bool {
     let [name] = sets else {
         return false;
     };
-    match property_of(line, name) {
-        Some(Held::Declared(kind)) => name.bytes() == b"out".as_slice() && is_int(kind),
-        _ => false,
-    }
+    name.bytes() == b"out".as_slice() && kind_in(meta, class, name) == Some(ValueType::Int)
+}
+
+/// The type of the property of this name, of the class of this name.
+fn kind_in(meta: &Meta, class: &Name, name: &Name) -> Option<ValueType> {
+    let number = meta.class(class)?;
+    let place = meta.property(number, name)?;
+    let property = meta.object(number)?.properties.get(place)?;
+    Some(property.kind)
 }

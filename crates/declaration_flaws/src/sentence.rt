@@ -3,7 +3,7 @@
 use diagnostics::push_printed;
 use signatures::{Name, QType, Sig};
 use std::alloc::{AllocError, Global};
-use texts::Parameter;
+use syntax_trees::Parameter;
 
 /// A part of a sentence. Names, types and signatures stand between backquotes.
 #[derive(Clone, Copy)]

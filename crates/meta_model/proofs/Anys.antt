@@ -1,10 +1,9 @@
 -- Lists of which some element has a property.
-use Rattle.std.proofs.Common.{◌≡◌, ℕ, zero, suc, ◌<◌, Bool, true, false, List, [], ◌∷◌, ◌++◌, length, get_or, Any, IsTrue, MatchBool, ◌↔◌, ◌⊎◌, inl, inr, refl, sym, subst, arith}
-use Rattle.std.specs.List.{HoldsAt, AllWithin}
+use Rattle.std.proofs.Common.{◌≡◌, ℕ, zero, suc, ◌<◌, Option, Some, None, List, [], ◌∷◌, ◌++◌, Any, ◌⊎◌, inl, inr, refl, sym, subst, arith}
 use Rattle.std.proofs.lemmas.Option.{none-some, same_Some}
+use Rattle.meta_model.specs.LookUps.{Tells}
 use Rattle.meta_model.specs.Places.{StandsAt}
 use Rattle.meta_model.proofs.Once.{get_split_at}
-use Rattle.meta_model.proofs.Searches.{read_at}
 use Rattle.meta_model.proofs.Zips.{any_of, place_of_any, get_front, get_back}
 
 module _ {X : Type 0} (P : X → Type 0) where
@@ -43,24 +42,7 @@ module _ {X : Type 0} (P : X → Type 0) where
         | inr r ↦ inr (any_of P ys r.0 (record { item = at.1.item; is = r.2; has = at.1.has }))
       ]
 
-  -- .. as a test tells it of a list that is made so
-  pub told_of_one : (zs : List X) (x : X) → zs ≡ x ∷ [] → (b : Bool) → (IsTrue b ↔ P x) → IsTrue b ↔ Any P zs
-  told_of_one zs x e b is = (
-    λ t. subst (λ ys. Any P ys) (sym e) (any_one x (is.0 t)),
-    λ any. is.1 (of_one x (subst (λ ys. Any P ys) e any)),
-  )
-
-  pub told_of_both : (zs xs ys : List X) → zs ≡ xs ++ ys → (b : Bool) → (IsTrue b ↔ (Any P xs ⊎ Any P ys)) → IsTrue b ↔ Any P zs
-  told_of_both zs xs ys e b is = (
-    λ t. subst (λ us. Any P us) (sym e) (elim (is.0 t) [ inl front ↦ any_front xs ys front | inr back ↦ any_back xs ys back ]),
-    λ any. is.1 (any_part xs ys (subst (λ us. Any P us) e any)),
-  )
-
-  -- .. as a search tells it
-  any_at : (xs : List X) (k : ℕ) → k < length xs → HoldsAt P xs k → Any P xs
-  any_at [] k inside holds = absurd (omega arith)
-  any_at (y ∷ ys) k inside holds = (k, get_or (y ∷ ys) k y, inside, sym (read_at (y ∷ ys) k y inside), holds y)
-
-  pub told_of_any : (xs : List X) (r : Bool) → MatchBool r ((k : ℕ) × (k < length xs) × HoldsAt P xs k) (AllWithin (λ x. ¬ P x) xs 0 (length xs)) → IsTrue r ↔ Any P xs
-  told_of_any xs true h = (λ _. any_at xs h.0 h.1 h.2, λ _. refl)
-  told_of_any xs false h = (λ t. absurd (cc), λ any. absurd (h any.0 any.1 (omega arith) any.2 (subst P (sym any.3) any.4)))
+  -- .. in the second of two lists in a row, where none is in the first
+  pub tells_back : (zs xs ys : List X) → zs ≡ xs ++ ys → ¬ Any P xs → {Y : Type 0} (r : Option Y) → Tells (Any P ys) r → Tells (Any P zs) r
+  tells_back zs xs ys e none None h = λ any. elim (any_part xs ys (subst (λ us. Any P us) e any)) [ inl front ↦ none front | inr back ↦ h back ]
+  tells_back zs xs ys e none (Some y) h = subst (λ us. Any P us) (sym e) (any_back xs ys h)

@@ -30,3 +30,10 @@ module _ {A : Type 0} where
   pub last_of : (x y : A) (j : ℕ) → slice_get (x ∷ []) j ≡ Some y → (j ≡ 0) × (x ≡ y)
   last_of x y zero e = (refl, same_Some _ _ e)
   last_of x y (suc j) e = absurd (none-some y e)
+
+-- what stands in a list stands in its fronts
+pub take_get : {A : Type 0} (n : ℕ) (xs : List A) (k : ℕ) (x : A) → slice_get xs k ≡ Some x → k < n → slice_get (take n xs) k ≡ Some x
+take_get n [] k x e below = absurd (none-some x e)
+take_get zero (y ∷ xs) k x e below = absurd (omega (arith, below))
+take_get (suc n) (y ∷ xs) zero x e below = e
+take_get (suc n) (y ∷ xs) (suc k) x e below = take_get n xs k x e (omega (arith, below))

@@ -10,6 +10,7 @@ use Rattle.meta_model.specs.NamePlaces.{place_in, Adds}
 use Rattle.meta_model.specs.Places.{StandsAt, StandsFirst, NoneStands, Found, IsPlace}
 use Rattle.meta_model.specs.CallPlaces.{Index, place_by, IndexesCalls, AreCalledAlike}
 use Rattle.meta_model.specs.Twice.{StandsTwice}
+use Rattle.meta_model.specs.code.Twins.{AreTwins}
 use Rattle.meta_model.proofs.Searches.{order, none_more, none_at_all, met_first}
 use Rattle.meta_model.proofs.Zips.{any_of, place_of_any}
 
@@ -149,7 +150,7 @@ twice_at alike (z ∷ xs) zero (suc j) x y ex ey less a =
     inl (any_of (alike z) xs j (record { item = y; is = ey; has = subst (λ v. alike v y) (sym (same_Some _ _ ex)) a }))
 twice_at alike (z ∷ xs) (suc i) (suc j) x y ex ey less a = inr (twice_at alike xs i j x y ex ey (omega arith) a)
 
-record IsTwice {X : Type 0} (alike : X → X → Type 0) (xs : List X) : Type 0 where
+pub record IsTwice {X : Type 0} (alike : X → X → Type 0) (xs : List X) : Type 0 where
   pub i : ℕ
   pub j : ℕ
   pub x : X
@@ -159,7 +160,7 @@ record IsTwice {X : Type 0} (alike : X → X → Type 0) (xs : List X) : Type 0 
   pub before : i < j
   pub are : alike x y
 
-places_of_twice : {X : Type 0} (alike : X → X → Type 0) (xs : List X) → StandsTwice alike xs → IsTwice alike xs
+pub places_of_twice : {X : Type 0} (alike : X → X → Type 0) (xs : List X) → StandsTwice alike xs → IsTwice alike xs
 places_of_twice alike [] h = absurd h
 places_of_twice alike (x ∷ xs) (inl any) =
     let at = place_of_any (alike x) xs any in
@@ -186,20 +187,26 @@ module _ {X : Type 0} (name_of : X → List ℕ) (count_of : X → ℕ) (xs : Li
       (λ y at. let same : x ≡ y = same_Some _ _ (sym (slice_get_read xs (length xs) i x refl inside is) ∙ at) in
       subst (λ z. place_by indexes (count_of z) (name_of z) ≡ Some i) same here)
 
-  -- an element that isn't the first that is called so
-  pub twice_of : IndexesCalls name_of count_of xs indexes → (i : ℕ) (x : X) → slice_get xs i ≡ Some x → ¬ (place_by indexes (count_of x) (name_of x) ≡ Some i) → StandsTwice (AreCalledAlike name_of count_of) xs
-  twice_of ix i x at not = by (place_by indexes (count_of x) (name_of x)) refl (ix (name_of x) (count_of x))
+  -- an element before which none is found that is called so
+  pub first_here : IndexesCalls name_of count_of xs indexes → (i : ℕ) (x : X) → slice_get xs i ≡ Some x → ((k : ℕ) → place_by indexes (count_of x) (name_of x) ≡ Some k → i ≤ k) → place_by indexes (count_of x) (name_of x) ≡ Some i
+  first_here ix i x at none = by (place_by indexes (count_of x) (name_of x)) refl (ix (name_of x) (count_of x))
     where
-      by : (found : Option ℕ) → place_by indexes (count_of x) (name_of x) ≡ found → IsPlace (IsCalled name_of count_of (name_of x) (count_of x)) xs found → StandsTwice (AreCalledAlike name_of count_of) xs
-      by None e none = absurd (none i (record { item = x; is = at; has = (refl, refl) }))
+      by : (found : Option ℕ) → place_by indexes (count_of x) (name_of x) ≡ found → IsPlace (IsCalled name_of count_of (name_of x) (count_of x)) xs found → place_by indexes (count_of x) (name_of x) ≡ Some i
+      by None e never = absurd (never i (record { item = x; is = at; has = (refl, refl) }))
       by (Some k) e first =
           elim (order k i) [
-            | inl below ↦ twice_at (AreCalledAlike name_of count_of) xs k i first.at.item x first.at.is at below first.at.has
+            | inl below ↦ let past = none k e in absurd (omega (arith, below, past))
             | inr rest ↦ elim rest [
-              | inl same ↦ absurd (not (e ∙ ap Some same))
+              | inl same ↦ e ∙ ap Some same
               | inr above ↦ absurd (first.first i above (record { item = x; is = at; has = (refl, refl) }))
             ]
           ]
+
+  -- one that is found before it
+  pub twins_here : IndexesCalls name_of count_of xs indexes → (i : ℕ) (x : X) → slice_get xs i ≡ Some x → (k : ℕ) → (place_by indexes (count_of x) (name_of x) ≡ Some k) × (k < i) → AreTwins (AreCalledAlike name_of count_of) xs (record { first = k; again = i })
+  twins_here ix i x at k found =
+      let first = subst (IsPlace (IsCalled name_of count_of (name_of x) (count_of x)) xs) found.0 (ix (name_of x) (count_of x)) in
+      record { x = first.at.item; is_x = first.at.is; y = x; is_y = at; before = found.1; are = first.at.has }
 
   -- where each element is the first that is called so, no two are called alike
   pub none_twice : (i : ℕ) → length xs ≤ i → AreFirstBefore name_of count_of xs indexes i → ¬ StandsTwice (AreCalledAlike name_of count_of) xs

@@ -16,3 +16,8 @@ pub mod OneMember
 pub mod PathsIn
 pub mod Anys
 pub mod SiteProperties
+pub mod Offending
+pub mod OwnPlaces
+pub mod TwinMembers
+pub mod Nexts
+pub mod Loading

@@ -1,17 +1,14 @@
 -- Outlining classes one after the other.
 use Rattle.std.proofs.Common.{◌≡◌, ℕ, zero, suc, ◌+◌, ◌<◌, ◌≤◌, List, [], ◌∷◌, ◌++◌, map, take, drop, length, slice_get, Some, Any, inl, inr, refl, sym, ap, ◌∙◌, subst, arith, length-append}
-use Rattle.std.specs.Prelude.{Result, Ok, Err, IsErr, IsErrAnd}
 use Rattle.std.proofs.lemmas.List.{take_all, take-append-le, length-take-le}
 use Rattle.std.proofs.lemmas.Option.{none-some, same_Some, slice_get_within}
-use Rattle.texts.specs.declared.program.Property.{Property}
-use Rattle.texts.specs.declared.program.Class.{Class}
-use Rattle.meta_model.specs.declared.fault.MetaFault.{MetaFault}
+use Rattle.syntax_trees.specs.declared.program.Property.{Property}
+use Rattle.syntax_trees.specs.declared.program.Class.{Class}
 use Rattle.meta_model.specs.declared.outline.Heading.{Heading}
 use Rattle.meta_model.specs.declared.outline.Outline.{Outline}
 use Rattle.meta_model.specs.Places.{StandsAt, Found}
 use Rattle.meta_model.specs.Outlines.{base_name, own_methods, qobject, IsOutline, HasOutline, Outlines}
 use Rattle.meta_model.specs.Conditions.{LacksBase}
-use Rattle.meta_model.specs.PartAnswers.{Loads}
 use Rattle.meta_model.proofs.Fronts.{next_take, last_at, last_of}
 use Rattle.meta_model.proofs.Once.{get_split_at}
 use Rattle.meta_model.proofs.Zips.{any_of, place_of_any, get_front}
@@ -147,9 +144,3 @@ pub none_lack : (classes : List Class) (all : List Outline) → Outlines classes
 none_lack classes all h lacks =
     none_from classes 0 all (λ k x e. subst (λ n. HasOutline all n x) (omega arith) (h.classes k x e))
     (subst (λ ns. LacksBase ns classes) (sym (ap names (next_take all 0 qobject h.root))) lacks)
-
--- a part that isn't loaded
-pub failed : {X Y : Type 0} (fault : MetaFault) (Lacks More : Type 0) (Is : X → Type 0) (Be : Y → Type 0) (e : MetaFault) → Loads fault Lacks Is (Err e) → (Lacks → More) → (r : Result Y MetaFault) → IsErr r → IsErrAnd r (λ x. x ≡ e) → Loads fault More Be r
-failed fault Lacks More Is Be e h to (Ok y) is same = absurd (cc)
-failed fault Lacks More Is Be e (inl m) to (Err x) is same = inl (same ∙ m)
-failed fault Lacks More Is Be e (inr n) to (Err x) is same = inr (same ∙ n.0, to n.1)

@@ -1,13 +1,13 @@
 -- The paths and the literals of an expression, from those of its parts.
 use Rattle.std.proofs.Common.{◌≡◌, List, [], ◌∷◌, ◌++◌, sym, ap, ◌∙◌}
 use Rattle.signatures.specs.declared.value.Value.{Value}
-use Rattle.texts.specs.declared.syntax.Unary.{Unary}
-use Rattle.texts.specs.declared.syntax.Binary.{Binary}
-use Rattle.texts.specs.declared.syntax.Expr.{Expr}
-use Rattle.texts.specs.declared.syntax.Expr.TheVariants as e
-use Rattle.texts.specs.declared.syntax.Expr.TheOpen as layer
-use Rattle.texts.specs.declared.syntax.Expr.TheViews.{out-Expr, roll-Expr, roll-out-Expr}
-use Rattle.texts.specs.declared.syntax.Expr.TheFolds.{fold-roll-Expr, map-Expr}
+use Rattle.syntax_trees.specs.declared.syntax.Unary.{Unary}
+use Rattle.syntax_trees.specs.declared.syntax.Binary.{Binary}
+use Rattle.syntax_trees.specs.declared.syntax.Expr.{Expr}
+use Rattle.syntax_trees.specs.declared.syntax.Expr.TheVariants as e
+use Rattle.syntax_trees.specs.declared.syntax.Expr.TheOpen as layer
+use Rattle.syntax_trees.specs.declared.syntax.Expr.TheViews.{out-Expr, roll-Expr, roll-out-Expr}
+use Rattle.syntax_trees.specs.declared.syntax.Expr.TheFolds.{fold-roll-Expr, map-Expr}
 use Rattle.meta_model.specs.Sites.{paths_in, paths_step, literals_in, literals_step}
 
 module _ {P : Type 0} where

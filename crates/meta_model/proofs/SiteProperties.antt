@@ -1,14 +1,14 @@
 -- The properties that a binding site names: there is one at most.
-use Rattle.std.proofs.Common.{◌≡◌, ℕ, Bool, false, List, [], ◌∷◌, length, get_or, IsTrue, ◌↔◌, ◌⊎◌, inl, inr, Any, arith, sym, ap, ◌∙◌, subst}
-use Rattle.texts.specs.declared.syntax.Path.{Path}
-use Rattle.texts.specs.declared.syntax.Root.TheVariants as root
-use Rattle.texts.specs.declared.program.Formal.{Formal}
-use Rattle.texts.specs.declared.program.Property.{Property}
-use Rattle.texts.specs.declared.program.Site.{Site}
+use Rattle.std.proofs.Common.{◌≡◌, ℕ, true, false, List, [], ◌∷◌, length, get_or, Any, refl, arith, sym, ap, ◌∙◌, subst}
+use Rattle.syntax_trees.specs.declared.syntax.Path.{Path}
+use Rattle.syntax_trees.specs.declared.syntax.Root.TheVariants as root
+use Rattle.syntax_trees.specs.declared.program.Formal.{Formal}
+use Rattle.syntax_trees.specs.declared.program.Property.{Property}
+use Rattle.syntax_trees.specs.declared.program.Site.{Site}
 use Rattle.meta_model.specs.declared.site.SourceProperty.{SourceProperty}
 use Rattle.meta_model.specs.declared.outline.Outline.{Outline}
 use Rattle.meta_model.specs.Places.{StandsAt, StandsFirst, NoneStands, Found}
-use Rattle.meta_model.specs.Sites.{IsPropertyIn, IsSourceProperty, paths_in, BindsReference, ReadsReference, UsesReference, by_target, by_source}
+use Rattle.meta_model.specs.Sites.{IsPropertyIn, IsSourceProperty, IsReferenceIn, paths_in, BindsReference, ReadsReference, UsesReference, by_target, by_source}
 use Rattle.meta_model.proofs.Firsts.{found_item, one_by, same_in}
 
 -- the properties of this name
@@ -97,24 +97,21 @@ module _ (outlines : List Outline) where
         let property = one_property_in h.formal.at.item.class k.formal.at.item.class h.name k.name class same_name h.number s.property k.number t.property x y h.is_property k.is_property in
         (ap (λ i. source_of i s.property) formals.0 ∙ ap (λ q. source_of t.source q) property.1, property.2)
 
-    -- whether the path is a reference
-    pub told_by : (s : SourceProperty) (x : Property) → IsSourceProperty outlines site path s x → IsTrue x.kind.pointer ↔ ReadsReference outlines site path
-    told_by s x h = (
-      λ t. record { source = s; property = x; read = h; pointer = t },
-      λ r. let same = (one_source s r.source x r.property h r.read).1 in ap (λ (p : Property). p.kind.pointer) same ∙ r.pointer,
-    )
+    -- a path to another property is none
+    pub reads_not : (s : SourceProperty) (x : Property) → IsSourceProperty outlines site path s x → x.kind.pointer ≡ false → ¬ ReadsReference outlines site path
+    reads_not s x h plain r =
+        let same = (one_source s r.source x r.property h r.read).1 in
+        let pointer : x.kind.pointer ≡ true = ap (λ (p : Property). p.kind.pointer) same ∙ r.pointer in
+        absurd (cc)
 
-    pub told_by_none : ((s : SourceProperty) (x : Property) → ¬ IsSourceProperty outlines site path s x) → IsTrue false ↔ ReadsReference outlines site path
-    told_by_none none = (λ t. absurd (cc), λ r. absurd (none r.source r.property r.read))
+-- a property of another type is no reference
+pub refers_not : (outlines : List Outline) (class name : List ℕ) (c q : ℕ) (x : Property) → IsPropertyIn outlines class name c q x → x.kind.pointer ≡ false → ¬ IsReferenceIn outlines class name
+refers_not outlines class name c q x h plain r =
+    let one = one_property_in outlines class class name name refl refl _ _ _ _ _ _ h r.is in
+    let pointer : x.kind.pointer ≡ true = ap (λ (p : Property). p.kind.pointer) one.2 ∙ r.pointer in
+    absurd (cc)
 
--- whether a site uses a reference, by its two parts
-pub told_of_uses : (outlines : List Outline) (site : Site) (b : Bool) → (IsTrue b ↔ (BindsReference outlines site ⊎ Any (ReadsReference outlines site) (paths_in site.expression))) → IsTrue b ↔ UsesReference outlines site
-told_of_uses outlines site b is = (λ t. forth (is.0 t), λ h. is.1 (back h))
-  where
-    forth : BindsReference outlines site ⊎ Any (ReadsReference outlines site) (paths_in site.expression) → UsesReference outlines site
-    forth (inl h) = by_target h
-    forth (inr h) = by_source h
-
-    back : UsesReference outlines site → BindsReference outlines site ⊎ Any (ReadsReference outlines site) (paths_in site.expression)
-    back (by_target h) = inl h
-    back (by_source h) = inr h
+-- a site of which neither part is a reference uses none
+pub uses_none : (outlines : List Outline) (site : Site) → ¬ BindsReference outlines site → ¬ Any (ReadsReference outlines site) (paths_in site.expression) → ¬ UsesReference outlines site
+uses_none outlines site target sources (by_target h) = target h
+uses_none outlines site target sources (by_source h) = sources h

@@ -17,8 +17,8 @@ abbrev pub SamePlaces : List Index → List Index → Type 0
 SamePlaces old new = (count : ℕ) (name : List ℕ) → place_by new count name ≡ place_by old count name
 
 -- the place that x has by its name and its number of parameters
-abbrev pub place_of : {X : Type 0} → (X → List ℕ) → (X → ℕ) → List Index → X → Option ℕ
-place_of name_of count_of indexes x = place_by indexes (count_of x) (name_of x)
+abbrev pub call_place : {X : Type 0} → (X → List ℕ) → (X → ℕ) → List Index → X → Option ℕ
+call_place name_of count_of indexes x = place_by indexes (count_of x) (name_of x)
 
 -- under a name and a number of parameters stands the place of the first element that has both
 abbrev pub IndexesCalls : {X : Type 0} → (X → List ℕ) → (X → ℕ) → List X → List Index → Type 0

@@ -2,12 +2,12 @@
 -- (docs/language.md, "Names").
 use Rattle.std.specs.Prelude.{◌≡◌, ℕ, ◌<◌, List, [], ◌∷◌, ◌++◌, length, Option, None, Some, Any, ◌⊎◌, codes}
 use Rattle.signatures.specs.declared.sig.Sig.{Sig}
-use Rattle.texts.specs.declared.program.Parameter.{Parameter}
-use Rattle.texts.specs.declared.program.Property.{Property}
-use Rattle.texts.specs.declared.program.Signal.{Signal}
-use Rattle.texts.specs.declared.program.Slot.{Slot}
-use Rattle.texts.specs.declared.program.Class.{Class}
-use Rattle.texts.specs.declared.program.Program.{Program}
+use Rattle.syntax_trees.specs.declared.program.Parameter.{Parameter}
+use Rattle.syntax_trees.specs.declared.program.Property.{Property}
+use Rattle.syntax_trees.specs.declared.program.Signal.{Signal}
+use Rattle.syntax_trees.specs.declared.program.Slot.{Slot}
+use Rattle.syntax_trees.specs.declared.program.Class.{Class}
+use Rattle.syntax_trees.specs.declared.program.Program.{Program}
 use Rattle.meta_model.specs.declared.outline.Heading.{Heading}
 use Rattle.meta_model.specs.declared.outline.Outline.{Outline}
 use Rattle.meta_model.specs.declared.outline.Sort.TheVariants as sort

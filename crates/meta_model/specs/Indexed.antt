@@ -1,13 +1,14 @@
 -- Classes whose members are found by name (docs/machine.md, "Meta-objects").
 use Rattle.std.specs.Prelude.{◌≡◌, ℕ, List, length, Any, Result}
-use Rattle.texts.specs.declared.program.Property.{Property}
-use Rattle.meta_model.specs.declared.fault.MetaFault.{MetaFault}
+use Rattle.syntax_trees.specs.declared.program.Property.{Property}
+use Rattle.syntax_trees.specs.declared.program.Program.{Program}
 use Rattle.meta_model.specs.declared.fault.MetaFault.TheVariants as fault
 use Rattle.meta_model.specs.declared.outline.Heading.{Heading}
 use Rattle.meta_model.specs.declared.outline.Outline.{Outline}
 use Rattle.meta_model.specs.CallPlaces.{Index, IndexesCalls}
 use Rattle.meta_model.specs.Conditions.{HasTwoMembers}
-use Rattle.meta_model.specs.PartAnswers.{Loads}
+use Rattle.meta_model.specs.declared.offence.LoadFault.{LoadFault}
+use Rattle.meta_model.specs.Offences.{LoadsOf}
 
 -- a method of this name and with so many parameters
 abbrev pub IsCallOf : List ℕ → ℕ → Heading → Type 0
@@ -41,5 +42,6 @@ pub record AreIndexed (outlines indexed : List Outline) : Type 0 where
   pub each_once : ¬ Any HasTwoMembers outlines
 
 -- all classes are indexed; or `DuplicateMember`, where a member of one of them stands twice
-abbrev pub IndexesOutlines : List Outline → Result (List Outline) MetaFault → Type 0
-IndexesOutlines outlines result = Loads fault.DuplicateMember (Any HasTwoMembers outlines) (AreIndexed outlines) result
+abbrev pub IndexesOutlines : Program → List Outline → Result (List Outline) LoadFault → Type 0
+IndexesOutlines program outlines result =
+    LoadsOf program fault.DuplicateMember (Any HasTwoMembers outlines) (AreIndexed outlines) result

@@ -17,7 +17,7 @@ pub mod Natives
 pub mod Conditions
 pub mod Indexed
 pub mod FaultNumbers
-pub mod PartAnswers
+pub mod Offences
 pub mod code
 pub use Rattle.signatures.specs.Name
 pub use Rattle.signatures.specs.Types

@@ -3,12 +3,12 @@
 use Rattle.std.specs.Prelude.{◌≡◌, ℕ, ◌⊎◌, true, List, Any}
 use Rattle.signatures.specs.declared.qtype.QType.{QType}
 use Rattle.signatures.specs.declared.sig.Sig.{Sig}
-use Rattle.texts.specs.declared.program.Parameter.{Parameter}
-use Rattle.texts.specs.declared.program.EffectNames.{EffectNames}
-use Rattle.texts.specs.declared.program.SlotWork.{SlotWork}
-use Rattle.texts.specs.declared.program.SlotWork.TheVariants as work
-use Rattle.texts.specs.declared.program.Slot.{Slot}
-use Rattle.texts.specs.declared.program.Class.{Class}
+use Rattle.syntax_trees.specs.declared.program.Parameter.{Parameter}
+use Rattle.syntax_trees.specs.declared.program.EffectNames.{EffectNames}
+use Rattle.syntax_trees.specs.declared.program.SlotWork.{SlotWork}
+use Rattle.syntax_trees.specs.declared.program.SlotWork.TheVariants as work
+use Rattle.syntax_trees.specs.declared.program.Slot.{Slot}
+use Rattle.syntax_trees.specs.declared.program.Class.{Class}
 use Rattle.meta_model.specs.declared.outline.Outline.{Outline}
 use Rattle.meta_model.specs.Twice.{StandsTwice}
 use Rattle.meta_model.specs.Sites.{IsReferenceIn}

@@ -6,18 +6,18 @@ use Rattle.signatures.specs.declared.qtype.QType.{QType}
 use Rattle.signatures.specs.declared.sig.Sig.{Sig}
 use Rattle.signatures.specs.Normal.{pointer_type}
 use Rattle.signatures.specs.Types.{value_type}
-use Rattle.texts.specs.declared.program.Parameter.{Parameter}
-use Rattle.texts.specs.declared.program.Property.{Property}
-use Rattle.texts.specs.declared.program.Signal.{Signal}
-use Rattle.texts.specs.declared.program.Slot.{Slot}
-use Rattle.texts.specs.declared.program.Class.{Class}
+use Rattle.syntax_trees.specs.declared.program.Parameter.{Parameter}
+use Rattle.syntax_trees.specs.declared.program.Property.{Property}
+use Rattle.syntax_trees.specs.declared.program.Signal.{Signal}
+use Rattle.syntax_trees.specs.declared.program.Slot.{Slot}
+use Rattle.syntax_trees.specs.declared.program.Class.{Class}
 use Rattle.meta_model.specs.declared.outline.Sort.{Sort}
 use Rattle.meta_model.specs.declared.outline.Sort.TheVariants as sort
 use Rattle.meta_model.specs.declared.outline.Heading.{Heading}
 use Rattle.meta_model.specs.declared.outline.Outline.{Outline}
-use Rattle.meta_model.specs.declared.fault.MetaFault.{MetaFault}
+use Rattle.meta_model.specs.declared.offence.PartFault.{PartFault}
 use Rattle.meta_model.specs.declared.fault.MetaFault.TheVariants as fault
-use Rattle.meta_model.specs.PartAnswers.{Loads}
+use Rattle.meta_model.specs.Offences.{LoadsPart}
 use Rattle.meta_model.specs.Places.{StandsFirst, NoneStands, IsFirst}
 
 -- a signature, by its parts
@@ -92,9 +92,9 @@ pub record IsOutline (done : List Outline) (i : ℕ) (class : Class) (outline : 
   }
 
 -- the class is outlined; or `NoBase`, where its base isn't among the classes before it
-abbrev pub OutlinesClass : List Outline → ℕ → Class → Result Outline MetaFault → Type 0
+abbrev pub OutlinesClass : List Outline → ℕ → Class → Result Outline PartFault → Type 0
 OutlinesClass done i class result =
-    Loads fault.NoBase (NoneStands (IsBase class.base) done) (IsOutline done i class) result
+    LoadsPart fault.NoBase (NoneStands (IsBase class.base) done) (IsOutline done i class) result
 
 -- .. as it stands among all, over those before it
 pub record HasOutline (all : List Outline) (i : ℕ) (class : Class) : Type 0 where

@@ -1,2 +1,5 @@
 -- What the contracts of this crate's functions need besides.
 pub mod ReadTypes
+pub mod Twins
+pub mod NearMembers
+pub mod OwnMembers

@@ -1,8 +1,8 @@
 //! Indexes of what is found by its name and its number of parameters.
 
-ghost use Rattle.std.specs.Prelude.{◌≡◌, ◌↔◌, ℕ, ◌<◌, List, length, Some, IsTrue, IfOk, OnOk, vec_len};
-ghost use Rattle.meta_model.specs.CallPlaces.{place_by, place_of, SamePlaces, IndexesCalls, AreCalledAlike};
-ghost use Rattle.meta_model.specs.Twice.{StandsTwice};
+ghost use Rattle.std.specs.Prelude.{◌≡◌, ℕ, ◌<◌, List, length, IfOk, OnOk, vec_len};
+ghost use Rattle.meta_model.specs.CallPlaces.{place_by, call_place, SamePlaces, IndexesCalls, AreCalledAlike};
+ghost use Rattle.meta_model.specs.code.Twins.{FindsTwins, IsEarlier};
 
 use crate::name_index::NameIndex;
 use crate::object::MetaMethod;
@@ -10,7 +10,7 @@ use crate::outline::Heading;
 use signatures::Name;
 use sqlite_items::Items;
 use std::alloc::{AllocError, Global};
-use texts::Property;
+use syntax_trees::Property;
 
 /// What is found by its name and its number of parameters.
 pub trait Called {
@@ -101,25 +101,37 @@ pub fn find_call(indexes: &[NameIndex], name: &Name, count: usize) -> Option<usi
     indexes.get(count)?.find(name)
 }
 
-/// Whether the indexes have this place for the item.
-fn is_first<T: Called>(indexes: &[NameIndex], place: usize, item: &T) -> bool
-    ensures { IsTrue result ↔ (place_of T.name_of T.count_of indexes.now item.now ≡ Some place) }
-{
-    match find_call(indexes, item.called(), item.count()) {
-        Some(first) => first == place,
-        None => false,
-    }
+/// Two items that are called alike, by their places.
+#[derive(Clone, Copy, Debug, PartialEq, Eq)]
+pub struct Twins {
+    /// The first one.
+    pub first: usize,
+    /// One behind it.
+    pub again: usize,
 }
 
-/// Whether one of the items isn't the first that is called so.
-pub fn repeats_call<T: Called>(indexes: &[NameIndex], items: &[T]) -> bool
+/// The first item that is called as one before it is, beside that one.
+pub fn find_twins<T: Called>(indexes: &[NameIndex], items: &[T]) -> Option<Twins>
     requires { IndexesCalls T.name_of T.count_of items.now indexes.now }
-    ensures { IsTrue result ↔ StandsTwice (AreCalledAlike T.name_of T.count_of) items.now }
+    ensures { FindsTwins (AreCalledAlike T.name_of T.count_of) items.now result }
 {
     for (place, item) in items.iter().enumerate() {
-        if !is_first(indexes, place, item) {
-            return true;
+        if let Some(first) = earlier(indexes, place, item) {
+            return Some(Twins {
+                first,
+                again: place,
+            });
         }
     }
-    false
+    None
+}
+
+/// The place that the indexes have for the item, if that is before this one.
+fn earlier<T: Called>(indexes: &[NameIndex], place: usize, item: &T) -> Option<usize>
+    ensures { IsEarlier (call_place T.name_of T.count_of indexes.now item.now) place result }
+{
+    let Some(first) = find_call(indexes, item.called(), item.count()) else {
+        return None;
+    };
+    if first < place { Some(first) } else { None }
 }

@@ -1,6 +1,7 @@
 ghost use Rattle.std.specs.Prelude.{◌≡◌};
 ghost use Rattle.meta_model.specs.FaultNumbers.{number_of};
 
+use crate::offence::LoadFault;
 use std::alloc::AllocError;
 use thiserror::Error;
 
@@ -39,6 +40,17 @@ impl From<AllocError> for MetaFault {
 
     fn from(_: AllocError) -> MetaFault {
         MetaFault::Memory
+    }
+}
+
+impl From<LoadFault> for MetaFault {
+    ghost use Rattle.std.specs.Prelude.{◌≡◌};
+    ghost use Rattle.meta_model.specs.Offences.{fault_told};
+
+    ghost from_gives = { λ load fault. fault ≡ fault_told load };
+
+    fn from(fault: LoadFault) -> MetaFault {
+        fault.fault()
     }
 }
 

@@ -1,21 +1,26 @@
-ghost use Rattle.std.specs.Prelude.{◌≡◌, ◌↔◌, IsTrue};
+ghost use Rattle.std.specs.Prelude.{◌≡◌, ◌↔◌, IsTrue, Any};
 ghost use Rattle.meta_model.specs.Conditions.{IsSignalOf, HasTwoMembers};
 ghost use Rattle.meta_model.specs.Ends.{IsSigned};
-ghost use Rattle.meta_model.specs.Indexed.{IsCallOf, IsPropertyOfName, IndexesHeadings, IndexesDeclared};
-ghost use Rattle.meta_model.specs.Indexed.{IsIndexed, IndexesOutlines};
-ghost use Rattle.meta_model.specs.PartAnswers.{Loads};
+ghost use Rattle.meta_model.specs.Indexed.{IsCallOf, IsPropertyOfName, IsIndexed, IndexesOutlines};
+ghost use Rattle.meta_model.specs.Offences.{LoadsOf};
+ghost use Rattle.meta_model.specs.Outlines.{Outlines};
 ghost use Rattle.meta_model.specs.Places.{IsPlace, IsFirst, IsAlone};
+ghost use Rattle.meta_model.specs.code.NearMembers.{IsNear, IsNearOf, IsNamesake};
+ghost use Rattle.meta_model.specs.code.OwnMembers.{IsNext};
 ghost use Rattle.meta_model.specs.declared.fault.MetaFault.TheVariants as fault;
 
-use crate::call_index::{find_call, index_calls, repeats_call};
-use crate::fault::MetaFault;
+use crate::call_index::{find_call, index_calls};
 use crate::name_index::NameIndex;
+use crate::offence::LoadFault;
 use crate::outline::{Heading, Outline};
+use crate::qobject::OBJECT_NAME_CHANGED;
+use crate::reason::Near;
+use crate::twin_members::{find_twin_members, twin_offence};
 use signatures::{Name, Sig};
 use sqlite_items::Items;
 use std::alloc::Global;
 use std::marker::Model;
-use texts::Property;
+use syntax_trees::{Program, Property};
 
 /// A class with its whole lists of members, each of which stands once. They are found by name, methods also by their
 /// number of parameters, in time that doesn't grow with their number.
@@ -47,22 +52,6 @@ impl Model for IndexedOutline {
 }
 
 impl IndexedOutline {
-    /// The class with indexes of its members; `DuplicateMember` where one of them stands twice.
-    pub fn new(alloc: Global, outline: Outline) -> Result<IndexedOutline, MetaFault>
-        ensures { Loads fault.DuplicateMember (HasTwoMembers outline) (IsIndexed outline) result }
-    {
-        let methods = index_calls(alloc, outline.methods.as_slice())?;
-        let properties = index_calls(alloc, outline.properties.as_slice())?;
-        if has_two_members(&outline, methods.as_slice(), properties.as_slice()) {
-            return Err(MetaFault::DuplicateMember);
-        }
-        Ok(IndexedOutline {
-            outline,
-            methods,
-            properties,
-        })
-    }
-
     /// The class's name.
     pub fn name(&self) -> &Name
         ensures { result.now ≡ self.now.name }
@@ -137,29 +126,101 @@ impl IndexedOutline {
             None
         }
     }
+
+    /// What there is of the name of a method that is looked for by its name and so many parameters.
+    pub fn near_call(&self, name: &Name, count: usize) -> Near
+        ensures { IsNear (IsCallOf name.now count) name.now self.now result }
+    {
+        match self.find_call(name, count) {
+            Some((place, method)) => near_of(place, method),
+            None => near_name(self.methods(), name),
+        }
+    }
+
+    /// What there is of the name of a method that is looked for by its signature.
+    pub fn near_signed(&self, sig: &Sig) -> Near
+        ensures { IsNear (IsSigned sig.now) sig.now.name self.now result }
+    {
+        let Some((place, method)) = self.find_call(&sig.name, sig.types.len()) else {
+            return near_name(self.methods(), &sig.name);
+        };
+        if method.sig.is_same(sig) {
+            near_of(place, method)
+        } else {
+            near_name(self.methods(), &sig.name)
+        }
+    }
 }
 
-/// Whether two methods or two properties of the class are one, by indexes of them.
-fn has_two_members(outline: &Outline, methods: &[NameIndex], properties: &[NameIndex]) -> bool
-    requires methods_by { IndexesHeadings outline.now.methods methods.now }
-    requires properties_by { IndexesDeclared outline.now.properties properties.now }
-    ensures { IsTrue result ↔ HasTwoMembers outline.now }
+/// What the method is, which has this number.
+fn near_of(number: usize, method: &Heading) -> Near
+    ensures { IsNearOf number method.now result }
 {
-    repeats_call(methods, outline.methods.as_slice())
-        || repeats_call(properties, outline.properties.as_slice())
+    if method.is_signal() {
+        if number <= OBJECT_NAME_CHANGED {
+            Near::RuntimeSignal
+        } else {
+            Near::Signal
+        }
+    } else {
+        Near::Slot
+    }
 }
 
-/// The classes with indexes of their members; `DuplicateMember` where a member of one of them stands twice.
+/// Whether there is a method of this name at all, where none is the one that is looked for.
+fn near_name(methods: &[Heading], name: &Name) -> Near
+    ensures { IsNamesake methods.now name.now result }
+{
+    if has_named(methods, name) {
+        Near::Namesake
+    } else {
+        Near::Nothing
+    }
+}
+
+/// Whether one of the methods has this name.
+fn has_named(methods: &[Heading], name: &Name) -> bool
+    ensures { IsTrue result ↔ Any (λ h. h.sig.name ≡ name.now) methods.now }
+{
+    methods.iter().any(|method| method.sig.name.is_same(name))
+}
+
+/// The classes with indexes of their members; or the first class of which a member stands twice.
 pub fn index_outlines(
     alloc: Global,
+    program: &Program,
     outlines: Vec<Outline>,
-) -> Result<Items<IndexedOutline>, MetaFault>
-    ensures { IndexesOutlines outlines.items result }
+) -> Result<Items<IndexedOutline>, LoadFault>
+    requires { Outlines program.now.classes outlines.items }
+    ensures { IndexesOutlines program.now outlines.items result }
 {
     let mut indexed = Items::new(alloc);
     for outline in outlines {
-        let outline = IndexedOutline::new(alloc, outline)?;
-        indexed.push(outline)?;
+        let next = index_outline(alloc, program, indexed.as_slice(), outline)?;
+        indexed.push(next)?;
     }
     Ok(indexed)
+}
+
+/// The class that comes next behind these, with indexes of its members; or which of them stands twice.
+fn index_outline(
+    alloc: Global,
+    program: &Program,
+    before: &[IndexedOutline],
+    outline: Outline,
+) -> Result<IndexedOutline, LoadFault>
+    requires { IsNext program.now before.now outline }
+    ensures { LoadsOf program.now fault.DuplicateMember (HasTwoMembers outline) (IsIndexed outline) result }
+{
+    let methods = index_calls(alloc, outline.methods.as_slice())?;
+    let properties = index_calls(alloc, outline.properties.as_slice())?;
+    if let Some(twins) = find_twin_members(&outline, methods.as_slice(), properties.as_slice()) {
+        let offence = twin_offence(program, before, &outline, twins);
+        return Err(LoadFault::Offence(offence));
+    }
+    Ok(IndexedOutline {
+        outline,
+        methods,
+        properties,
+    })
 }

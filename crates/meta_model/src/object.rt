@@ -6,7 +6,7 @@ use crate::slot_body::SlotBody;
 use signatures::{Kind, Name, QType, Sig, Text, Value};
 use sqlite_items::Items;
 use std::alloc::{AllocError, Global};
-use texts::{ConnectionType, Expr};
+use syntax_trees::{ConnectionType, Expr};
 
 /// The type of a property or a parameter, its class replaced by its number.
 #[derive(Clone, Copy, Debug, PartialEq, Eq)]

@@ -3,7 +3,7 @@ ghost use Rattle.meta_model.specs.declared.outline.Sort.TheVariants.{Signal};
 
 use signatures::{Name, Sig};
 use sqlite_items::Items;
-use texts::Property;
+use syntax_trees::Property;
 
 /// Where a method's work stands in the program.
 #[derive(Clone, Copy, Debug, PartialEq, Eq)]

@@ -4,30 +4,34 @@ ghost use Rattle.std.specs.Prelude.{◌≡◌, ℕ, map, IfOk, OnOk, codes, [], 
 ghost use Rattle.meta_model.specs.Conditions.{LacksBase};
 ghost use Rattle.meta_model.specs.Outlines.{kinds_of, sig_of, signal_heading, slot_headings, own_methods};
 ghost use Rattle.meta_model.specs.Outlines.{FindsBase, OutlinesClass, Outlines};
-ghost use Rattle.meta_model.specs.PartAnswers.{Loads};
+ghost use Rattle.meta_model.specs.Offences.{fault_of, LoadsOf};
 ghost use Rattle.meta_model.specs.declared.fault.MetaFault.TheVariants as fault;
 
-use crate::fault::MetaFault;
+use crate::offence::{Breach, Declaration, LoadFault, PartFault};
 use crate::outline::{Heading, Outline, Sort};
 use crate::places::find;
 use crate::qobject::qobject;
+use crate::reason::{BasePlace, Reason};
 use signatures::{Name, QType, Sig};
 use sqlite_items::Items;
 use std::alloc::{AllocError, Global};
-use texts::{Class, Literal, Parameter, Property, Signal, Slot};
+use syntax_trees::{Class, Literal, Parameter, Program, Property, Signal, Slot};
 
-/// `QObject` and the program's classes, as declared; `NoBase` where a base doesn't stand before its class.
-pub fn outline_classes(alloc: Global, classes: &[Class]) -> Result<Vec<Outline>, MetaFault>
-    ensures { Loads fault.NoBase (LacksBase (codes "QObject" ∷ []) classes.now)
-        (λ outlines. Outlines classes.now outlines.items) result }
+/// `QObject` and the program's classes, as declared; or the first class whose base doesn't stand before it.
+pub fn outline_classes(alloc: Global, program: &Program) -> Result<Vec<Outline>, LoadFault>
+    ensures { LoadsOf program.now fault.NoBase (LacksBase (codes "QObject" ∷ []) program.now.classes)
+        (λ outlines. Outlines program.now.classes outlines.items) result }
 {
     let root = Name::new(alloc, b"QObject")?;
     let mut outlines = Vec::new(alloc);
     let first = qobject(alloc)?;
     add(&mut outlines, first)?;
+    let classes = program.classes.as_slice();
     for (number, class) in classes.iter().enumerate() {
-        let outline = outline_class(alloc, &root, outlines.as_slice(), number, class)?;
-        add(&mut outlines, outline)?;
+        match outline_class(alloc, &root, outlines.as_slice(), number, classes, class) {
+            Ok(outline) => add(&mut outlines, outline)?,
+            Err(fault) => return Err(fault.of(Declaration::Class(number))),
+        }
     }
     Ok(outlines)
 }
@@ -46,13 +50,14 @@ fn outline_class(
     root: &Name,
     before: &[Outline],
     number: usize,
+    classes: &[Class],
     class: &Class,
-) -> Result<Outline, MetaFault>
+) -> Result<Outline, PartFault>
     requires { root.now ≡ codes "QObject" }
     ensures { OutlinesClass before.now number class.now result }
 {
     let Some((base, above)) = find_base(root, before, &class.base) else {
-        return Err(MetaFault::NoBase);
+        return Err(PartFault::Breach(missing_base(classes, class)));
     };
     let name = class.name.copy()?;
     let mut methods = copy_headings(alloc, above.methods.as_slice())?;
@@ -67,6 +72,30 @@ fn outline_class(
         methods,
         properties,
     })
+}
+
+/// That the base of the class doesn't stand before it.
+fn missing_base(classes: &[Class], class: &Class) -> Breach
+    ensures { fault_of result.reason ≡ fault.NoBase }
+{
+    Breach {
+        name: 1,
+        reason: Reason::NoBase(base_place(classes, class)),
+    }
+}
+
+/// Where the base of the class stands among the program's classes, which isn't before the class.
+fn base_place(classes: &[Class], class: &Class) -> BasePlace {
+    let Some(base) = &class.base else {
+        return BasePlace::Nowhere;
+    };
+    if base.is_same(&class.name) {
+        BasePlace::Itself
+    } else if classes.iter().any(|other| other.name.is_same(base)) {
+        BasePlace::Behind
+    } else {
+        BasePlace::Nowhere
+    }
 }
 
 /// The base among the classes before its class, with its number.

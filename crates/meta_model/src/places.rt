@@ -6,7 +6,7 @@ ghost use Rattle.meta_model.specs.Places.{IsPlace, IsFirst};
 use crate::indexed::IndexedOutline;
 use crate::outline::Outline;
 use signatures::Name;
-use texts::{Formal, Parameter};
+use syntax_trees::{Formal, Parameter};
 
 /// What may have a name.
 pub trait Named {

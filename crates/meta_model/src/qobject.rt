@@ -14,7 +14,7 @@ use crate::slot_body::SlotBody;
 use signatures::{Name, QType, Sig};
 use sqlite_items::Items;
 use std::alloc::{AllocError, Global};
-use texts::Property;
+use syntax_trees::Property;
 
 /// The number of `QObject` among the classes.
 pub const QOBJECT: usize = 0;

@@ -7,7 +7,7 @@ use sqlite_items::Items;
 use std::alloc::{AllocError, Global};
 use std::marker::Model;
 use std::rc::Rc;
-use texts::Expr;
+use syntax_trees::Expr;
 
 /// A property of one of a binding's sources.
 #[derive(Clone, Copy, Debug, PartialEq, Eq)]
@@ -30,8 +30,8 @@ impl Drop for Formula {
 }
 
 impl Model for Formula {
-    ghost use Rattle.texts.specs.contracts.syntax.Expr as expr;
-    ghost use Rattle.texts.specs.declared.syntax.Expr.{Expr};
+    ghost use Rattle.syntax_trees.specs.contracts.syntax.Expr as expr;
+    ghost use Rattle.syntax_trees.specs.declared.syntax.Expr.{Expr};
     ghost use Rattle.meta_model.specs.contracts.site.SourceProperty as source;
     ghost use Rattle.meta_model.specs.declared.site.SourceProperty.{SourceProperty};
 

@@ -1,10 +1,10 @@
 -- Resolving `connect` and `disconnect`.
 use Rattle.std.proofs.Common.{ℕ, ◌≤◌, subst, arith}
-use Rattle.texts.specs.declared.connection.ConnectionType.{ConnectionType}
-use Rattle.texts.specs.declared.connection.Endpoints.{Endpoints}
-use Rattle.texts.specs.declared.syntax.Path.{Path}
-use Rattle.texts.specs.declared.syntax.Stmt.TheVariants as stmt_by
-use Rattle.texts.specs.declared.syntax.Stmt.TheOpen as stmt
+use Rattle.syntax_trees.specs.declared.connection.ConnectionType.{ConnectionType}
+use Rattle.syntax_trees.specs.declared.connection.Endpoints.{Endpoints}
+use Rattle.syntax_trees.specs.declared.syntax.Path.{Path}
+use Rattle.syntax_trees.specs.declared.syntax.Stmt.TheVariants as stmt_by
+use Rattle.syntax_trees.specs.declared.syntax.Stmt.TheOpen as stmt
 use Rattle.meta_model.specs.declared.object.MetaPath.{MetaPath}
 use Rattle.meta_model.specs.declared.object.MetaEndpoints.{MetaEndpoints}
 use Rattle.meta_model.specs.declared.object.Statement.{Statement}

@@ -2,28 +2,28 @@
 use Rattle.std.proofs.Common.{◌≡◌, ℕ, suc, ◌+◌, ◌≤◌, true, List, [], ◌∷◌, ◌++◌, inl, inr, drop, length, slice_get, Some, refl, sym, ap, ◌∙◌, subst, arith, append_assoc}
 use Rattle.signatures.specs.declared.qtype.QType.{QType}
 use Rattle.signatures.specs.declared.value.Value.{Value}
-use Rattle.texts.specs.declared.syntax.Unary.{Unary}
-use Rattle.texts.specs.declared.syntax.Binary.{Binary}
-use Rattle.texts.specs.declared.syntax.Expr.{Expr}
-use Rattle.texts.specs.declared.syntax.Expr.TheVariants as e
-use Rattle.texts.specs.declared.syntax.Expr.TheOpen as expr
-use Rattle.texts.specs.declared.syntax.Expr.TheViews.{out-Expr}
-use Rattle.texts.specs.declared.syntax.Path.{Path}
-use Rattle.texts.specs.declared.syntax.Root.{Root}
-use Rattle.texts.specs.declared.syntax.Root.TheVariants as root
+use Rattle.syntax_trees.specs.declared.syntax.Unary.{Unary}
+use Rattle.syntax_trees.specs.declared.syntax.Binary.{Binary}
+use Rattle.syntax_trees.specs.declared.syntax.Expr.{Expr}
+use Rattle.syntax_trees.specs.declared.syntax.Expr.TheVariants as e
+use Rattle.syntax_trees.specs.declared.syntax.Expr.TheOpen as expr
+use Rattle.syntax_trees.specs.declared.syntax.Expr.TheViews.{out-Expr}
+use Rattle.syntax_trees.specs.declared.syntax.Path.{Path}
+use Rattle.syntax_trees.specs.declared.syntax.Root.{Root}
+use Rattle.syntax_trees.specs.declared.syntax.Root.TheVariants as root
 use Rattle.meta_model.specs.declared.object.MetaRoot.{MetaRoot}
 use Rattle.meta_model.specs.declared.object.MetaRoot.TheVariants as resolved
-use Rattle.meta_model.specs.declared.fault.MetaFault.{MetaFault}
+use Rattle.meta_model.specs.declared.offence.PartFault.{PartFault}
 use Rattle.meta_model.specs.declared.fault.MetaFault.TheVariants as fault
 use Rattle.meta_objects.specs.declared.body_resolution.path.Led.{Led}
-use Rattle.meta_model.specs.PartAnswers.{Loads}
+use Rattle.meta_model.specs.Offences.{LoadsPart}
 use Rattle.std.specs.Prelude.{Result, Ok, Err}
-use Rattle.texts.specs.declared.program.Parameter.{Parameter}
-use Rattle.texts.specs.declared.syntax.Stmt.{Stmt}
-use Rattle.texts.specs.declared.syntax.Stmt.TheVariants as stmt_by
-use Rattle.texts.specs.declared.syntax.Stmt.TheOpen as stmt
-use Rattle.texts.specs.declared.syntax.Stmt.TheViews.{out-Stmt}
-use Rattle.texts.specs.declared.program.Property.{Property}
+use Rattle.syntax_trees.specs.declared.program.Parameter.{Parameter}
+use Rattle.syntax_trees.specs.declared.syntax.Stmt.{Stmt}
+use Rattle.syntax_trees.specs.declared.syntax.Stmt.TheVariants as stmt_by
+use Rattle.syntax_trees.specs.declared.syntax.Stmt.TheOpen as stmt
+use Rattle.syntax_trees.specs.declared.syntax.Stmt.TheViews.{out-Stmt}
+use Rattle.syntax_trees.specs.declared.program.Property.{Property}
 use Rattle.meta_model.specs.declared.object.Step.{Step}
 use Rattle.meta_model.specs.declared.object.MetaPath.{MetaPath}
 use Rattle.meta_model.specs.declared.object.ValueType.{ValueType}
@@ -216,7 +216,7 @@ module _ (s : Scope) where
   pub no_parameter : (path : Path) (name : List ℕ) → path.root ≡ root.Name name → ((k : ℕ) → ¬ StandsAt (λ (p : Parameter). p.name ≡ Some name) s.parameters k) → (found : MetaPath) (T : QType) → ¬ IsPath s path found T
   no_parameter path name e none found T h = let at = a_place path.root name found.root h.root_type e h.root in none at.0 at.1
 
-  pub from_root : (path : Path) (f : MetaRoot) (start : QType) → IsRoot s path.root f start → (r : Result Led MetaFault) → Loads fault.NoMember ((steps : List Step) (T : QType) → ¬ AreSteps s.outlines start path.properties steps T) (λ (led : Led). (led.path.root ≡ f) × AreSteps s.outlines start path.properties led.path.steps led.kind) r → Loads fault.NoMember ((found : MetaPath) (T : QType) → ¬ IsPath s path found T) (λ (led : Led). IsPath s path led.path led.kind) r
+  pub from_root : (path : Path) (f : MetaRoot) (start : QType) → IsRoot s path.root f start → (r : Result Led PartFault) → LoadsPart fault.NoMember ((steps : List Step) (T : QType) → ¬ AreSteps s.outlines start path.properties steps T) (λ (led : Led). (led.path.root ≡ f) × AreSteps s.outlines start path.properties led.path.steps led.kind) r → LoadsPart fault.NoMember ((found : MetaPath) (T : QType) → ¬ IsPath s path found T) (λ (led : Led). IsPath s path led.path led.kind) r
   from_root path f start is (Ok led) h = record { root_type = start; root = subst (λ g. IsRoot s path.root g start) (sym h.0) is; steps = h.1 }
   from_root path f start is (Err x) (inl m) = inl m
   from_root path f start is (Err x) (inr n) =

@@ -1,9 +1,9 @@
 -- Resolving `delete` and `later`.
 use Rattle.std.proofs.Common.{◌≡◌, true, false, sym, ap, ◌∙◌}
 use Rattle.signatures.specs.declared.qtype.QType.{QType}
-use Rattle.texts.specs.declared.syntax.Path.{Path}
-use Rattle.texts.specs.declared.syntax.Stmt.TheVariants as stmt_by
-use Rattle.texts.specs.declared.syntax.Stmt.TheOpen as stmt
+use Rattle.syntax_trees.specs.declared.syntax.Path.{Path}
+use Rattle.syntax_trees.specs.declared.syntax.Stmt.TheVariants as stmt_by
+use Rattle.syntax_trees.specs.declared.syntax.Stmt.TheOpen as stmt
 use Rattle.meta_model.specs.declared.object.MetaPath.{MetaPath}
 use Rattle.meta_model.specs.declared.object.Statement.{Statement}
 use Rattle.meta_model.specs.declared.object.Statement.TheVariants as statement_by

@@ -7,13 +7,13 @@ use Rattle.std.specs.Option.{option_and_then}
 use Rattle.std.proofs.lemmas.Option.{slice_get_within, slice_get-get_or, none-some, same_Some}
 use Rattle.signatures.specs.declared.qtype.QType.{QType}
 use Rattle.signatures.specs.declared.sig.Sig.{Sig}
-use Rattle.texts.specs.declared.program.Property.{Property}
-use Rattle.texts.specs.declared.program.Signal.{Signal}
-use Rattle.texts.specs.declared.program.SlotWork.{SlotWork}
-use Rattle.texts.specs.declared.program.SlotWork.TheVariants as does
-use Rattle.texts.specs.declared.program.Slot.{Slot}
-use Rattle.texts.specs.declared.program.Class.{Class}
-use Rattle.texts.specs.declared.program.Program.{Program}
+use Rattle.syntax_trees.specs.declared.program.Property.{Property}
+use Rattle.syntax_trees.specs.declared.program.Signal.{Signal}
+use Rattle.syntax_trees.specs.declared.program.SlotWork.{SlotWork}
+use Rattle.syntax_trees.specs.declared.program.SlotWork.TheVariants as does
+use Rattle.syntax_trees.specs.declared.program.Slot.{Slot}
+use Rattle.syntax_trees.specs.declared.program.Class.{Class}
+use Rattle.syntax_trees.specs.declared.program.Program.{Program}
 use Rattle.meta_model.specs.declared.object.ValueType.{ValueType}
 use Rattle.meta_model.specs.declared.object.ValueType.TheVariants as type
 use Rattle.meta_model.specs.declared.object.Work.{Work}
@@ -46,7 +46,8 @@ use Rattle.meta_model.proofs.Outlined.{Declared, outline_of, outlines_count, roo
 use Rattle.meta_model.proofs.Zips.{zip_right, zip_append, zip_also, zip_both}
 use Rattle.meta_objects.proofs.Soundness.{map_at}
 use Rattle.meta_objects.proofs.Unique.{same_loaded}
-use Rattle.meta_objects.proofs.Whole.{first_in_front, name_changed_first, sound}
+use Rattle.load_rules.proofs.OwnMembers.{first_in_front, name_changed_first}
+use Rattle.meta_objects.proofs.Whole.{sound}
 use Rattle.meta_objects.proofs.FoundBodies.{stands_first, first_signal, signal_sort, statements_found}
 use Rattle.meta_objects.proofs.FoundParts.{effects_found, wire_found, owns_found, site_found}
 

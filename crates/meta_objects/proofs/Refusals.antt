@@ -1,6 +1,6 @@
 -- What refuses a program, and what a program that isn't refused has.
 use Rattle.std.proofs.Common.{◌≡◌, List, Result, Ok, Err, IsErr, IsErrAnd, Any, ◌⊎◌, inl, inr, sym, subst}
-use Rattle.texts.specs.declared.program.Program.{Program}
+use Rattle.syntax_trees.specs.declared.program.Program.{Program}
 use Rattle.meta_model.specs.declared.fault.MetaFault.{MetaFault}
 use Rattle.meta_model.specs.declared.fault.MetaFault.TheVariants as fault
 use Rattle.meta_model.specs.declared.object.MetaWire.{MetaWire}
@@ -19,8 +19,11 @@ use Rattle.meta_objects.specs.LackedNames.{LacksInSite}
 use Rattle.meta_objects.specs.code.Wires.{IsWire, IsOwns}
 use Rattle.meta_objects.specs.LackedNames.{LacksEnd, LacksClass, LacksMember}
 use Rattle.meta_objects.specs.code.Loading.{HasUses}
-use Rattle.meta_model.specs.PartAnswers.{Loads}
-use Rattle.meta_objects.specs.Builds.{HasOutlines, Builds}
+use Rattle.meta_model.specs.declared.offence.Offence.{Offence}
+use Rattle.meta_model.specs.declared.offence.LoadFault.{LoadFault}
+use Rattle.meta_model.specs.declared.offence.LoadFault.TheVariants as load
+use Rattle.meta_model.specs.Offences.{IsOffence, IsOffenceBy, LoadsOf, fault_told}
+use Rattle.meta_objects.specs.Builds.{HasOutlines, Builds, LoadsProgram}
 use Rattle.meta_model.proofs.Zips.{none_of_zip}
 use Rattle.meta_model.proofs.OutlineSteps.{none_lack}
 
@@ -39,24 +42,40 @@ nothing_lacks program o works wires owns sites h (inr (inr (inl any))) =
 nothing_lacks program o works wires owns sites h (inr (inr (inr any))) =
     none_of_zip (IsSite o) (LacksInSite o) program.sites sites h.sited (λ one w is lacks. lacks w is) any
 
--- an answer that is this fault
-pub answers : (program : Program) (e : MetaFault) → Builds program (Err e) → (r : Result Loaded MetaFault) → IsErr r → IsErrAnd r (λ x. x ≡ e) → Builds program r
+-- ---- what is refused, and where
+-- the answer of loading, where it is this fault
+pub answers : (program : Program) (e : LoadFault) → LoadsProgram program (Err e) → (r : Result Loaded LoadFault) → IsErr r → IsErrAnd r (λ x. x ≡ e) → LoadsProgram program r
 answers program e h (Ok loaded) is same = absurd (cc)
-answers program e h (Err x) is same = subst (λ f. Builds program (Err f)) (sym same) h
+answers program e h (Err x) is same = subst (λ f. LoadsProgram program (Err f)) (sym same) h
 
-pub refused_base : (program : Program) (e : MetaFault) → (¬ DuplicateClass program) → (e ≡ fault.Memory) ⊎ ((e ≡ fault.NoBase) × NoBase program) → Builds program (Err e)
-refused_base program e distinct (inl m) = subst (λ f. Builds program (Err f)) (sym m) tt
-refused_base program e distinct (inr n) = subst (λ f. Builds program (Err f)) (sym n.0) (distinct, n.1)
+-- an offence that leads to this fault
+pub refused : (program : Program) (fault : MetaFault) (o : Offence) → IsOffence program fault o → Builds program (Err fault) → LoadsProgram program (Err (load.Offence o))
+refused program fault o is h = (subst (λ f. Builds program (Err f)) (sym is.leads) h, is.declared)
 
-pub refused_use : (program : Program) (o : List Outline) (e : MetaFault) → HasOutlines program o → (¬ DuplicateMember program o) → {Y : Type 0} (Is : Y → Type 0) → Loads fault.NoMember (LacksMember program o) Is (Err e) → Builds program (Err e)
-refused_use program o e are members Is (inl m) = subst (λ f. Builds program (Err f)) (sym m) tt
-refused_use program o e are members Is (inr n) = subst (λ f. Builds program (Err f)) (sym n.0) (o, are, members, n.1)
+-- .. or want of memory
+refused_by : (program : Program) (fault : MetaFault) (e : LoadFault) → (e ≡ load.Memory) ⊎ (IsOffenceBy program fault e × Builds program (Err fault)) → LoadsProgram program (Err e)
+refused_by program fault (load.Offence o) (inl m) = absurd (cc)
+refused_by program fault (load.Offence o) (inr n) = refused program fault o n.0 n.1
+refused_by program fault load.Memory h = (tt, tt)
+
+pub refused_base : (program : Program) (e : LoadFault) → (¬ DuplicateClass program) → (e ≡ load.Memory) ⊎ (IsOffenceBy program fault.NoBase e × NoBase program) → LoadsProgram program (Err e)
+refused_base program e distinct (inl m) = refused_by program fault.NoBase e (inl m)
+refused_base program e distinct (inr n) = refused_by program fault.NoBase e (inr (n.0, (distinct, n.1)))
+
+pub refused_use : (program : Program) (o : List Outline) (e : LoadFault) → HasOutlines program o → (¬ DuplicateMember program o) → {Y : Type 0} (Is : Y → Type 0) → LoadsOf program fault.NoMember (LacksMember program o) Is (Err e) → LoadsProgram program (Err e)
+refused_use program o e are members Is (inl m) = refused_by program fault.NoMember e (inl m)
+refused_use program o e are members Is (inr n) = refused_by program fault.NoMember e (inr (n.0, (o, are, members, n.1)))
 
 -- no member, no parameter and no binding site stands twice
 pub members_once : (program : Program) (o indexed : List Outline) → AreIndexed o indexed → (¬ RepeatsDeclared program) → ¬ DuplicateMember program o
 members_once program o indexed are none (inl any) = are.each_once any
 members_once program o indexed are none (inr any) = none any
 
-pub refused_member : (program : Program) (o : List Outline) (e : MetaFault) → HasOutlines program o → {Y : Type 0} (Is : Y → Type 0) → Loads fault.DuplicateMember (Any HasTwoMembers o) Is (Err e) → Builds program (Err e)
-refused_member program o e are Is (inl m) = subst (λ f. Builds program (Err f)) (sym m) tt
-refused_member program o e are Is (inr n) = subst (λ f. Builds program (Err f)) (sym n.0) (o, are, inl n.1)
+pub refused_member : (program : Program) (o : List Outline) (e : LoadFault) → HasOutlines program o → {Y : Type 0} (Is : Y → Type 0) → LoadsOf program fault.DuplicateMember (Any HasTwoMembers o) Is (Err e) → LoadsProgram program (Err e)
+refused_member program o e are Is (inl m) = refused_by program fault.DuplicateMember e (inl m)
+refused_member program o e are Is (inr n) = refused_by program fault.DuplicateMember e (inr (n.0, (o, are, inl n.1)))
+
+-- .. of which the fault alone is told
+pub told : (program : Program) (e : LoadFault) → LoadsProgram program (Err e) → (r : Result Loaded MetaFault) → IsErr r → IsErrAnd r (λ x. x ≡ fault_told e) → Builds program r
+told program e h (Ok loaded) is same = absurd (cc)
+told program e h (Err x) is same = subst (λ f. Builds program (Err f)) (sym same) h.0

@@ -6,15 +6,15 @@ use Rattle.signatures.specs.declared.qtype.QType.{QType}
 use Rattle.signatures.specs.declared.sig.Sig.{Sig}
 use Rattle.signatures.specs.declared.kind.Kind.{Kind}
 use Rattle.signatures.specs.declared.value.Value.{Value}
-use Rattle.texts.specs.declared.program.Property.{Property}
-use Rattle.texts.specs.declared.program.EffectNames.{EffectNames}
-use Rattle.texts.specs.declared.program.SlotWork.{SlotWork}
-use Rattle.texts.specs.declared.program.SlotWork.TheVariants as declared
-use Rattle.texts.specs.declared.program.Slot.{Slot}
-use Rattle.texts.specs.declared.program.Class.{Class}
-use Rattle.texts.specs.declared.program.Wire.{Wire}
-use Rattle.texts.specs.declared.program.Owns.{Owns}
-use Rattle.texts.specs.declared.program.Program.{Program}
+use Rattle.syntax_trees.specs.declared.program.Property.{Property}
+use Rattle.syntax_trees.specs.declared.program.EffectNames.{EffectNames}
+use Rattle.syntax_trees.specs.declared.program.SlotWork.{SlotWork}
+use Rattle.syntax_trees.specs.declared.program.SlotWork.TheVariants as declared
+use Rattle.syntax_trees.specs.declared.program.Slot.{Slot}
+use Rattle.syntax_trees.specs.declared.program.Class.{Class}
+use Rattle.syntax_trees.specs.declared.program.Wire.{Wire}
+use Rattle.syntax_trees.specs.declared.program.Owns.{Owns}
+use Rattle.syntax_trees.specs.declared.program.Program.{Program}
 use Rattle.meta_model.specs.declared.effects.MetaEffects.{MetaEffects}
 use Rattle.meta_model.specs.declared.object.ValueType.{ValueType}
 use Rattle.meta_model.specs.declared.object.Work.{Work}

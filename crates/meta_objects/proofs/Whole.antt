@@ -6,18 +6,18 @@ use Rattle.std.specs.Option.{option_and_then}
 use Rattle.std.proofs.lemmas.Option.{slice_get_within, slice_get-get_or, none-some, same_Some}
 use Rattle.signatures.specs.declared.qtype.QType.{QType}
 use Rattle.signatures.specs.declared.sig.Sig.{Sig}
-use Rattle.texts.specs.declared.syntax.Literal.{Literal}
-use Rattle.texts.specs.declared.syntax.Literal.TheVariants as literal
-use Rattle.texts.specs.declared.program.Property.{Property}
-use Rattle.texts.specs.declared.program.Signal.{Signal}
-use Rattle.texts.specs.declared.program.SlotWork.{SlotWork}
-use Rattle.texts.specs.declared.program.SlotWork.TheVariants as does
-use Rattle.texts.specs.declared.program.Slot.{Slot}
-use Rattle.texts.specs.declared.program.Class.{Class}
-use Rattle.texts.specs.declared.program.Wire.{Wire}
-use Rattle.texts.specs.declared.program.Owns.{Owns}
-use Rattle.texts.specs.declared.program.Site.{Site}
-use Rattle.texts.specs.declared.program.Program.{Program}
+use Rattle.syntax_trees.specs.declared.syntax.Literal.{Literal}
+use Rattle.syntax_trees.specs.declared.syntax.Literal.TheVariants as literal
+use Rattle.syntax_trees.specs.declared.program.Property.{Property}
+use Rattle.syntax_trees.specs.declared.program.Signal.{Signal}
+use Rattle.syntax_trees.specs.declared.program.SlotWork.{SlotWork}
+use Rattle.syntax_trees.specs.declared.program.SlotWork.TheVariants as does
+use Rattle.syntax_trees.specs.declared.program.Slot.{Slot}
+use Rattle.syntax_trees.specs.declared.program.Class.{Class}
+use Rattle.syntax_trees.specs.declared.program.Wire.{Wire}
+use Rattle.syntax_trees.specs.declared.program.Owns.{Owns}
+use Rattle.syntax_trees.specs.declared.program.Site.{Site}
+use Rattle.syntax_trees.specs.declared.program.Program.{Program}
 use Rattle.meta_model.specs.declared.object.ValueType.{ValueType}
 use Rattle.meta_model.specs.declared.object.ValueType.TheVariants as type
 use Rattle.meta_model.specs.declared.object.MetaMethod.{MetaMethod}
@@ -57,6 +57,7 @@ use Rattle.meta_objects.specs.LoadedProgram.{IsLoadedSignal, IsLoadedWork, IsLoa
 use Rattle.meta_model.proofs.Zips.{zip_left, zip_right, zip_split, zip_also, zip_both, same_zip_by, get_front, get_back}
 use Rattle.meta_model.proofs.Searches.{place_in}
 use Rattle.meta_model.proofs.Once.{once, none_at, get_split_at}
+use Rattle.load_rules.proofs.OwnMembers.{first_in_front, name_changed_first}
 use Rattle.meta_model.proofs.ReadTypes.{same_read}
 use Rattle.meta_objects.proofs.Deciding.{carries}
 use Rattle.meta_objects.proofs.OneSite.{same_zip}
@@ -66,14 +67,6 @@ use Rattle.meta_objects.proofs.Soundness.{IsTyped, zip_length, object_at, named,
 use Rattle.meta_objects.proofs.Sited.{site_loads, site_sound}
 use Rattle.meta_objects.proofs.Natives.{plain_parameters, effects_load, effects_sound}
 use Rattle.meta_objects.proofs.SoundBodies.{connects_sound, delete_later_sound, statements_sound}
-
--- an element of a front
-in_front : {X : Type 0} (P : X → Type 0) (xs ys : List X) (m k : ℕ) → k < m → m < length xs → StandsAt P (xs ++ ys) k → StandsAt P xs k
-in_front P xs ys m k less inside at =
-    elim (get_split_at xs ys k at.item at.is) [
-      | inl e ↦ record { item = at.item; is = e; has = at.has }
-      | inr r ↦ absurd (omega (arith, r.1))
-    ]
 
 no_kinds : (o : List Outline) (types : List QType) (kinds : List ValueType) → AllZip (IsReadAs o) types kinds → types ≡ [] → kinds ≡ []
 no_kinds o [] [] h e = refl
@@ -88,36 +81,6 @@ one_kind o (U ∷ []) (k ∷ []) h T kind read e =
     ap (λ x. x ∷ []) (same_read o U k kind h.0 (subst (λ V. IsReadAs o V kind) (sym same_type) read))
 one_kind o (U ∷ []) (k ∷ l ∷ ks) h T kind read e = absurd h.1
 one_kind o (U ∷ V ∷ Us) (k ∷ ks) h T kind read e = absurd (cc)
-
--- the first in a front is the first
-pub first_in_front : {X : Type 0} (P : X → Type 0) (xs ys : List X) (m : ℕ) → StandsFirst P xs m → StandsFirst P (xs ++ ys) m
-first_in_front P xs ys m h = record {
-  at = record { item = h.at.item; is = get_front xs ys m h.at.item h.at.is; has = h.at.has };
-  first = λ k below at. h.first k below (in_front P xs ys m k below (slice_get_within xs m h.at.item h.at.is) at);
-}
-
--- `objectNameChanged(QString)` stands at its number alone
-pub name_changed_first : StandsFirst (IsSignalOf name_changed) qobject.methods 2
-name_changed_first = record { at = record { item = heading name_changed sort.Signal; is = refl; has = (refl, refl) }; first = before }
-  where
-    front_points : List QType → Bool
-    front_points [] = false
-    front_points (T ∷ Ts) = T.pointer
-
-    types : Heading → List QType
-    types h = h.sig.types
-
-    before : (k : ℕ) → k < 2 → ¬ StandsAt (IsSignalOf name_changed) qobject.methods k
-    before zero less at =
-        let e : heading destroyed sort.Signal ≡ at.item = same_Some _ _ at.is in
-        let f : destroyed.types ≡ name_changed.types = ap types e ∙ ap (λ (s : Sig). s.types) at.has.0 in
-        let pointer = ap front_points f in
-        absurd (cc)
-    before (suc zero) less at =
-        let e : heading destroyed_alone sort.Signal ≡ at.item = same_Some _ _ at.is in
-        let f : destroyed_alone.types ≡ name_changed.types = ap types e ∙ ap (λ (s : Sig). s.types) at.has.0 in
-        absurd (cc)
-    before (suc (suc k)) less at = absurd (omega arith)
 
 -- what a property holds at first
 initial_holds_none : (given : Option Literal) (kind : ValueType) → HoldsNoObject (initial_of given kind)

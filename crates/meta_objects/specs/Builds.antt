@@ -1,9 +1,12 @@
 -- When a program loads, and what its meta-objects are (docs/machine.md, "Loading").
-use Rattle.std.specs.Prelude.{◌≡◌, ◌≢◌, List, Result, Ok, Err}
-use Rattle.texts.specs.declared.program.Program.{Program}
+use Rattle.std.specs.Prelude.{◌≡◌, ◌≢◌, List, Option, None, Some, Result, Ok, Err}
+use Rattle.syntax_trees.specs.declared.program.Program.{Program}
 use Rattle.meta_model.specs.declared.fault.MetaFault.{MetaFault}
 use Rattle.meta_model.specs.declared.fault.MetaFault.TheVariants as fault
+use Rattle.meta_model.specs.declared.offence.LoadFault.{LoadFault}
+use Rattle.meta_model.specs.declared.offence.Offence.{Offence}
 use Rattle.meta_model.specs.declared.outline.Outline.{Outline}
+use Rattle.meta_model.specs.Offences.{fault_of, fault_told, IsDeclared, IsPlaced}
 use Rattle.meta_model.specs.Loaded.{Loaded}
 use Rattle.meta_model.specs.Outlines.{Outlines}
 use Rattle.meta_model.specs.Conditions.{DuplicateClass, NoBase, DuplicateMember, BadNotify, NoType}
@@ -43,6 +46,16 @@ Builds program (Err fault.BadNotify) =
 Builds program (Err fault.NoType) =
     (o : List Outline) × HasOutlines program o × (¬ DuplicateMember program o) × (¬ LacksMember program o) × (¬ BadNotify o) × NoType program o
 Builds program (Err fault.Memory) = Unit {0}
+
+-- .. and where one refuses it, it is told which of its declarations leads to that
+abbrev pub LoadsProgram : Program → Result Loaded LoadFault → Type 0
+LoadsProgram program (Ok loaded) = Builds program (Ok loaded)
+LoadsProgram program (Err e) = Builds program (Err (fault_told e)) × IsPlaced program e
+
+-- .. alone; there is none exactly where the program is loaded
+abbrev pub TellsRefusal : Program → Option Offence → Type 0
+TellsRefusal program None = (loaded : Loaded) × Builds program (Ok loaded)
+TellsRefusal program (Some o) = Builds program (Err (fault_of o.reason)) × IsDeclared program o.declaration
 
 -- where no class and no member stands twice and bases are there, a program is loaded as declared in one way at most
 abbrev pub OneAsDeclared : Type 0

@@ -1,12 +1,12 @@
 -- Names that slots, natives, wires, owns and bindings use, but that aren't there: where a part has no form in which each of
 -- its names is found, the program doesn't load (docs/language.md, "Names").
 use Rattle.std.specs.Prelude.{◌⊎◌, List, Any}
-use Rattle.texts.specs.declared.program.Slot.{Slot}
-use Rattle.texts.specs.declared.program.Class.{Class}
-use Rattle.texts.specs.declared.program.Wire.{Wire}
-use Rattle.texts.specs.declared.program.Owns.{Owns}
-use Rattle.texts.specs.declared.program.Site.{Site}
-use Rattle.texts.specs.declared.program.Program.{Program}
+use Rattle.syntax_trees.specs.declared.program.Slot.{Slot}
+use Rattle.syntax_trees.specs.declared.program.Class.{Class}
+use Rattle.syntax_trees.specs.declared.program.Wire.{Wire}
+use Rattle.syntax_trees.specs.declared.program.Owns.{Owns}
+use Rattle.syntax_trees.specs.declared.program.Site.{Site}
+use Rattle.syntax_trees.specs.declared.program.Program.{Program}
 use Rattle.meta_model.specs.declared.object.MetaWire.{MetaWire}
 use Rattle.meta_model.specs.declared.object.MetaOwns.{MetaOwns}
 use Rattle.meta_model.specs.declared.site.MetaSite.{MetaSite}

@@ -3,20 +3,20 @@
 use Rattle.std.specs.Prelude.{◌≡◌, ◌≢◌, ℕ, ◌<◌, Bool, false, List, [], ◌∷◌, length, Some, slice_get}
 use Rattle.std.specs.List.{AllZip}
 use Rattle.signatures.specs.declared.value.Value.{Value}
-use Rattle.texts.specs.declared.syntax.Unary.{Unary}
-use Rattle.texts.specs.declared.syntax.Binary.{Binary}
-use Rattle.texts.specs.declared.syntax.Expr.{Expr}
-use Rattle.texts.specs.declared.syntax.Expr.TheOpen as expr
-use Rattle.texts.specs.declared.syntax.Expr.TheViews.{out-Expr}
-use Rattle.texts.specs.declared.syntax.Root.{Root}
-use Rattle.texts.specs.declared.syntax.Root.TheVariants as root
-use Rattle.texts.specs.declared.syntax.Path.{Path}
-use Rattle.texts.specs.declared.connection.ConnectionType.{ConnectionType}
-use Rattle.texts.specs.declared.connection.Endpoints.{Endpoints}
-use Rattle.texts.specs.declared.syntax.Stmt.{Stmt}
-use Rattle.texts.specs.declared.syntax.Stmt.TheOpen as stmt
-use Rattle.texts.specs.declared.syntax.Stmt.TheViews.{out-Stmt}
-use Rattle.texts.specs.declared.program.Parameter.{Parameter}
+use Rattle.syntax_trees.specs.declared.syntax.Unary.{Unary}
+use Rattle.syntax_trees.specs.declared.syntax.Binary.{Binary}
+use Rattle.syntax_trees.specs.declared.syntax.Expr.{Expr}
+use Rattle.syntax_trees.specs.declared.syntax.Expr.TheOpen as expr
+use Rattle.syntax_trees.specs.declared.syntax.Expr.TheViews.{out-Expr}
+use Rattle.syntax_trees.specs.declared.syntax.Root.{Root}
+use Rattle.syntax_trees.specs.declared.syntax.Root.TheVariants as root
+use Rattle.syntax_trees.specs.declared.syntax.Path.{Path}
+use Rattle.syntax_trees.specs.declared.connection.ConnectionType.{ConnectionType}
+use Rattle.syntax_trees.specs.declared.connection.Endpoints.{Endpoints}
+use Rattle.syntax_trees.specs.declared.syntax.Stmt.{Stmt}
+use Rattle.syntax_trees.specs.declared.syntax.Stmt.TheOpen as stmt
+use Rattle.syntax_trees.specs.declared.syntax.Stmt.TheViews.{out-Stmt}
+use Rattle.syntax_trees.specs.declared.program.Parameter.{Parameter}
 use Rattle.meta_model.specs.declared.object.ValueType.{ValueType}
 use Rattle.meta_model.specs.declared.object.ValueType.TheVariants as type
 use Rattle.meta_model.specs.declared.object.MetaRoot.{MetaRoot}

@@ -4,17 +4,17 @@ use Rattle.std.specs.Prelude.{◌≡◌, ℕ, suc, ◌<◌, List, ◌++◌, leng
 use Rattle.std.specs.List.{AllZip}
 use Rattle.signatures.specs.declared.sig.Sig.{Sig}
 use Rattle.signatures.specs.declared.value.Value.{Value}
-use Rattle.texts.specs.Literals.{literal_value}
-use Rattle.texts.specs.declared.syntax.Literal.{Literal}
-use Rattle.texts.specs.declared.program.Property.{Property}
-use Rattle.texts.specs.declared.program.Signal.{Signal}
-use Rattle.texts.specs.declared.program.SlotWork.{SlotWork}
-use Rattle.texts.specs.declared.program.SlotWork.TheVariants as slot
-use Rattle.texts.specs.declared.program.Slot.{Slot}
-use Rattle.texts.specs.declared.program.Class.{Class}
-use Rattle.texts.specs.declared.program.Wire.{Wire}
-use Rattle.texts.specs.declared.program.Owns.{Owns}
-use Rattle.texts.specs.declared.program.Program.{Program}
+use Rattle.syntax_trees.specs.Literals.{literal_value}
+use Rattle.syntax_trees.specs.declared.syntax.Literal.{Literal}
+use Rattle.syntax_trees.specs.declared.program.Property.{Property}
+use Rattle.syntax_trees.specs.declared.program.Signal.{Signal}
+use Rattle.syntax_trees.specs.declared.program.SlotWork.{SlotWork}
+use Rattle.syntax_trees.specs.declared.program.SlotWork.TheVariants as slot
+use Rattle.syntax_trees.specs.declared.program.Slot.{Slot}
+use Rattle.syntax_trees.specs.declared.program.Class.{Class}
+use Rattle.syntax_trees.specs.declared.program.Wire.{Wire}
+use Rattle.syntax_trees.specs.declared.program.Owns.{Owns}
+use Rattle.syntax_trees.specs.declared.program.Program.{Program}
 use Rattle.meta_model.specs.declared.object.ValueType.{ValueType}
 use Rattle.meta_model.specs.declared.object.Work.{Work}
 use Rattle.meta_model.specs.declared.object.Work.TheVariants as work

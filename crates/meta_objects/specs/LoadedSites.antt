@@ -2,15 +2,15 @@
 use Rattle.std.specs.Prelude.{◌≡◌, ℕ, List, [], ◌∷◌, slice_get, Some}
 use Rattle.std.specs.List.{AllZip}
 use Rattle.signatures.specs.declared.value.Value.{Value}
-use Rattle.texts.specs.declared.syntax.Unary.{Unary}
-use Rattle.texts.specs.declared.syntax.Binary.{Binary}
-use Rattle.texts.specs.declared.syntax.Expr.{Expr}
-use Rattle.texts.specs.declared.syntax.Expr.TheOpen as expr
-use Rattle.texts.specs.declared.syntax.Expr.TheViews.{out-Expr}
-use Rattle.texts.specs.declared.syntax.Path.{Path}
-use Rattle.texts.specs.declared.syntax.Root.TheVariants as root
-use Rattle.texts.specs.declared.program.Formal.{Formal}
-use Rattle.texts.specs.declared.program.Site.{Site}
+use Rattle.syntax_trees.specs.declared.syntax.Unary.{Unary}
+use Rattle.syntax_trees.specs.declared.syntax.Binary.{Binary}
+use Rattle.syntax_trees.specs.declared.syntax.Expr.{Expr}
+use Rattle.syntax_trees.specs.declared.syntax.Expr.TheOpen as expr
+use Rattle.syntax_trees.specs.declared.syntax.Expr.TheViews.{out-Expr}
+use Rattle.syntax_trees.specs.declared.syntax.Path.{Path}
+use Rattle.syntax_trees.specs.declared.syntax.Root.TheVariants as root
+use Rattle.syntax_trees.specs.declared.program.Formal.{Formal}
+use Rattle.syntax_trees.specs.declared.program.Site.{Site}
 use Rattle.meta_model.specs.declared.site.SourceProperty.{SourceProperty}
 use Rattle.meta_model.specs.declared.site.MetaSite.{MetaSite}
 use Rattle.meta_model.specs.Literals.{literal}

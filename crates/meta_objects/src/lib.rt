@@ -3,10 +3,11 @@
 
 mod body_resolution;
 mod class_index;
-mod lacks;
 mod laws;
 mod literals;
 mod meta;
+mod missing;
+mod refusal;
 mod resolve_native;
 mod resolve_object;
 mod resolve_site;
@@ -14,13 +15,13 @@ mod resolve_uses;
 mod resolve_wire;
 
 pub use body_resolution::Scope;
-pub use lacks::{lacks_class, lacks_end, lacks_in_site, lacks_in_slot};
 pub use laws::{one_answer, one_as_declared, one_loading};
 pub use meta::{Meta, Wired};
 pub use meta_model::{
-    Formula, MetaEffects, MetaEndpoints, MetaFault, MetaMethod, MetaObject, MetaOwns, MetaPath,
-    MetaProperty, MetaRoot, MetaSite, MetaWire, SlotBody, SourceProperty, Statement, Step,
-    ValueType, Work,
+    Declaration, Formula, LoadFault, Member, MetaEffects, MetaEndpoints, MetaFault, MetaMethod,
+    MetaObject, MetaOwns, MetaPath, MetaProperty, MetaRoot, MetaSite, MetaWire, Offence, SlotBody,
+    SourceProperty, Statement, Step, ValueType, Work,
 };
+pub use refusal::first_offence;
 pub use resolve_native::emitted;
 pub use resolve_wire::signal_end;

@@ -1,5 +1,5 @@
 ghost use Rattle.std.specs.Prelude.{◌≡◌, ◌<◌, List, IsTrue, ◌↔◌, IfSome, option_copied, slice_get};
-ghost use Rattle.meta_objects.specs.Builds.{Builds};
+ghost use Rattle.meta_objects.specs.Builds.{Builds, LoadsProgram};
 ghost use Rattle.meta_model.specs.LookUps.{LooksUp, LooksUpRef, FindsOnly};
 ghost use Rattle.meta_model.specs.Members.{IsClassNamed, IsMethod, HasSig, IsMethodNamed, IsPropertyNamed};
 ghost use Rattle.meta_model.specs.Members.{base_of, method_count, method_offset, Below};
@@ -12,16 +12,16 @@ ghost use Rattle.meta_objects.specs.Wiring.{IsWired};
 use crate::class_index::{ClassIndex, index_sites};
 use crate::resolve_object::resolve_objects;
 use crate::resolve_uses::{Uses, resolve_uses};
+use load_rules::{bad_notifier, duplicate_class, repeated_name, unfit_type};
 use meta_model::{
-    MetaFault, MetaMethod, MetaObject, MetaOwns, MetaSite, MetaWire, NameIndex, ValueType,
-    has_bad_notify, has_duplicate_class, has_no_type, has_repeated_name, index_outlines,
-    outline_classes,
+    LoadFault, MetaFault, MetaMethod, MetaObject, MetaOwns, MetaSite, MetaWire, NameIndex,
+    ValueType, index_outlines, outline_classes,
 };
 use signatures::{Kind, Name, ObjectId, Sig, Value, fits};
 use sqlite_items::Items;
 use std::alloc::Global;
 use std::marker::Model;
-use texts::Program;
+use syntax_trees::Program;
 
 /// The meta-objects of a program that loads. Class 0 is `QObject`; the program's own classes follow as declared.
 pub struct Meta {
@@ -52,7 +52,7 @@ impl Model for Meta {
     ghost use Rattle.meta_model.specs.Sound.{IsSound};
     ghost use Rattle.meta_model.specs.contracts.object.Statement as statement;
     ghost use Rattle.meta_model.specs.contracts.site.SourceProperty as source;
-    ghost use Rattle.texts.specs.contracts.syntax.Expr as expr;
+    ghost use Rattle.syntax_trees.specs.contracts.syntax.Expr as expr;
     ghost use Rattle.std.specs.Coded.{codes};
 
     ghost Value = { Loaded };
@@ -89,15 +89,23 @@ impl Meta {
     pub fn build(alloc: Global, program: &Program) -> Result<Meta, MetaFault>
         ensures { Builds program.now result }
     {
-        if has_duplicate_class(program) {
-            return Err(MetaFault::DuplicateClass);
+        let meta = Meta::load(alloc, program)?;
+        Ok(meta)
+    }
+
+    /// The same, where a refusal says which declaration leads to it: the first one of those that it is judged by, in the
+    /// order in which they are judged.
+    pub fn load(alloc: Global, program: &Program) -> Result<Meta, LoadFault>
+        ensures { LoadsProgram program.now result }
+    {
+        if let Some(offence) = duplicate_class(program) {
+            return Err(LoadFault::Offence(offence));
         }
-        let declared = program.classes.as_slice();
-        let outlines = outline_classes(alloc, declared)?;
-        let indexed = index_outlines(alloc, outlines)?;
+        let outlines = outline_classes(alloc, program)?;
+        let indexed = index_outlines(alloc, program, outlines)?;
         let all = indexed.as_slice();
-        if has_repeated_name(program) {
-            return Err(MetaFault::DuplicateMember);
+        if let Some(offence) = repeated_name(program) {
+            return Err(LoadFault::Offence(offence));
         }
         let Uses {
             works,
@@ -105,11 +113,11 @@ impl Meta {
             owns,
             sites,
         } = resolve_uses(alloc, program, all)?;
-        if has_bad_notify(all) {
-            return Err(MetaFault::BadNotify);
+        if let Some(offence) = bad_notifier(program, all) {
+            return Err(LoadFault::Offence(offence));
         }
-        if has_no_type(program, all) {
-            return Err(MetaFault::NoType);
+        if let Some(offence) = unfit_type(alloc, program, all)? {
+            return Err(LoadFault::Offence(offence));
         }
         let classes = resolve_objects(alloc, all, works.as_slice())?;
         let index = ClassIndex::new(alloc, classes.as_slice())?;

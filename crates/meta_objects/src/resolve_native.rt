@@ -5,26 +5,31 @@ ghost use Rattle.meta_model.specs.LookUps.{LooksUp};
 ghost use Rattle.meta_objects.specs.code.Natives.{AreEffects, HasPropertyIn, HasSignalIn};
 ghost use Rattle.meta_objects.specs.code.Resolving.{Resolves, ResolvesEach};
 
+use crate::missing::{no_end, no_property};
 use crate::resolve_wire::signal_end;
-use meta_model::{IndexedOutline, MetaEffects, MetaFault, OBJECT_NAME_CHANGED, property_in};
+use meta_model::{
+    End, IndexedOutline, MetaEffects, OBJECT_NAME_CHANGED, PartFault, names_of_sig, property_in,
+};
 use signatures::{Name, Sig};
 use sqlite_items::Items;
 use std::alloc::Global;
-use texts::EffectNames;
+use syntax_trees::EffectNames;
 
 /// The effects of a native of the class of this name, in the order declared; `NoMember` where the class lacks a property
-/// that the native reads or sets, or a signal that it emits, or where the runtime emits that signal.
+/// that the native reads or sets, or a signal that it emits, or where the runtime emits that signal. So many of the native's
+/// names were met, to which those of the effects are added.
 pub fn resolve_effects(
     alloc: Global,
     outlines: &[IndexedOutline],
     class: &Name,
     effects: &EffectNames,
-) -> Result<MetaEffects, MetaFault>
+    met: &mut usize,
+) -> Result<MetaEffects, PartFault>
     ensures { Resolves (AreEffects outlines.now class.now effects.now) result }
 {
-    let reads = resolve_named(alloc, outlines, class, effects.reads.as_slice())?;
-    let emits = resolve_emitted(alloc, outlines, class, effects.emits.as_slice())?;
-    let sets = resolve_named(alloc, outlines, class, effects.sets.as_slice())?;
+    let reads = resolve_named(alloc, outlines, class, effects.reads.as_slice(), met)?;
+    let emits = resolve_emitted(alloc, outlines, class, effects.emits.as_slice(), met)?;
+    let sets = resolve_named(alloc, outlines, class, effects.sets.as_slice(), met)?;
     Ok(MetaEffects { reads, emits, sets })
 }
 
@@ -34,15 +39,17 @@ fn resolve_named(
     outlines: &[IndexedOutline],
     class: &Name,
     names: &[Name],
-) -> Result<Items<usize>, MetaFault>
+    met: &mut usize,
+) -> Result<Items<usize>, PartFault>
     ensures { ResolvesEach (HasPropertyIn outlines.now class.now) names.now result }
 {
     let mut numbers = Items::new(alloc);
     for name in names {
         let Some(found) = property_in(outlines, class, name) else {
-            return Err(MetaFault::NoMember);
+            return Err(no_property(outlines, class, *met));
         };
         numbers.push(found.place)?;
+        *met = met.saturating_add(1);
     }
     Ok(numbers)
 }
@@ -53,15 +60,17 @@ fn resolve_emitted(
     outlines: &[IndexedOutline],
     class: &Name,
     signals: &[Sig],
-) -> Result<Items<usize>, MetaFault>
+    met: &mut usize,
+) -> Result<Items<usize>, PartFault>
     ensures { ResolvesEach (HasSignalIn outlines.now class.now) signals.now result }
 {
     let mut numbers = Items::new(alloc);
     for sig in signals {
         let Some(signal) = emitted(outlines, class, sig) else {
-            return Err(MetaFault::NoMember);
+            return Err(no_end(alloc, outlines, *met, class, End::Effect, sig));
         };
         numbers.push(signal)?;
+        *met = met.saturating_add(names_of_sig(sig));
     }
     Ok(numbers)
 }

@@ -14,7 +14,7 @@ use meta_model::{
 use signatures::Value;
 use sqlite_items::Items;
 use std::alloc::{AllocError, Global};
-use texts::{Literal, Property};
+use syntax_trees::{Literal, Property};
 
 /// The classes in their order, where the program's slots and natives do this.
 pub fn resolve_objects(

@@ -1,47 +1,53 @@
 //! Binding sites whose names are replaced by numbers.
 
 ghost use Rattle.std.specs.Prelude.{◌≡◌};
-ghost use Rattle.meta_objects.specs.code.Resolving.{Resolves, ResolvesEach};
+ghost use Rattle.meta_model.specs.Offences.{fault_in};
+ghost use Rattle.meta_model.specs.declared.fault.MetaFault.TheVariants.{NoMember};
+ghost use Rattle.meta_objects.specs.code.Resolving.{Resolves, ResolvesAll, ResolvesEach};
 ghost use Rattle.meta_objects.specs.code.Sites.{IsFormalOf, IsFormula, IsSite};
 
 use crate::literals::literal_of;
+use crate::missing::{no_property, undeclared};
 use meta_model::{
-    Formula, IndexedOutline, MetaFault, MetaSite, SourceProperty, place_of, property_in,
-    source_property,
+    Declaration, Formula, IndexedOutline, LoadFault, MetaSite, Missing, PartFault, SourceProperty,
+    find, names_before_expression, place_of, property_in, source_property,
 };
 use sqlite_items::{Boxed, Items};
 use std::alloc::Global;
-use texts::{Expr, Formal, Path, Site};
+use syntax_trees::{Expr, Formal, Path, Program, Root, Site};
 
 /// The sites in their order; `NoMember` where a name in one of them isn't there.
 pub fn resolve_sites(
     alloc: Global,
+    program: &Program,
     outlines: &[IndexedOutline],
-    sites: &[Site],
-) -> Result<Items<MetaSite>, MetaFault>
-    ensures { ResolvesEach (IsSite outlines.now) sites.now result }
+) -> Result<Items<MetaSite>, LoadFault>
+    ensures { ResolvesAll program.now (IsSite outlines.now) program.now.sites result }
 {
     let mut loaded = Items::new(alloc);
-    for site in sites {
-        let site = resolve_site(alloc, outlines, site)?;
-        loaded.push(site)?;
+    for (place, site) in program.sites.as_slice().iter().enumerate() {
+        match resolve_site(alloc, outlines, site) {
+            Ok(site) => loaded.push(site)?,
+            Err(fault) => return Err(fault.of(Declaration::Site(place))),
+        }
     }
     Ok(loaded)
 }
 
 /// The site; `NoMember` where a name in it isn't there.
-pub fn resolve_site(
+fn resolve_site(
     alloc: Global,
     outlines: &[IndexedOutline],
     site: &Site,
-) -> Result<MetaSite, MetaFault>
+) -> Result<MetaSite, PartFault>
     ensures { Resolves (IsSite outlines.now site.now) result }
 {
     let Some(target) = property_in(outlines, &site.class, &site.property) else {
-        return Err(MetaFault::NoMember);
+        return Err(no_property(outlines, &site.class, 2));
     };
     let formals = resolve_formals(alloc, outlines, site.formals.as_slice())?;
-    let expression = resolve_formula(alloc, outlines, site, &site.expression)?;
+    let mut met = names_before_expression(site);
+    let expression = resolve_formula(alloc, outlines, site, &site.expression, &mut met)?;
     let formula = Formula::new(alloc, expression)?;
     let name = site.name.copy()?;
     Ok(MetaSite {
@@ -58,26 +64,30 @@ fn resolve_formals(
     alloc: Global,
     outlines: &[IndexedOutline],
     formals: &[Formal],
-) -> Result<Items<usize>, MetaFault>
+) -> Result<Items<usize>, PartFault>
     ensures { ResolvesEach (IsFormalOf outlines.now) formals.now result }
 {
     let mut classes = Items::new(alloc);
+    let mut met = 3usize;
     for formal in formals {
         let Some(class) = place_of(outlines, &formal.class) else {
-            return Err(MetaFault::NoMember);
+            return Err(undeclared(met, Missing::Class));
         };
         classes.push(class)?;
+        met = met.saturating_add(2);
     }
     Ok(classes)
 }
 
-/// The expression; `NoMember` where one of its paths is no property of a formal source.
+/// The expression; `NoMember` where one of its paths is no property of a formal source. So many of the site's names were
+/// met, to which those of the expression are added.
 fn resolve_formula(
     alloc: Global,
     outlines: &[IndexedOutline],
     site: &Site,
     expression: &Expr<Path>,
-) -> Result<Expr<SourceProperty>, MetaFault>
+    met: &mut usize,
+) -> Result<Expr<SourceProperty>, PartFault>
     ensures { Resolves (IsFormula outlines.now site.now expression.now) result }
 {
     match expression {
@@ -87,21 +97,35 @@ fn resolve_formula(
         }
         Expr::Path(path) => {
             let Some(found) = source_property(outlines, site, path) else {
-                return Err(MetaFault::NoMember);
+                return Err(no_source(outlines, site, path, *met));
             };
+            *met = met.saturating_add(2);
             Ok(Expr::Path(found.source))
         }
         Expr::Unary(operator, operand) => {
-            let operand = resolve_formula(alloc, outlines, site, operand.get())?;
+            let operand = resolve_formula(alloc, outlines, site, operand.get(), met)?;
             let operand = Boxed::new(alloc, operand)?;
             Ok(Expr::Unary(*operator, operand))
         }
         Expr::Binary(operator, left, right) => {
-            let left = resolve_formula(alloc, outlines, site, left.get())?;
+            let left = resolve_formula(alloc, outlines, site, left.get(), met)?;
             let left = Boxed::new(alloc, left)?;
-            let right = resolve_formula(alloc, outlines, site, right.get())?;
+            let right = resolve_formula(alloc, outlines, site, right.get(), met)?;
             let right = Boxed::new(alloc, right)?;
             Ok(Expr::Binary(*operator, left, right))
         }
+    }
+}
+
+/// That the path, whose first name has this number, is no property of a formal source.
+fn no_source(outlines: &[IndexedOutline], site: &Site, path: &Path, name: usize) -> PartFault
+    ensures { fault_in result ≡ NoMember }
+{
+    let Root::Name(root) = &path.root else {
+        return undeclared(name, Missing::Formal);
+    };
+    match find(site.formals.as_slice(), root) {
+        Some((_, formal)) => no_property(outlines, &formal.class, name.saturating_add(1)),
+        None => undeclared(name, Missing::Formal),
     }
 }

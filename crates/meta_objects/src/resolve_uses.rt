@@ -5,10 +5,10 @@ ghost use Rattle.meta_objects.specs.code.Resolving.{ResolvesUses};
 use crate::body_resolution::{ResolvedWork, resolve_works};
 use crate::resolve_site::resolve_sites;
 use crate::resolve_wire::{resolve_owns, resolve_wires};
-use meta_model::{IndexedOutline, MetaFault, MetaOwns, MetaSite, MetaWire};
+use meta_model::{IndexedOutline, LoadFault, MetaOwns, MetaSite, MetaWire};
 use sqlite_items::Items;
 use std::alloc::Global;
-use texts::Program;
+use syntax_trees::Program;
 
 /// What slots and natives do, by class, the wires, the owns and the binding sites, their names resolved.
 #[derive(Drop)]
@@ -24,13 +24,13 @@ pub fn resolve_uses(
     alloc: Global,
     program: &Program,
     outlines: &[IndexedOutline],
-) -> Result<Uses, MetaFault>
+) -> Result<Uses, LoadFault>
     ensures { ResolvesUses program.now outlines.now result }
 {
-    let works = resolve_works(alloc, outlines, program.classes.as_slice())?;
-    let wires = resolve_wires(alloc, outlines, program.wires.as_slice())?;
-    let owns = resolve_owns(alloc, outlines, program.owns.as_slice())?;
-    let sites = resolve_sites(alloc, outlines, program.sites.as_slice())?;
+    let works = resolve_works(alloc, program, outlines)?;
+    let wires = resolve_wires(alloc, program, outlines)?;
+    let owns = resolve_owns(alloc, program, outlines)?;
+    let sites = resolve_sites(alloc, program, outlines)?;
     Ok(Uses {
         works,
         wires,

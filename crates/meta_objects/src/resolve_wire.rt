@@ -3,48 +3,61 @@
 ghost use Rattle.std.specs.Prelude.{◌≡◌};
 ghost use Rattle.meta_model.specs.Conditions.{IsSignalOf};
 ghost use Rattle.meta_model.specs.Ends.{IsSigned};
-ghost use Rattle.meta_model.specs.LookUps.{LooksUp};
 ghost use Rattle.meta_objects.specs.code.Wires.{IsWire, IsOwns};
-ghost use Rattle.meta_objects.specs.code.Resolving.{FindsEnd, ResolvesEach};
+ghost use Rattle.meta_objects.specs.code.Resolving.{FindsEnd, Resolves, ResolvesAll};
 
+use crate::missing::{no_end, undeclared};
 use meta_model::{
-    IndexedOutline, MetaFault, MetaOwns, MetaWire, OBJECT_NAME_CHANGED, find, place_of,
+    Declaration, End, IndexedOutline, LoadFault, MetaOwns, MetaWire, Missing, OBJECT_NAME_CHANGED,
+    PartFault, find, names_of_sig, place_of,
 };
 use signatures::{Name, Sig};
 use sqlite_items::Items;
 use std::alloc::Global;
-use texts::{Owns, Wire};
+use syntax_trees::{Owns, Program, Wire};
 
 /// The wires in their order; `NoMember` where an end of one isn't there.
 pub fn resolve_wires(
     alloc: Global,
+    program: &Program,
     outlines: &[IndexedOutline],
-    wires: &[Wire],
-) -> Result<Items<MetaWire>, MetaFault>
-    ensures { ResolvesEach (IsWire outlines.now) wires.now result }
+) -> Result<Items<MetaWire>, LoadFault>
+    ensures { ResolvesAll program.now (IsWire outlines.now) program.now.wires result }
 {
     let mut loaded = Items::new(alloc);
-    for wire in wires {
-        let Some(wire) = resolve_wire(outlines, wire) else {
-            return Err(MetaFault::NoMember);
-        };
-        loaded.push(wire)?;
+    for (place, wire) in program.wires.as_slice().iter().enumerate() {
+        match resolve_wire(alloc, outlines, wire) {
+            Ok(wire) => loaded.push(wire)?,
+            Err(fault) => return Err(fault.of(Declaration::Wire(place))),
+        }
     }
     Ok(loaded)
 }
 
-/// The wire, if its ends are there.
-pub fn resolve_wire(outlines: &[IndexedOutline], wire: &Wire) -> Option<MetaWire>
-    ensures { LooksUp (IsWire outlines.now wire.now) result }
+/// The wire; `NoMember` where an end of it isn't there.
+fn resolve_wire(
+    alloc: Global,
+    outlines: &[IndexedOutline],
+    wire: &Wire,
+) -> Result<MetaWire, PartFault>
+    ensures { Resolves (IsWire outlines.now wire.now) result }
 {
     let Some((sender, signal)) = signal_end(outlines, &wire.sender, &wire.signal) else {
-        return None;
+        return Err(no_end(alloc, outlines, 1, &wire.sender, End::Sender, &wire.signal));
     };
+    let name = names_of_sig(&wire.signal).saturating_add(2);
     let Some((receiver, method)) = method_end(outlines, &wire.receiver, &wire.method) else {
-        return None;
+        return Err(no_end(
+            alloc,
+            outlines,
+            name,
+            &wire.receiver,
+            End::Receiver,
+            &wire.method,
+        ));
     };
     if OBJECT_NAME_CHANGED < method {
-        Some(MetaWire {
+        Ok(MetaWire {
             sender,
             signal,
             receiver,
@@ -52,7 +65,14 @@ pub fn resolve_wire(outlines: &[IndexedOutline], wire: &Wire) -> Option<MetaWire
             kind: wire.kind,
         })
     } else {
-        None
+        Err(no_end(
+            alloc,
+            outlines,
+            name,
+            &wire.receiver,
+            End::Receiver,
+            &wire.method,
+        ))
     }
 }
 
@@ -85,30 +105,30 @@ fn method_end(outlines: &[IndexedOutline], name: &Name, sig: &Sig) -> Option<(us
 /// The declarations of owners in their order; `NoMember` where a class isn't there.
 pub fn resolve_owns(
     alloc: Global,
+    program: &Program,
     outlines: &[IndexedOutline],
-    owns: &[Owns],
-) -> Result<Items<MetaOwns>, MetaFault>
-    ensures { ResolvesEach (IsOwns outlines.now) owns.now result }
+) -> Result<Items<MetaOwns>, LoadFault>
+    ensures { ResolvesAll program.now (IsOwns outlines.now) program.now.owns result }
 {
     let mut loaded = Items::new(alloc);
-    for one in owns {
-        let Some(one) = resolve_one_owns(outlines, one) else {
-            return Err(MetaFault::NoMember);
-        };
-        loaded.push(one)?;
+    for (place, one) in program.owns.as_slice().iter().enumerate() {
+        match resolve_one_owns(outlines, one) {
+            Ok(one) => loaded.push(one)?,
+            Err(fault) => return Err(fault.of(Declaration::Owns(place))),
+        }
     }
     Ok(loaded)
 }
 
-/// The declaration, if its classes are there.
-pub fn resolve_one_owns(outlines: &[IndexedOutline], owns: &Owns) -> Option<MetaOwns>
-    ensures { LooksUp (IsOwns outlines.now owns.now) result }
+/// The declaration; `NoMember` where one of its classes isn't there.
+fn resolve_one_owns(outlines: &[IndexedOutline], owns: &Owns) -> Result<MetaOwns, PartFault>
+    ensures { Resolves (IsOwns outlines.now owns.now) result }
 {
     let Some(parent) = place_of(outlines, &owns.parent) else {
-        return None;
+        return Err(undeclared(0, Missing::Class));
     };
     let Some(child) = place_of(outlines, &owns.child) else {
-        return None;
+        return Err(undeclared(1, Missing::Class));
     };
-    Some(MetaOwns { parent, child })
+    Ok(MetaOwns { parent, child })
 }

@@ -5,25 +5,25 @@ use Rattle.std.specs.List.{AllZip}
 use Rattle.signatures.specs.declared.qtype.QType.{QType}
 use Rattle.signatures.specs.Normal.{pointer_type}
 use Rattle.signatures.specs.declared.value.Value.{Value}
-use Rattle.texts.specs.declared.syntax.Unary.{Unary}
-use Rattle.texts.specs.declared.syntax.Binary.{Binary}
-use Rattle.texts.specs.declared.syntax.Expr.{Expr}
-use Rattle.texts.specs.declared.syntax.Expr.TheOpen as expr
-use Rattle.texts.specs.declared.syntax.Expr.TheViews.{out-Expr}
-use Rattle.texts.specs.declared.syntax.Root.{Root}
-use Rattle.texts.specs.declared.syntax.Root.TheVariants as root
-use Rattle.texts.specs.declared.syntax.Path.{Path}
-use Rattle.texts.specs.declared.connection.ConnectionType.{ConnectionType}
-use Rattle.texts.specs.declared.connection.Endpoints.{Endpoints}
-use Rattle.texts.specs.declared.syntax.Stmt.{Stmt}
-use Rattle.texts.specs.declared.syntax.Stmt.TheOpen as stmt
-use Rattle.texts.specs.declared.syntax.Stmt.TheViews.{out-Stmt}
-use Rattle.texts.specs.declared.program.Parameter.{Parameter}
-use Rattle.texts.specs.declared.program.Property.{Property}
-use Rattle.texts.specs.declared.program.SlotWork.{SlotWork}
-use Rattle.texts.specs.declared.program.SlotWork.TheVariants as declared
-use Rattle.texts.specs.declared.program.Slot.{Slot}
-use Rattle.texts.specs.declared.program.Class.{Class}
+use Rattle.syntax_trees.specs.declared.syntax.Unary.{Unary}
+use Rattle.syntax_trees.specs.declared.syntax.Binary.{Binary}
+use Rattle.syntax_trees.specs.declared.syntax.Expr.{Expr}
+use Rattle.syntax_trees.specs.declared.syntax.Expr.TheOpen as expr
+use Rattle.syntax_trees.specs.declared.syntax.Expr.TheViews.{out-Expr}
+use Rattle.syntax_trees.specs.declared.syntax.Root.{Root}
+use Rattle.syntax_trees.specs.declared.syntax.Root.TheVariants as root
+use Rattle.syntax_trees.specs.declared.syntax.Path.{Path}
+use Rattle.syntax_trees.specs.declared.connection.ConnectionType.{ConnectionType}
+use Rattle.syntax_trees.specs.declared.connection.Endpoints.{Endpoints}
+use Rattle.syntax_trees.specs.declared.syntax.Stmt.{Stmt}
+use Rattle.syntax_trees.specs.declared.syntax.Stmt.TheOpen as stmt
+use Rattle.syntax_trees.specs.declared.syntax.Stmt.TheViews.{out-Stmt}
+use Rattle.syntax_trees.specs.declared.program.Parameter.{Parameter}
+use Rattle.syntax_trees.specs.declared.program.Property.{Property}
+use Rattle.syntax_trees.specs.declared.program.SlotWork.{SlotWork}
+use Rattle.syntax_trees.specs.declared.program.SlotWork.TheVariants as declared
+use Rattle.syntax_trees.specs.declared.program.Slot.{Slot}
+use Rattle.syntax_trees.specs.declared.program.Class.{Class}
 use Rattle.meta_model.specs.declared.object.MetaRoot.{MetaRoot}
 use Rattle.meta_model.specs.declared.object.MetaRoot.TheVariants as resolved
 use Rattle.meta_model.specs.declared.object.Step.{Step}

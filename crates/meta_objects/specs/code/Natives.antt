@@ -2,8 +2,8 @@
 use Rattle.std.specs.Prelude.{ℕ, ◌<◌, List}
 use Rattle.std.specs.List.{AllZip}
 use Rattle.signatures.specs.declared.sig.Sig.{Sig}
-use Rattle.texts.specs.declared.program.EffectNames.{EffectNames}
-use Rattle.texts.specs.declared.program.Property.{Property}
+use Rattle.syntax_trees.specs.declared.program.EffectNames.{EffectNames}
+use Rattle.syntax_trees.specs.declared.program.Property.{Property}
 use Rattle.meta_model.specs.declared.effects.MetaEffects.{MetaEffects}
 use Rattle.meta_model.specs.declared.outline.Outline.{Outline}
 use Rattle.meta_model.specs.declared.qobject.TheConstants.{OBJECT_NAME_CHANGED}

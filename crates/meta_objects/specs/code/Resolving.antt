@@ -4,25 +4,26 @@ use Rattle.std.specs.Borrow.{Bor}
 use Rattle.std.specs.Prelude.{◌≡◌, ℕ, List, Option, Result, MatchOption, Any}
 use Rattle.std.specs.List.{AllZip}
 use Rattle.signatures.specs.declared.qtype.QType.{QType}
-use Rattle.texts.specs.declared.syntax.Path.{Path}
-use Rattle.texts.specs.declared.program.Property.{Property}
-use Rattle.texts.specs.declared.program.Class.{Class}
-use Rattle.texts.specs.declared.program.Program.{Program}
-use Rattle.meta_model.specs.declared.fault.MetaFault.{MetaFault}
+use Rattle.syntax_trees.specs.declared.syntax.Path.{Path}
+use Rattle.syntax_trees.specs.declared.program.Property.{Property}
+use Rattle.syntax_trees.specs.declared.program.Class.{Class}
+use Rattle.syntax_trees.specs.declared.program.Program.{Program}
 use Rattle.meta_model.specs.declared.fault.MetaFault.TheVariants as fault
 use Rattle.meta_model.specs.declared.object.MetaRoot.{MetaRoot}
+use Rattle.meta_model.specs.declared.offence.LoadFault.{LoadFault}
+use Rattle.meta_model.specs.declared.offence.PartFault.{PartFault}
 use Rattle.meta_model.specs.declared.object.MetaPath.{MetaPath}
 use Rattle.meta_model.specs.declared.object.Step.{Step}
 use Rattle.meta_model.specs.declared.outline.Heading.{Heading}
 use Rattle.meta_model.specs.declared.outline.Outline.{Outline}
 use Rattle.meta_model.specs.Ends.{IsEnd}
-use Rattle.meta_model.specs.PartAnswers.{Loads}
+use Rattle.meta_model.specs.Offences.{LoadsPart, LoadsIn, LoadsOf}
 use Rattle.meta_objects.specs.declared.body_resolution.path.Led.{Led}
 use Rattle.meta_objects.specs.declared.body_resolution.path.Target.{Target}
 use Rattle.meta_objects.specs.declared.body_resolution.scope.Scope.{Scope as ScopeGiven}
 use Rattle.meta_objects.specs.declared.body_resolution.work.ResolvedWork.{ResolvedWork}
 use Rattle.meta_objects.specs.declared.resolve_uses.Uses.{Uses}
-use Rattle.meta_objects.specs.code.Bodies.{Scope, PointsTo, PointsToThis, HasMember, AreSteps, IsPath, IsObjectPath, AllWorks}
+use Rattle.meta_objects.specs.code.Bodies.{Scope, PointsTo, PointsToThis, HasMember, AreSteps, IsPath, IsObjectPath, AreWorks, AllWorks}
 use Rattle.meta_objects.specs.LackedNames.{LacksInClass}
 use Rattle.meta_objects.specs.LackedNames.{LacksMember}
 use Rattle.meta_objects.specs.code.Loading.{HasUses}
@@ -32,13 +33,18 @@ abbrev pub scope : ScopeGiven → Scope
 scope given = record { outlines = given.outlines.now; me = given.me.now; parameters = given.parameters.now }
 
 -- a resolved form of the part, or `NoMember`, where it has none
-abbrev pub Resolves : {Y : Type 0} → (Y → Type 0) → Result Y MetaFault → Type 0
-Resolves {Y} IsForm result = Loads fault.NoMember ((y : Y) → ¬ IsForm y) IsForm result
+abbrev pub Resolves : {Y : Type 0} → (Y → Type 0) → Result Y PartFault → Type 0
+Resolves {Y} IsForm result = LoadsPart fault.NoMember ((y : Y) → ¬ IsForm y) IsForm result
 
 -- .. of each of these parts
-abbrev pub ResolvesEach : {X Y : Type 0} → (X → Y → Type 0) → List X → Result (List Y) MetaFault → Type 0
+abbrev pub ResolvesEach : {X Y : Type 0} → (X → Y → Type 0) → List X → Result (List Y) PartFault → Type 0
 ResolvesEach {X} {Y} IsForm xs result =
-    Loads fault.NoMember (Any (λ (x : X). (y : Y) → ¬ IsForm x y) xs) (AllZip IsForm xs) result
+    LoadsPart fault.NoMember (Any (λ (x : X). (y : Y) → ¬ IsForm x y) xs) (AllZip IsForm xs) result
+
+-- .. of each of these declarations of the program
+abbrev pub ResolvesAll : {X Y : Type 0} → Program → (X → Y → Type 0) → List X → Result (List Y) LoadFault → Type 0
+ResolvesAll {X} {Y} program IsForm xs result =
+    LoadsOf program fault.NoMember (Any (λ (x : X). (y : Y) → ¬ IsForm x y) xs) (AllZip IsForm xs) result
 
 -- ---- paths
 -- the class that the type points to, with its number
@@ -53,21 +59,21 @@ FindsMember outlines T name answer =
     (λ found. HasMember outlines T name found.0 found.1.now)
 
 -- the path, with the type of what it is declared to lead to
-abbrev pub ResolvesPath : Scope → Path → Result Led MetaFault → Type 0
+abbrev pub ResolvesPath : Scope → Path → Result Led PartFault → Type 0
 ResolvesPath s path result =
-    Loads fault.NoMember ((found : MetaPath) (T : QType) → ¬ IsPath s path found T)
+    LoadsPart fault.NoMember ((found : MetaPath) (T : QType) → ¬ IsPath s path found T)
     (λ (led : Led). IsPath s path led.path led.kind) result
 
 -- the path of these properties from a root of this type, with the type of what it leads to
-abbrev pub ResolvesFrom : List Outline → MetaRoot → QType → List (List ℕ) → Result Led MetaFault → Type 0
+abbrev pub ResolvesFrom : List Outline → MetaRoot → QType → List (List ℕ) → Result Led PartFault → Type 0
 ResolvesFrom outlines root start names result =
-    Loads fault.NoMember ((steps : List Step) (T : QType) → ¬ AreSteps outlines start names steps T)
+    LoadsPart fault.NoMember ((steps : List Step) (T : QType) → ¬ AreSteps outlines start names steps T)
     (λ (led : Led). (led.path.root ≡ root) × AreSteps outlines start names led.path.steps led.kind) result
 
 -- the path in the place of an object, with the class of the objects that it is declared to lead to
-abbrev pub ResolvesObject : Scope → Path → Result Target MetaFault → Type 0
+abbrev pub ResolvesObject : Scope → Path → Result Target PartFault → Type 0
 ResolvesObject s path result =
-    Loads fault.NoMember ((found : MetaPath) (class : Outline) → ¬ IsObjectPath s path found class)
+    LoadsPart fault.NoMember ((found : MetaPath) (class : Outline) → ¬ IsObjectPath s path found class)
     (λ (target : Target). IsObjectPath s path target.path target.class.now) result
 
 -- ---- wires
@@ -77,13 +83,18 @@ FindsEnd P outlines name answer =
     MatchOption answer ((c m : ℕ) → ¬ IsEnd P outlines name c m) (λ found. IsEnd P outlines name found.0 found.1)
 
 -- ---- the program
--- what all slots and natives of these classes do
-abbrev pub ResolvesWorks : List Outline → List Class → Result (List (List ResolvedWork)) MetaFault → Type 0
-ResolvesWorks outlines classes result =
-    Loads fault.NoMember (Any (LacksInClass outlines) classes) (AllWorks outlines classes) result
+-- what the slots and natives of this class do, which has this number
+abbrev pub ResolvesClassWorks : List Outline → ℕ → Class → Result (List ResolvedWork) LoadFault → Type 0
+ResolvesClassWorks outlines number class result =
+    LoadsIn number class fault.NoMember (LacksInClass outlines class) (AreWorks outlines class) result
+
+-- .. and those of all classes
+abbrev pub ResolvesWorks : Program → List Outline → Result (List (List ResolvedWork)) LoadFault → Type 0
+ResolvesWorks program outlines result =
+    LoadsOf program fault.NoMember (Any (LacksInClass outlines) program.classes) (AllWorks outlines program.classes) result
 
 -- what slots and natives do, the wires, the owns and the binding sites
-abbrev pub ResolvesUses : Program → List Outline → Result Uses MetaFault → Type 0
+abbrev pub ResolvesUses : Program → List Outline → Result Uses LoadFault → Type 0
 ResolvesUses program outlines result =
-    Loads fault.NoMember (LacksMember program outlines)
+    LoadsOf program fault.NoMember (LacksMember program outlines)
     (λ (uses : Uses). HasUses program outlines uses.works uses.wires uses.owns uses.sites) result

@@ -1,7 +1,7 @@
 -- How the names in wires and owns are looked up, in the outlines of classes (docs/language.md, "Names").
 use Rattle.std.specs.Prelude.{◌≡◌, ◌<◌, List}
-use Rattle.texts.specs.declared.program.Wire.{Wire}
-use Rattle.texts.specs.declared.program.Owns.{Owns}
+use Rattle.syntax_trees.specs.declared.program.Wire.{Wire}
+use Rattle.syntax_trees.specs.declared.program.Owns.{Owns}
 use Rattle.meta_model.specs.declared.object.MetaWire.{MetaWire}
 use Rattle.meta_model.specs.declared.object.MetaOwns.{MetaOwns}
 use Rattle.meta_model.specs.declared.outline.Outline.{Outline}

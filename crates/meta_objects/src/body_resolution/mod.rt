@@ -8,4 +8,4 @@ mod scope;
 mod work;
 
 pub use scope::Scope;
-pub use work::{ResolvedWork, resolve_slot_work, resolve_works};
+pub use work::{ResolvedWork, resolve_works};

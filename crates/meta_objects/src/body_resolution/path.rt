@@ -1,17 +1,20 @@
 //! Paths whose names are resolved.
 
 ghost use Rattle.std.specs.Prelude.{◌≡◌};
+ghost use Rattle.meta_model.specs.Offences.{fault_in};
+ghost use Rattle.meta_model.specs.declared.fault.MetaFault.TheVariants.{NoMember};
 ghost use Rattle.meta_objects.specs.code.Bodies.{IsReferencePath};
 ghost use Rattle.meta_objects.specs.code.Resolving.{scope, Resolves, ResolvesPath, ResolvesFrom, ResolvesObject};
 ghost use Rattle.meta_objects.specs.code.Resolving.{FindsClass, FindsMember};
 
 use crate::body_resolution::scope::Scope;
+use crate::missing::undeclared;
 use meta_model::{
-    IndexedOutline, MetaFault, MetaPath, MetaRoot, Step, find, read_kind, reference_to,
+    IndexedOutline, MetaPath, MetaRoot, Missing, PartFault, Step, find, read_kind, reference_to,
 };
 use signatures::{Name, QType};
 use sqlite_items::Items;
-use texts::{Path, Property, Root};
+use syntax_trees::{Path, Property, Root};
 
 /// A path whose names are resolved, and the type of what it is declared to lead to.
 #[derive(Drop)]
@@ -24,63 +27,84 @@ pub struct Led {
 #[derive(Drop)]
 pub struct Target<'a> {
     pub path: MetaPath,
+    /// The class's number.
+    pub number: usize,
     pub class: &'a IndexedOutline,
 }
 
 impl<'a> Scope<'a> {
     /// The path in the place of an object; `NoMember` where a name in it isn't there, or it isn't declared to lead to
-    /// objects of a class that is there.
-    pub fn resolve_object(&self, path: &Path) -> Result<Target<'a>, MetaFault>
+    /// objects of a class that is there. So many of the slot's names were met, to which those of the path are added.
+    pub fn resolve_object(&self, path: &Path, met: &mut usize) -> Result<Target<'a>, PartFault>
         ensures { ResolvesObject (scope self.now) path.now result }
     {
-        let Led { path, kind } = self.resolve_path(path)?;
-        let Some((_, class)) = self.find_class(&kind) else {
-            return Err(MetaFault::NoMember);
+        let Led { path, kind } = self.resolve_path(path, met)?;
+        let Some((number, class)) = self.find_class(&kind) else {
+            return Err(undeclared(met.saturating_sub(1), Missing::Object(kind)));
         };
-        Ok(Target { path, class })
+        Ok(Target {
+            path,
+            number,
+            class,
+        })
     }
 
     /// The path in the place of an object of which no member is named; `NoMember` where a name in it isn't there, or it
     /// isn't declared to lead to a reference. The class of the reference is left to the judgement of the declared types.
-    pub fn resolve_reference(&self, path: &Path) -> Result<MetaPath, MetaFault>
+    pub fn resolve_reference(&self, path: &Path, met: &mut usize) -> Result<MetaPath, PartFault>
         ensures { Resolves (IsReferencePath (scope self.now) path.now) result }
     {
-        let Led { path, kind } = self.resolve_path(path)?;
+        let Led { path, kind } = self.resolve_path(path, met)?;
         if !kind.pointer {
-            return Err(MetaFault::NoMember);
+            return Err(undeclared(met.saturating_sub(1), Missing::Object(kind)));
         }
         Ok(path)
     }
 
     /// The path; `NoMember` where a name in it isn't there.
-    pub fn resolve_path(&self, path: &Path) -> Result<Led, MetaFault>
+    pub fn resolve_path(&self, path: &Path, met: &mut usize) -> Result<Led, PartFault>
         ensures { ResolvesPath (scope self.now) path.now result }
     {
         match &path.root {
             Root::This => {
                 let start = reference_to(self.me)?;
-                self.resolve_from(MetaRoot::This, start, path.properties.as_slice())
+                self.resolve_from(MetaRoot::This, start, path.properties.as_slice(), met)
             }
             Root::Name(name) => {
                 let Some((place, parameter)) = find(self.parameters, name) else {
-                    return Err(MetaFault::NoMember);
+                    return Err(undeclared(*met, self.no_parameter(name)));
                 };
+                *met = met.saturating_add(1);
                 let start = parameter.kind.copy()?;
                 let root = MetaRoot::Parameter(place);
-                self.resolve_from(root, start, path.properties.as_slice())
+                self.resolve_from(root, start, path.properties.as_slice(), met)
             }
         }
     }
 
+    /// That the slot has no parameter of this name, and whether its class has a property of it.
+    fn no_parameter(&self, name: &Name) -> Missing {
+        match find(self.outlines, self.me) {
+            Some((_, class)) => Missing::Parameter(class.find_property(name).is_some()),
+            None => Missing::Parameter(false),
+        }
+    }
+
     /// The path of these properties from a root of this type.
-    fn resolve_from(&self, root: MetaRoot, start: QType, names: &[Name]) -> Result<Led, MetaFault>
+    fn resolve_from(
+        &self,
+        root: MetaRoot,
+        start: QType,
+        names: &[Name],
+        met: &mut usize,
+    ) -> Result<Led, PartFault>
         ensures { ResolvesFrom self.now.outlines.now root start names.now result }
     {
         let mut kind = start;
         let mut steps = Items::new(self.alloc);
         for name in names {
             let Some((property, found)) = self.find_member(&kind, name) else {
-                return Err(MetaFault::NoMember);
+                return Err(self.no_member(*met, kind));
             };
             let read = read_kind(self.outlines, &found.kind);
             steps.push(Step {
@@ -89,11 +113,22 @@ impl<'a> Scope<'a> {
             })?;
             let next = found.kind.copy()?;
             kind = next;
+            *met = met.saturating_add(1);
         }
         Ok(Led {
             path: MetaPath { root, steps },
             kind,
         })
+    }
+
+    /// That the property of this number among the slot's names isn't there, behind what is of this type.
+    fn no_member(&self, name: usize, kind: QType) -> PartFault
+        ensures { fault_in result ≡ NoMember }
+    {
+        match self.find_class(&kind) {
+            Some((number, _)) => undeclared(name, Missing::Property(number)),
+            None => undeclared(name.saturating_sub(1), Missing::Object(kind)),
+        }
     }
 
     /// The class that the type points to, with its number; `None` where the type is no pointer, or there is no such class.

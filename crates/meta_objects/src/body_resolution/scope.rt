@@ -3,7 +3,7 @@
 use meta_model::IndexedOutline;
 use signatures::Name;
 use std::alloc::Global;
-use texts::Parameter;
+use syntax_trees::Parameter;
 
 /// Where a slot's body stands, which says what the names in it mean.
 #[derive(Clone, Copy)]

@@ -2,14 +2,17 @@
 
 ghost use Rattle.std.specs.Prelude.{◌≡◌};
 ghost use Rattle.meta_objects.specs.code.Bodies.{AreStatements, IsSlotWork, scope_of};
-ghost use Rattle.meta_objects.specs.code.Resolving.{Resolves, ResolvesEach, ResolvesWorks};
+ghost use Rattle.meta_objects.specs.code.Resolving.{Resolves, ResolvesClassWorks, ResolvesWorks};
 
 use crate::body_resolution::scope::Scope;
 use crate::resolve_native::resolve_effects;
-use meta_model::{IndexedOutline, MetaEffects, MetaFault, SlotBody};
+use meta_model::{
+    Declaration, IndexedOutline, LoadFault, Member, MetaEffects, PartFault, SlotBody,
+    names_before_work,
+};
 use sqlite_items::Items;
 use std::alloc::Global;
-use texts::{Body, Class, Slot, SlotWork};
+use syntax_trees::{Body, Class, Program, Slot, SlotWork};
 
 /// What a slot or native does, the names in it resolved.
 #[derive(Drop)]
@@ -23,42 +26,48 @@ pub enum ResolvedWork {
 /// What the slots and natives of each class do; `NoMember` where a name in one of them isn't there.
 pub fn resolve_works(
     alloc: Global,
+    program: &Program,
     outlines: &[IndexedOutline],
-    classes: &[Class],
-) -> Result<Items<Items<ResolvedWork>>, MetaFault>
-    ensures { ResolvesWorks outlines.now classes.now result }
+) -> Result<Items<Items<ResolvedWork>>, LoadFault>
+    ensures { ResolvesWorks program.now outlines.now result }
 {
     let mut works = Items::new(alloc);
-    for class in classes {
-        let of_class = resolve_class_works(alloc, outlines, class)?;
+    for (number, class) in program.classes.as_slice().iter().enumerate() {
+        let of_class = resolve_class_works(alloc, outlines, number, class)?;
         works.push(of_class)?;
     }
     Ok(works)
 }
 
-/// What the class's slots and natives do.
+/// What the slots and natives of the class of this number do.
 fn resolve_class_works(
     alloc: Global,
     outlines: &[IndexedOutline],
+    number: usize,
     class: &Class,
-) -> Result<Items<ResolvedWork>, MetaFault>
-    ensures { ResolvesEach (IsSlotWork outlines.now class.now) class.now.slots result }
+) -> Result<Items<ResolvedWork>, LoadFault>
+    ensures { ResolvesClassWorks outlines.now number class.now result }
 {
     let mut works = Items::new(alloc);
-    for slot in class.slots.as_slice() {
-        let work = resolve_slot_work(alloc, outlines, class, slot)?;
-        works.push(work)?;
+    for (place, slot) in class.slots.as_slice().iter().enumerate() {
+        match resolve_slot_work(alloc, outlines, class, slot) {
+            Ok(work) => works.push(work)?,
+            Err(fault) => {
+                let declaration = Declaration::Member(number, Member::Slot(place));
+                return Err(fault.of(declaration));
+            }
+        }
     }
     Ok(works)
 }
 
 /// What the class's slot or native does; `NoMember` where a name in it isn't there.
-pub fn resolve_slot_work(
+fn resolve_slot_work(
     alloc: Global,
     outlines: &[IndexedOutline],
     class: &Class,
     slot: &Slot,
-) -> Result<ResolvedWork, MetaFault>
+) -> Result<ResolvedWork, PartFault>
     ensures { Resolves (IsSlotWork outlines.now class.now slot.now) result }
 {
     match &slot.work {
@@ -67,7 +76,8 @@ pub fn resolve_slot_work(
             Ok(ResolvedWork::Body(body))
         }
         SlotWork::Native(effects) => {
-            let effects = resolve_effects(alloc, outlines, &class.name, effects)?;
+            let mut met = names_before_work(slot.parameters.as_slice());
+            let effects = resolve_effects(alloc, outlines, &class.name, effects, &mut met)?;
             Ok(ResolvedWork::Native(effects))
         }
     }
@@ -80,7 +90,7 @@ fn resolve_body(
     class: &Class,
     slot: &Slot,
     body: &Body,
-) -> Result<SlotBody, MetaFault>
+) -> Result<SlotBody, PartFault>
     ensures { Resolves (AreStatements (scope_of outlines.now class.now slot.now) body.now) result }
 {
     let scope = Scope {
@@ -89,7 +99,8 @@ fn resolve_body(
         me: &class.name,
         parameters: slot.parameters.as_slice(),
     };
-    let statements = scope.resolve_block(body.as_slice())?;
+    let mut met = names_before_work(slot.parameters.as_slice());
+    let statements = scope.resolve_block(body.as_slice(), &mut met)?;
     let body = SlotBody::new(alloc, statements)?;
     Ok(body)
 }

@@ -1,5 +1,9 @@
+use Rattle.std.proofs.Common.{inr}
 use Rattle.meta_model.proofs.OutlineSteps.{an_outline}
 use Rattle.meta_model.proofs.outlining.outline_class.Goals as goal
+
+pub returns-in_default : goal.returns-in_default
+returns-in_default c = inr (c.missing_base.ensures, c.in_default.ensures)
 
 pub returns : goal.returns
 returns c =

@@ -8,6 +8,6 @@ use Rattle.meta_model.proofs.outlining.outline_classes.Given as goal
 -- the classes so far are outlined, and what is left decides of the rest
 abbrev pub invariant-loop-number : goal.invariant-loop-number
 invariant-loop-number l = record {
-  so_far : Outlines (take l.number l.classes) l.outlines.items;
-  lacks : LacksBase (map (λ (o : Outline). o.name) l.outlines.items) (drop l.number l.classes) → LacksBase (codes "QObject" ∷ []) l.classes;
+  so_far : Outlines (take l.number l.program.classes) l.outlines.items;
+  lacks : LacksBase (map (λ (o : Outline). o.name) l.outlines.items) (drop l.number l.program.classes) → LacksBase (codes "QObject" ∷ []) l.program.classes;
 }

@@ -1,5 +1,5 @@
 use Rattle.std.proofs.Common.{◌≡◌, [], ◌∷◌, length, arith, rules}
-use Rattle.texts.specs.declared.syntax.Root.TheVariants as root
+use Rattle.syntax_trees.specs.declared.syntax.Root.TheVariants as root
 use Rattle.meta_model.proofs.SiteProperties.{alone_of, no_formal, no_source, a_source}
 use Rattle.meta_model.proofs.site_properties.source_property.Goals as goal
 

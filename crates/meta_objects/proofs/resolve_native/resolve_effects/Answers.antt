@@ -3,7 +3,7 @@ use Rattle.std.specs.List.{AllZip}
 use Rattle.meta_model.specs.declared.effects.MetaEffects.{MetaEffects}
 use Rattle.meta_model.specs.declared.fault.MetaFault.TheVariants as fault
 use Rattle.meta_objects.specs.code.Natives.{HasPropertyIn, HasSignalIn, AreEffects}
-use Rattle.meta_model.proofs.OutlineSteps.{failed}
+use Rattle.meta_model.proofs.Loading.{failed}
 use Rattle.meta_model.proofs.Zips.{none_of_zip}
 use Rattle.meta_objects.proofs.resolve_native.resolve_effects.Goals as goal
 

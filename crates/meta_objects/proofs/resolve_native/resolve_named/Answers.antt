@@ -9,6 +9,6 @@ loop-name-preserved c =
 pub returns-in_default : goal.returns-in_default
 returns-in_default c =
     inr (
-      refl,
+      c.no_property.ensures,
       (c.loop-name.name-index, c.name-item.result, c.loop-name-test.true, sym c.name-item.is, λ q h. c.in_default.ensures h.number q h.property h.is),
     )

@@ -15,7 +15,7 @@ returns-in_ok-right-in-Binary-2 t c =
     (binary_piece _ _ _ _ _ _ _ (rw c.get-in-Binary.ensures at c.in_ok-left-in-Binary.ensures) (rw c.get-in-Binary-2.ensures at c.in_ok-right-in-Binary.ensures))
 
 pub returns-in_default : goal.returns-in_default
-returns-in_default t c = rw c.in-Path.is (inr (refl, no_path _ _ _ c.in_default.ensures))
+returns-in_default t c = rw c.in-Path.is (inr (c.no_source.ensures, no_path _ _ _ c.in_default.ensures))
 
 pub returns-in-Some : goal.returns-in-Some
 returns-in-Some t c = rw c.in-Path.is (path_piece _ _ _ _ _ c.in-Some.ensures)

@@ -8,4 +8,4 @@ loop-formal-preserved c =
 
 pub returns-in_default : goal.returns-in_default
 returns-in_default c =
-    inr (refl, (c.loop-formal.formal-index, c.formal-item.result, c.loop-formal-test.true, sym c.formal-item.is, λ k h. c.in_default.ensures k h.at))
+    inr (c.undeclared.ensures, (c.loop-formal.formal-index, c.formal-item.result, c.loop-formal-test.true, sym c.formal-item.is, λ k h. c.in_default.ensures k h.at))

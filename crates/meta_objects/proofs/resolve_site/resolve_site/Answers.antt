@@ -1,16 +1,16 @@
 use Rattle.std.proofs.Common.{ℕ, Any, inr, refl}
 use Rattle.std.specs.List.{AllZip}
-use Rattle.texts.specs.declared.program.Formal.{Formal}
+use Rattle.syntax_trees.specs.declared.program.Formal.{Formal}
 use Rattle.meta_model.specs.declared.fault.MetaFault.TheVariants as fault
 use Rattle.meta_model.specs.Outlines.{IsOutlineNamed}
 use Rattle.meta_objects.specs.code.Sites.{IsSite}
 use Rattle.meta_objects.specs.LackedNames.{LacksInSite}
-use Rattle.meta_model.proofs.OutlineSteps.{failed}
+use Rattle.meta_model.proofs.Loading.{failed}
 use Rattle.meta_objects.proofs.SitePieces.{no_formals}
 use Rattle.meta_objects.proofs.resolve_site.resolve_site.Goals as goal
 
 pub returns-in_default : goal.returns-in_default
-returns-in_default c = inr (refl, λ loaded is. c.in_default.ensures _ _ _ is.target)
+returns-in_default c = inr (c.no_property.ensures, λ loaded is. c.in_default.ensures _ _ _ is.target)
 
 pub returns-in_err-formals : goal.returns-in_err-formals
 returns-in_err-formals c =

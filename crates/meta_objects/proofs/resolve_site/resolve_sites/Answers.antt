@@ -1,19 +1,25 @@
-use Rattle.std.proofs.Common.{Any, sym, rules}
+use Rattle.std.proofs.Common.{Any}
 use Rattle.std.specs.List.{AllZip}
-use Rattle.meta_model.specs.declared.fault.MetaFault.TheVariants as fault
 use Rattle.meta_objects.specs.code.Sites.{IsSite}
 use Rattle.meta_objects.specs.LackedNames.{LacksInSite}
-use Rattle.meta_model.proofs.OutlineSteps.{failed}
-use Rattle.meta_model.proofs.Zips.{zip_push}
+use Rattle.meta_model.specs.declared.fault.MetaFault.TheVariants as fault
+use Rattle.meta_model.specs.declared.offence.Declaration.TheVariants as declaration
+use Rattle.meta_model.proofs.Loading.{stops_at}
+use Rattle.meta_model.proofs.Offending.{within, any_met, zip_further, zip_done}
 use Rattle.meta_objects.proofs.resolve_site.resolve_sites.Goals as goal
 
-pub loop-site-preserved : goal.loop-site-preserved
-loop-site-preserved c =
-    zip_push _ _ _ _ _ _ _ c.loop-site-test.true c.site-item.is (search rules) c.loop-site.invariant c.in_ok-push.ensures.ok
+pub loop-place-preserved : goal.loop-place-preserved
+loop-place-preserved c =
+    zip_further (IsSite c.args.outlines.now) c.args.program.now.sites c.as_slice-site-items.result.now c.as_slice-site-items.ensures _ _ c.loop-place.place c.site-item.result _
+    c.loop-place-test.true c.site-item.is c.in-Ok.ensures c.loop-place.invariant c.in_ok-push-in-Ok.ensures.ok
 
-pub returns-in_err-site : goal.returns-in_err-site
-returns-in_err-site c =
-    failed fault.NoMember (LacksInSite c.args.outlines.now c.site-item.result) (Any (LacksInSite c.args.outlines.now) c.args.sites.now)
-    (IsSite c.args.outlines.now c.site-item.result) (AllZip (IsSite c.args.outlines.now) c.args.sites.now) _ c.in_err-site.ensures
-    (λ lacks. (c.loop-site.site-index, c.site-item.result, c.loop-site-test.true, sym c.site-item.is, lacks))
-    _ c.from_residual.ensures.0 c.from_residual.ensures.1
+pub returns-in-Err : goal.returns-in-Err
+returns-in-Err c =
+    stops_at c.args.program.now fault.NoMember (LacksInSite c.args.outlines.now c.site-item.result) (Any (LacksInSite c.args.outlines.now) c.args.program.now.sites)
+    (declaration.Site c.loop-place.place) (within (LacksInSite c.args.outlines.now) c.args.program.now.sites c.as_slice-site-items.result.now c.as_slice-site-items.ensures c.loop-place.place c.loop-place-test.true)
+    c.in-Err.fault c.in-Err.ensures
+    (any_met (LacksInSite c.args.outlines.now) c.args.program.now.sites c.as_slice-site-items.result.now c.as_slice-site-items.ensures c.loop-place.place c.site-item.result c.loop-place-test.true c.site-item.is)
+    c.of.result c.of.ensures
+
+pub returns : goal.returns
+returns c = zip_done (IsSite c.args.outlines.now) c.args.program.now.sites c.as_slice-site-items.result.now c.as_slice-site-items.ensures _ c.loop-place.place c.loop-place-test.false c.loop-place.invariant

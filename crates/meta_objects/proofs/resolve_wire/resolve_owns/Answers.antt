@@ -1,7 +1,25 @@
-use Rattle.std.proofs.Common.{rules}
-use Rattle.meta_model.proofs.Zips.{zip_push}
+use Rattle.std.proofs.Common.{Any}
+use Rattle.std.specs.List.{AllZip}
+use Rattle.meta_objects.specs.code.Wires.{IsOwns}
+use Rattle.meta_objects.specs.LackedNames.{LacksClass}
+use Rattle.meta_model.specs.declared.fault.MetaFault.TheVariants as fault
+use Rattle.meta_model.specs.declared.offence.Declaration.TheVariants as declaration
+use Rattle.meta_model.proofs.Loading.{stops_at}
+use Rattle.meta_model.proofs.Offending.{within, any_met, zip_further, zip_done}
 use Rattle.meta_objects.proofs.resolve_wire.resolve_owns.Goals as goal
 
-pub loop-one-preserved : goal.loop-one-preserved
-loop-one-preserved c =
-    zip_push _ _ _ _ _ _ _ c.loop-one-test.true c.one-item.is (search rules) c.loop-one.invariant c.in_ok-push.ensures.ok
+pub loop-place-preserved : goal.loop-place-preserved
+loop-place-preserved c =
+    zip_further (IsOwns c.args.outlines.now) c.args.program.now.owns c.as_slice-one-items.result.now c.as_slice-one-items.ensures _ _ c.loop-place.place c.one-item.result _
+    c.loop-place-test.true c.one-item.is c.in-Ok.ensures c.loop-place.invariant c.in_ok-push-in-Ok.ensures.ok
+
+pub returns-in-Err : goal.returns-in-Err
+returns-in-Err c =
+    stops_at c.args.program.now fault.NoMember (LacksClass c.args.outlines.now c.one-item.result) (Any (LacksClass c.args.outlines.now) c.args.program.now.owns)
+    (declaration.Owns c.loop-place.place) (within (LacksClass c.args.outlines.now) c.args.program.now.owns c.as_slice-one-items.result.now c.as_slice-one-items.ensures c.loop-place.place c.loop-place-test.true)
+    c.in-Err.fault c.in-Err.ensures
+    (any_met (LacksClass c.args.outlines.now) c.args.program.now.owns c.as_slice-one-items.result.now c.as_slice-one-items.ensures c.loop-place.place c.one-item.result c.loop-place-test.true c.one-item.is)
+    c.of.result c.of.ensures
+
+pub returns : goal.returns
+returns c = zip_done (IsOwns c.args.outlines.now) c.args.program.now.owns c.as_slice-one-items.result.now c.as_slice-one-items.ensures _ c.loop-place.place c.loop-place-test.false c.loop-place.invariant

@@ -1,5 +1,5 @@
 use Rattle.std.proofs.Common.{◌≡◌, Some, None, ◌∙◌, sym, ap, refl, subst, rules}
-use Rattle.texts.specs.declared.program.Property.{Property}
+use Rattle.syntax_trees.specs.declared.program.Property.{Property}
 use Rattle.meta_model.specs.declared.outline.Outline.{Outline}
 use Rattle.meta_model.specs.CallPlaces.{place_by}
 use Rattle.meta_model.specs.Indexed.{IndexesOutline, IsPropertyOfName}

@@ -1,7 +1,27 @@
-use Rattle.std.proofs.Common.{rules}
-use Rattle.meta_model.proofs.Zips.{zip_push}
+use Rattle.std.proofs.Common.{Any}
+use Rattle.std.specs.List.{AllZip}
+use Rattle.meta_model.specs.declared.fault.MetaFault.TheVariants as fault
+use Rattle.meta_model.specs.declared.offence.Member.TheVariants as member
+use Rattle.meta_objects.specs.LackedNames.{LacksInSlot, LacksInClass}
+use Rattle.meta_objects.specs.code.Bodies.{IsSlotWork}
+use Rattle.meta_model.proofs.Loading.{stops_in}
+use Rattle.meta_model.proofs.Offending.{within, any_met, zip_further, zip_done}
 use Rattle.meta_objects.proofs.body_resolution.work.resolve_class_works.Goals as goal
 
-pub loop-slot-preserved : goal.loop-slot-preserved
-loop-slot-preserved c =
-    zip_push _ _ _ _ _ _ _ c.loop-slot-test.true c.slot-item.is (search rules) c.loop-slot.invariant c.in_ok-push.ensures.ok
+pub loop-place-preserved : goal.loop-place-preserved
+loop-place-preserved c =
+    zip_further (IsSlotWork c.args.outlines.now c.args.class.now) c.args.class.now.slots c.as_slice-slot-items.result.now c.as_slice-slot-items.ensures _ _ c.loop-place.place c.slot-item.result _
+    c.loop-place-test.true c.slot-item.is c.in-Ok.ensures c.loop-place.invariant c.in_ok-push-in-Ok.ensures.ok
+
+pub returns-in-Err : goal.returns-in-Err
+returns-in-Err c =
+    stops_in c.args.number c.args.class.now fault.NoMember (LacksInSlot c.args.outlines.now c.args.class.now c.slot-item.result) (LacksInClass c.args.outlines.now c.args.class.now)
+    (member.Slot c.loop-place.place)
+    (within (LacksInSlot c.args.outlines.now c.args.class.now) c.args.class.now.slots c.as_slice-slot-items.result.now c.as_slice-slot-items.ensures c.loop-place.place c.loop-place-test.true)
+    c.in-Err.fault c.in-Err.ensures
+    (any_met (LacksInSlot c.args.outlines.now c.args.class.now) c.args.class.now.slots c.as_slice-slot-items.result.now c.as_slice-slot-items.ensures c.loop-place.place c.slot-item.result c.loop-place-test.true c.slot-item.is)
+    c.of.result c.of.ensures
+
+pub returns : goal.returns
+returns c =
+    zip_done (IsSlotWork c.args.outlines.now c.args.class.now) c.args.class.now.slots c.as_slice-slot-items.result.now c.as_slice-slot-items.ensures _ c.loop-place.place c.loop-place-test.false c.loop-place.invariant

@@ -3,5 +3,5 @@ use Rattle.std.specs.List.{AllZip}
 use Rattle.meta_objects.specs.code.Bodies.{IsSlotWork}
 use Rattle.meta_objects.proofs.body_resolution.work.resolve_class_works.Given as goal
 
-abbrev pub invariant-loop-slot : goal.invariant-loop-slot
-invariant-loop-slot l = AllZip (IsSlotWork l.outlines l.class) (take l.slot-index l.slot-items) l.works
+abbrev pub invariant-loop-place : goal.invariant-loop-place
+invariant-loop-place l = AllZip (IsSlotWork l.outlines l.class) (take l.place l.class.slots) l.works

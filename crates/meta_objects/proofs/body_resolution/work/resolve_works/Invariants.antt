@@ -3,5 +3,5 @@ use Rattle.std.specs.List.{AllZip}
 use Rattle.meta_objects.specs.code.Bodies.{AreWorks}
 use Rattle.meta_objects.proofs.body_resolution.work.resolve_works.Given as goal
 
-abbrev pub invariant-loop-class : goal.invariant-loop-class
-invariant-loop-class l = AllZip (AreWorks l.outlines) (take l.class-index l.classes) l.works
+abbrev pub invariant-loop-number : goal.invariant-loop-number
+invariant-loop-number l = AllZip (AreWorks l.outlines) (take l.number l.program.classes) l.works

@@ -7,7 +7,7 @@ use Rattle.meta_model.specs.declared.fault.MetaFault.TheVariants as fault
 use Rattle.meta_model.specs.Sound.{AreSets}
 use Rattle.meta_objects.specs.code.Bodies.{AreEnds, IsReferencePath, IsStatementOf, AreStatements, LacksInBody}
 use Rattle.meta_objects.specs.code.Resolving.{scope}
-use Rattle.meta_model.proofs.OutlineSteps.{failed}
+use Rattle.meta_model.proofs.Loading.{failed}
 use Rattle.meta_objects.proofs.BodyPieces.{block_left, block_only, block_stuck, block_end, if_piece, no_other, no_group, no_sets, group_piece}
 use Rattle.meta_objects.proofs.BodyEnds.{no_connect, connect_piece, no_disconnect, disconnect_piece}
 use Rattle.meta_objects.proofs.BodyReferences.{no_delete, delete_piece, no_later, later_piece}
@@ -97,7 +97,7 @@ resolve_statement-returns-then-not-are_sets t c =
     let form = rw c.as_slice-in-Group.ensures at c.in_ok-sets-in-Group.ensures in
     let other : ¬ AreSets c.in_ok-sets-in-Group.sets =
     λ all. let is = c.if-not-are_sets.ensures.1 (subst (λ ys. AreSets ys) (sym c.as_slice-in-Group-2.ensures) all) in cc in
-    inr (refl, rw c.in-Group.is (no_sets s _ _ form other))
+    inr (c.undeclared.ensures, rw c.in-Group.is (no_sets s _ _ form other))
 
 pub resolve_statement-returns-else-not-are_sets : goal.resolve_statement-returns-else-not-are_sets
 resolve_statement-returns-else-not-are_sets t c =

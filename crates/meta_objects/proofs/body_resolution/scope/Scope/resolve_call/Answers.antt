@@ -1,6 +1,6 @@
 use Rattle.std.proofs.Common.{List, inr, refl}
-use Rattle.texts.specs.declared.syntax.Expr.{Expr}
-use Rattle.texts.specs.declared.syntax.Stmt.TheVariants.{Call}
+use Rattle.syntax_trees.specs.declared.syntax.Expr.{Expr}
+use Rattle.syntax_trees.specs.declared.syntax.Stmt.TheVariants.{Call}
 use Rattle.meta_model.specs.declared.object.MetaPath.{MetaPath}
 use Rattle.meta_model.specs.declared.object.Statement.{Statement}
 use Rattle.meta_model.specs.declared.outline.Outline.{Outline}
@@ -8,7 +8,7 @@ use Rattle.meta_model.specs.declared.fault.MetaFault.TheVariants as fault
 use Rattle.meta_objects.specs.declared.body_resolution.path.Target.{Target}
 use Rattle.meta_objects.specs.code.Bodies.{IsObjectPath, AreExprs, IsStatementOf}
 use Rattle.meta_objects.specs.code.Resolving.{scope}
-use Rattle.meta_model.proofs.OutlineSteps.{failed}
+use Rattle.meta_model.proofs.Loading.{failed}
 use Rattle.meta_objects.proofs.BodyCalls.{no_call_object, no_call_values, no_call_method, no_call, call_piece}
 use Rattle.meta_objects.proofs.body_resolution.scope.Scope.resolve_call.Goals as goal
 
@@ -21,12 +21,12 @@ returns-in_err-path c =
 
 pub returns-in_default : goal.returns-in_default
 returns-in_default c =
-    inr (refl, no_call_method (scope c.args.self.now) _ _ _ _ _ c.in_ok-path.ensures c.in_default.ensures.value)
+    inr (c.no_call.ensures, no_call_method (scope c.args.self.now) _ _ _ _ _ c.in_ok-path.ensures c.in_default.ensures.value)
 
 pub returns-then-is_signal : goal.returns-then-is_signal
 returns-then-is_signal c =
     inr (
-      refl,
+      c.no_call-then-is_signal.ensures,
       no_call (scope c.args.self.now) _ _ _ _ _ c.in_ok-path.ensures _ _ c.in-Some.ensures.value
           (c.if-is_signal.ensures.0 refl),
     )

@@ -1,27 +1,27 @@
 use Rattle.std.proofs.Common.{List, inr, refl, arith}
-use Rattle.texts.specs.declared.syntax.Expr.{Expr}
-use Rattle.texts.specs.declared.syntax.Stmt.TheVariants.{Emit}
+use Rattle.syntax_trees.specs.declared.syntax.Expr.{Expr}
+use Rattle.syntax_trees.specs.declared.syntax.Stmt.TheVariants.{Emit}
 use Rattle.meta_model.specs.declared.object.MetaPath.{MetaPath}
 use Rattle.meta_model.specs.declared.object.Statement.{Statement}
 use Rattle.meta_model.specs.declared.fault.MetaFault.TheVariants as fault
 use Rattle.meta_objects.specs.code.Bodies.{AreExprs, IsStatementOf}
 use Rattle.meta_objects.specs.code.Resolving.{scope}
-use Rattle.meta_model.proofs.OutlineSteps.{failed}
+use Rattle.meta_model.proofs.Loading.{failed}
 use Rattle.meta_objects.proofs.BodyCalls.{no_emit_class, no_emit_values, no_emit_method, no_emit, emit_piece}
 use Rattle.meta_objects.proofs.body_resolution.scope.Scope.resolve_emit.Goals.{then-signal-le-OBJECT_NAME_CHANGED-via-then-signal-le-OBJECT_NAME_CHANGED, then-signal-le-OBJECT_NAME_CHANGED-via-else-signal-le-OBJECT_NAME_CHANGED+then-not-is_signal}
 use Rattle.meta_objects.proofs.body_resolution.scope.Scope.resolve_emit.Goals as goal
 
 pub returns-in_default : goal.returns-in_default
-returns-in_default c = inr (refl, no_emit_class (scope c.args.self.now) _ _ c.in_default.ensures)
+returns-in_default c = inr (c.undeclared.ensures, no_emit_class (scope c.args.self.now) _ _ c.in_default.ensures)
 
 pub returns-in_default-find_call : goal.returns-in_default-find_call
 returns-in_default-find_call c =
-    inr (refl, no_emit_method (scope c.args.self.now) _ _ _ _ c.in-Some.ensures c.in_default-find_call.ensures.value)
+    inr (c.no_call.ensures, no_emit_method (scope c.args.self.now) _ _ _ _ c.in-Some.ensures c.in_default-find_call.ensures.value)
 
 pub returns-then-signal-le-OBJECT_NAME_CHANGED : goal.returns-then-signal-le-OBJECT_NAME_CHANGED
 returns-then-signal-le-OBJECT_NAME_CHANGED c =
     inr (
-      refl,
+      c.no_call-then-signal-le-OBJECT_NAME_CHANGED.ensures,
       no_emit (scope c.args.self.now) _ _ _ _ c.in-Some.ensures _ _ c.in-Some-find_call.ensures.value
           (λ signal more.
           elim c.then-signal-le-OBJECT_NAME_CHANGED.branch [

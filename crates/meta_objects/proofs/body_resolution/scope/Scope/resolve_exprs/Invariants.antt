@@ -1,5 +1,5 @@
 use Rattle.std.proofs.Common.{List, ◌++◌, drop}
-use Rattle.texts.specs.declared.syntax.Expr.{Expr}
+use Rattle.syntax_trees.specs.declared.syntax.Expr.{Expr}
 use Rattle.meta_model.specs.declared.object.MetaPath.{MetaPath}
 use Rattle.meta_objects.specs.code.Bodies.{AreExprs}
 use Rattle.meta_objects.specs.code.Resolving.{scope}

@@ -14,7 +14,7 @@ loop-name-preserved c =
 pub returns-in_default : goal.returns-in_default
 returns-in_default c =
     let at = slice_get_read _ _ _ _ refl c.loop-name-test.true c.name-item.is in
-    inr (refl, step_stuck _ _ _ _ _ _ at c.loop-name.invariant.only c.in_default.ensures)
+    inr (c.no_member.ensures, step_stuck _ _ _ _ _ _ at c.loop-name.invariant.only c.in_default.ensures)
 
 pub returns : goal.returns
 returns c = (refl, steps_end _ _ _ _ _ _ c.loop-name-test.false c.loop-name.invariant.left)

@@ -7,7 +7,7 @@ use Rattle.meta_objects.specs.declared.body_resolution.path.Led.{Led}
 use Rattle.meta_objects.specs.declared.body_resolution.path.Target.{Target}
 use Rattle.meta_objects.specs.code.Bodies.{IsPath, IsObjectPath}
 use Rattle.meta_objects.specs.code.Resolving.{scope}
-use Rattle.meta_model.proofs.OutlineSteps.{failed}
+use Rattle.meta_model.proofs.Loading.{failed}
 use Rattle.meta_objects.proofs.BodyPieces.{no_object_path, no_object_class, an_object}
 use Rattle.meta_objects.proofs.body_resolution.scope.Scope.resolve_object.Goals as goal
 
@@ -19,7 +19,7 @@ returns-in_err-path c =
     (no_object_path s _) _ c.from_residual.ensures.0 c.from_residual.ensures.1
 
 pub returns-in_default : goal.returns-in_default
-returns-in_default c = inr (refl, no_object_class (scope c.args.self.now) _ _ _ c.in_ok-path.ensures c.in_default.ensures)
+returns-in_default c = inr (c.undeclared.ensures, no_object_class (scope c.args.self.now) _ _ _ c.in_ok-path.ensures c.in_default.ensures)
 
 pub returns : goal.returns
 returns c = an_object (scope c.args.self.now) _ _ _ _ _ c.in_ok-path.ensures c.in-Some.ensures

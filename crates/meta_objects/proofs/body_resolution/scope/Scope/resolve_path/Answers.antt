@@ -5,7 +5,7 @@ use Rattle.meta_objects.proofs.BodyPieces.{from_root, a_parameter, no_parameter}
 use Rattle.meta_objects.proofs.body_resolution.scope.Scope.resolve_path.Goals as goal
 
 pub returns-in_default : goal.returns-in_default
-returns-in_default c = inr (refl, no_parameter (scope c.args.self.now) _ _ c.in-Name.is c.in_default.ensures)
+returns-in_default c = inr (c.undeclared.ensures, no_parameter (scope c.args.self.now) _ _ c.in-Name.is c.in_default.ensures)
 
 pub returns-in_ok-start-in-This : goal.returns-in_ok-start-in-This
 returns-in_ok-start-in-This c =

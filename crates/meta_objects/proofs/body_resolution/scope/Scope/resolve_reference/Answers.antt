@@ -6,7 +6,7 @@ use Rattle.meta_model.specs.declared.fault.MetaFault.TheVariants as fault
 use Rattle.meta_objects.specs.declared.body_resolution.path.Led.{Led}
 use Rattle.meta_objects.specs.code.Bodies.{IsPath, IsReferencePath}
 use Rattle.meta_objects.specs.code.Resolving.{scope}
-use Rattle.meta_model.proofs.OutlineSteps.{failed}
+use Rattle.meta_model.proofs.Loading.{failed}
 use Rattle.meta_objects.proofs.BodyReferences.{no_reference, no_pointer}
 use Rattle.meta_objects.proofs.body_resolution.scope.Scope.resolve_reference.Goals as goal
 
@@ -19,7 +19,7 @@ returns-in_err-path c =
 
 pub returns-then-not-kind : goal.returns-then-not-kind
 returns-then-not-kind c =
-    inr (refl, no_pointer (scope c.args.self.now) _ _ _ c.in_ok-path.ensures (not-true _ c.if-not-kind.true))
+    inr (c.undeclared.ensures, no_pointer (scope c.args.self.now) _ _ _ c.in_ok-path.ensures (not-true _ c.if-not-kind.true))
 
 pub returns : goal.returns
 returns c = record { kind = _; leads = c.in_ok-path.ensures; pointer = not-false _ c.if-not-kind.false }

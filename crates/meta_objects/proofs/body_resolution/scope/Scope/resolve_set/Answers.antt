@@ -1,6 +1,6 @@
 use Rattle.std.proofs.Common.{inr, refl}
-use Rattle.texts.specs.declared.syntax.Expr.{Expr}
-use Rattle.texts.specs.declared.syntax.Stmt.TheVariants.{Set}
+use Rattle.syntax_trees.specs.declared.syntax.Expr.{Expr}
+use Rattle.syntax_trees.specs.declared.syntax.Stmt.TheVariants.{Set}
 use Rattle.meta_model.specs.declared.object.MetaPath.{MetaPath}
 use Rattle.meta_model.specs.declared.object.Statement.{Statement}
 use Rattle.meta_model.specs.declared.outline.Outline.{Outline}
@@ -8,7 +8,7 @@ use Rattle.meta_model.specs.declared.fault.MetaFault.TheVariants as fault
 use Rattle.meta_objects.specs.declared.body_resolution.path.Target.{Target}
 use Rattle.meta_objects.specs.code.Bodies.{IsObjectPath, IsExpr, IsStatementOf}
 use Rattle.meta_objects.specs.code.Resolving.{scope}
-use Rattle.meta_model.proofs.OutlineSteps.{failed}
+use Rattle.meta_model.proofs.Loading.{failed}
 use Rattle.meta_objects.proofs.BodyPieces.{no_set_object, no_set_value, no_set_property, set_piece}
 use Rattle.meta_objects.proofs.body_resolution.scope.Scope.resolve_set.Goals as goal
 
@@ -20,7 +20,7 @@ returns-in_err-path c =
     (no_set_object s _ _ _) _ c.from_residual.ensures.0 c.from_residual.ensures.1
 
 pub returns-in_default : goal.returns-in_default
-returns-in_default c = inr (refl, no_set_property (scope c.args.self.now) _ _ _ _ _ c.in_ok-path.ensures c.in_default.ensures)
+returns-in_default c = inr (c.undeclared.ensures, no_set_property (scope c.args.self.now) _ _ _ _ _ c.in_ok-path.ensures c.in_default.ensures)
 
 pub returns-in_err-value : goal.returns-in_err-value
 returns-in_err-value c =

@@ -1,0 +1,99 @@
+//! Types that aren't there, and references where only values may stand, in words.
+
+use crate::declarations::Declared;
+use crate::finding::{Finding, found};
+use crate::sentence::Piece;
+use crate::words::Told;
+use meta_model::{Unfit, names_before_parameter};
+use signatures::{Name, QType};
+use std::alloc::AllocError;
+
+/// What is wrong with the type, or the property, of this name among the declaration's.
+pub fn unfit_type(told: &Told, unfit: &Unfit, name: usize) -> Result<Finding, AllocError> {
+    match unfit {
+        Unfit::Unknown => missing(told, name, " isn't a type", kind_advice(told.name)),
+        Unfit::ClassAlone => {
+            let advice = "put a `*` behind the class";
+            let words = " is a class, and objects are told by pointers to them";
+            missing(told, name, words, Some(advice))
+        }
+        Unfit::PointerToValue => {
+            let advice = "leave the `*` out: values are copied";
+            missing(told, name, " points to no class", Some(advice))
+        }
+        Unfit::PointerToNothing => {
+            missing(told, name, " points to no class that is declared", None)
+        }
+        Unfit::Taken(kind) => {
+            let words = "a native takes no references, and this parameter is a ";
+            found(told.alloc, &[Piece::Words(words), Piece::Type(kind)], None)
+        }
+        Unfit::Emitted(sig, kind) => {
+            let pieces = [
+                Piece::Words("a native emits no references, and "),
+                Piece::Sig(sig),
+                Piece::Words(" has a "),
+                Piece::Type(kind),
+            ];
+            found(told.alloc, &pieces, None)
+        }
+        Unfit::Affected(kind) => {
+            reference(told, "a native reads and sets no references, and ", kind)
+        }
+        Unfit::Bound(kind) => reference(told, "a binding takes no references, and ", kind),
+    }
+}
+
+/// That the property of the name is a reference.
+fn reference<'a>(
+    told: &Told<'a>,
+    words: &'static str,
+    kind: &'a QType,
+) -> Result<Finding, AllocError> {
+    let pieces = [
+        Piece::Words(words),
+        Piece::Name(told.name),
+        Piece::Words(" is a "),
+        Piece::Type(kind),
+    ];
+    found(told.alloc, &pieces, None)
+}
+
+/// This, of the type of this name among the declaration's.
+fn missing(
+    told: &Told,
+    name: usize,
+    words: &'static str,
+    advice: Option<&'static str>,
+) -> Result<Finding, AllocError> {
+    let kind = match kind_at(told.declared, name) {
+        Some(kind) => Piece::Type(kind),
+        None => Piece::Name(told.name),
+    };
+    found(told.alloc, &[kind, Piece::Words(words)], advice)
+}
+
+/// The type of this name among the declaration's, as it is declared.
+fn kind_at(declared: Declared<'_>, name: usize) -> Option<&QType> {
+    if let Declared::Property(_, property) = declared {
+        return Some(&property.kind);
+    }
+    let parameters = declared.parameters();
+    for (place, parameter) in parameters.iter().enumerate() {
+        if names_before_parameter(parameters, place) == name {
+            return Some(&parameter.kind);
+        }
+    }
+    None
+}
+
+/// What to write in place of a type that C++ or Qt has.
+fn kind_advice(name: &Name) -> Option<&'static str> {
+    match name.bytes() {
+        b"double" | b"float" | b"qreal" => Some("there are no fractions: write `int`"),
+        b"string" | b"char" | b"QChar" | b"QByteArray" => Some("a text is a `QString`"),
+        b"long" | b"short" | b"unsigned" | b"uint" | b"qint64" => Some("a number is an `int`"),
+        b"void" => Some("a signal or slot without parameters has `()`"),
+        _ => Some("a type is `int`, `bool`, `QString`, or a pointer to a class"),
+    }
+}

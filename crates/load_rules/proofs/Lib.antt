@@ -1,0 +1,2 @@
+pub mod OwnMembers
+pub mod Repeats

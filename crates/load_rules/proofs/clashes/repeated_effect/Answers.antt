@@ -1,0 +1,14 @@
+use Rattle.std.specs.Prelude.{◌≡◌, ℕ, List}
+use Rattle.meta_model.specs.Natives.{RepeatsAction}
+use Rattle.meta_model.specs.Twice.{StandsTwice}
+use Rattle.std.proofs.Common.{inl, refl}
+use Rattle.meta_model.specs.declared.fault.MetaFault.TheVariants as fault
+use Rattle.meta_model.proofs.Offending.{or_breach}
+use Rattle.load_rules.proofs.clashes.repeated_effect.Goals as goal
+
+pub returns-in-Some : goal.returns-in-Some
+returns-in-Some c = let found = rw c.as_slice-reads.ensures at c.in-Some.ensures in (inl found.0, rw c.twice.ensures refl)
+
+pub returns-in-None : goal.returns-in-None
+returns-in-None c =
+    or_breach (StandsTwice (λ (a b : List ℕ). a ≡ b) c.args.effects.now.reads) (RepeatsAction c.args.effects.now) (rw c.as_slice-reads.ensures at c.in-None.ensures) fault.DuplicateMember c.repeated_action.result c.repeated_action.ensures

@@ -1,0 +1,8 @@
+use Rattle.std.proofs.Common.{ℕ, ◌<◌}
+use Rattle.syntax_trees.specs.declared.program.Signal.{Signal}
+use Rattle.meta_model.specs.Conditions.{RepeatsName}
+use Rattle.meta_model.specs.Places.{StandsAt}
+use Rattle.load_rules.proofs.clashes.repeated_in_signals.Given as goal
+
+abbrev pub invariant-loop-place : goal.invariant-loop-place
+invariant-loop-place l = (k : ℕ) → k < l.place → ¬ StandsAt (λ (signal : Signal). RepeatsName signal.parameters) l.class.signals k

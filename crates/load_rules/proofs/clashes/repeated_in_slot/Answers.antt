@@ -1,0 +1,13 @@
+use Rattle.meta_model.specs.Conditions.{RepeatsName}
+use Rattle.meta_model.specs.Natives.{RepeatsEffectIn}
+use Rattle.std.proofs.Common.{inl}
+use Rattle.meta_model.specs.declared.fault.MetaFault.TheVariants as fault
+use Rattle.meta_model.proofs.Offending.{or_breach}
+use Rattle.load_rules.proofs.clashes.repeated_in_slot.Goals as goal
+
+pub returns-in-Some : goal.returns-in-Some
+returns-in-Some c = let found = rw c.as_slice-parameters.ensures at c.in-Some.ensures in (inl found.0, found.1)
+
+pub returns-in-None : goal.returns-in-None
+returns-in-None c =
+    or_breach (RepeatsName c.args.slot.now.parameters) (RepeatsEffectIn c.args.slot.now.work) (rw c.as_slice-parameters.ensures at c.in-None.ensures) fault.DuplicateMember c.repeated_effect_in.result c.repeated_effect_in.ensures

@@ -1,0 +1,7 @@
+use Rattle.std.proofs.Common.{ℕ, ◌<◌}
+use Rattle.meta_model.specs.Places.{StandsAt}
+use Rattle.meta_model.specs.Sites.{UsesReference}
+use Rattle.load_rules.proofs.site_references.bound_reference.Given as goal
+
+abbrev pub invariant-loop-place : goal.invariant-loop-place
+invariant-loop-place l = (k : ℕ) → k < l.place → ¬ StandsAt (UsesReference l.outlines) l.program.sites k
