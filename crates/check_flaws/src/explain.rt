@@ -1,15 +1,16 @@
 //! What a number is about, from the texts.
 
-use crate::compared::certificate_flaw;
-use program_flaws::{Source, declarations_of, meta_of, unfit_text, untyped_text};
-use rank_check::{Certificate, CertificateFault, read_certificate, unfit_wire, untyped};
+use crate::compared::cause_text;
+use crate::numbered::cause_of;
+use program_flaws::{Source, declarations_of, meta_of};
+use rank_check::{Certificate, CertificateFault, read_certificate};
 use std::alloc::{AllocError, Global};
-use texts::Program;
+use syntax_trees::Program;
 
 /// What the number is about that `check` or `run` answered to this program and certificate, `no 70` to `no 76`: the first
 /// wire, member, binding, line, edge, set or rank that breaks its condition, by name, with the line of the certificate;
 /// what draws an edge; and what to do about it. The text has whole lines. `None` where the program doesn't load, the
-/// certificate can't be read, or nothing breaks the condition of the number.
+/// certificate can't be read, or a check of the two doesn't answer this number.
 pub fn broken_condition(
     alloc: Global,
     program: &[u8],
@@ -44,20 +45,12 @@ fn broken_in(
 
 /// What breaks the condition of the number.
 fn flaw(source: Source<'_>, certificate: &[u8], number: u8) -> Result<Option<String>, AllocError> {
-    match number {
-        70 => match unfit_wire(source.meta) {
-            Some(place) => Ok(Some(unfit_text(source, place)?)),
-            None => Ok(None),
-        },
-        71 => match untyped(source.alloc, source.meta)? {
-            Some(spot) => Ok(Some(untyped_text(source, spot)?)),
-            None => Ok(None),
-        },
-        72..=76 => match certificate_of(source.alloc, certificate)? {
-            Some(read) => certificate_flaw(source, certificate, &read, number),
-            None => Ok(None),
-        },
-        _ => Ok(None),
+    let Some(read) = certificate_of(source.alloc, certificate)? else {
+        return Ok(None);
+    };
+    match cause_of(source.alloc, source.meta, &read, number)? {
+        Some(cause) => cause_text(source, certificate, &read, cause),
+        None => Ok(None),
     }
 }
 

@@ -2,14 +2,10 @@
 //! or the bound, by name, and what to do about it.
 #![tactic(auto)]
 
-mod bound;
 mod compared;
 mod explain;
-mod extra;
-mod missing;
 mod node_name;
-mod placing;
-mod ranks;
+mod numbered;
 mod rows;
 
 pub use explain::broken_condition;

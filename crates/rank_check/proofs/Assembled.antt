@@ -10,8 +10,13 @@ use Rattle.certificate_lang.specs.declared.certificate.Line.{Line}
 use Rattle.certificate_lang.specs.declared.certificate.Certificate.{Certificate}
 use Rattle.rank_check.specs.declared.entries.Entry.{Entry}
 use Rattle.rank_check.specs.Names.{IsNodeNamed}
-use Rattle.rank_check.specs.Valid.{HasEachNode, HasNothingElse}
-use Rattle.rank_check.specs.Entries.{IsNumberNamed, HasNumber, AreNumbers, IsFor, AreBelow, ArePlaces, LacksLine, IsPlaced, AreOnce, IsEntry, IsEntryAt, LacksClass, NamesNodes}
+use Rattle.rank_check.specs.declared.causes.Place.{Place}
+use Rattle.rank_check.specs.declared.causes.Extra.{Extra}
+use Rattle.rank_check.specs.declared.causes.Extra.TheVariants.{Unknown, Twice, Class}
+use Rattle.rank_check.specs.Valid.{AreClassesThere, HasEachNode, HasNothingElse}
+use Rattle.rank_check.specs.Causes.{IsMissing, IsExtra}
+use Rattle.rank_check.specs.ByNumbers.{IsPlaceOf}
+use Rattle.rank_check.specs.Entries.{IsNumberNamed, HasNumber, AreNumbers, IsFor, AreBelow, ArePlaces, LacksLine, IsPlaced, AreOnce, IsExtraLine, IsEntryAt, IsEntryOf, NamesNodes}
 use Rattle.rank_check.proofs.Elements.{some_inside, place_of, element_at}
 use Rattle.rank_check.proofs.Placing.{one_node, zip_count}
 
@@ -55,13 +60,17 @@ module _ (p : Loaded) (certificate : Certificate) (numbers : List (Option ℕ)) 
   pub place_inside : (k n : ℕ) → IsFor numbers k n → k < length certificate.lines
   place_inside k n for = let w = line_for k n for in slice_get_within certificate.lines k w.0 w.1
 
-  pub node_missing : (count n : ℕ) → count ≡ length (nodes_of p) → LacksLine count numbers n → ¬ HasEachNode p certificate
-  node_missing count n e lacks each =
+  pub is_missing : (count n : ℕ) → count ≡ length (nodes_of p) → LacksLine count numbers n → IsMissing p certificate n
+  is_missing count n e lacks =
       let low : n < length (nodes_of p) = omega (arith, lacks.inside) in
       let x = some_inside (nodes_of p) n low in
-      let line = each x.0 (n, x.1) in
-      let at = place_of certificate.lines line.0 (line.1).stands in
-      lacks.none at.0 (for_line at.0 n line.0 at.1 (named_at p line.0 x.0 n x.1 (line.1).named))
+      record {
+        node = x.0;
+        is = x.1;
+        none = λ line line_of.
+            let at = place_of certificate.lines line line_of.stands in
+            lacks.none at.0 (for_line at.0 n line at.1 (named_at p line x.0 n x.1 line_of.named));
+      }
 
   module _ (places : List ℕ) (placed : ArePlaces (length (nodes_of p)) numbers places) where
     place_for : (n : ℕ) → n < length (nodes_of p) → (k : ℕ) × (slice_get places n ≡ Some k)
@@ -74,21 +83,28 @@ module _ (p : Loaded) (certificate : Certificate) (numbers : List (Option ℕ)) 
         let w = line_for at.0 is.0 (placed.is_for is.0 at.0 at.1) in
         (w.0, record { stands = element_at certificate.lines at.0 w.0 w.1; named = named_as p w.0 x is.0 is.1 w.2 })
 
-    -- ---- where the lines name each node once, and nothing else
-    pub once_where_nothing_else : HasNothingElse p certificate → AreOnce numbers places
-    once_where_nothing_else h k inside =
-        let low : k < length certificate.lines = omega (arith, zip_count (HasNumber p) certificate.lines numbers are) in
-        let l = some_inside certificate.lines k low in
-        let line = l.0 in
-        let x = h.nodes line (element_at certificate.lines k line l.1) in
-        let node = (x.1).node in
-        let named = named_at p line x.0 node.0 node.1 x.1 in
-        let for = for_line k node.0 line l.1 named in
-        let at = place_for node.0 (slice_get_within (nodes_of p) node.0 x.0 node.1) in
-        let other = line_for at.0 node.0 (placed.is_for node.0 at.0 at.1) in
-        let same : at.0 ≡ k = h.once at.0 k other.0 line x.0 other.1 l.1 (named_as p other.0 x.0 node.0 node.1 other.2) x.1 in
-        record { node = node.0; is_for = for; placed = at.1 ∙ ap (λ (j : ℕ). Some j) same }
+    -- a line that is one too many
+    pub extra_line : (extra : Extra) → IsExtraLine numbers places extra → IsExtra p certificate.lines extra
+    extra_line (Unknown k) is =
+        let w = zip_right (HasNumber p) certificate.lines numbers are k None is in
+        record { line = w.0; stands = w.1; none = λ x named. (w.2).found (named.node).0 (named_at p w.0 x (named.node).0 (named.node).1 named) }
+    extra_line (Twice j k) h =
+        let a = line_for j h.node h.is_for in
+        let b = line_for k h.node (placed.is_for h.node k h.placed) in
+        let x = (a.2).node in
+        record {
+          node = x;
+          first = a.0;
+          second = b.0;
+          first_stands = a.1;
+          second_stands = b.1;
+          first_named = (a.2).named;
+          second_named = named_as p b.0 x h.node (a.2).at b.2;
+          apart = λ e. h.other (sym e);
+        }
+    extra_line (Class k item) h = absurd h
 
+    -- ---- where the lines name each node once, and nothing else
     module _ (once : AreOnce numbers places) where
       placed_line : (k : ℕ) (line : Line) → slice_get certificate.lines k ≡ Some line → IsPlaced numbers places k
       placed_line k line e =
@@ -103,12 +119,22 @@ module _ (p : Loaded) (certificate : Certificate) (numbers : List (Option ℕ)) 
           subst (λ (m : ℕ). slice_get places m ≡ Some k) same at.placed
 
       module _ (entries : List Entry) (zip : AllZip (IsEntryAt p certificate.lines) places entries) where
-        entry_for : (k n : ℕ) (line : Line) (e : Entry) → slice_get certificate.lines k ≡ Some line → slice_get places n ≡ Some k → slice_get entries n ≡ Some e → IsEntry p line e
-        entry_for k n line e stands at is =
-            let w = zip_right (IsEntryAt p certificate.lines) places entries zip n e is in
-            let same : w.0 ≡ k = same_Some w.0 k (sym w.1 ∙ at) in
-            let line_is : (w.2).line ≡ line = same_Some (w.2).line line (sym (w.2).stands ∙ subst (λ (j : ℕ). slice_get certificate.lines j ≡ Some line) (sym same) stands) in
-            subst (λ (l : Line). IsEntry p l e) line_is (w.2).is
+        entry_of : (place : Place) (e : Entry) → IsPlaceOf entries place e → IsEntryOf p certificate place e
+        entry_of place e h =
+            let w = zip_right (IsEntryAt p certificate.lines) places entries zip place.node e h.stands in
+            let l = line_for w.0 place.node (placed.is_for place.node w.0 w.1) in
+            let same : l.0 ≡ (w.2).line = same_Some l.0 (w.2).line (sym l.1 ∙ (w.2).stands) in
+            let here : w.0 ≡ place.line = sym (w.2).place ∙ h.line in
+            record {
+              node = (l.2).node;
+              line = (w.2).line;
+              at = record {
+                is = (l.2).at;
+                stands = subst (λ (j : ℕ). slice_get certificate.lines j ≡ Some (w.2).line) here (w.2).stands;
+                named = subst (λ (a : Line). IsNodeNamed p a.node (l.2).node) same (l.2).named;
+              };
+              is = (w.2).is;
+            }
 
         nothing_else : HasNothingElse p certificate
         nothing_else = record {
@@ -127,7 +153,8 @@ module _ (p : Loaded) (certificate : Certificate) (numbers : List (Option ℕ)) 
               let k = place_of certificate.lines line stands in
               let at = placed_line k.0 line k.1 in
               let e = zip_left (IsEntryAt p certificate.lines) places entries zip at.node k.0 at.placed in
-              (entry_for k.0 at.node line e.0 k.1 at.placed e.1).destroys.there;
+              let same : (e.2).line ≡ line = same_Some (e.2).line line (sym (e.2).stands ∙ k.1) in
+              subst (λ (l : Line). AreClassesThere p l.destroys) same ((e.2).is).destroys.there;
         }
 
         pub nodes_named : NamesNodes p certificate entries
@@ -136,11 +163,6 @@ module _ (p : Loaded) (certificate : Certificate) (numbers : List (Option ℕ)) 
           nothing_else = nothing_else;
           are = record {
             count = zip_count (IsEntryAt p certificate.lines) places entries zip ∙ placed.counted;
-            entry = λ n x line e at line_of is.
-                let k = place_of certificate.lines line line_of.stands in
-                entry_for k.0 n line e k.1 (placed_node k.0 n line k.1 (named_at p line x n at line_of.named)) is;
+            each = entry_of;
           };
         }
-
-pub class_missing : (p : Loaded) (certificate : Certificate) → LacksClass p certificate.lines → ¬ HasNothingElse p certificate
-class_missing p certificate h all = h.lacks (all.classes h.line h.stands)

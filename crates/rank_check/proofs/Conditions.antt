@@ -1,5 +1,5 @@
 -- The conditions on ranks and sets, of nodes and by their numbers.
-use Rattle.std.proofs.Common.{◌≡◌, ℕ, ◌+◌, ◌<◌, ◌≤◌, Bool, List, [], ◌∷◌, length, map, get_or, slice_get, Some, refl, sym, ◌∙◌, subst, arith, below_more}
+use Rattle.std.proofs.Common.{◌≡◌, ℕ, ◌+◌, ◌<◌, ◌≤◌, Bool, List, [], ◌∷◌, length, map, get_or, slice_get, Some, refl, sym, ap, ◌∙◌, subst, arith, below_more}
 use Rattle.std.specs.List.{Contains}
 use Rattle.std.proofs.lemmas.Option.{slice_get_within, slice_get-get_or, same_Some, none-some}
 use Rattle.meta_model.specs.declared.object.MetaObject.{MetaObject}
@@ -14,15 +14,22 @@ use Rattle.effect_scan.specs.Laws.{IsNode, EdgesJoinNodes}
 use Rattle.effect_scan.specs.Rows.{row, Edge}
 use Rattle.effect_scan.specs.Edges.{MayLead}
 use Rattle.effect_scan.specs.Scans.{Scanned, IsScan}
-use Rattle.effect_scan.specs.Destroying.{AreClosures}
+use Rattle.effect_scan.specs.Destroying.{Closure, AreClosures}
 use Rattle.effect_scan.specs.code.Relations.{IsMarked}
 use Rattle.certificate_lang.specs.declared.certificate.Line.{Line}
 use Rattle.certificate_lang.specs.declared.certificate.Certificate.{Certificate}
 use Rattle.rank_check.specs.declared.entries.Entry.{Entry}
+use Rattle.rank_check.specs.declared.causes.Place.{Place}
+use Rattle.rank_check.specs.declared.causes.Rise.{Rise}
+use Rattle.rank_check.specs.declared.causes.Mistake.{Mistake}
+use Rattle.rank_check.specs.declared.causes.Mistake.TheVariants.{Unclosed, Own, Lost}
+use Rattle.rank_check.specs.Names.{IsNodeNamed}
 use Rattle.rank_check.specs.Valid.{IsLineOf, Destroys, RanksFall, SetsHold, IsValid}
-use Rattle.rank_check.specs.Entries.{NamesNodes}
-use Rattle.rank_check.proofs.Elements.{some_inside}
-use Rattle.rank_check.specs.ByNumbers.{Fall, AreWithin, HoldsOwn, Hold}
+use Rattle.rank_check.specs.Causes.{IsAtPlace, IsEdgeOf, IsRise, IsMistake}
+use Rattle.rank_check.specs.Entries.{IsEntry, NamesNodes}
+use Rattle.rank_check.specs.ByNumbers.{IsPlaceOf, Fall, IsRiseIn, AreWithin, HoldsOwn, IsOwnMistake, Hold, IsMistakeOfOne, IsMistakeIn}
+use Rattle.rank_check.proofs.Elements.{some_inside, place_of}
+use Rattle.rank_check.proofs.Assembled.{one_at}
 
 -- edges lead to nodes
 pub edges_inside : (p : Loaded) (scan : Scanned) → IsScan p scan → (count : ℕ) → count ≡ length (nodes_of p) → (a b : ℕ) → Edge scan.rows a b → b < count
@@ -42,16 +49,48 @@ module _ (p : Loaded) (certificate : Certificate) (scan : Scanned) (is : IsScan 
   edge_of : (x y : Node) (n m : ℕ) → IsAt (nodes_of p) x n → IsAt (nodes_of p) y m → MayLead p x y → Edge scan.rows n m
   edge_of x y n m at_x at_y leads = (is.edges.edges n m).1 (record { from = x; to = y; is_from = at_x; is_to = at_y; leads = leads })
 
+  -- .. that is of this line
+  entry_of : (n : ℕ) (x : Node) (line : Line) (e : Entry) → IsAt (nodes_of p) x n → IsLineOf p certificate x line → slice_get entries n ≡ Some e → IsEntry p line e
+  entry_of n x line e at line_of at_e =
+      let own = names.are.each (record { node = n; line = e.line }) e (record { stands = at_e; line = refl }) in
+      let k = place_of certificate.lines line line_of.stands in
+      let named = subst (λ (y : Node). IsNodeNamed p own.line.node y) (one_at p own.node x n own.at.is at) own.at.named in
+      let place : e.line ≡ k.0 = names.nothing_else.once e.line k.0 own.line line x own.at.stands k.1 named line_of.named in
+      let line_is : own.line ≡ line = same_Some own.line line (sym own.at.stands ∙ ap (λ (j : ℕ). slice_get certificate.lines j) place ∙ k.1) in
+      subst (λ (l : Line). IsEntry p l e) line_is own.is
+
+  -- the edge between two places, and the lines there
+  record Joined (first second : Place) (a b : Entry) : Type 0 where
+    pub upper : Line
+    pub lower : Line
+    pub edge : IsEdgeOf p certificate first second upper lower
+    pub upper_is : IsEntry p upper a
+    pub lower_is : IsEntry p lower b
+
+  joined : (first second : Place) (a b : Entry) → IsPlaceOf entries first a → IsPlaceOf entries second b → Edge scan.rows first.node second.node → Joined first second a b
+  joined first second a b at_a at_b edge =
+      let x = names.are.each first a at_a in
+      let y = names.are.each second b at_b in
+      let leads = (is.edges.edges first.node second.node).0 edge in
+      record {
+        upper = x.line;
+        lower = y.line;
+        edge = record {
+          from = leads.from;
+          to = leads.to;
+          from_is = subst (λ (z : Node). IsAtPlace p certificate first z x.line) (one_at p x.node leads.from first.node x.at.is leads.is_from) x.at;
+          to_is = subst (λ (z : Node). IsAtPlace p certificate second z y.line) (one_at p y.node leads.to second.node y.at.is leads.is_to) y.at;
+          leads = leads.leads;
+        };
+        upper_is = x.is;
+        lower_is = y.is;
+      }
+
   -- ---- ranks
-  pub fall_by_number : RanksFall p certificate → Fall scan.rows entries
-  fall_by_number fall a b x y at_x edge at_y =
-      let leads = (is.edges.edges a b).0 edge in
-      let from = names.each_node leads.from (a, leads.is_from) in
-      let to = names.each_node leads.to (b, leads.is_to) in
-      let low = fall leads.from leads.to from.0 to.0 leads.leads from.1 to.1 in
-      let first = (names.are.entry a leads.from from.0 x leads.is_from from.1 at_x).rank in
-      let second = (names.are.entry b leads.to to.0 y leads.is_to to.1 at_y).rank in
-      omega (arith, low, first, second)
+  pub rise_told : (rise : Rise) → IsRiseIn scan.rows entries rise → IsRise p certificate rise
+  rise_told rise h =
+      let e = joined rise.from rise.to h.upper h.lower h.upper_is h.lower_is h.edge in
+      record { upper = e.upper; lower = e.lower; edge = e.edge; rises = omega (arith, h.rises, e.upper_is.rank, e.lower_is.rank) }
 
   pub fall_of_nodes : EdgesJoinNodes p → Fall scan.rows entries → RanksFall p certificate
   fall_of_nodes join fall x y a b leads line_a line_b =
@@ -60,29 +99,42 @@ module _ (p : Loaded) (certificate : Certificate) (scan : Scanned) (is : IsScan 
       let e = entry_at from.0 x from.1 in
       let f = entry_at to.0 y to.1 in
       let low = fall from.0 to.0 e.0 f.0 e.1 (edge_of x y from.0 to.0 from.1 to.1 leads) f.1 in
-      let first = (names.are.entry from.0 x a e.0 from.1 line_a e.1).rank in
-      let second = (names.are.entry to.0 y b f.0 to.1 line_b f.1).rank in
+      let first = (entry_of from.0 x a e.0 from.1 line_a e.1).rank in
+      let second = (entry_of to.0 y b f.0 to.1 line_b f.1).rank in
       omega (arith, low, first, second)
 
   -- ---- sets
-  pub hold_by_number : SetsHold p certificate → Hold p scan.nodes scan.rows entries
-  hold_by_number sets = record {
-    passed_on = λ a b x y at_x edge at_y d marked.
-        let leads = (is.edges.edges a b).0 edge in
-        let from = names.each_node leads.from (a, leads.is_from) in
-        let to = names.each_node leads.to (b, leads.is_to) in
-        let first = (names.are.entry a leads.from from.0 x leads.is_from from.1 at_x).destroys in
-        let second = (names.are.entry b leads.to to.0 y leads.is_to to.1 at_y).destroys in
-        (first.marks d).1 (sets.passed_on leads.from leads.to from.0 to.0 d leads.leads from.1 to.1 ((second.marks d).0 marked));
-    own = λ a x e at_node at_e.
-        let at = subst (λ (ns : List Node). slice_get ns a ≡ Some x) is.nodes at_node in
-        let line = names.each_node x (a, at) in
-        let marks = (names.are.entry a x line.0 e at line.1 at_e).destroys.marks in
-        record {
-          closure = λ member d closure. (marks d).1 (sets.closures x line.0 d member line.1 closure);
-          spared = λ body marked. sets.spared x line.0 body line.1 ((marks x.class).0 marked);
-        };
-  }
+  -- the line at the place where a set is wrong by itself
+  at_own : (mistake : Mistake) (h : IsMistakeOfOne p scan.nodes entries mistake) (place : Place) → place ≡ h.place → (line : Line) × IsAtPlace p certificate place h.node line × IsEntry p line h.entry
+  at_own mistake h place same =
+      let own = names.are.each h.place h.entry h.is in
+      let at = subst (λ (ns : List Node). IsAt ns h.node h.place.node) is.nodes h.stands in
+      let here = subst (λ (z : Node). IsAtPlace p certificate h.place z own.line) (one_at p own.node h.node h.place.node own.at.is at) own.at in
+      (own.line, subst (λ (q : Place). IsAtPlace p certificate q h.node own.line) (sym same) here, own.is)
+
+  pub mistake_told : (mistake : Mistake) → IsMistakeIn p scan.nodes scan.rows entries mistake → IsMistake p certificate mistake
+  mistake_told (Unclosed place d) h =
+      let own = at_own (Unclosed place d) h place h.wrong.0 in
+      record {
+        node = h.node;
+        line = own.0;
+        at = own.1;
+        destruction = h.wrong.1;
+        closure = h.wrong.2;
+        lacks = λ destroys. h.wrong.3 (((own.2).destroys.marks d).1 destroys);
+      }
+  mistake_told (Own place) h =
+      let own = at_own (Own place) h place h.wrong.0 in
+      record { node = h.node; line = own.0; at = own.1; body = h.wrong.1; holds = ((own.2).destroys.marks h.node.class).0 h.wrong.2 }
+  mistake_told (Lost first second d) h =
+      let e = joined first second h.upper h.lower h.upper_is h.lower_is h.edge in
+      record {
+        upper = e.upper;
+        lower = e.lower;
+        edge = e.edge;
+        holds = (e.lower_is.destroys.marks d).0 h.holds;
+        lacks = λ destroys. h.lacks ((e.upper_is.destroys.marks d).1 destroys);
+      }
 
   pub hold_of_nodes : EdgesJoinNodes p → Hold p scan.nodes scan.rows entries → SetsHold p certificate
   hold_of_nodes join hold = record {
@@ -91,8 +143,8 @@ module _ (p : Loaded) (certificate : Certificate) (scan : Scanned) (is : IsScan 
         let from = ends.0 in let to = ends.1 in
         let e = entry_at from.0 x from.1 in
         let f = entry_at to.0 y to.1 in
-        let first = (names.are.entry from.0 x a e.0 from.1 line_a e.1).destroys in
-        let second = (names.are.entry to.0 y b f.0 to.1 line_b f.1).destroys in
+        let first = (entry_of from.0 x a e.0 from.1 line_a e.1).destroys in
+        let second = (entry_of to.0 y b f.0 to.1 line_b f.1).destroys in
         (first.marks d).0 (hold.passed_on from.0 to.0 e.0 f.0 e.1 (edge_of x y from.0 to.0 from.1 to.1 leads) f.1 d ((second.marks d).1 destroys));
     closures = λ x line d member line_of closure.
         let n = line_of.named.node in
@@ -111,7 +163,7 @@ module _ (p : Loaded) (certificate : Certificate) (scan : Scanned) (is : IsScan 
             e.0,
             record {
               holds = hold.own n.0 x e.0 at e.1;
-              marks = λ line line_of. (names.are.entry n.0 x line e.0 n.1 line_of e.1).destroys.marks;
+              marks = λ line line_of. (entry_of n.0 x line e.0 n.1 line_of e.1).destroys.marks;
             },
           )
 
@@ -123,10 +175,28 @@ own_closed p x set closures classes are is e h = record {
   spared = λ body marked. let method = body.from in cc;
 }
 
-pub own_open : (p : Loaded) (x : Node) (set : List Bool) (closures : List (List ℕ)) (classes : List ℕ) → AreClosures p closures → x.member ≡ Destruction → classes ≡ row closures x.class
-    → (((d : ℕ) → Contains classes d → IsMarked set d) → ⊥) → ¬ HoldsOwn p x set
-own_open p x set closures classes are is e h = λ own.
-    h (λ d held. own.closure is d ((are.members x.class d).0 (subst (λ (ds : List ℕ). Contains ds d) e held)))
+pub in_closure : (p : Loaded) (c d : ℕ) (closures : List (List ℕ)) (classes : List ℕ) → AreClosures p closures → classes ≡ row closures c → Contains classes d → Closure p c d
+in_closure p c d closures classes are e held = (are.members c d).0 (subst (λ (ds : List ℕ). Contains ds d) e held)
+
+-- .. a mistake in it
+pub mistake_of_one : (p : Loaded) (nodes : List Node) (rows : List (List ℕ)) (entries : List Entry) (items : List Node) (a : ℕ) (d : Node) (e : Entry) → items ≡ nodes → a < length items → slice_get entries a ≡ Some e
+    → (mistake : Mistake) → IsOwnMistake p (get_or items a d) e.destroys (record { node = a; line = e.line }) mistake → IsMistakeIn p nodes rows entries mistake
+mistake_of_one p nodes rows entries items a d e same inside at_e mistake wrong = told mistake wrong
+  where
+    one : (mistake : Mistake) → IsOwnMistake p (get_or items a d) e.destroys (record { node = a; line = e.line }) mistake → IsMistakeOfOne p nodes entries mistake
+    one mistake wrong = record {
+      place = record { node = a; line = e.line };
+      node = get_or items a d;
+      stands = subst (λ (ns : List Node). slice_get ns a ≡ Some (get_or items a d)) same (slice_get-get_or items a d inside);
+      entry = e;
+      is = record { stands = at_e; line = refl };
+      wrong = wrong;
+    }
+
+    told : (mistake : Mistake) → IsOwnMistake p (get_or items a d) e.destroys (record { node = a; line = e.line }) mistake → IsMistakeIn p nodes rows entries mistake
+    told (Unclosed place c) wrong = one (Unclosed place c) wrong
+    told (Own place) wrong = one (Own place) wrong
+    told (Lost first second c) wrong = absurd wrong
 
 -- ---- the first nodes
 pub record HoldFirst (p : Loaded) (nodes : List Node) (rows : List (List ℕ)) (entries : List Entry) (end : ℕ) : Type 0 where

@@ -4,4 +4,5 @@ pub mod Named
 pub mod Placing
 pub mod Listing
 pub mod Assembled
+pub mod Breaking
 pub mod Conditions

@@ -14,7 +14,8 @@ use Rattle.effect_scan.proofs.Relating.{not_marked, below_first}
 use Rattle.certificate_lang.specs.declared.certificate.SetItem.{SetItem}
 use Rattle.certificate_lang.specs.declared.certificate.SetItem.TheVariants as item
 use Rattle.rank_check.specs.Valid.{StandsFor, IsListed, AreClassesThere}
-use Rattle.rank_check.specs.Entries.{IsSet, StandsForNoClass, AddsItem, StandsForNone}
+use Rattle.rank_check.specs.Causes.{StandsForNoClass, StandsForNone}
+use Rattle.rank_check.specs.Entries.{IsSet, AddsItem}
 use Rattle.rank_check.proofs.Elements.{at_index, element_at}
 
 -- the set of the first items, with a mark for each class

@@ -5,7 +5,7 @@ use Rattle.std.proofs.lemmas.Bool.{cases_eq, cases_lt}
 use Rattle.std.proofs.lemmas.List.{length-set, length-replicate, get_or-replicate, get_or_past}
 use Rattle.std.proofs.lemmas.Option.{slice_get_within, slice_get-get_or, get_or_from_slice_get, same_Some, none-some}
 use Rattle.meta_model.proofs.Zips.{zip_right}
-use Rattle.rank_check.specs.Entries.{IsFor, place_at, PlacesFirst, PlacesEach, ArePlaces, LacksPlace, FindsAll, FindsPlaces, LacksLine, IsPlaced, AreOnce}
+use Rattle.rank_check.specs.Entries.{IsFor, place_at, PlacesFirst, PlacesEach, ArePlaces, LacksPlace, FindsAll, FindsPlaces, LacksLine, IsPlaced, IsSecond}
 
 none_at : (count n : ℕ) → place_at (replicate count None) n ≡ None
 none_at count n =
@@ -111,16 +111,8 @@ place_lacks places i inside none = record { inside = inside; none = none }
 
 -- ---- each line is that of its node
 module _ (numbers : List (Option ℕ)) (places : List ℕ) where
-  pub not_once : (k n : ℕ) → IsFor numbers k n → (d : ℕ) → get_or places n d ≢ k → AreOnce numbers places → ⊥
-  not_once k n is d ne all =
-      let at = all k (slice_get_within numbers k (Some n) is) in
-      let same : at.node ≡ n = one_node numbers k at.node n at.is_for is in
-      ne (get_or_from_slice_get places n k d (subst (λ (x : ℕ). slice_get places x ≡ Some k) same at.placed))
+  pub is_second : (k n : ℕ) → IsFor numbers k n → (d : ℕ) → n < length places → get_or places n d ≢ k → IsSecond numbers places k (get_or places n d)
+  is_second k n is d inside other = record { node = n; is_for = is; placed = slice_get-get_or places n d inside; other = other }
 
   pub is_placed : (k n : ℕ) → IsFor numbers k n → (d : ℕ) → n < length places → get_or places n d ≡ k → IsPlaced numbers places k
   is_placed k n is d inside e = record { node = n; is_for = is; placed = slice_get-get_or places n d inside ∙ ap (λ (x : ℕ). Some x) e }
-
-  pub no_node : (k : ℕ) → slice_get numbers k ≡ Some None → AreOnce numbers places → ⊥
-  no_node k is all =
-      let at = all k (slice_get_within numbers k None is) in
-      none-some at.node (same_Some None (Some at.node) (sym is ∙ at.is_for))

@@ -1,5 +1,5 @@
 -- The conditions on ranks and sets, by the numbers of nodes.
-use Rattle.std.specs.Prelude.{◌≡◌, ◌<◌, ℕ, Bool, List, Some, slice_get}
+use Rattle.std.specs.Prelude.{◌≡◌, ◌<◌, ◌≤◌, ℕ, Bool, List, Some, slice_get}
 use Rattle.std.specs.List.{Contains}
 use Rattle.meta_model.specs.Loaded.{Loaded}
 use Rattle.effect_scan.specs.declared.node.Node.{Node}
@@ -7,17 +7,46 @@ use Rattle.effect_scan.specs.declared.node.Member.TheVariants.{Destruction}
 use Rattle.effect_scan.specs.Rows.{Edge}
 use Rattle.effect_scan.specs.Destroying.{Closure}
 use Rattle.effect_scan.specs.code.Relations.{IsMarked}
+use Rattle.rank_check.specs.declared.causes.Place.{Place}
+use Rattle.rank_check.specs.declared.causes.Rise.{Rise}
+use Rattle.rank_check.specs.declared.causes.Mistake.{Mistake}
+use Rattle.rank_check.specs.declared.causes.Mistake.TheVariants.{Unclosed, Own, Lost}
 use Rattle.rank_check.specs.declared.entries.Entry.{Entry}
 use Rattle.rank_check.specs.Valid.{HasBody}
+
+-- the place is that of the node with this entry
+pub record IsPlaceOf (entries : List Entry) (place : Place) (entry : Entry) : Type 0 where
+  pub stands : slice_get entries place.node ≡ Some entry
+  pub line : entry.line ≡ place.line
+
+-- ---- ranks
 
 -- each of these nodes has a rank below this one
 abbrev pub AreLower : List ℕ → List Entry → ℕ → Type 0
 AreLower targets entries rank = (b : ℕ) (y : Entry) → Contains targets b → slice_get entries b ≡ Some y → y.rank < rank
 
+-- .. but this one of them hasn't
+pub record IsAsHigh (targets : List ℕ) (entries : List Entry) (rank : ℕ) (place : Place) : Type 0 where
+  pub held : Contains targets place.node
+  pub entry : Entry
+  pub is : IsPlaceOf entries place entry
+  pub high : rank ≤ entry.rank
+
 -- ranks fall along edges
 abbrev pub Fall : List (List ℕ) → List Entry → Type 0
 Fall rows entries =
     (a b : ℕ) (x y : Entry) → slice_get entries a ≡ Some x → Edge rows a b → slice_get entries b ≡ Some y → y.rank < x.rank
+
+-- .. but not along this one
+pub record IsRiseIn (rows : List (List ℕ)) (entries : List Entry) (rise : Rise) : Type 0 where
+  pub edge : Edge rows rise.from.node rise.to.node
+  pub upper : Entry
+  pub upper_is : IsPlaceOf entries rise.from upper
+  pub lower : Entry
+  pub lower_is : IsPlaceOf entries rise.to lower
+  pub rises : upper.rank ≤ lower.rank
+
+-- ---- sets
 
 -- the classes of the one set are in the other
 abbrev pub IsWithin : List Bool → List Bool → Type 0
@@ -27,13 +56,51 @@ IsWithin set other = (d : ℕ) → IsMarked set d → IsMarked other d
 abbrev pub AreWithin : List ℕ → List Entry → List Bool → Type 0
 AreWithin targets entries set = (b : ℕ) (y : Entry) → Contains targets b → slice_get entries b ≡ Some y → IsWithin y.destroys set
 
+-- .. but that of the node of this place has a class that isn't in it
+pub record HasLost (targets : List ℕ) (entries : List Entry) (set : List Bool) (place : Place) (d : ℕ) : Type 0 where
+  pub held : Contains targets place.node
+  pub entry : Entry
+  pub is : IsPlaceOf entries place entry
+  pub holds : IsMarked entry.destroys d
+  pub lacks : ¬ IsMarked set d
+
 -- the set holds what that of the node has to, whatever it may lead to
 pub record HoldsOwn (p : Loaded) (x : Node) (set : List Bool) : Type 0 where
   pub closure : x.member ≡ Destruction → (d : ℕ) → Closure p x.class d → IsMarked set d
   pub spared : HasBody p x → ¬ IsMarked set x.class
+
+-- .. but for this mistake in that of the node at this place
+abbrev pub IsOwnMistake : Loaded → Node → List Bool → Place → Mistake → Type 0
+IsOwnMistake p x set place (Unclosed at d) = (at ≡ place) × (x.member ≡ Destruction) × Closure p x.class d × ¬ IsMarked set d
+IsOwnMistake p x set place (Own at) = (at ≡ place) × HasBody p x × IsMarked set x.class
+IsOwnMistake p x set place (Lost first second d) = ⊥
 
 -- so do all, and sets are passed on along edges
 pub record Hold (p : Loaded) (nodes : List Node) (rows : List (List ℕ)) (entries : List Entry) : Type 0 where
   pub passed_on : (a b : ℕ) (x y : Entry) → slice_get entries a ≡ Some x → Edge rows a b → slice_get entries b ≡ Some y
       → IsWithin y.destroys x.destroys
   pub own : (a : ℕ) (x : Node) (e : Entry) → slice_get nodes a ≡ Some x → slice_get entries a ≡ Some e → HoldsOwn p x e.destroys
+
+-- .. but for a mistake in the set of one node
+pub record IsMistakeOfOne (p : Loaded) (nodes : List Node) (entries : List Entry) (mistake : Mistake) : Type 0 where
+  pub place : Place
+  pub node : Node
+  pub stands : slice_get nodes place.node ≡ Some node
+  pub entry : Entry
+  pub is : IsPlaceOf entries place entry
+  pub wrong : IsOwnMistake p node entry.destroys place mistake
+
+-- .. or for a class that isn't passed on along an edge
+pub record IsLostAlong (rows : List (List ℕ)) (entries : List Entry) (first second : Place) (d : ℕ) : Type 0 where
+  pub edge : Edge rows first.node second.node
+  pub upper : Entry
+  pub upper_is : IsPlaceOf entries first upper
+  pub lower : Entry
+  pub lower_is : IsPlaceOf entries second lower
+  pub holds : IsMarked lower.destroys d
+  pub lacks : ¬ IsMarked upper.destroys d
+
+abbrev pub IsMistakeIn : Loaded → List Node → List (List ℕ) → List Entry → Mistake → Type 0
+IsMistakeIn p nodes rows entries (Unclosed place d) = IsMistakeOfOne p nodes entries (Unclosed place d)
+IsMistakeIn p nodes rows entries (Own place) = IsMistakeOfOne p nodes entries (Own place)
+IsMistakeIn p nodes rows entries (Lost first second d) = IsLostAlong rows entries first second d

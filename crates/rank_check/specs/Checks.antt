@@ -2,13 +2,14 @@
 use Rattle.std.specs.Prelude.{◌≡◌, ℕ, Option, Some, None, Result, Ok, Err}
 use Rattle.meta_model.specs.Loaded.{Loaded}
 use Rattle.certificate_lang.specs.declared.certificate.Certificate.{Certificate}
-use Rattle.typing.specs.Wires.{AreFitWires}
-use Rattle.typing.specs.Typed.{IsTypedProgram}
+use Rattle.type_check.specs.Wires.{AreFitWires}
+use Rattle.type_check.specs.Typed.{IsTypedProgram}
 use Rattle.rank_check.specs.declared.no.No.{No}
 use Rattle.rank_check.specs.declared.no.No.TheVariants.{Wire, BodyType, Missing, Extra, Edge, Destroys, Bound, Memory}
 use Rattle.rank_check.specs.declared.causes.Cause.{Cause}
 use Rattle.rank_check.specs.declared.causes.Cause.TheVariants as cause
 use Rattle.rank_check.specs.Valid.{HasEachNode, HasNothingElse, RanksFall, SetsHold, IsBounded, IsValid}
+use Rattle.rank_check.specs.Causes.{Breaks}
 
 -- the number of a no; want of memory has none
 abbrev pub number_of : No → Option ℕ
@@ -53,10 +54,14 @@ IsNo p certificate Bound =
     × SetsHold p certificate × ¬ IsBounded certificate
 IsNo p certificate Memory = Unit {0}
 
--- nothing is wrong where the certificate is valid; a cause breaks the condition of its no, the first that doesn't hold
+-- the first condition that doesn't hold is that of the cause's no, and what the cause names breaks it
+abbrev pub IsCause : Loaded → Certificate → Cause → Type 0
+IsCause p certificate cause = IsNo p certificate (no_of cause) × Breaks p certificate cause
+
+-- nothing is wrong just where the certificate is valid
 abbrev pub Judges : Loaded → Certificate → Result (Unit {0}) Cause → Type 0
 Judges p certificate (Ok _) = IsValid p certificate
-Judges p certificate (Err cause) = IsNo p certificate (no_of cause)
+Judges p certificate (Err cause) = IsCause p certificate cause
 
 -- yes exactly where the certificate is valid, with the program and the certificate that were taken
 abbrev pub Checks : Loaded → Certificate → Result Checking No → Type 0

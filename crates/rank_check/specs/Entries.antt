@@ -1,23 +1,27 @@
 -- What a check keeps of a certificate, by the numbers of lines, nodes and classes.
-use Rattle.std.specs.Prelude.{◌≡◌, ◌↔◌, ◌<◌, ℕ, Bool, true, false, List, length, Option, Some, None, Result, Ok, Err, MatchResult, slice_get, slice_index_or}
-use Rattle.std.specs.List.{Contains, AllZip}
+use Rattle.std.specs.Prelude.{◌≡◌, ◌≢◌, ◌↔◌, ◌<◌, ℕ, Bool, true, false, List, length, Option, Some, None, Result, Ok, Err, MatchResult, slice_get, slice_index_or}
+use Rattle.std.specs.List.{AllZip}
 use Rattle.meta_model.specs.Loaded.{Loaded}
 use Rattle.meta_model.specs.LookUps.{LooksUp, FindsOnly}
 use Rattle.effect_scan.specs.declared.node.Node.{Node}
 use Rattle.effect_scan.specs.Nodes.{nodes_of, IsAt}
 use Rattle.effect_scan.specs.code.Relations.{IsMarked, Marks}
-use Rattle.typing.specs.Wires.{AreFitWires}
-use Rattle.typing.specs.Typed.{IsTypedProgram}
+use Rattle.type_check.specs.Wires.{AreFitWires}
+use Rattle.type_check.specs.Typed.{IsTypedProgram}
 use Rattle.certificate_lang.specs.declared.certificate.NodeName.{NodeName}
 use Rattle.certificate_lang.specs.declared.certificate.SetItem.{SetItem}
 use Rattle.certificate_lang.specs.declared.certificate.Line.{Line}
 use Rattle.certificate_lang.specs.declared.certificate.Certificate.{Certificate}
 use Rattle.rank_check.specs.declared.causes.Cause.{Cause}
+use Rattle.rank_check.specs.declared.causes.Place.{Place}
 use Rattle.rank_check.specs.declared.causes.Extra.{Extra}
+use Rattle.rank_check.specs.declared.causes.Extra.TheVariants.{Unknown, Twice, Class}
 use Rattle.rank_check.specs.declared.entries.Entry.{Entry}
 use Rattle.rank_check.specs.Names.{IsNodeNamed}
-use Rattle.rank_check.specs.Valid.{IsLineOf, StandsFor, AreClassesThere, IsListed, HasEachNode, HasNothingElse}
-use Rattle.rank_check.specs.Checks.{no_of, IsNo}
+use Rattle.rank_check.specs.Valid.{StandsFor, AreClassesThere, IsListed, HasEachNode, HasNothingElse}
+use Rattle.rank_check.specs.Causes.{StandsForNoClass, StandsForNone, IsExtra, IsAtPlace}
+use Rattle.rank_check.specs.Checks.{IsCause}
+use Rattle.rank_check.specs.ByNumbers.{IsPlaceOf}
 
 -- ---- the nodes of lines
 -- the node of this number is named so
@@ -90,26 +94,28 @@ pub record IsPlaced (numbers : List (Option ℕ)) (places : List ℕ) (k : ℕ) 
 abbrev pub AreOnce : List (Option ℕ) → List ℕ → Type 0
 AreOnce numbers places = (k : ℕ) → k < length numbers → IsPlaced numbers places k
 
+-- .. but this one isn't: it is for no node, or for one whose line is another
+pub record IsSecond (numbers : List (Option ℕ)) (places : List ℕ) (j k : ℕ) : Type 0 where
+  pub node : ℕ
+  pub is_for : IsFor numbers j node
+  pub placed : slice_get places node ≡ Some k
+  pub other : k ≢ j
+
+abbrev pub IsExtraLine : List (Option ℕ) → List ℕ → Extra → Type 0
+IsExtraLine numbers places (Unknown k) = slice_get numbers k ≡ Some None
+IsExtraLine numbers places (Twice j k) = IsSecond numbers places j k
+IsExtraLine numbers places (Class k item) = ⊥
+
 -- ---- ranks and sets
 -- the classes that are marked are those that the items stand for, which are all there
 pub record IsSet (p : Loaded) (items : List SetItem) (set : List Bool) : Type 0 where
   pub there : AreClassesThere p items
   pub marks : (d : ℕ) → IsMarked set d ↔ IsListed p items d
 
--- the item stands for no class
-abbrev pub StandsForNoClass : Loaded → SetItem → Type 0
-StandsForNoClass p item = (d : ℕ) → ¬ StandsFor p item d
-
 -- the item stands for some classes, and just these are added to the set; or it stands for none
 abbrev pub AddsItem : Loaded → SetItem → List Bool → Bool → List Bool → Type 0
 AddsItem p item before true after = ((d : ℕ) × StandsFor p item d) × Marks (StandsFor p item) before after
 AddsItem p item before false after = StandsForNoClass p item
-
--- .. the item at this place
-pub record StandsForNone (p : Loaded) (items : List SetItem) (place : ℕ) : Type 0 where
-  pub item : SetItem
-  pub stands : slice_get items place ≡ Some item
-  pub none : StandsForNoClass p item
 
 -- the set, or the place of a class that isn't there
 abbrev pub FindsSet : Loaded → List SetItem → Result (List Bool) ℕ → Type 0
@@ -120,30 +126,32 @@ pub record IsEntry (p : Loaded) (line : Line) (entry : Entry) : Type 0 where
   pub rank : entry.rank ≡ line.rank
   pub destroys : IsSet p line.destroys entry.destroys
 
-abbrev pub FindsEntry : Loaded → Line → Result Entry Extra → Type 0
-FindsEntry p line found = MatchResult found (IsEntry p line) (λ _. ¬ AreClassesThere p line.destroys)
+-- .. of the line at this place, or the place of an item of its set whose class isn't there
+abbrev pub FindsEntry : Loaded → Line → ℕ → Result Entry ℕ → Type 0
+FindsEntry p line k found = MatchResult found (λ entry. (entry.line ≡ k) × IsEntry p line entry) (StandsForNone p line.destroys)
 
 -- .. of the line at this place
 pub record IsEntryAt (p : Loaded) (lines : List Line) (k : ℕ) (entry : Entry) : Type 0 where
   pub line : Line
   pub stands : slice_get lines k ≡ Some line
+  pub place : entry.line ≡ k
   pub is : IsEntry p line entry
 
--- a class of some line isn't there
-pub record LacksClass (p : Loaded) (lines : List Line) : Type 0 where
-  pub line : Line
-  pub stands : Contains lines line
-  pub lacks : ¬ AreClassesThere p line.destroys
-
--- the entries of the lines at these places
+-- the entries of the lines at these places, or a class that isn't there
 abbrev pub FindsEntries : Loaded → List Line → List ℕ → Result (List Entry) Extra → Type 0
-FindsEntries p lines places found = MatchResult found (AllZip (IsEntryAt p lines) places) (λ _. LacksClass p lines)
+FindsEntries p lines places found = MatchResult found (AllZip (IsEntryAt p lines) places) (IsExtra p lines)
+
+-- the entry of the node at this place
+pub record IsEntryOf (p : Loaded) (certificate : Certificate) (place : Place) (entry : Entry) : Type 0 where
+  pub node : Node
+  pub line : Line
+  pub at : IsAtPlace p certificate place node line
+  pub is : IsEntry p line entry
 
 -- an entry for each node, in their order
 pub record AreEntries (p : Loaded) (certificate : Certificate) (entries : List Entry) : Type 0 where
   pub count : length entries ≡ length (nodes_of p)
-  pub entry : (n : ℕ) (x : Node) (line : Line) (e : Entry) → IsAt (nodes_of p) x n → IsLineOf p certificate x line
-      → slice_get entries n ≡ Some e → IsEntry p line e
+  pub each : (place : Place) (entry : Entry) → IsPlaceOf entries place entry → IsEntryOf p certificate place entry
 
 -- the lines name each node once, and nothing else
 pub record NamesNodes (p : Loaded) (certificate : Certificate) (entries : List Entry) : Type 0 where
@@ -159,9 +167,9 @@ pub record IsReady (p : Loaded) : Type 0 where
 -- the program's own conditions are judged, whatever the certificate
 abbrev pub JudgesProgram : Loaded → Result (Unit {0}) Cause → Type 0
 JudgesProgram p (Ok _) = IsReady p
-JudgesProgram p (Err cause) = (certificate : Certificate) → IsNo p certificate (no_of cause)
+JudgesProgram p (Err cause) = (certificate : Certificate) → IsCause p certificate cause
 
 -- the entries of the nodes, where the lines name each once and nothing else
 abbrev pub GivesEntries : Loaded → Certificate → Result (List Entry) Cause → Type 0
 GivesEntries p certificate (Ok entries) = NamesNodes p certificate entries
-GivesEntries p certificate (Err cause) = IsReady p → IsNo p certificate (no_of cause)
+GivesEntries p certificate (Err cause) = IsReady p → IsCause p certificate cause

@@ -1,5 +1,6 @@
 pub mod Names
 pub mod Valid
+pub mod Causes
 pub mod Checks
 pub mod Entries
 pub mod ByNumbers

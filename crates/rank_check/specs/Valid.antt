@@ -10,8 +10,8 @@ use Rattle.effect_scan.specs.declared.node.Member.TheVariants.{Method, Destructi
 use Rattle.effect_scan.specs.Laws.{IsNode}
 use Rattle.effect_scan.specs.Edges.{MayLead}
 use Rattle.effect_scan.specs.Destroying.{Closure}
-use Rattle.typing.specs.Wires.{AreFitWires}
-use Rattle.typing.specs.Typed.{IsTypedProgram}
+use Rattle.type_check.specs.Wires.{AreFitWires}
+use Rattle.type_check.specs.Typed.{IsTypedProgram}
 use Rattle.certificate_lang.specs.declared.certificate.SetItem.{SetItem}
 use Rattle.certificate_lang.specs.declared.certificate.SetItem.TheVariants as item
 use Rattle.certificate_lang.specs.declared.certificate.Line.{Line}

@@ -5,7 +5,7 @@ ghost use Rattle.rank_check.specs.Checks.{no_of};
 
 use crate::no::No;
 use std::alloc::AllocError;
-use typing::Spot;
+use type_check::Spot;
 
 /// A node, by its number, and the place of its line among the certificate's; both from 0.
 #[derive(Clone, Copy, Debug, PartialEq, Eq)]

@@ -30,7 +30,7 @@ impl Model for Checked {
     ghost use Rattle.rank_check.specs.Checks.{Checking};
     ghost use Rattle.rank_check.specs.Valid.{IsValid};
     ghost use Rattle.std.specs.Coded.{codes};
-    ghost use Rattle.texts.specs.contracts.syntax.Expr as expr;
+    ghost use Rattle.syntax_trees.specs.contracts.syntax.Expr as expr;
     ghost use Rattle.meta_model.specs.contracts.object.Statement as statement;
     ghost use Rattle.meta_model.specs.contracts.site.SourceProperty as source;
 

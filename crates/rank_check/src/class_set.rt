@@ -90,7 +90,8 @@ impl ClassSet {
     /// The first class of the set that isn't in the other one. Time is linear in the set's words, and, where one is found, in
     /// the classes that there is room for.
     pub fn first_lost(&self, other: &ClassSet) -> Option<usize>
-        ensures { MatchOption result (IsWithin self.now other.now) (λ _. IsWithin self.now other.now → ⊥) }
+        ensures { MatchOption result (IsWithin self.now other.now)
+            (λ d. IsMarked self.now d × (IsMarked other.now d → ⊥)) }
     {
         if self.has_no_more_bits(other) {
             return None;

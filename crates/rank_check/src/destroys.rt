@@ -6,7 +6,7 @@ ghost use Rattle.effect_scan.specs.Rows.{Edge};
 ghost use Rattle.effect_scan.specs.code.Relations.{IsMarked};
 ghost use Rattle.effect_scan.specs.Scans.{IsScan};
 ghost use Rattle.rank_check.specs.Valid.{RunsBody};
-ghost use Rattle.rank_check.specs.ByNumbers.{AreWithin, HoldsOwn, Hold};
+ghost use Rattle.rank_check.specs.ByNumbers.{AreWithin, HasLost, HoldsOwn, IsOwnMistake, Hold, IsMistakeIn};
 
 use crate::causes::{Mistake, Place};
 use crate::class_set::ClassSet;
@@ -21,8 +21,8 @@ pub fn first_mistake(meta: &Meta, scan: &Scan, entries: &[Entry]) -> Option<Mist
     requires scan { IsScan meta.now scan.now }
     requires inside { (a b : ℕ) → Edge scan.now.rows a b → b < length entries.now }
     requires count { length entries.now ≡ length scan.now.nodes }
-    ensures { let AllHold = Hold meta.now scan.now.nodes scan.now.rows entries.now in
-        MatchOption result AllHold (λ _. AllHold → ⊥) }
+    ensures { let nodes = scan.now.nodes in let rows = scan.now.rows in
+        MatchOption result (Hold meta.now nodes rows entries.now) (IsMistakeIn meta.now nodes rows entries.now) }
 {
     for (number, node) in scan.nodes().iter().enumerate() {
         let entry = &entries[number];
@@ -34,17 +34,18 @@ pub fn first_mistake(meta: &Meta, scan: &Scan, entries: &[Entry]) -> Option<Mist
         if let Some(mistake) = own_mistake(meta, scan, *node, set, place) {
             return Some(mistake);
         }
-        if let Some(mistake) = lost_class(scan.targets(number), entries, set, place) {
-            return Some(mistake);
+        if let Some((to, class)) = lost_class(scan.targets(number), entries, set) {
+            return Some(Mistake::Lost(place, to, class));
         }
     }
     None
 }
 
-/// The first class of the sets of these nodes that isn't in this one, which is that of a node at this place.
-fn lost_class(targets: &[usize], entries: &[Entry], set: &ClassSet, place: Place) -> Option<Mistake>
+/// The first class of the sets of these nodes that isn't in this one, with the place of the node that has it.
+fn lost_class(targets: &[usize], entries: &[Entry], set: &ClassSet) -> Option<(Place, usize)>
     requires { (b : ℕ) → Contains targets.now b → b < length entries.now }
-    ensures { let Within = AreWithin targets.now entries.now set.now in MatchOption result Within (λ _. Within → ⊥) }
+    ensures { MatchOption result (AreWithin targets.now entries.now set.now)
+        (λ lost. HasLost targets.now entries.now set.now lost.0 lost.1) }
 {
     for target in targets {
         let entry = &entries[*target];
@@ -53,7 +54,7 @@ fn lost_class(targets: &[usize], entries: &[Entry], set: &ClassSet, place: Place
                 node: *target,
                 line: entry.line,
             };
-            return Some(Mistake::Lost(place, to, class));
+            return Some((to, class));
         }
     }
     None
@@ -68,7 +69,7 @@ fn own_mistake(
     place: Place,
 ) -> Option<Mistake>
     requires { IsScan meta.now scan.now }
-    ensures { let Holds = HoldsOwn meta.now node set.now in MatchOption result Holds (λ _. Holds → ⊥) }
+    ensures { MatchOption result (HoldsOwn meta.now node set.now) (IsOwnMistake meta.now node set.now place) }
 {
     match node.member {
         Member::Destruction => match first_unmarked(row_at(scan.destroys(), node.class), set) {
@@ -88,7 +89,8 @@ fn own_mistake(
 
 /// The first of the classes that isn't in the set.
 fn first_unmarked(classes: &[usize], set: &ClassSet) -> Option<usize>
-    ensures { let All = (d : ℕ) → Contains classes.now d → IsMarked set.now d in MatchOption result All (λ _. All → ⊥) }
+    ensures { MatchOption result ((d : ℕ) → Contains classes.now d → IsMarked set.now d)
+        (λ d. Contains classes.now d × (IsMarked set.now d → ⊥)) }
 {
     for class in classes {
         if !set.contains(*class) {

@@ -92,22 +92,22 @@ fn entries_at(
     for place in places {
         match entry_of(alloc, meta, scan, *place, &lines[*place])? {
             Ok(entry) => entries.push(entry)?,
-            Err(extra) => return Ok(Err(extra)),
+            Err(item) => return Ok(Err(Extra::Class(*place, item))),
         }
     }
     Ok(Ok(entries))
 }
 
-/// The entry of the line at this place, or the first class in its set that isn't there.
+/// The entry of the line at this place, or the place of the first item of its set whose class isn't there.
 fn entry_of(
     alloc: Global,
     meta: &Meta,
     scan: &Scan,
     place: usize,
     line: &Line,
-) -> Result<Result<Entry, Extra>, AllocError>
+) -> Result<Result<Entry, usize>, AllocError>
     requires { IsScan meta.now scan.now }
-    ensures { IfOk result (FindsEntry meta.now line.now) }
+    ensures { IfOk result (FindsEntry meta.now line.now place) }
 {
     match set_of(alloc, meta, scan, line.destroys.as_slice())? {
         Ok(destroys) => Ok(Ok(Entry {
@@ -115,6 +115,6 @@ fn entry_of(
             rank: line.rank,
             destroys,
         })),
-        Err(item) => Ok(Err(Extra::Class(place, item))),
+        Err(item) => Ok(Err(item)),
     }
 }

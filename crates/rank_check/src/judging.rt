@@ -12,7 +12,7 @@ use certificate_lang::Certificate;
 use effect_scan::{Scan, edges_join_nodes};
 use meta_objects::Meta;
 use std::alloc::Global;
-use typing::{unfit_wire, untyped};
+use type_check::{unfit_wire, untyped};
 
 /// What breaks the first condition of a valid certificate that doesn't hold, as the error. `check` answers by this very
 /// judgement, and keeps the condition alone. `Memory` comes only where a growth of memory was refused.

@@ -20,8 +20,6 @@ pub use certificate_lang::{
 pub use checked::{Checked, check};
 pub use class_set::ClassSet;
 pub use judging::judge;
-pub use naming::line_numbers;
 pub use no::No;
-pub use places::last_places;
 pub use ranks::MOST_BOUND;
-pub use typing::{Spot, unfit_wire, untyped};
+pub use type_check::{Spot, unfit_wire, untyped};

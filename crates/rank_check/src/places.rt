@@ -1,7 +1,7 @@
 //! The lines of nodes, by their places in the certificate.
 
 ghost use Rattle.std.specs.Prelude.{◌≡◌, length, replicate, IfOk, MatchOption, None};
-ghost use Rattle.rank_check.specs.Entries.{AreBelow, PlacesEach, FindsPlaces, FindsAll, AreOnce};
+ghost use Rattle.rank_check.specs.Entries.{AreBelow, PlacesEach, FindsPlaces, FindsAll, AreOnce, IsExtraLine};
 
 use crate::causes::Extra;
 use sqlite_items::Items;
@@ -22,7 +22,7 @@ pub fn line_places(
 
 /// For each of so many nodes the place of the last line that is for it, or `None` where there is none. Its error is that
 /// memory was refused.
-pub fn last_places(
+fn last_places(
     alloc: Global,
     count: usize,
     numbers: &[Option<usize>],
@@ -70,7 +70,7 @@ fn all_places(
 /// The first line that is for no node, or for the node of another one.
 pub fn first_extra(numbers: &[Option<usize>], places: &[usize]) -> Option<Extra>
     requires { AreBelow (length places.now) numbers.now }
-    ensures { MatchOption result (AreOnce numbers.now places.now) (λ _. AreOnce numbers.now places.now → ⊥) }
+    ensures { MatchOption result (AreOnce numbers.now places.now) (IsExtraLine numbers.now places.now) }
 {
     for (place, number) in numbers.iter().enumerate() {
         match number {

@@ -4,7 +4,8 @@ ghost use Rattle.std.specs.Prelude.{ℕ, ◌<◌, length, MatchOption};
 ghost use Rattle.std.specs.List.{Contains};
 ghost use Rattle.effect_scan.specs.Rows.{Edge};
 ghost use Rattle.rank_check.specs.Valid.{IsBounded};
-ghost use Rattle.rank_check.specs.ByNumbers.{AreLower, Fall};
+ghost use Rattle.rank_check.specs.Causes.{IsLoose};
+ghost use Rattle.rank_check.specs.ByNumbers.{AreLower, IsAsHigh, Fall, IsRiseIn};
 
 use crate::causes::{Loose, Place, Rise};
 use crate::entries::Entry;
@@ -18,7 +19,7 @@ pub const MOST_BOUND: u32 = MOST_DEPTH;
 /// The first edge along which the rank doesn't fall, in the order of nodes.
 pub fn first_rise(scan: &Scan, entries: &[Entry]) -> Option<Rise>
     requires { (a b : ℕ) → Edge scan.now.rows a b → b < length entries.now }
-    ensures { MatchOption result (Fall scan.now.rows entries.now) (λ _. Fall scan.now.rows entries.now → ⊥) }
+    ensures { MatchOption result (Fall scan.now.rows entries.now) (IsRiseIn scan.now.rows entries.now) }
 {
     for (node, entry) in entries.iter().enumerate() {
         if let Some(to) = first_as_high(scan.targets(node), entries, entry.rank) {
@@ -35,7 +36,7 @@ pub fn first_rise(scan: &Scan, entries: &[Entry]) -> Option<Rise>
 /// The first of these nodes that hasn't a rank below this one.
 fn first_as_high(targets: &[usize], entries: &[Entry], rank: u32) -> Option<Place>
     requires { (b : ℕ) → Contains targets.now b → b < length entries.now }
-    ensures { MatchOption result (AreLower targets.now entries.now rank) (λ _. AreLower targets.now entries.now rank → ⊥) }
+    ensures { MatchOption result (AreLower targets.now entries.now rank) (IsAsHigh targets.now entries.now rank) }
 {
     for target in targets {
         let entry = &entries[*target];
@@ -51,7 +52,7 @@ fn first_as_high(targets: &[usize], entries: &[Entry], rank: u32) -> Option<Plac
 
 /// What is wrong with the bound, which has to be above each rank and at most 256.
 pub fn loose_bound(certificate: &Certificate) -> Option<Loose>
-    ensures { MatchOption result (IsBounded certificate.now) (λ _. IsBounded certificate.now → ⊥) }
+    ensures { MatchOption result (IsBounded certificate.now) (IsLoose certificate.now) }
 {
     if certificate.bound > MOST_BOUND {
         return Some(Loose::TooGreat);

@@ -4,19 +4,36 @@ use Rattle.effect_scan.specs.declared.node.Node.{Node}
 use Rattle.effect_scan.specs.declared.node.Member.TheVariants.{Method}
 use Rattle.effect_scan.specs.Nodes.{node}
 use Rattle.rank_check.proofs.Elements.{at_index}
-use Rattle.rank_check.proofs.Conditions.{hold_more, hold_all}
+use Rattle.rank_check.proofs.Conditions.{mistake_of_one, hold_more, hold_all}
 use Rattle.rank_check.proofs.destroys.first_mistake.Goals as goal
 
 pub lost_class-requires : goal.lost_class-requires
 lost_class-requires c = λ b h. c.requires.inside c.loop-number.number b (subst (λ (ts : List ℕ). Contains ts b) c.targets.ensures h)
 
 pub returns-in-Some-lost_class : goal.returns-in-Some-lost_class
-returns-in-Some-lost_class c = λ hold.
+returns-in-Some-lost_class c =
     let count = ap (λ (ns : List Node). length ns) c.nodes-node-items.ensures in
     let inside : c.loop-number.number < length c.args.entries.now = omega (arith, count, c.requires.count, c.loop-number-test.true) in
-    let here = at_index c.args.entries.now c.loop-number.number c.index-entries-number.result inside c.index-entries-number.is in
-    c.in-Some-lost_class.ensures
-    (λ b y held at. hold.passed_on c.loop-number.number b c.index-entries-number.result y here (subst (λ (ts : List ℕ). Contains ts b) c.targets.ensures held) at)
+    let lost = c.in-Some-lost_class.ensures in
+    record {
+      edge = subst (λ (ts : List ℕ). Contains ts c.in-Some-lost_class.to.node) c.targets.ensures lost.held;
+      upper = c.index-entries-number.result;
+      upper_is = record { stands = at_index c.args.entries.now c.loop-number.number c.index-entries-number.result inside c.index-entries-number.is; line = refl };
+      lower = lost.entry;
+      lower_is = lost.is;
+      holds = lost.holds;
+      lacks = lost.lacks;
+    }
+
+pub returns-in-Some : goal.returns-in-Some
+returns-in-Some c =
+    let count = ap (λ (ns : List Node). length ns) c.nodes-node-items.ensures in
+    let inside : c.loop-number.number < length c.args.entries.now = omega (arith, count, c.requires.count, c.loop-number-test.true) in
+    let items = c.nodes-node-items.result.now in
+    mistake_of_one c.args.meta.now c.args.scan.now.nodes c.args.scan.now.rows c.args.entries.now items c.loop-number.number (node 0 (Method 0)) c.index-entries-number.result
+    c.nodes-node-items.ensures c.loop-number-test.true
+    (at_index c.args.entries.now c.loop-number.number c.index-entries-number.result inside c.index-entries-number.is)
+    c.in-Some.mistake c.in-Some.ensures
 
 pub loop-number-preserved : goal.loop-number-preserved
 loop-number-preserved c =

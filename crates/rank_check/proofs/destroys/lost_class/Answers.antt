@@ -1,4 +1,4 @@
-use Rattle.std.proofs.Common.{◌≡◌, ◌<◌, ℕ, length, get_or, slice_get, Some, subst, below_more, arith}
+use Rattle.std.proofs.Common.{◌≡◌, ◌<◌, ℕ, length, get_or, slice_get, Some, refl, subst, below_more, arith}
 use Rattle.std.proofs.lemmas.List.Elements.{Contains-get_or}
 use Rattle.rank_check.specs.declared.entries.Entry.{Entry}
 use Rattle.rank_check.specs.ByNumbers.{IsWithin}
@@ -14,9 +14,15 @@ pub bounds-entries-target : goal.bounds-entries-target
 bounds-entries-target c = c.requires _ (Contains-get_or c.args.targets.now c.loop-target.target-index 0 c.loop-target-test.true)
 
 pub returns-in-Some : goal.returns-in-Some
-returns-in-Some c = λ all.
+returns-in-Some c =
     let held = Contains-get_or c.args.targets.now c.loop-target.target-index 0 c.loop-target-test.true in
-    c.in-Some.ensures (all _ c.index-entries-target.result held (at_index c.args.entries.now _ _ (c.requires _ held) c.index-entries-target.is))
+    record {
+      held = held;
+      entry = c.index-entries-target.result;
+      is = record { stands = at_index c.args.entries.now _ _ (c.requires _ held) c.index-entries-target.is; line = refl };
+      holds = c.in-Some.ensures.0;
+      lacks = c.in-Some.ensures.1;
+    }
 
 pub loop-target-preserved : goal.loop-target-preserved
 loop-target-preserved c =

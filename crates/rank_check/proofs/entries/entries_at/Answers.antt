@@ -13,4 +13,10 @@ loop-place-preserved c =
     let here = at_index c.args.lines.now _ c.index-lines-place.result inside c.index-lines-place.is in
     let found = rw c.in-Ok.is at c.in_ok-entry.ensures in
     zip_push (IsEntryAt c.args.meta.now c.args.lines.now) c.args.places.now _ _ c.loop-place.place-index _ c.in-Ok.entry c.loop-place-test.true (read_at c.args.places.now c.loop-place.place-index 0 c.loop-place-test.true)
-    (record { line = c.index-lines-place.result; stands = here; is = found }) c.loop-place.invariant c.in_ok-push-in-Ok.ensures.ok
+    (record { line = c.index-lines-place.result; stands = here; place = found.0; is = found.1 }) c.loop-place.invariant c.in_ok-push-in-Ok.ensures.ok
+
+pub returns-in-Err : goal.returns-in-Err
+returns-in-Err c =
+    let place = slice_get-get_or c.args.places.now c.loop-place.place-index 0 c.loop-place-test.true in
+    let inside : get_or c.args.places.now c.loop-place.place-index 0 < length c.args.lines.now = c.requires.inside c.loop-place.place-index _ place in
+    record { line = c.index-lines-place.result; stands = at_index c.args.lines.now _ c.index-lines-place.result inside c.index-lines-place.is; none = rw c.in-Err.is at c.in_ok-entry.ensures }

@@ -1,5 +1,4 @@
-use Rattle.rank_check.proofs.Listing.{none_there}
 use Rattle.rank_check.proofs.entries.entry_of.Goals as goal
 
 pub returns-in-Err : goal.returns-in-Err
-returns-in-Err c = none_there c.args.meta.now _ _ (rw (c.as_slice.ensures, c.in-Err.is) at c.in_ok-destroys.ensures)
+returns-in-Err c = rw (c.as_slice.ensures, c.in-Err.is) at c.in_ok-destroys.ensures

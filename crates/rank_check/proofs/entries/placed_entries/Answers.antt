@@ -1,19 +1,18 @@
 use Rattle.std.proofs.Common.{List, length, ap, subst, arith}
 use Rattle.certificate_lang.specs.declared.certificate.Line.{Line}
-use Rattle.rank_check.specs.Entries.{LacksClass}
-use Rattle.rank_check.proofs.Assembled.{numbers_low, place_inside, each_there, once_where_nothing_else, nodes_named, class_missing}
+use Rattle.rank_check.specs.Causes.{IsExtra}
+use Rattle.rank_check.proofs.Assembled.{numbers_low, place_inside, each_there, extra_line, nodes_named}
+use Rattle.rank_check.proofs.Breaking.{extra_breaks}
 use Rattle.rank_check.proofs.entries.placed_entries.Goals as goal
 
 pub first_extra-requires : goal.first_extra-requires
 first_extra-requires c = numbers_low c.args.meta.now c.args.certificate.now c.args.numbers.now c.requires.numbers _ c.requires.places.counted
 
 pub returns-in-Some : goal.returns-in-Some
-returns-in-Some c = λ ready. (
-  ready.wires,
-  ready.typed,
-  each_there c.args.meta.now c.args.certificate.now c.args.numbers.now c.requires.numbers c.args.places.now c.requires.places,
-  λ all. c.in-Some.ensures (once_where_nothing_else c.args.meta.now c.args.certificate.now c.args.numbers.now c.requires.numbers c.args.places.now c.requires.places all),
-)
+returns-in-Some c = λ ready.
+    let extra = extra_line c.args.meta.now c.args.certificate.now c.args.numbers.now c.requires.numbers c.args.places.now c.requires.places c.in-Some.extra c.in-Some.ensures in
+    let each = each_there c.args.meta.now c.args.certificate.now c.args.numbers.now c.requires.numbers c.args.places.now c.requires.places in
+    ((ready.wires, ready.typed, each, extra_breaks c.args.meta.now c.args.certificate.now c.in-Some.extra extra), extra)
 
 pub entries_at-requires-clause-inside : goal.entries_at-requires-clause-inside
 entries_at-requires-clause-inside c = λ n k at.
@@ -27,9 +26,7 @@ returns-in-Ok c =
     (rw (c.as_slice.ensures, c.in-Ok.is) at c.in_ok-entries.ensures)
 
 pub returns-in-Err : goal.returns-in-Err
-returns-in-Err c = λ ready. (
-  ready.wires,
-  ready.typed,
-  each_there c.args.meta.now c.args.certificate.now c.args.numbers.now c.requires.numbers c.args.places.now c.requires.places,
-  class_missing c.args.meta.now c.args.certificate.now (subst (λ (ls : List Line). LacksClass c.args.meta.now ls) c.as_slice.ensures (rw c.in-Err.is at c.in_ok-entries.ensures)),
-)
+returns-in-Err c = λ ready.
+    let extra = subst (λ (ls : List Line). IsExtra c.args.meta.now ls c.in-Err.extra) c.as_slice.ensures (rw c.in-Err.is at c.in_ok-entries.ensures) in
+    let each = each_there c.args.meta.now c.args.certificate.now c.args.numbers.now c.requires.numbers c.args.places.now c.requires.places in
+    ((ready.wires, ready.typed, each, extra_breaks c.args.meta.now c.args.certificate.now c.in-Err.extra extra), extra)

@@ -1,4 +1,4 @@
-use Rattle.std.proofs.Common.{◌≡◌, ◌<◌, ℕ, length, get_or, slice_get, Some, ap, subst, below_more, arith}
+use Rattle.std.proofs.Common.{◌≡◌, ◌<◌, ℕ, length, get_or, slice_get, Some, refl, ap, subst, below_more, arith}
 use Rattle.std.proofs.lemmas.List.Elements.{Contains-get_or}
 use Rattle.rank_check.specs.declared.entries.Entry.{Entry}
 use Rattle.rank_check.proofs.Elements.{at_index, same_index, each_number}
@@ -13,11 +13,15 @@ pub bounds-entries-target : goal.bounds-entries-target
 bounds-entries-target c = c.requires _ (Contains-get_or c.args.targets.now c.loop-target.target-index 0 c.loop-target-test.true)
 
 pub returns-then-entry-rank : goal.returns-then-entry-rank
-returns-then-entry-rank c = λ all.
+returns-then-entry-rank c =
     let held = Contains-get_or c.args.targets.now c.loop-target.target-index 0 c.loop-target-test.true in
     let rank = ap (λ (z : Entry). z.rank) c.index-entries-target.is in
-    let low = all _ c.index-entries-target.result held (at_index c.args.entries.now _ _ (c.requires _ held) c.index-entries-target.is) in
-    omega (arith, low, rank, c.if-entry-rank.true)
+    record {
+      held = held;
+      entry = c.index-entries-target.result;
+      is = record { stands = at_index c.args.entries.now _ _ (c.requires _ held) c.index-entries-target.is; line = refl };
+      high = omega (arith, rank, c.if-entry-rank.true);
+    }
 
 pub loop-target-preserved : goal.loop-target-preserved
 loop-target-preserved c =

@@ -1,4 +1,4 @@
-use Rattle.std.proofs.Common.{ℕ, List, subst, below_more, arith}
+use Rattle.std.proofs.Common.{ℕ, List, refl, subst, below_more, arith}
 use Rattle.std.specs.List.{Contains}
 use Rattle.std.proofs.lemmas.Option.{slice_get_within}
 use Rattle.effect_scan.specs.Rows.{row}
@@ -11,9 +11,16 @@ pub first_as_high-requires : goal.first_as_high-requires
 first_as_high-requires c = λ b h. c.requires c.loop-node.node b (subst (λ (ts : List ℕ). Contains ts b) c.targets.ensures h)
 
 pub returns-in-Some : goal.returns-in-Some
-returns-in-Some c = λ all.
-    let here = at_index c.args.entries.now c.loop-node.node c.index-entries-node.result c.loop-node-test.true c.index-entries-node.is in
-    c.in-Some.ensures (λ b y held at. all c.loop-node.node b c.index-entries-node.result y here (subst (λ (ts : List ℕ). Contains ts b) c.targets.ensures held) at)
+returns-in-Some c =
+    let high = c.in-Some.ensures in
+    record {
+      edge = subst (λ (ts : List ℕ). Contains ts c.in-Some.to.node) c.targets.ensures high.held;
+      upper = c.index-entries-node.result;
+      upper_is = record { stands = at_index c.args.entries.now c.loop-node.node c.index-entries-node.result c.loop-node-test.true c.index-entries-node.is; line = refl };
+      lower = high.entry;
+      lower_is = high.is;
+      rises = high.high;
+    }
 
 pub loop-node-preserved : goal.loop-node-preserved
 loop-node-preserved c =

@@ -1,14 +1,13 @@
 use Rattle.std.proofs.Common.{◌≡◌, ◌<◌, List, length, slice_get, Some, sym, ap, subst, below_more, arith}
 use Rattle.std.proofs.lemmas.Option.{slice_get_within}
 use Rattle.certificate_lang.specs.declared.certificate.Line.{Line}
-use Rattle.rank_check.proofs.Elements.{at_index, same_index, place_of, element_at}
+use Rattle.rank_check.proofs.Elements.{at_index, same_index, place_of}
 use Rattle.rank_check.proofs.ranks.loose_bound.Goals as goal
 
 pub returns-then-line-certificate : goal.returns-then-line-certificate
-returns-then-line-certificate c = λ bounded.
+returns-then-line-certificate c =
     let at = subst (λ (ls : List Line). slice_get ls c.loop-place.place ≡ Some c.line-item.result) c.as_slice-line-items.ensures (at_index c.as_slice-line-items.result.now c.loop-place.place c.line-item.result c.loop-place-test.true c.line-item.is) in
-    let low = bounded.ranks c.line-item.result (element_at c.args.certificate.now.lines c.loop-place.place c.line-item.result at) in
-    omega (arith, low, c.if-line-certificate.true)
+    record { line = c.line-item.result; stands = at; high = omega (arith, c.if-line-certificate.true) }
 
 pub loop-place-preserved : goal.loop-place-preserved
 loop-place-preserved c =

@@ -1,4 +1,4 @@
-use Rattle.rank_check.proofs.Listing.{no_items, item_lacks, set_more}
+use Rattle.rank_check.proofs.Listing.{item_lacks, set_more}
 use Rattle.rank_check.proofs.sets.set_of.Goals as goal
 
 pub returns-then-not-add_item : goal.returns-then-not-add_item
