@@ -9,12 +9,14 @@ use Rattle.binding_graph.specs.declared.place.Place.{Place}
 use Rattle.binding_graph.specs.Bindings.{binding_at, without, replaced, Chain, direct, further}
 use Rattle.prop_bindings.specs.Fits.{IsFit, IsInOneLoop, Agree}
 use Rattle.effect_scan.specs.declared.node.Node.{Node}
+use Rattle.effect_scan.specs.declared.node.Member.TheVariants.{Property}
+use Rattle.effect_scan.specs.Nodes.{node}
 use Rattle.certificate_lang.specs.declared.certificate.Certificate.{Certificate}
 use Rattle.rank_check.specs.Valid.{IsValid}
 use Rattle.trace_entries.specs.declared.fault.Answer.{Answer}
 use Rattle.machine_state.specs.State.{Step, Run, State, Activation, Body}
 use Rattle.machine_state.specs.Worlds.{at, untouched}
-use Rattle.statement_meaning.specs.Operations.{Write}
+use Rattle.machine_rules.specs.Operations.{Write}
 use Rattle.machine_rules.specs.Good.{IsWell, IsGood, Spares, has_body}
 use Rattle.machine_rules.specs.Natives.{NativeAnswers}
 use Rattle.machine_rules.specs.Rules.{Rule}
@@ -33,7 +35,7 @@ use Rattle.checked_runs.proofs.Events.{HoldsSome, takes-held, binding-sited}
 use Rattle.checked_runs.proofs.Sites.{no-loop}
 use Rattle.checked_runs.proofs.Lacking.{body-typed, typed-does}
 use Rattle.checked_runs.proofs.Nodes.{body-named}
-use Rattle.rule_interpreter.proofs.Keeps.{lives-of-class}
+use Rattle.machine_rules.proofs.Keeps.{lives-of-class}
 use Rattle.meta_model.specs.declared.object.Work.{Work}
 use Rattle.meta_model.specs.declared.object.Statement.{Statement}
 use Rattle.meta_model.specs.declared.object.Statement.TheViews.{out-Statement}
@@ -42,7 +44,7 @@ use Rattle.meta_model.specs.Sound.{IsSoundWork}
 use Rattle.type_check.specs.Typed.{IsTypedWork}
 use Rattle.object_tree.specs.declared.object.Object.{Object}
 use Rattle.object_tree.specs.Typed.{AreTyped}
-use Rattle.statement_meaning.specs.Operations.{operation}
+use Rattle.machine_rules.specs.Operations.{operation}
 use Rattle.checked_runs.proofs.Invariant.{IsStepOf, runs}
 use Rattle.checked_runs.proofs.Leading.{occurs-sound, occurs-in}
 

@@ -1,5 +1,5 @@
 -- What comes next where a run stops, and why it stops (docs/machine.md, "Faults").
-use Rattle.std.specs.Prelude.{◌≡◌, ℕ, ◌<◌, ◌≤◌, List, ◌∷◌, ◌++◌, length, None}
+use Rattle.std.specs.Prelude.{◌≡◌, ℕ, ◌<◌, ◌≤◌, List, ◌∷◌, ◌++◌, length, None, Some}
 use Rattle.signatures.specs.declared.value.Value.{Value}
 use Rattle.meta_model.specs.declared.object.Statement.{Statement}
 use Rattle.meta_model.specs.declared.object.Statement.TheViews.{out-Statement}
@@ -9,7 +9,7 @@ use Rattle.prop_bindings.specs.declared.assignment.Assignment.{Assignment}
 use Rattle.prop_bindings.specs.Calls.{AllFit}
 use Rattle.machine_state.specs.State.{Step, Run, State, Activation, Body}
 use Rattle.machine_state.specs.Telling.{Assigning, writes_of}
-use Rattle.statement_meaning.specs.Operations.{operation}
+use Rattle.machine_rules.specs.Operations.{operation}
 use Rattle.machine_rules.specs.There.{LacksField}
 use Rattle.machine_rules.specs.Next.{WritesNext}
 use Rattle.machine_rules.specs.Good.{IsWell, Spares, IsAcyclic}

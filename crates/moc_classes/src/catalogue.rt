@@ -18,7 +18,7 @@ pub struct Listed<'f> {
 }
 
 /// Why a class of objects is left out.
-#[derive(Clone, Copy)]
+#[derive(Clone, Copy, Debug, PartialEq, Eq)]
 pub enum NoClass {
     /// No class of the language can have its name.
     Name,

@@ -1,0 +1,4 @@
+use Rattle.machine_rules.proofs.answer.+declaring.Given as goal
+
+abbrev pub decreases-declaring : goal.decreases-declaring
+decreases-declaring l = l.class
