@@ -15,7 +15,7 @@ import os, re, sys
 BESIDE = ['IsChecked', 'AreKept', 'StopsFor']
 PARTS = [('the claims, and runs', r'qt_runtime|checked_runs|machine_events/specs/Runs|machine_rules/specs/Good'),
          ('why a run stops', r'machine_events/specs/Causes|machine_rules/specs/Faults'),
-         ('events', r'machine_events'), ('rules', r'machine_rules'), ('the state', r'machine_state|trace_entries'),
+         ('events', r'machine_events'), ('rules', r'machine_rules|statement_meaning'), ('the state', r'machine_state|trace_entries'),
          ('objects, connections, event loops, bindings', r'object_tree|connections|event_loops|binding_graph|prop_bindings|delete_later'),
          ('values, expressions, classes', r'')]
 WORD = re.compile(r'[^\s(){},;.\[\]]+')

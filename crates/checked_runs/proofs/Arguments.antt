@@ -38,21 +38,21 @@ use Rattle.machine_state.specs.State.{Step, Run, Act, State, IsIdle, Activation,
 use Rattle.machine_state.specs.Turns.{running, reaches_at_once}
 use Rattle.machine_rules.specs.Connecting.{kept_ends, names_of}
 use Rattle.machine_rules.specs.Destroying.{Dies, NextRule, ChildRule, DestroyRule, living_child, Schedules}
-use Rattle.machine_rules.specs.Operations.{Operation, Write, Begin, Choose, Connect, Disconnect, Delete, Schedule, TakeAnswer, Nothing, operation_of_step}
+use Rattle.statement_meaning.specs.Operations.{Operation, Write, Begin, Choose, Connect, Disconnect, Delete, Schedule, TakeAnswer, Nothing, operation_of_step}
 use Rattle.machine_rules.specs.Good.{ArgumentsFit, of_living, of_dead, TopFits}
 use Rattle.machine_rules.specs.Judgement.{found as finds, holds as so, becomes, goes_on}
 use Rattle.machine_rules.specs.Natives.{NativeAnswers}
 use Rattle.machine_rules.specs.Rules.{Rule, RuleAt, BodyRule, Does, EmitRule, UpdateRule, NotifiesIf, TurnRule, Serves, Delivers, Arrives, Begins, BeginsIf, begun, with_used, linked, unlinked}
 use Rattle.machine_rules.specs.code.Sound.{Waits, SendsThese, MayBeHeard}
 use Rattle.machine_rules.specs.There.{IsMember}
-use Rattle.machine_rules.specs.code.Writing.{Announces}
-use Rattle.machine_rules.proofs.Beginning.{fit-of, next-delivered, delivered-fits}
+use Rattle.rule_interpreter.specs.code.Writing.{Announces}
+use Rattle.rule_interpreter.proofs.Beginning.{fit-of, next-delivered, delivered-fits}
 use Rattle.machine_rules.proofs.Declared.{living-fits}
 use Rattle.machine_rules.proofs.Dying.{died-dead}
 use Rattle.machine_rules.proofs.Fields.{member-at, method-unique}
 use Rattle.machine_rules.proofs.Lists.{all-append}
-use Rattle.machine_rules.proofs.Notifying.{announced-fits}
-use Rattle.machine_rules.proofs.Soundness.{AllFit}
+use Rattle.rule_interpreter.proofs.Notifying.{announced-fits}
+use Rattle.rule_interpreter.proofs.Soundness.{AllFit}
 use Rattle.machine_rules.proofs.Waiting.{first-waits}
 use Rattle.machine_events.specs.declared.events.invoke.Invocation.{Invocation}
 use Rattle.machine_events.specs.declared.events.invoke.Invocation.TheVariants.{Emit as EmitIt, Call as CallIt}
@@ -67,7 +67,7 @@ use Rattle.machine_events.proofs.Judged.{given-is}
 use Rattle.machine_events.proofs.Judging.Naming.{living-is, living-object}
 use Rattle.checked_runs.proofs.Leading.{does-led}
 use Rattle.machine_rules.proofs.Scheduling.{schedule-cases}
-use Rattle.machine_rules.proofs.Hearing.{AllHeard, nobody, may-be-heard}
+use Rattle.rule_interpreter.proofs.Hearing.{AllHeard, nobody, may-be-heard}
 
 -- What was pushed over so many activations has its arguments, and what is left of natives' answers keeps to their effects.
 pub record Pushes (p : Loaded) (classes : ℕ → Option ℕ) (high : ℕ) (t : State) : Type 0 where

@@ -48,7 +48,7 @@ use Rattle.machine_rules.specs.declared.ends.FoundEnds.{FoundEnds}
 use Rattle.machine_rules.specs.Good.{IsWell}
 use Rattle.machine_rules.specs.Judgement.{Numbered, found as finds, holds as so, becomes, goes_on}
 use Rattle.machine_rules.specs.Settling.{Installs}
-use Rattle.machine_rules.proofs.Keeps.{class-of-lives}
+use Rattle.rule_interpreter.proofs.Keeps.{class-of-lives}
 use Rattle.machine_rules.proofs.Lists.{all-filtered, all-snoc, all-weaken}
 use Rattle.machine_events.specs.declared.events.invoke.Invocation.{Invocation}
 use Rattle.machine_events.specs.declared.events.invoke.Invocation.TheVariants.{Emit as EmitIt, Call as CallIt}

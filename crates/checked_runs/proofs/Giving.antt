@@ -42,16 +42,16 @@ use Rattle.effect_scan.specs.declared.node.Node.{Node}
 use Rattle.certificate_lang.specs.declared.certificate.Certificate.{Certificate}
 use Rattle.rank_check.specs.Valid.{IsValid}
 use Rattle.machine_state.specs.State.{State, Step, Run, Ask, Act, Activation}
-use Rattle.machine_rules.specs.Operations.{Operation, Write, Begin, Choose, Connect, Disconnect, Delete, Schedule, TakeAnswer, Nothing, on_object, chosen_by, operation, operation_of_set, set_at, sets_in, operation_of_action, operation_of_step}
+use Rattle.statement_meaning.specs.Operations.{Operation, Write, Begin, Choose, Connect, Disconnect, Delete, Schedule, TakeAnswer, Nothing, on_object, chosen_by, operation, operation_of_set, set_at, sets_in, operation_of_action, operation_of_step}
 use Rattle.machine_rules.specs.Natives.{NativeAnswers}
-use Rattle.machine_rules.specs.Paths.{path_value, value_of, values_of}
+use Rattle.statement_meaning.specs.Paths.{path_value, value_of, values_of}
 use Rattle.machine_rules.specs.Rules.{Answers}
 use Rattle.machine_rules.specs.There.{IsMember, IsField}
-use Rattle.machine_rules.proofs.Beginning.{fit-of}
+use Rattle.rule_interpreter.proofs.Beginning.{fit-of}
 use Rattle.machine_rules.proofs.Fields.{field-property, member-method}
 use Rattle.machine_rules.proofs.Inherited.{method-below, property-below}
-use Rattle.machine_rules.proofs.Keeps.{lives-of-class, class-of-lives}
-use Rattle.machine_rules.proofs.Promised.{declared-at, promised}
+use Rattle.rule_interpreter.proofs.Keeps.{lives-of-class, class-of-lives}
+use Rattle.rule_interpreter.proofs.Promised.{declared-at, promised}
 use Rattle.machine_events.proofs.TypedPaths.{Reaches, to_null, to_object}
 use Rattle.checked_runs.proofs.Invariant.{BodyStands, IsStepOf, runs}
 use Rattle.checked_runs.proofs.Promised.{SetsWithin, EmitsWithin, IsWithin, IsPromised, StepIsPromised}

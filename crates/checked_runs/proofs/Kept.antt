@@ -16,7 +16,7 @@ use Rattle.rank_check.specs.Valid.{IsValid}
 use Rattle.trace_entries.specs.declared.fault.Answer.{Answer}
 use Rattle.machine_state.specs.State.{Step, Run, State, Activation, Body}
 use Rattle.machine_state.specs.Worlds.{at, untouched}
-use Rattle.machine_rules.specs.Operations.{Write}
+use Rattle.statement_meaning.specs.Operations.{Write}
 use Rattle.machine_rules.specs.Good.{IsWell, IsGood, Spares, has_body}
 use Rattle.machine_rules.specs.Natives.{NativeAnswers}
 use Rattle.machine_rules.specs.Rules.{Rule}
@@ -35,7 +35,7 @@ use Rattle.checked_runs.proofs.Events.{HoldsSome, takes-held, binding-sited}
 use Rattle.checked_runs.proofs.Sites.{no-loop}
 use Rattle.checked_runs.proofs.Lacking.{body-typed, typed-does}
 use Rattle.checked_runs.proofs.Nodes.{body-named}
-use Rattle.machine_rules.proofs.Keeps.{lives-of-class}
+use Rattle.rule_interpreter.proofs.Keeps.{lives-of-class}
 use Rattle.meta_model.specs.declared.object.Work.{Work}
 use Rattle.meta_model.specs.declared.object.Statement.{Statement}
 use Rattle.meta_model.specs.declared.object.Statement.TheViews.{out-Statement}
@@ -44,7 +44,7 @@ use Rattle.meta_model.specs.Sound.{IsSoundWork}
 use Rattle.type_check.specs.Typed.{IsTypedWork}
 use Rattle.object_tree.specs.declared.object.Object.{Object}
 use Rattle.object_tree.specs.Typed.{AreTyped}
-use Rattle.machine_rules.specs.Operations.{operation}
+use Rattle.statement_meaning.specs.Operations.{operation}
 use Rattle.checked_runs.proofs.Invariant.{IsStepOf, runs}
 use Rattle.checked_runs.proofs.Leading.{occurs-sound, occurs-in}
 

@@ -30,8 +30,8 @@ use Rattle.effect_scan.specs.declared.node.Member.TheVariants.{Method}
 use Rattle.effect_scan.specs.Nodes.{node, named}
 use Rattle.certificate_lang.specs.declared.certificate.Certificate.{Certificate}
 use Rattle.rank_check.specs.Valid.{IsValid}
-use Rattle.machine_rules.specs.Operations.{Operation, Write, Begin, led_to, on_object, chosen_by, operation, operation_of_set, set_at, set_in, sets_in, after_set}
-use Rattle.machine_rules.specs.Paths.{path_value, value_of, values_of}
+use Rattle.statement_meaning.specs.Operations.{Operation, Write, Begin, led_to, on_object, chosen_by, operation, operation_of_set, set_at, set_in, sets_in, after_set}
+use Rattle.statement_meaning.specs.Paths.{path_value, value_of, values_of}
 use Rattle.machine_rules.proofs.Fields.{method-unique}
 use Rattle.rank_check.proofs.Elements.{some_inside}
 use Rattle.effect_scan.specs.Laws.{IsNode}

@@ -41,10 +41,10 @@ use Rattle.effect_scan.specs.Effects.{reach_of_type, reach_of_root, reach_after,
 use Rattle.effect_scan.specs.Edges.{ReachedAs, MayLead, by_work}
 use Rattle.rank_check.proofs.Elements.{element_at}
 use Rattle.machine_state.specs.State.{Step, Run, Ask, Act}
-use Rattle.machine_rules.specs.Operations.{Operation, Write, Begin, Choose, Connect, Disconnect, Delete, Schedule, TakeAnswer, Nothing, led_to, on_object, operation_of_set, set_at, set_in, sets_in, after_set, chosen_by, operation, operation_of_action, operation_of_step}
-use Rattle.machine_rules.specs.Paths.{path_value, steps_value, root_value, value_of, values_of}
+use Rattle.statement_meaning.specs.Operations.{Operation, Write, Begin, Choose, Connect, Disconnect, Delete, Schedule, TakeAnswer, Nothing, led_to, on_object, operation_of_set, set_at, set_in, sets_in, after_set, chosen_by, operation, operation_of_action, operation_of_step}
+use Rattle.statement_meaning.specs.Paths.{path_value, steps_value, root_value, value_of, values_of}
 use Rattle.machine_rules.proofs.Fields.{life-unique}
-use Rattle.machine_rules.proofs.Keeps.{lives-of-class}
+use Rattle.rule_interpreter.proofs.Keeps.{lives-of-class}
 use Rattle.machine_events.proofs.TypedPaths.{Reaches, to_null, to_object, path-reaches}
 use Rattle.checked_runs.proofs.Lacking.{body-typed, sets-done}
 use Rattle.machine_events.proofs.Grouped.{IfWrites, Within, within-first, within-next, mapped-so, values-still}

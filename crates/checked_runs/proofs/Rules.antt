@@ -58,7 +58,7 @@ use Rattle.machine_state.specs.Turns.{running, reaches_at_once}
 use Rattle.machine_state.proofs.Due.{found-among, all-removed, all-used, used-due, used-among}
 use Rattle.machine_rules.specs.Connecting.{kept_ends, names_of, named_signal, found_ends, may_connect}
 use Rattle.machine_rules.specs.Destroying.{Dies, NextRule, ChildRule, DestroyRule, living_child, Schedules, deleting}
-use Rattle.machine_rules.specs.Operations.{Operation, Write, Begin, Choose, Connect, Disconnect, Delete, Schedule, TakeAnswer, Nothing, operation_of_step}
+use Rattle.statement_meaning.specs.Operations.{Operation, Write, Begin, Choose, Connect, Disconnect, Delete, Schedule, TakeAnswer, Nothing, operation_of_step}
 use Rattle.machine_rules.specs.Good.{ArgumentsFit, TopFits, IsWell, Spares, has_body}
 use Rattle.machine_rules.specs.Judgement.{holds as so, goes_on}
 use Rattle.machine_rules.specs.Natives.{NativeAnswers}
@@ -70,7 +70,7 @@ use Rattle.machine_rules.proofs.Differing.{differ-stay, differ-spared}
 use Rattle.machine_rules.proofs.Dying.{died-stay, scheduled-stay, scheduled-seen, other-seen}
 use Rattle.machine_rules.proofs.Fields.{member-method}
 use Rattle.machine_rules.proofs.Inherited.{method-below}
-use Rattle.machine_rules.proofs.Keeps.{class-of-lives}
+use Rattle.rule_interpreter.proofs.Keeps.{class-of-lives}
 use Rattle.machine_rules.proofs.Lists.{all-append, all-filtered, all-snoc}
 use Rattle.machine_rules.proofs.Waiting.{first-waits}
 use Rattle.checked_runs.proofs.Invariant.{Falls, IsNoHigher, Level, NodeLevel, FallsTo, IsStepOf, runs, asks, acts, BodyStands, EmitStands, IsFollower, IsTorn, DestroyStands, Stacked, IsOwned, IsWired, IsSited, IsCovered, Holds}

@@ -15,12 +15,12 @@ use Rattle.machine_state.specs.State.{State, Activation, Body}
 use Rattle.machine_state.specs.Worlds.{at, untouched}
 use Rattle.machine_state.specs.Telling.{Assigning, writes_of}
 use Rattle.prop_bindings.specs.Calls.{AllFit}
-use Rattle.machine_rules.specs.Operations.{Write}
+use Rattle.statement_meaning.specs.Operations.{Write}
 use Rattle.machine_rules.specs.Good.{IsWell, IsGood}
 use Rattle.machine_rules.specs.Natives.{NativeAnswers}
 use Rattle.machine_rules.specs.Rules.{Rule}
 use Rattle.machine_rules.specs.Next.{WritesNext, WritesIll}
-use Rattle.machine_rules.proofs.Writes.{fits-read}
+use Rattle.rule_interpreter.proofs.Writes.{fits-read}
 use Rattle.machine_rules.specs.There.{IsField}
 use Rattle.machine_events.specs.Runs.{Run, done, goes, takes, Each, Follows, by_rule, by_event}
 use Rattle.machine_events.specs.Takes.{Takes as Taking}

@@ -54,7 +54,7 @@ use Rattle.machine_state.specs.Telling.{Assigning, writes_of}
 use Rattle.prop_bindings.specs.Calls.{AllFit}
 use Rattle.machine_rules.specs.Connecting.{kept_ends, names_of}
 use Rattle.machine_rules.specs.Destroying.{Dies, NextRule, ChildRule, DestroyRule, living_child, Schedules}
-use Rattle.machine_rules.specs.Operations.{Operation, Write, Begin, Choose, Connect, Disconnect, Delete, Schedule, TakeAnswer, Nothing, operation_of_step}
+use Rattle.statement_meaning.specs.Operations.{Operation, Write, Begin, Choose, Connect, Disconnect, Delete, Schedule, TakeAnswer, Nothing, operation_of_step}
 use Rattle.machine_rules.specs.Judgement.{found as finds, holds as so, becomes, goes_on}
 use Rattle.machine_rules.specs.Natives.{NativeAnswers}
 use Rattle.machine_rules.specs.Rules.{Rule, RuleAt, BodyRule, Does, EmitRule, UpdateRule, NotifiesIf, TurnRule, Serves, Delivers, Arrives, BeginsIf, begun, with_used, linked, unlinked}

@@ -20,7 +20,7 @@ use Rattle.machine_events.specs.Causes.{StopsFor}
 use Rattle.machine_events.specs.Runs.{Run, Each, GoodRun, Follows}
 use Rattle.machine_rules.specs.Rules.{Rule}
 use Rattle.machine_state.specs.Telling.{Assigning, writes_of}
-use Rattle.machine_rules.specs.Operations.{TakeAnswer}
+use Rattle.statement_meaning.specs.Operations.{TakeAnswer}
 use Rattle.meta_model.specs.declared.effects.MetaEffects.{MetaEffects}
 
 -- ---- every step of every run

@@ -13,7 +13,7 @@ use Rattle.syntax_trees.specs.declared.connection.ConnectionType.{ConnectionType
 use Rattle.machine_rules.specs.Natives.{NativeAnswers}
 use Rattle.machine_rules.specs.Connecting.{AreThere}
 use Rattle.machine_rules.specs.Judgement.{Check, Then, holds, fails, goes_on as next_is, ends as ends_so}
-use Rattle.machine_rules.proofs.Linking.{kept-there}
+use Rattle.rule_interpreter.proofs.Linking.{kept-there}
 use Rattle.meta_model.specs.Sound.{IsSound}
 use Rattle.connections.specs.declared.connection.Connection.{Connection}
 use Rattle.trace_entries.specs.declared.fault.Fault.{Fault}
@@ -22,7 +22,7 @@ use Rattle.object_tree.specs.declared.object.Object.{Object}
 use Rattle.machine_state.specs.State.{Step, Run, Ask, Act, State, Activation, Body, Emit, Update, Destroy}
 use Rattle.machine_rules.specs.Rules.{RuleAt, StepRule, Does, EmitRule, UpdateRule, Connects, Disconnects, TurnRule, Serves, Delivers, Arrives, with_used, BeginsIf, NotifiesIf}
 use Rattle.machine_rules.specs.Destroying.{Dies, NextRule, ChildRule, DestroyRule, living_child, Schedules, scheduled_now, scheduled_before, not_living}
-use Rattle.machine_rules.specs.Operations.{Operation, Write, Begin, Choose, Connect, Disconnect, Delete, Schedule, TakeAnswer, Nothing, operation_of_step}
+use Rattle.statement_meaning.specs.Operations.{Operation, Write, Begin, Choose, Connect, Disconnect, Delete, Schedule, TakeAnswer, Nothing, operation_of_step}
 use Rattle.std.specs.Prelude.{is_some}
 use Rattle.std.specs.List.{find}
 use Rattle.object_tree.specs.Family.{children_of}
@@ -45,16 +45,16 @@ use Rattle.machine_rules.specs.code.Going.{IsStuck, RulesStop}
 use Rattle.machine_state.specs.Telling.{Assigning, writes_of}
 use Rattle.machine_events.specs.Causes.{StopsFor, spent, short, brings, lacks_value, writes_ill, goes_ill, goes_fatal, writes_deep, goes_deep}
 use Rattle.machine_rules.specs.There.{IsField, LacksField}
-use Rattle.machine_rules.specs.code.Writing.{MayNotify}
-use Rattle.machine_rules.proofs.Beginning.{next-delivered}
+use Rattle.rule_interpreter.specs.code.Writing.{MayNotify}
+use Rattle.rule_interpreter.proofs.Beginning.{next-delivered}
 use Rattle.machine_rules.proofs.Fields.{old-there}
 use Rattle.machine_events.proofs.Possible.{IsPossible, possible, acts}
 use Rattle.machine_events.proofs.Standing.{BodyStands, Stands, Invariant}
 use Rattle.machine_rules.specs.code.Sound.{IsDelivered, Waits}
-use Rattle.machine_rules.proofs.Soundness.{AllFit}
+use Rattle.rule_interpreter.proofs.Soundness.{AllFit}
 use Rattle.machine_rules.proofs.Waiting.{loop-named, first-waits}
 use Rattle.machine_events.specs.Runs.{by_rule, goes_on}
-use Rattle.machine_rules.proofs.Hearing.{AllHeard, nobody, may-be-heard}
+use Rattle.rule_interpreter.proofs.Hearing.{AllHeard, nobody, may-be-heard}
 
 -- a judgement has some answer
 check-somehow : {k : Refusal} {Holds : Type 0} → ((r : Result (Unit {0}) Refusal) → ¬ Check k Holds r) → ⊥

@@ -20,7 +20,7 @@ use Rattle.machine_state.specs.Accepting.{accepted}
 use Rattle.machine_state.specs.Worlds.{at, accepting_entries, accepting_turn, with_bound, HasWritten, HasBound}
 use Rattle.machine_events.specs.Takes.{judged, accepts}
 use Rattle.machine_rules.specs.Natives.{NativeAnswers}
-use Rattle.machine_rules.specs.code.Reaches.{RunsTo, IsActivated, IsBarred}
+use Rattle.rule_interpreter.specs.code.Reaches.{RunsTo, IsActivated, IsBarred}
 use Rattle.binding_graph.specs.declared.binding.Binding.{Binding}
 use Rattle.binding_graph.specs.declared.place.Place.{Place}
 use Rattle.prop_bindings.specs.Calls.{new_binding}
@@ -29,8 +29,8 @@ use Rattle.prop_bindings.specs.Fits.{Agree, FitsAt}
 use Rattle.machine_rules.specs.Good.{ArgumentsFit, TopFits}
 use Rattle.machine_rules.specs.Rules.{begun, begin_entry, top_of}
 use Rattle.machine_rules.specs.Settling.{Installs, notified}
-use Rattle.machine_rules.proofs.Beginning.{top-fits}
-use Rattle.machine_rules.proofs.Soundness.{sound-settled}
+use Rattle.rule_interpreter.proofs.Beginning.{top-fits}
+use Rattle.rule_interpreter.proofs.Soundness.{sound-settled}
 use Rattle.machine_rules.specs.code.Sound.{IsSoundWorld}
 use Rattle.machine_events.specs.code.Taking.{AsksFor, WritesTo, Took}
 use Rattle.machine_events.proofs.Judging.Assigning.{field-of}

@@ -23,7 +23,7 @@ use Rattle.machine_rules.specs.Settling.{Installs}
 use Rattle.machine_rules.specs.There.{IsField}
 use Rattle.machine_rules.proofs.Agreeing.{begun-agrees, writes-agrees, installs-agrees, schedules-agrees}
 use Rattle.machine_rules.proofs.Fields.{field-property}
-use Rattle.machine_rules.proofs.Keeps.{lives-of-class}
+use Rattle.rule_interpreter.proofs.Keeps.{lives-of-class}
 use Rattle.machine_events.specs.declared.events.invoke.Invocation.{Invocation}
 use Rattle.machine_events.specs.declared.events.invoke.Invocation.TheVariants.{Emit as EmitIt, Call as CallIt}
 use Rattle.machine_events.specs.Laws.{TakingSettles}

@@ -10,9 +10,9 @@ use Rattle.machine_state.specs.Worlds.{at}
 use Rattle.machine_rules.specs.Natives.{NativeAnswers}
 use Rattle.machine_rules.specs.Good.{IsGood}
 use Rattle.machine_rules.specs.code.Going.{GoodRules, RulesStop}
-use Rattle.machine_rules.specs.code.Reaches.{RunsTo}
+use Rattle.rule_interpreter.specs.code.Reaches.{RunsTo}
 use Rattle.machine_rules.specs.code.Sound.{IsSoundWorld}
-use Rattle.machine_rules.proofs.Keeps.{rules-kept}
+use Rattle.rule_interpreter.proofs.Keeps.{rules-kept}
 use Rattle.machine_events.specs.Causes.{Halts}
 use Rattle.machine_events.specs.Takes.{Takes}
 use Rattle.machine_events.specs.code.Taking.{Took}

@@ -10,6 +10,6 @@ pub use Rattle.machine_state.specs.Connections
 pub use Rattle.machine_state.specs.Worlds
 pub use Rattle.machine_rules.specs.Good
 pub use Rattle.machine_rules.specs.Judgement as MachineRulesJudgement
-pub use Rattle.machine_rules.specs.code.Reaches
+pub use Rattle.rule_interpreter.specs.code.Reaches
 pub use Rattle.machine_rules.specs.Faults
 pub use Rattle.machine_rules.specs.Next

@@ -17,9 +17,9 @@ use crate::events::invoke::{Invocation, invoke};
 use crate::events::later::later;
 use crate::events::move_object::move_object;
 use crate::events::turn::turn;
-use machine_rules::Interpreter;
 use machine_state::World;
 use native_slots::Answering;
+use rule_interpreter::Interpreter;
 use script_lang::Event;
 use trace_entries::{Answer, Fault};
 

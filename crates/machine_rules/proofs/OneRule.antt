@@ -40,7 +40,7 @@ use Rattle.machine_rules.specs.Connecting.{AreThere, kept_ends, names_of, found_
 use Rattle.machine_rules.specs.Judgement.{HasOneAnswer}
 use Rattle.machine_rules.proofs.OneAnswer.{one-check, one-then}
 use Rattle.machine_rules.specs.Destroying.{Dies, died, NextRule, ChildRule, DestroyRule, living_child, Schedules}
-use Rattle.machine_rules.specs.Operations.{Operation, Write, Begin, Choose, Connect, Disconnect, Delete, Schedule, TakeAnswer, Nothing}
+use Rattle.statement_meaning.specs.Operations.{Operation, Write, Begin, Choose, Connect, Disconnect, Delete, Schedule, TakeAnswer, Nothing}
 use Rattle.machine_rules.specs.Rules.{Rule, RuleAt, BodyRule, Does, EmitRule, Uses, UpdateRule, Notifies, NotifiesIf, Begins, BeginsIf, begun, with_used, Connects, Disconnects, linked, unlinked, Arrives, posted, TurnRule, Serves, Delivers}
 use Rattle.machine_rules.specs.Settling.{Settles, Writes, Installs, notified}
 use Rattle.machine_rules.proofs.Answering.{answers-one}

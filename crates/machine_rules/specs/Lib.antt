@@ -1,6 +1,4 @@
-pub mod Paths
 pub mod Natives
-pub mod Operations
 pub mod There
 pub mod Judgement
 pub mod Connecting
@@ -12,7 +10,6 @@ pub mod Good
 pub mod Faults
 pub mod Laws
 pub mod code
-pub use Rattle.expressions.specs.Evaluation
 pub use Rattle.meta_model.specs.Members
 pub use Rattle.native_slots.specs.Promises
 pub use Rattle.machine_state.specs.Connections

@@ -1,11 +1,4 @@
--- What the contracts of this crate's functions need besides: what the code knows, and what its calls do.
-pub mod Scope
-pub mod Remaining
-pub mod Active
-pub mod Coded
+-- What contracts need besides: what the code keeps and knows, and what runs of it are.
 pub mod Sound
 pub mod Keeps
 pub mod Going
-pub mod Reaches
-pub mod Writing
-pub mod Calls

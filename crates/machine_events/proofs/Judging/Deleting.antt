@@ -23,7 +23,7 @@ use Rattle.machine_state.proofs.Deferring.{scheduled-now}
 use Rattle.machine_rules.specs.Natives.{NativeAnswers}
 use Rattle.machine_rules.specs.Destroying.{scheduled_now}
 use Rattle.machine_rules.specs.Judgement.{Numbered, becomes, gives, goes_on}
-use Rattle.machine_rules.specs.code.Reaches.{RunsTo}
+use Rattle.rule_interpreter.specs.code.Reaches.{RunsTo}
 use Rattle.machine_rules.specs.code.Sound.{IsSoundWorld}
 use Rattle.machine_events.specs.declared.judgement.NotAccepted.{NotAccepted}
 use Rattle.machine_events.specs.code.Judgement.{IsNotAccepted, IsLiving}

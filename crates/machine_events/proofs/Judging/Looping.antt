@@ -12,7 +12,7 @@ use Rattle.machine_state.specs.State.{State}
 use Rattle.machine_state.specs.Worlds.{at, begun_turn, accepting_turn}
 use Rattle.prop_bindings.specs.Fits.{Agree}
 use Rattle.machine_rules.specs.Natives.{NativeAnswers}
-use Rattle.machine_rules.specs.code.Reaches.{RunsTo}
+use Rattle.rule_interpreter.specs.code.Reaches.{RunsTo}
 use Rattle.machine_rules.specs.Judgement.{found, missing, holds, fails, gives, goes_on, ends}
 use Rattle.machine_events.specs.Takes.{judged, accepts}
 use Rattle.machine_events.specs.code.Taking.{Took}

@@ -28,7 +28,7 @@ use Rattle.machine_state.specs.declared.world.World.{World}
 use Rattle.machine_state.specs.Accepting.{accepted}
 use Rattle.machine_state.specs.State.{State}
 use Rattle.machine_state.specs.Worlds.{at, with_connection, without_connections, Rejects}
-use Rattle.machine_rules.specs.declared.interpreter.Interpreter.{Interpreter}
+use Rattle.rule_interpreter.specs.declared.interpreter.Interpreter.{Interpreter}
 use Rattle.machine_rules.specs.Judgement.{numbered}
 use Rattle.machine_rules.specs.Natives.{NativeAnswers}
 use Rattle.machine_rules.specs.Rules.{Begins}

@@ -4,9 +4,9 @@ ghost use Rattle.std.specs.Prelude.{◌≡◌, ◌<◌, None};
 ghost use Rattle.script_lang.specs.declared.event.Event.TheVariants.{Loop};
 ghost use Rattle.machine_events.specs.code.Taking.{WorldInvariant, TookBy};
 
-use machine_rules::Interpreter;
 use machine_state::World;
 use native_slots::Answering;
+use rule_interpreter::Interpreter;
 use signatures::Name;
 use trace_entries::{Answer, Fault, Refusal};
 

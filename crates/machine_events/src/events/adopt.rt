@@ -7,10 +7,10 @@ ghost use Rattle.machine_events.specs.code.Taking.{adoption_reason};
 
 use crate::events::named::find_living;
 use crate::judgement::refuse;
-use machine_rules::Interpreter;
 use machine_state::World;
 use native_slots::Answering;
 use object_tree::AdoptFault;
+use rule_interpreter::Interpreter;
 use signatures::{Name, ObjectId};
 use trace_entries::{Answer, Fault, Refusal};
 

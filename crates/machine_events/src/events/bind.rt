@@ -10,10 +10,10 @@ ghost use Rattle.machine_events.specs.Events.{may_bind};
 
 use crate::events::named::{find_all_living, find_living};
 use crate::judgement::{NotAccepted, refuse};
-use machine_rules::{Active, Interpreter};
 use machine_state::World;
 use native_slots::Answering;
 use prop_bindings::BindFault;
+use rule_interpreter::{Active, Interpreter};
 use signatures::{Name, ObjectId};
 use sqlite_items::Items;
 use trace_entries::{Answer, Fault, Refusal};

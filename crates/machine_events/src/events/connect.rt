@@ -9,9 +9,9 @@ ghost use Rattle.machine_events.specs.Events.{connect};
 
 use crate::events::ends::find_ends;
 use crate::judgement::{NotAccepted, refuse};
-use machine_rules::Interpreter;
 use machine_state::{Endpoints, World};
 use native_slots::Answering;
+use rule_interpreter::Interpreter;
 use signatures::Name;
 use syntax_trees::{self, ConnectionType};
 use trace_entries::{Answer, Fault};

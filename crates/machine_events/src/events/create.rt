@@ -8,10 +8,10 @@ ghost use Rattle.machine_rules.specs.Judgement.{NothingIs};
 ghost use Rattle.machine_events.specs.code.Taking.{creation_reason};
 ghost use Rattle.machine_events.specs.Events.{create, IsHome};
 
-use machine_rules::Interpreter;
 use machine_state::{MAIN, World};
 use native_slots::Answering;
 use object_tree::CreateFault;
+use rule_interpreter::Interpreter;
 use signatures::{LoopId, Name};
 use trace_entries::{Answer, Fault, Refusal};
 

@@ -7,9 +7,9 @@ ghost use Rattle.machine_events.specs.code.Taking.{WorldInvariant, TookBy};
 
 use crate::events::named::find_living;
 use crate::judgement::refuse;
-use machine_rules::{Active, Interpreter};
 use machine_state::World;
 use native_slots::Answering;
+use rule_interpreter::{Active, Interpreter};
 use signatures::{Name, ObjectId};
 use trace_entries::{Answer, Fault};
 

@@ -10,11 +10,11 @@ ghost use Rattle.machine_events.specs.Events.{disconnect};
 
 use crate::events::ends::find_ends;
 use crate::judgement::{NotAccepted, refuse};
-use machine_rules::Interpreter;
 use machine_state::{Endpoints, World};
 use native_slots::Answering;
+use rule_interpreter::Interpreter;
 use signatures::Name;
-use texts;
+use syntax_trees;
 use trace_entries::{Answer, Fault, Refusal};
 
 /// Removes the connections between two objects' methods.

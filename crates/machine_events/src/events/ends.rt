@@ -8,12 +8,13 @@ ghost use Rattle.machine_events.specs.Events.{find_ends, IsSignalOf};
 
 use crate::events::named::find_living;
 use crate::judgement::NotAccepted;
-use machine_rules::{FoundEnds, Interpreter, named_signal};
+use machine_rules::{FoundEnds, named_signal};
 use machine_state::{Endpoints, World};
 use meta_objects::{Meta, MetaMethod, Work};
 use native_slots::Answering;
+use rule_interpreter::Interpreter;
 use signatures::{Name, ObjectId, Sig};
-use texts;
+use syntax_trees;
 use trace_entries::Refusal;
 
 /// The objects and methods that are named, or why the event isn't accepted.

@@ -2,7 +2,7 @@
 
 ghost use Rattle.std.specs.Prelude.{◌≡◌, ◌↔◌, ◌<◌, [], Ok, length, IfOk, IfErr, IsTrue, MatchOption, None};
 ghost use Rattle.machine_state.specs.Worlds.{at};
-ghost use Rattle.machine_rules.specs.code.Reaches.{CallFits};
+ghost use Rattle.rule_interpreter.specs.code.Reaches.{CallFits};
 ghost use Rattle.machine_rules.specs.Good.{ArgumentsFit};
 ghost use Rattle.machine_rules.specs.Judgement.{NothingIs, numbered};
 ghost use Rattle.machine_rules.specs.Natives.{KeepPromises};
@@ -15,11 +15,11 @@ use crate::events::ends::is_signal;
 use crate::events::named::find_living;
 use crate::events::values::read_inputs;
 use crate::judgement::{NotAccepted, refuse};
-use machine_rules::{Active, Interpreter, MethodCall};
 use machine_state::World;
 use meta_model::OBJECT_NAME_CHANGED;
 use meta_objects::{Meta, MetaMethod};
 use native_slots::Answering;
+use rule_interpreter::{Active, Interpreter, MethodCall};
 use script_lang::Input;
 use signatures::{Arguments, Name, ObjectId};
 use trace_entries::{Answer, Fault, Refusal};

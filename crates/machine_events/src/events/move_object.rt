@@ -8,9 +8,9 @@ ghost use Rattle.machine_events.specs.code.Taking.{moving_reason};
 use crate::events::named::find_living;
 use crate::judgement::refuse;
 use delete_later::MoveFault;
-use machine_rules::Interpreter;
 use machine_state::World;
 use native_slots::Answering;
+use rule_interpreter::Interpreter;
 use signatures::{Name, ObjectId};
 use trace_entries::{Answer, Fault, Refusal};
 

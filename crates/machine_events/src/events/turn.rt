@@ -5,9 +5,9 @@ ghost use Rattle.script_lang.specs.declared.event.Event.TheVariants.{Turn};
 ghost use Rattle.machine_rules.specs.Natives.{KeepPromises};
 ghost use Rattle.machine_events.specs.code.Taking.{WorldInvariant, TookBy};
 
-use machine_rules::Interpreter;
 use machine_state::World;
 use native_slots::Answering;
+use rule_interpreter::Interpreter;
 use signatures::Name;
 use trace_entries::{Answer, Fault, Refusal};
 

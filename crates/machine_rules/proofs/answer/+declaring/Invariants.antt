@@ -1,4 +1,0 @@
-use Rattle.machine_rules.proofs.answer.+declaring.Given as goal
-
-abbrev pub decreases-declaring : goal.decreases-declaring
-decreases-declaring l = l.class

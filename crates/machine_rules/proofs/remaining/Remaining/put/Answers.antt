@@ -1,8 +1,0 @@
-use Rattle.std.proofs.Common.{List, ◌++◌, ap, ◌∙◌}
-use Rattle.meta_model.specs.declared.object.Statement.{Statement}
-use Rattle.machine_rules.specs.code.Remaining.{of_blocks}
-use Rattle.machine_rules.proofs.Blocks.{of-last}
-use Rattle.machine_rules.proofs.remaining.Remaining.put.Goals as goal
-
-pub returns-clause-ok : goal.returns-clause-ok
-returns-clause-ok c = ap (λ (l : List Statement). c.args.block.now ++ l) (ap of_blocks c.in_ok-push.ensures.items ∙ of-last c.self.inside.outer.items c.self.inside.block ∙ c.self.view_is)

@@ -1,0 +1,190 @@
+//! Deletions of objects.
+
+ghost use Rattle.std.specs.Prelude.{◌≡◌, ◌<◌, true, false, [], length, Some, IfOk, OnOk};
+ghost use Rattle.rule_interpreter.specs.code.Calls.{Finishes, TurnsInto, RunsDeath, RunsDeletion};
+ghost use Rattle.rule_interpreter.specs.code.Reaches.{entry_of_destroyed, Forgets, SchedulesIn};
+ghost use Rattle.machine_rules.specs.code.Sound.{IsSoundWorld};
+ghost use Rattle.machine_state.specs.Connections.{is_living};
+ghost use Rattle.machine_state.specs.State.{Destroy};
+ghost use Rattle.machine_rules.specs.Natives.{KeepPromises};
+
+use crate::active::Active;
+use crate::interpreter::Interpreter;
+use crate::method_call::MethodCall;
+use machine_state::World;
+use meta_model::DESTROYED;
+use native_slots::Answering;
+use signatures::{Name, ObjectId, Value};
+use sqlite_items::Items;
+use std::alloc::AllocError;
+use trace_entries::{Entry, EntryKind, Fault, Shown};
+
+impl<N: Answering> Interpreter<N> {
+    /// Deletes an object, over what is left of the top of the stack.
+    #[cycle(machine)]
+    pub fn delete(
+        &self,
+        world: &mut World,
+        active: &Active<'_>,
+        object: ObjectId,
+    ) -> Result<(), Fault>
+        requires promises { KeepPromises N.takes N.gives self.now.meta self.now.natives }
+        requires sound { IsSoundWorld self.now.meta world.old }
+        requires left { 0 < world.old.left }
+        ensures ends { RunsDeletion self.now.meta (N.gives self.now.natives)
+            self.now.depth active.now object world.old world.new result }
+    {
+        self.may_nest(active)?;
+        world.tick()?;
+        self.run_deletion(world, active, object)
+    }
+
+    /// Carries a deletion out: an object dies, and then its children, and theirs. Those that are torn down are in a list,
+    /// so that no depth of a tree needs a place on the host's stack.
+    #[cycle(machine)]
+    pub fn run_deletion(
+        &self,
+        world: &mut World,
+        active: &Active<'_>,
+        object: ObjectId,
+    ) -> Result<(), Fault>
+        requires promises { KeepPromises N.takes N.gives self.now.meta self.now.natives }
+        requires room { length active.now < self.now.depth }
+        requires sound { IsSoundWorld self.now.meta world.old }
+        ensures ends { Finishes self.now.meta (N.gives self.now.natives) self.now.depth active.now
+            (Destroy (Some object) [])
+            world.old world.new result }
+    {
+        self.announce_living(world, active, object)?;
+        let mut torn = Vec::new(self.alloc);
+        forget(world, &mut torn, object)?;
+        while !torn.is_empty() {
+            match world.store.next_to_end(torn.as_slice()) {
+                Some(child) => {
+                    self.announce(world, active, child)?;
+                    forget(world, &mut torn, child)?;
+                }
+                None => {
+                    world.tick()?;
+                    torn.pop();
+                }
+            }
+        }
+        world.tick()
+    }
+
+    /// Lets an object die by the first rule of its deletion, if it lives.
+    #[cycle(machine)]
+    fn announce_living(
+        &self,
+        world: &mut World,
+        active: &Active<'_>,
+        object: ObjectId,
+    ) -> Result<(), Fault>
+        requires promises { KeepPromises N.takes N.gives self.now.meta self.now.natives }
+        requires room { length active.now < self.now.depth }
+        requires sound { IsSoundWorld self.now.meta world.old }
+        ensures ends { TurnsInto self.now.meta (N.gives self.now.natives) self.now.depth active.now
+            (Destroy (Some object) []) (Destroy (Some object) [])
+            world.old world.new result }
+        ensures dead { OnOk result (is_living world.new.store.tree object ≡ false) }
+    {
+        if world.store.tree.life(object).is_some() {
+            self.announce(world, active, object)
+        } else {
+            Ok(())
+        }
+    }
+
+    /// Lets an object die, over a deletion, and emits its `destroyed`; `InUse` where a body of it is active.
+    #[cycle(machine)]
+    fn announce(
+        &self,
+        world: &mut World,
+        active: &Active<'_>,
+        object: ObjectId,
+    ) -> Result<(), Fault>
+        requires promises { KeepPromises N.takes N.gives self.now.meta self.now.natives }
+        requires room { length active.now < self.now.depth }
+        requires sound { IsSoundWorld self.now.meta world.old }
+        requires lives { is_living world.old.store.tree object ≡ true }
+        ensures ends { RunsDeath self.now.meta (N.gives self.now.natives) self.now.depth active.now
+            object world.old world.new result }
+        ensures dead { OnOk result (is_living world.new.store.tree object ≡ false) }
+    {
+        world.require_rule()?;
+        if active.has_body(object) {
+            return Err(Fault::InUse);
+        }
+        let over = (&*active).over(None);
+        self.may_nest(&over)?;
+        let Some(name) = world.store.tree.name(object) else {
+            unreachable!()
+        };
+        let died = Entry::At(
+            over.count(),
+            EntryKind::Died {
+                object: name.copy()?,
+            },
+        );
+        let emitted = self.destroyed_entry(over.count() + 1, name)?;
+        let last = world.store.connections.last();
+        world.mark_dead([died, emitted], object)?;
+        let call = MethodCall {
+            object,
+            method: DESTROYED,
+            arguments: &[Value::Ref(None)],
+        };
+        self.run_emission(world, &over, &call, last)
+    }
+
+    /// The entry of the `destroyed` of an object of this name.
+    fn destroyed_entry(&self, depth: usize, name: &Name) -> Result<Entry, AllocError>
+        ensures { IfOk result (λ entry. entry ≡ entry_of_destroyed depth name.now) }
+    {
+        let mut arguments = Items::new(self.alloc);
+        arguments.push(Shown::Null)?;
+        let emitted = EntryKind::Emitted {
+            object: name.copy()?,
+            signal: Name::new(self.alloc, b"destroyed")?,
+            arguments,
+            blocked: false,
+        };
+        Ok(Entry::At(depth, emitted))
+    }
+
+    /// Schedules an object for deletion by a statement, where `depth` activations are on the stack. An object that is
+    /// scheduled already, or doesn't live, changes nothing; nor does want of memory.
+    pub fn schedule(&self, world: &mut World, depth: usize, object: ObjectId) -> Result<(), Fault>
+        requires sound { IsSoundWorld self.now.meta world.old }
+        requires left { 0 < world.old.left }
+        ensures { SchedulesIn world.old depth object world.new result }
+    {
+        let Some((found, life)) = world.store.tree.get(object) else {
+            return world.tick();
+        };
+        if life.scheduled {
+            return world.tick();
+        }
+        let Some(event_loop) = world.store.loops.name(life.home) else {
+            unreachable!()
+        };
+        let scheduled = EntryKind::Scheduled {
+            event_loop: event_loop.copy()?,
+            object: found.name.copy()?,
+        };
+        world.schedule(Entry::At(depth, scheduled), object)
+    }
+}
+
+/// A rule by which a dead object is forgotten, which is torn down then; without memory nothing changes in the world.
+fn forget(world: &mut World, torn: &mut Vec<ObjectId>, object: ObjectId) -> Result<(), Fault>
+    ensures { Forgets world.old torn.old.items object world.new torn.new.items result }
+{
+    world.require_rule()?;
+    if torn.push(object).is_err() {
+        return Err(Fault::Memory);
+    }
+    world.end_one(object);
+    Ok(())
+}

@@ -1,0 +1,20 @@
+//! The code that goes by the rules of a run: it interprets the bodies of slots, and does all that follows from what they do.
+#![tactic(auto)]
+
+mod active;
+mod answer;
+mod body;
+mod connecting;
+mod destruction;
+mod emission;
+mod interpreter;
+mod method_call;
+mod native;
+mod posting;
+mod remaining;
+mod turn;
+mod update;
+
+pub use active::Active;
+pub use interpreter::{Callee, Interpreter};
+pub use method_call::MethodCall;

@@ -1,0 +1,12 @@
+use Rattle.statement_meaning.specs.Operations.{Disconnect}
+use Rattle.statement_meaning.proofs.Yielding.{ends-lack}
+use Rattle.statement_meaning.proofs.paths.Scope.disconnection.Goals as goal
+
+pub returns-in_err-between : goal.returns-in_err-between
+returns-in_err-between c = ends-lack c.args.self.now c.args.ends.now Disconnect _ _ c.in_err-between.ensures c.from_residual.ensures.1
+
+pub returns-in_default : goal.returns-in_default
+returns-in_default c = (rw c.in_default.is at c.in_ok-between.ensures) Disconnect
+
+pub returns : goal.returns
+returns c = (rw c.in-Some.is at c.in_ok-between.ensures) Disconnect
