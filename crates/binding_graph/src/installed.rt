@@ -1,17 +1,13 @@
 //! The installed bindings, by the properties that they bind.
 
-ghost use Rattle.std.specs.Prelude.{◌≡◌, ◌↔◌, [], ◌∷◌, ◌++◌, false, length, slice_get, None, IfOk, MatchOption, OnOk};
+ghost use Rattle.std.specs.Prelude.{◌≡◌, [], ◌∷◌, ◌++◌, false, length, slice_get, None, IfOk, MatchOption, OnOk};
 ghost use Rattle.std.specs.List.{list_any};
-ghost use Rattle.std.specs.Option.{is_some, option_copied};
-ghost use Rattle.binding_graph.specs.declared.place.Place.{Place};
-ghost use Rattle.binding_graph.specs.Places.{Distinct, In, is_in};
+ghost use Rattle.std.specs.Option.{option_copied, option_map};
+ghost use Rattle.binding_graph.specs.Places.{is_in};
 ghost use Rattle.binding_graph.specs.Bindings.{AreApart, binding_at, lead_out, leads_out, read_by, reads_any, without};
 ghost use Rattle.binding_graph.specs.code.Graph.{AreKeyed, HasRoom, bindings_in, position_of};
-ghost use Rattle.binding_graph.specs.code.Numbering.{IsNumbering, places_of};
-ghost use Rattle.binding_graph.specs.code.Orders.{AreBound};
 
 use crate::binding::Binding;
-use crate::numbering::Numbered;
 use crate::place::{Place, contains};
 use indexmap::IndexMap;
 use signatures::ObjectId;
@@ -148,13 +144,16 @@ impl Installed {
         self.by_target.get(&place.key())
     }
 
-    /// Where the binding of a property stands in the order.
-    pub fn position(&self, place: &Place) -> Option<usize>
+    /// The binding of a property, and where it stands in the order.
+    pub fn find(&self, place: &Place) -> Option<(usize, &Reader)>
         requires { AreKeyed self.now }
-        ensures place { result ≡ position_of (bindings_in self.now) place.now }
-        ensures found { is_some result ≡ is_some (binding_at (bindings_in self.now) place.now) }
+        ensures position { option_map (λ f. f.0) result ≡ position_of (bindings_in self.now) place.now }
+        ensures reader { option_map (λ f. f.1.now) result ≡ binding_at (bindings_in self.now) place.now }
     {
-        self.by_target.get_index_of(&place.key())
+        match self.by_target.get_full(&place.key()) {
+            Some((position, _, reader)) => Some((position, reader)),
+            None => None,
+        }
     }
 
     /// Makes room for one more; where memory is refused nothing changes.
@@ -190,31 +189,4 @@ impl Installed {
             unreachable!()
         };
     }
-}
-
-/// Different properties that are bound, in the order in which their bindings were installed. Its error is that memory was
-/// refused.
-pub fn by_position(
-    alloc: Global,
-    installed: &Installed,
-    places: &[Place],
-) -> Result<Vec<Numbered>, AllocError>
-    requires keyed { AreKeyed installed.now }
-    requires bound { AreBound (binding_at (bindings_in installed.now)) places.now }
-    requires distinct { Distinct places.now }
-    ensures numbered { IfOk result (λ found.
-        IsNumbering (position_of (bindings_in installed.now)) found.items) }
-    ensures same { IfOk result (λ found.
-        (q : Place) → In q (places_of found.items) ↔ In q places.now) }
-{
-    let mut found = Vec::new(alloc);
-    for place in places {
-        let Some(number) = installed.position(place) else {
-            unreachable!()
-        };
-        let place = *place;
-        found.push(Numbered { number, place })?;
-    }
-    found.sort_by_key(|each| each.number)?;
-    Ok(found)
 }

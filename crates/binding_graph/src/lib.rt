@@ -15,7 +15,7 @@ mod readers;
 pub use binding::Binding;
 pub use following::followers;
 pub use graph::Graph;
-pub use installed::{Installed, Reader, by_position};
+pub use installed::{Installed, Reader};
 pub use laws::acyclic_determine;
 pub use numbering::Numbered;
 pub use place::Place;

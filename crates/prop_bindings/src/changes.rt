@@ -17,7 +17,7 @@ ghost use Rattle.prop_bindings.specs.code.Parts.{AddsChanged, GivesOnly, IsSound
 use crate::ahead::value_ahead;
 use crate::evaluation::evaluate_all;
 use crate::planned::Planned;
-use binding_graph::{Installed, Numbered, Place, by_position};
+use binding_graph::{Installed, Numbered, Place};
 use indexmap::IndexMap;
 use object_tree::Tree;
 use signatures::Value;
@@ -58,8 +58,8 @@ pub fn plan(
     let mut count = before;
     let mut values = given;
     values.reserve(followers.len())?;
-    evaluate_all(alloc, installed, followers, tree, &mut values, &mut count)?;
-    let others = by_position(alloc, installed, followers)?;
+    let mut others = evaluate_all(alloc, installed, followers, tree, &mut values, &mut count)?;
+    others.sort_unstable_by_key(|each| each.number);
     let changed = changed_among(alloc, targets, &others, tree, &values)?;
     Ok(Planned {
         values,

@@ -1,24 +1,26 @@
 //! Evaluation of bindings in an order, ahead of any change.
 
-ghost use Rattle.std.specs.Prelude.{◌≡◌, ◌+◌, ◌<◌, ◌^◌, length, OnOk};
+ghost use Rattle.std.specs.Prelude.{◌≡◌, ◌+◌, ◌<◌, ◌^◌, length, IfOk, OnOk};
 ghost use Rattle.expressions.specs.Evaluation.{Evaluates};
 ghost use Rattle.binding_graph.specs.declared.place.Place.{Place};
 ghost use Rattle.prop_bindings.specs.Values.{values_in};
 ghost use Rattle.binding_graph.specs.Bindings.{binding_at, value_of};
 ghost use Rattle.prop_bindings.specs.Changes.{DifferInValues};
-ghost use Rattle.binding_graph.specs.code.Graph.{AreKeyed, bindings_in};
+ghost use Rattle.binding_graph.specs.code.Graph.{AreKeyed, bindings_in, position_of};
+ghost use Rattle.binding_graph.specs.code.Numbering.{AreNumbered};
 ghost use Rattle.binding_graph.specs.code.Orders.{AreBound, pass};
 ghost use Rattle.prop_bindings.specs.code.Parts.{IsSoundBySome, StaySound, ahead, value_ahead};
 
 use crate::ahead::Ahead;
-use binding_graph::{Binding, Installed, Place};
+use binding_graph::{Binding, Installed, Numbered, Place};
 use expressions::{EvalFault, eval};
 use indexmap::IndexMap;
 use object_tree::Tree;
 use signatures::Value;
 use std::alloc::{AllocError, Global};
 
-/// Each of these bound properties is to have its expression's value, in this order. Its error is that memory was refused.
+/// Each of these bound properties is to have its expression's value, in this order. It answers where their bindings stand
+/// among those that are installed. Its error is that memory was refused.
 pub fn evaluate_all(
     alloc: Global,
     installed: &Installed,
@@ -26,7 +28,7 @@ pub fn evaluate_all(
     tree: &Tree,
     values: &mut IndexMap<(usize, usize), Value>,
     count: &mut usize,
-) -> Result<(), AllocError>
+) -> Result<Vec<Numbered>, AllocError>
     requires keyed { AreKeyed installed.now }
     requires sound { IsSoundBySome (ahead values.old tree.now) (bindings_in installed.now) }
     requires bound { AreBound (binding_at (bindings_in installed.now)) order.now }
@@ -38,9 +40,12 @@ pub fn evaluate_all(
     ensures sound { OnOk result (StaySound (ahead values.old tree.now) (ahead values.new tree.now)
         (bindings_in installed.now)) }
     ensures counted { OnOk result (count.new ≡ count.old + length order.now) }
+    ensures numbered { IfOk result (λ found.
+        AreNumbered (position_of (bindings_in installed.now)) order.now found.items) }
 {
+    let mut found = Vec::with_capacity(alloc, order.len())?;
     for place in order {
-        let Some(reader) = installed.reader(place) else {
+        let Some((number, reader)) = installed.find(place) else {
             unreachable!()
         };
         let value = match value_of(alloc, reader.binding(), tree, values, count) {
@@ -49,8 +54,10 @@ pub fn evaluate_all(
             Err(EvalFault::Memory) => return Err(AllocError),
         };
         values.insert(place.key(), value)?;
+        let place = *place;
+        found.push(Numbered { number, place })?;
     }
-    Ok(())
+    Ok(found)
 }
 
 /// The value of a binding's expression over these objects, where these properties are to have these values; `BadType` where

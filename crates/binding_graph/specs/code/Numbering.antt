@@ -1,5 +1,5 @@
 -- Numbered properties, in the order of their numbers: some of a longer list, each with its place there.
-use Rattle.std.specs.Prelude.{◌≡◌, ℕ, suc, ◌<◌, ◌≤◌, ◌⊎◌, eqb, Bool, false, slice_get, List, [], ◌∷◌, ◌++◌, map, length, take, get_or, Option, None, Some}
+use Rattle.std.specs.Prelude.{◌≡◌, ℕ, suc, ◌<◌, ◌≤◌, ◌⊎◌, eqb, Bool, false, slice_get, List, All, [], ◌∷◌, ◌++◌, map, length, take, get_or, Option, None, Some}
 use Rattle.binding_graph.specs.declared.place.Place.{Place}
 use Rattle.binding_graph.specs.declared.binding.Binding.{Binding}
 use Rattle.binding_graph.specs.declared.numbering.Numbered.{Numbered}
@@ -30,6 +30,11 @@ AreBy N (f ∷ fs) = (N f.place ≡ Some f.number) × AreBy N fs
 -- both
 abbrev pub IsNumbering : (Place → Option ℕ) → List Numbered → Type 0
 IsNumbering N fs = Rises fs × AreBy N fs
+
+-- these properties, each with the number that N gives it
+pub record AreNumbered (N : Place → Option ℕ) (ps : List Place) (fs : List Numbered) : Type 0 where
+  pub are : places_of fs ≡ ps
+  pub by : All (λ (f : Numbered). N f.place ≡ Some f.number) fs
 
 -- one more, in its place, unless its number is there
 pub data PutIn (old : List Numbered) (f : Numbered) (new : List Numbered) : Type 0 where

@@ -1,9 +1,10 @@
-use Rattle.std.proofs.Common.{◌≡◌, ◌+◌, drop}
+use Rattle.std.proofs.Common.{◌≡◌, ◌+◌, drop, take}
 use Rattle.binding_graph.specs.declared.place.Place.{Place}
 use Rattle.prop_bindings.specs.Values.{values_in}
 use Rattle.binding_graph.specs.Bindings.{binding_at}
 use Rattle.prop_bindings.specs.Changes.{DifferInValues}
-use Rattle.binding_graph.specs.code.Graph.{bindings_in}
+use Rattle.binding_graph.specs.code.Graph.{bindings_in, position_of}
+use Rattle.binding_graph.specs.code.Numbering.{AreNumbered}
 use Rattle.binding_graph.specs.code.Orders.{pass}
 use Rattle.prop_bindings.specs.code.Parts.{IsSoundBySome, StaySound, ahead}
 use Rattle.prop_bindings.proofs.evaluation.evaluate_all.Given as goal
@@ -15,4 +16,5 @@ invariant-loop-place l = record {
   counted : l.count ≡ l.initial.count + l.place-index;
   by : IsSoundBySome (ahead l.values l.tree) (bindings_in l.installed);
   sound : StaySound (ahead l.initial.values l.tree) (ahead l.values l.tree) (bindings_in l.installed);
+  numbered : AreNumbered (position_of (bindings_in l.installed)) (take l.place-index l.order) l.found.items;
 }
