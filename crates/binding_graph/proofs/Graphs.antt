@@ -1,5 +1,5 @@
 -- What the graph of the installed bindings says, and how it stays one.
-use Rattle.std.proofs.Common.{◌≡◌, ℕ, Bool, eqb, refl, ◌<◌, ◌⊎◌, true, false, List, [], inl, inr, Option, None, Some, ap, sym, ◌∙◌, subst}
+use Rattle.std.proofs.Common.{◌≡◌, ℕ, Bool, eqb, refl, ◌<◌, ◌⊎◌, true, false, List, [], ◌∷◌, length, arith, inl, inr, Option, None, Some, ap, sym, ◌∙◌, subst}
 use Rattle.std.proofs.lemmas.Bool.{false≢true, eqb-true}
 use Rattle.std.proofs.lemmas.Option.{same_Some}
 use Rattle.binding_graph.specs.declared.place.Place.{Place}
@@ -46,6 +46,18 @@ ranked-reader g h q m b some reads None is = let found = rank-there g h q b some
 ranked-reader g h q m b some reads (Some i) is = (b, some, reads, sym is)
 
 -- ---- no bindings
+pub none-bound : (bs : List Binding) → length bs ≡ 0 → (q : Place) (b : Binding) → binding_at bs q ≡ Some b → ⊥
+none-bound [] z q b some = cc some
+none-bound (x ∷ xs) z q b some = absurd (omega (arith, z))
+
+pub none-in : (ps : List Place) (q : Place) → length ps ≡ 0 → In q ps → ⊥
+none-in [] q z i = i
+none-in (p ∷ ps) q z i = absurd (omega (arith, z))
+
+pub none-left : (p : Place) (bs : List Binding) → length bs ≡ 0 → bs ≡ without p bs
+none-left p [] z = refl
+none-left p (x ∷ xs) z = absurd (omega (arith, z))
+
 pub empty-graph : (g : Graph) → AreKeyed g.installed → bindings_of g ≡ [] → ((p : Place) → rank_of g.ranks p ≡ None) → IsGraph g
 empty-graph g keyed none unranked = record {
   keyed = keyed;

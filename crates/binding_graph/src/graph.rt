@@ -1,10 +1,10 @@
 //! The installed bindings with what finds what follows from a property.
 
-ghost use Rattle.std.specs.Prelude.{◌≡◌, ◌<◌, ◌^◌, [], length, eqb, OnOk};
+ghost use Rattle.std.specs.Prelude.{◌≡◌, ◌<◌, ◌^◌, [], length, eqb, IsTrue, OnOk};
 ghost use Rattle.std.specs.List.{list_any};
 ghost use Rattle.indexmap.specs.IndexSet.{contains};
 ghost use Rattle.binding_graph.specs.Bindings.{binding_at, dropped, lead_out, replaced, without, without_all};
-ghost use Rattle.binding_graph.specs.code.Graph.{AreKeyed, AreNamed, AreTouched, HasRoom, IsGraph, KeepTouched, LosesReader, RankOfReader, bindings_of};
+ghost use Rattle.binding_graph.specs.code.Graph.{AreKeyed, AreNamed, AreTouched, HasRoom, IsGraph, KeepTouched, LosesReader, RankOfReader, Unread, bindings_of};
 ghost use Rattle.binding_graph.specs.code.Orders.{IsLater};
 ghost use Rattle.binding_graph.specs.code.Ranks.{HasNumbers};
 
@@ -43,6 +43,17 @@ impl Graph {
             ranks,
             touched,
         }
+    }
+
+    /// Whether it is certain that no binding reads the property: none is named as its reader.
+    pub fn is_unread(&self, place: &Place) -> bool
+        requires { IsGraph self.now }
+        ensures { IsTrue result → Unread (binding_at (bindings_of self.now)) place.now }
+    {
+        if self.installed.is_empty() {
+            return true;
+        }
+        self.readers.of(place).is_empty()
     }
 
     /// The number of a property, if its binding reads the source.
@@ -103,13 +114,20 @@ impl Graph {
         self.ranks.renumber(moved);
     }
 
-    /// Removes the binding of a property.
+    /// Removes the binding of a property. Where it has none, that is seen by one look-up, and by none where nothing is
+    /// installed.
     pub fn remove(&mut self, place: &Place)
         requires { IsGraph self.old }
         ensures left { bindings_of self.new ≡ without place.now (bindings_of self.old) }
         ensures graph { IsGraph self.new }
     {
-        unlist(&self.installed, &mut self.readers, place, &[]);
+        if self.installed.is_empty() {
+            return;
+        }
+        let Some(reader) = self.installed.reader(place) else {
+            return;
+        };
+        self.readers.unlist(reader, &[]);
         self.installed.remove(place);
         self.ranks.forget(place);
     }

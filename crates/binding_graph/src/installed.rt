@@ -1,6 +1,6 @@
 //! The installed bindings, by the properties that they bind.
 
-ghost use Rattle.std.specs.Prelude.{◌≡◌, [], ◌∷◌, ◌++◌, false, length, slice_get, None, IfOk, MatchOption, OnOk};
+ghost use Rattle.std.specs.Prelude.{◌≡◌, ◌↔◌, [], ◌∷◌, ◌++◌, false, length, slice_get, None, IfOk, MatchOption, OnOk, IsTrue};
 ghost use Rattle.std.specs.List.{list_any};
 ghost use Rattle.std.specs.Option.{option_copied, option_map};
 ghost use Rattle.binding_graph.specs.Places.{is_in};
@@ -101,6 +101,13 @@ impl Installed {
         ensures { result ≡ length (bindings_in self.now) }
     {
         self.by_target.len()
+    }
+
+    /// Whether there are none.
+    pub fn is_empty(&self) -> bool
+        ensures { IsTrue result ↔ (length (bindings_in self.now) ≡ 0) }
+    {
+        self.len() == 0
     }
 
     /// The one that stands at this place in the order.

@@ -17,10 +17,9 @@ use Rattle.prop_bindings.specs.Calls.{AllFit}
 use Rattle.prop_bindings.specs.Changes.{in_order, once, places_in, DifferInValues, AreChanged, HaveLasting, none_changed, one_stayed, IsWritten, IsInstalled}
 use Rattle.prop_bindings.specs.Counts.{CountsGroup, CountsReached}
 use Rattle.prop_bindings.specs.Fits.{FitsAt, IsFit, IsInOneLoop, Agree}
-use Rattle.prop_bindings.specs.Plans.{after}
+use Rattle.prop_bindings.specs.Plans.{after, assigned, entries_in}
 use Rattle.prop_bindings.specs.code.Parts.{AreSound, PlansThem, wrote}
 use Rattle.binding_graph.specs.code.Orders.{update, pass, bound, IsAffected, IsLater}
-use Rattle.prop_bindings.proofs.Assigned.{ahead-none}
 use Rattle.binding_graph.proofs.Apart.{apart-all, apart-replaced, acyclic-all}
 use Rattle.prop_bindings.proofs.Counting.{changed-among, counts-affected, counts-same}
 use Rattle.prop_bindings.proofs.Evaluating.{rest-alike}
@@ -140,9 +139,9 @@ module _ (bs : List Binding) (objects : List Object) (writes : List Assignment) 
   }
 
   -- .. and then nothing is planned
-  module _ (plan : Planned) (none : plan.values.entries ≡ []) (told : plan.changed ≡ []) (counted : plan.evaluated ≡ 0) where
+  module _ (plan : Planned) (none : entries_in plan.values ≡ []) (told : plan.changed ≡ []) (counted : plan.evaluated ≡ 0) where
     same : after plan objects ≡ objects
-    same = ahead-none plan.values objects none
+    same = ap (λ (es : List ((ℕ × ℕ) × Value)). assigned es objects) none
 
     pub kept-plans : HaveLasting objects writes → IsWritten bs (without_all (places_in writes) bs) objects (after plan objects) writes plan.changed
     kept-plans has =

@@ -15,6 +15,7 @@ pub mod Evaluating
 pub mod Wrote
 pub mod Giving
 pub mod Calling
+pub mod Alone
 pub mod Short
 pub mod Covering
 pub mod Sited

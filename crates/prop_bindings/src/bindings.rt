@@ -16,7 +16,7 @@ use crate::changes::plan;
 use crate::fault::{BindFault, WriteFault};
 use crate::planned::{Planned, PlannedBind, PlannedGroup, PlannedWrite, assign};
 use crate::preparing::{Prepared, fits, has_value, prepare};
-use crate::writes::{Given, all_fit, give_all, give_one, have_all, plan_given};
+use crate::writes::{Given, all_fit, give_all, give_one, have_all, plan_given, plan_one};
 use binding_graph::{Binding, Graph, Place, Reader, followers};
 use meta_objects::Meta;
 use object_tree::Tree;
@@ -119,8 +119,7 @@ impl Bindings {
                 planned: Planned::nothing(self.alloc),
             });
         }
-        let values = give_one(self.alloc, place, value)?;
-        let planned = plan_given(self.alloc, &self.graph, tree, &[*place], values)?;
+        let planned = plan_one(self.alloc, &self.graph, tree, place, value)?;
         Ok(PlannedWrite {
             target: *place,
             planned,

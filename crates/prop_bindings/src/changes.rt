@@ -1,7 +1,8 @@
 //! Some properties are to have values, and what follows from them is to change.
 
-ghost use Rattle.std.specs.Prelude.{◌≡◌, ◌↔◌, ◌+◌, ◌<◌, ◌^◌, ◌++◌, length, IfOk, IsTrue, OnOk};
+ghost use Rattle.std.specs.Prelude.{◌≡◌, ◌↔◌, ◌+◌, ◌<◌, ◌^◌, ◌++◌, ◌∷◌, [], length, IfOk, IsTrue, OnOk};
 ghost use Rattle.std.specs.Option.{option_map};
+ghost use Rattle.object_tree.specs.Objects.{change_life, written};
 ghost use Rattle.object_tree.specs.Seen.{seen};
 ghost use Rattle.binding_graph.specs.declared.place.Place.{Place};
 ghost use Rattle.binding_graph.specs.Places.{Distinct, In};
@@ -16,7 +17,7 @@ ghost use Rattle.prop_bindings.specs.code.Parts.{AddsChanged, GivesOnly, IsSound
 
 use crate::ahead::value_ahead;
 use crate::evaluation::evaluate_all;
-use crate::planned::Planned;
+use crate::planned::{Planned, Values};
 use binding_graph::{Installed, Numbered, Place};
 use indexmap::IndexMap;
 use object_tree::Tree;
@@ -62,7 +63,7 @@ pub fn plan(
     others.sort_unstable_by_key(|each| each.number);
     let changed = changed_among(alloc, targets, &others, tree, &values)?;
     Ok(Planned {
-        values,
+        values: Values::Many(values),
         changed,
         evaluated: count,
     })
@@ -105,6 +106,36 @@ fn add_changed(
     }
     changed.push(*place)?;
     Ok(())
+}
+
+/// The property, if it no longer reads as it did once it has this value. Its error is that memory was refused.
+pub fn changed_alone(
+    alloc: Global,
+    place: &Place,
+    tree: &Tree,
+    value: &Value,
+) -> Result<Items<Place>, AllocError>
+    ensures { IfOk result (λ changed. AreChanged tree.now
+        (change_life place.now.object (written place.now.property value.now) tree.now) (place.now ∷ []) changed) }
+{
+    if stays_alone(place, tree, value) {
+        return Ok(Items::from_vec(Vec::new(alloc)));
+    }
+    let mut changed = Vec::with_capacity(alloc, 1)?;
+    changed.push(*place)?;
+    Ok(Items::from_vec(changed))
+}
+
+/// Whether the property still reads as it did once it has this value.
+fn stays_alone(place: &Place, tree: &Tree, value: &Value) -> bool
+    ensures { IsTrue result
+        ↔ (option_map (seen tree.now) (option_map (λ own. value.now) (values_in tree.now place.now))
+        ≡ option_map (seen tree.now) (values_in tree.now place.now)) }
+{
+    match tree.value(place.object, place.property) {
+        Some(own) => tree.is_same(value, own),
+        None => true,
+    }
 }
 
 /// Whether the property still reads as it did once these have their values.

@@ -63,6 +63,10 @@ pub record IsGraph (g : Graph) : Type 0 where
   pub touched : (q : Place) (b : Binding) (o : ℕ) → binding_at (bindings_of g) q ≡ Some b → touches o b ≡ true
       → contains eqb g.touched o ≡ true
 
+-- no binding reads the property
+abbrev pub Unread : (Place → Option Binding) → Place → Type 0
+Unread F m = (q : Place) (b : Binding) → F q ≡ Some b → Reads b m → ⊥
+
 -- the number of a property whose binding reads the source
 abbrev pub RankOfReader : Graph → Place → Place → Option ℕ → Type 0
 RankOfReader g q source None = (b : Binding) → binding_at (bindings_of g) q ≡ Some b → Reads b source → ⊥

@@ -19,9 +19,9 @@ use Rattle.binding_graph.specs.Places.{In, is_in}
 use Rattle.prop_bindings.specs.Values.{values_in}
 use Rattle.binding_graph.specs.Bindings.{binding_at, replaced, without_all, value_of, Loop}
 use Rattle.prop_bindings.specs.Calls.{AllFit, MayBind, IsNotBound, new_binding}
-use Rattle.prop_bindings.specs.Changes.{AreChanged, IsInstalled, IsWritten, once, places_in}
+use Rattle.prop_bindings.specs.Changes.{AreChanged, IsInstalled, IsWritten, once, one, places_in}
 use Rattle.prop_bindings.specs.Counts.{CountsReached}
-use Rattle.prop_bindings.specs.Fits.{IsFit, IsInOneLoop, Agree}
+use Rattle.prop_bindings.specs.Fits.{FitsAt, IsFit, IsInOneLoop, Agree}
 use Rattle.prop_bindings.specs.Plans.{assigned, after}
 use Rattle.binding_graph.specs.code.Keys.{key_of, same_key}
 use Rattle.binding_graph.specs.code.Orders.{IsLater}
@@ -92,6 +92,14 @@ pub record PlansThem (p : Loaded) (objects : List Object) (bs : List Binding) (w
 abbrev pub PlansGiven : {S : Type 0} → List Object → List Binding → List Place → IndexMap (ℕ × ℕ) Value S → Planned → Type 0
 PlansGiven objects bs targets values plan =
     (p : Loaded) (writes : List Assignment) → MayGive p objects bs writes targets values → PlansThem p objects bs writes plan
+
+-- the value is of the property's type by some program, by which the bindings agree with the objects
+abbrev pub MayWriteOne : List Object → List Binding → Place → Value → Type 0
+MayWriteOne objects bs at v = (p : Loaded) × Agree p objects bs × FitsAt p objects at v
+
+-- .. and by each such program the plan is of this write
+abbrev pub PlansOne : List Object → List Binding → Place → Value → Planned → Type 0
+PlansOne objects bs at v plan = (p : Loaded) → Agree p objects bs → FitsAt p objects at v → PlansThem p objects bs (one at v) plan
 
 -- ---- what stands before a bind and after it
 -- where a binding is to be installed whose expression has this value

@@ -1,10 +1,7 @@
-use Rattle.std.proofs.Common.{◌≡◌, ◌∙◌, ◌++◌, ◌+◌, ℕ, List, drop, ap, sym, subst}
-use Rattle.std.specs.Option.{is_some}
-use Rattle.indexmap.specs.IndexMap.{get}
+use Rattle.std.proofs.Common.{◌≡◌, ◌∙◌, ◌++◌, ◌+◌, List, drop, ap, sym, subst}
 use Rattle.binding_graph.specs.declared.place.Place.{Place}
 use Rattle.binding_graph.specs.Bindings.{binding_at, without_all}
 use Rattle.binding_graph.specs.code.Graph.{bindings_of}
-use Rattle.binding_graph.specs.code.Keys.{same_key}
 use Rattle.binding_graph.specs.code.Ranks.{rank_of}
 use Rattle.binding_graph.specs.code.Numbering.{places_of}
 use Rattle.binding_graph.specs.code.Orders.{IsAffected}

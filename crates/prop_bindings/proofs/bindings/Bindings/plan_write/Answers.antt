@@ -1,10 +1,11 @@
-use Rattle.std.proofs.Common.{List, [], ◌∷◌, ap, sym, subst, ◌∙◌}
+use Rattle.std.proofs.Common.{List, ap, sym, subst, ◌∙◌}
 use Rattle.std.proofs.lemmas.Bool.{false≢true}
 use Rattle.binding_graph.specs.declared.binding.Binding.{Binding}
-use Rattle.prop_bindings.specs.Calls.{AllFit, bad_type}
+use Rattle.prop_bindings.specs.Calls.{bad_type}
 use Rattle.prop_bindings.specs.Changes.{one}
 use Rattle.prop_bindings.specs.Counts.{Kept}
-use Rattle.prop_bindings.specs.code.Parts.{MayGiveSome, PlansGiven}
+use Rattle.prop_bindings.specs.Fits.{FitsAt}
+use Rattle.prop_bindings.specs.code.Parts.{MayWriteOne, PlansOne}
 use Rattle.prop_bindings.proofs.Calling.{counts-changed, kept-agrees, kept-counts, kept-plans}
 use Rattle.prop_bindings.proofs.Short.{plans-short}
 use Rattle.prop_bindings.proofs.bindings.Bindings.plan_write.Goals as goal
@@ -29,31 +30,28 @@ returns-then-has_value-clause-counted c =
     kept-counts c.args.self.now.installed c.args.tree.now (one c.args.place.now c.args.value) c.requires.agree.settled c.nothing.result c.nothing.ensures.values c.nothing.ensures.changed c.nothing.ensures.evaluated
     (c.has_value.ensures.0 c.if-has_value.true, tt)
 
-pub returns-in_err-values-clause-value : goal.returns-in_err-values-clause-value
-returns-in_err-values-clause-value c = plans-short c.args.meta.now (one c.args.place.now c.args.value) c.args.self.now.installed c.args.tree.now c.from_residual.result c.from_residual.ensures.1
-
-pub plan_given-requires-clause-given : goal.plan_given-requires-clause-given
-plan_given-requires-clause-given c =
-    subst (λ (bs : List Binding). MayGiveSome c.args.tree.now bs (c.args.place.now ∷ []) c.in_ok-values.values) (sym (ap (λ (k : Kept). k.installed) c.self.view_is))
-    (c.args.meta.now, one c.args.place.now c.args.value, record { agree = c.requires.agree; fits = (c.fits.ensures.0 c.if-not-fits.false, tt); given = c.in_ok-values.ensures })
+pub plan_one-requires-clause-may : goal.plan_one-requires-clause-may
+plan_one-requires-clause-may c =
+    subst (λ (bs : List Binding). MayWriteOne c.args.tree.now bs c.args.place.now c.args.value) (sym (ap (λ (k : Kept). k.installed) c.self.view_is))
+    (c.args.meta.now, c.requires.agree, c.fits.ensures.0 c.if-not-fits.false)
 
 pub returns-in_err-planned-clause-value : goal.returns-in_err-planned-clause-value
-returns-in_err-planned-clause-value c = plans-short c.args.meta.now (one c.args.place.now c.args.value) c.args.self.now.installed c.args.tree.now c.from_residual-in_err-planned.result c.from_residual-in_err-planned.ensures.1
+returns-in_err-planned-clause-value c = plans-short c.args.meta.now (one c.args.place.now c.args.value) c.args.self.now.installed c.args.tree.now c.from_residual.result c.from_residual.ensures.1
 
 pub returns-clause-value : goal.returns-clause-value
 returns-clause-value c =
-    let plans = subst (λ (bs : List Binding). PlansGiven c.args.tree.now bs (c.args.place.now ∷ []) c.in_ok-values.values c.in_ok-planned.planned) (ap (λ (k : Kept). k.installed) c.self.view_is) c.in_ok-planned.ensures in
-    let fits : AllFit c.args.meta.now c.args.tree.now (one c.args.place.now c.args.value) = (c.fits.ensures.0 c.if-not-fits.false, tt) in
-    (fits, (plans c.args.meta.now (one c.args.place.now c.args.value) (record { agree = c.requires.agree; fits = fits; given = c.in_ok-values.ensures })).written)
+    let plans = subst (λ (bs : List Binding). PlansOne c.args.tree.now bs c.args.place.now c.args.value c.in_ok-planned.planned) (ap (λ (k : Kept). k.installed) c.self.view_is) c.in_ok-planned.ensures in
+    let fits : FitsAt c.args.meta.now c.args.tree.now c.args.place.now c.args.value = c.fits.ensures.0 c.if-not-fits.false in
+    ((fits, tt), (plans c.args.meta.now c.requires.agree fits).written)
 
 pub returns-clause-agree : goal.returns-clause-agree
 returns-clause-agree c =
-    let plans = subst (λ (bs : List Binding). PlansGiven c.args.tree.now bs (c.args.place.now ∷ []) c.in_ok-values.values c.in_ok-planned.planned) (ap (λ (k : Kept). k.installed) c.self.view_is) c.in_ok-planned.ensures in
-    (plans c.args.meta.now (one c.args.place.now c.args.value) (record { agree = c.requires.agree; fits = (c.fits.ensures.0 c.if-not-fits.false, tt); given = c.in_ok-values.ensures })).agree
+    let plans = subst (λ (bs : List Binding). PlansOne c.args.tree.now bs c.args.place.now c.args.value c.in_ok-planned.planned) (ap (λ (k : Kept). k.installed) c.self.view_is) c.in_ok-planned.ensures in
+    (plans c.args.meta.now c.requires.agree (c.fits.ensures.0 c.if-not-fits.false)).agree
 
 pub returns-clause-counted : goal.returns-clause-counted
 returns-clause-counted c =
-    let plans = subst (λ (bs : List Binding). PlansGiven c.args.tree.now bs (c.args.place.now ∷ []) c.in_ok-values.values c.in_ok-planned.planned) (ap (λ (k : Kept). k.installed) c.self.view_is) c.in_ok-planned.ensures in
+    let plans = subst (λ (bs : List Binding). PlansOne c.args.tree.now bs c.args.place.now c.args.value c.in_ok-planned.planned) (ap (λ (k : Kept). k.installed) c.self.view_is) c.in_ok-planned.ensures in
     counts-changed _ c.args.tree.now (one c.args.place.now c.args.value) c.in_ok-planned.planned.changed c.in_ok-planned.planned.evaluated
     (λ have. false≢true (sym c.if-has_value.false ∙ c.has_value.ensures.1 have.0))
-    (plans c.args.meta.now (one c.args.place.now c.args.value) (record { agree = c.requires.agree; fits = (c.fits.ensures.0 c.if-not-fits.false, tt); given = c.in_ok-values.ensures })).counted
+    (plans c.args.meta.now c.requires.agree (c.fits.ensures.0 c.if-not-fits.false)).counted

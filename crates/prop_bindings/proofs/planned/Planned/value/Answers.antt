@@ -1,13 +1,12 @@
 use Rattle.std.proofs.Common.{Option, ap, sym, ◌∙◌}
 use Rattle.std.specs.Option.{option_map, unwrap_or}
-use Rattle.indexmap.specs.IndexMap.{get}
 use Rattle.signatures.specs.declared.value.Value.{Value}
+use Rattle.prop_bindings.specs.Plans.{entries_in}
 use Rattle.prop_bindings.specs.Values.{values_in}
-use Rattle.binding_graph.specs.code.Keys.{same_key}
 use Rattle.prop_bindings.proofs.Assigned.{assigned-values}
 use Rattle.prop_bindings.proofs.planned.Planned.value.Goals as goal
 
 pub returns : goal.returns
 returns c = λ objects.
-    assigned-values c.args.self.now.values.entries objects c.args.place.now
-    ∙ ap (λ (o : Option Value). option_map (unwrap_or o) (values_in objects c.args.place.now)) (sym (c.get.ensures.value ∙ ap (get same_key c.args.self.now.values) c.key.ensures))
+    assigned-values (entries_in c.args.self.now.values) objects c.args.place.now
+    ∙ ap (λ (o : Option Value). option_map (unwrap_or o) (values_in objects c.args.place.now)) (sym c.get.ensures)

@@ -1,0 +1,66 @@
+-- A write of a property on which nothing depends.
+use Rattle.std.proofs.Common.{◌≡◌, Bool, List, [], ◌∷◌, cond, inl, inr, refl, ap, sym, ◌∙◌, subst}
+use Rattle.std.specs.Option.{option_map}
+use Rattle.signatures.specs.declared.value.Value.{Value}
+use Rattle.meta_model.specs.Loaded.{Loaded}
+use Rattle.object_tree.specs.declared.object.Object.{Object}
+use Rattle.object_tree.specs.Objects.{change_life, written}
+use Rattle.object_tree.specs.Seen.{seen}
+use Rattle.binding_graph.specs.declared.place.Place.{Place}
+use Rattle.binding_graph.specs.declared.binding.Binding.{Binding}
+use Rattle.binding_graph.specs.Bindings.{Reads, binding_at, without_all}
+use Rattle.binding_graph.specs.code.Graph.{Unread}
+use Rattle.binding_graph.specs.code.Orders.{IsAffected}
+use Rattle.binding_graph.proofs.Places.{same_place-refl}
+use Rattle.binding_graph.proofs.Replaced.{without-fewer}
+use Rattle.prop_bindings.specs.declared.planned.Planned.{Planned}
+use Rattle.prop_bindings.specs.Values.{values_in}
+use Rattle.prop_bindings.specs.Changes.{AreChanged, DifferInValues, none_changed, one, one_changed, one_stayed}
+use Rattle.prop_bindings.specs.Fits.{Agree, FitsAt}
+use Rattle.prop_bindings.specs.Plans.{after}
+use Rattle.prop_bindings.specs.code.Parts.{PlansThem}
+use Rattle.prop_bindings.proofs.Calling.{plans-them}
+use Rattle.prop_bindings.proofs.Evaluating.{given-sound, rest-alike}
+use Rattle.prop_bindings.proofs.InOrder.{lifted-changes}
+use Rattle.prop_bindings.proofs.Staying.{alike-by, alike-from}
+use Rattle.prop_bindings.proofs.Values.{value-changed, written-differs}
+use Rattle.prop_bindings.proofs.Wrote.{wrote-other}
+
+module _ (objects : List Object) (at : Place) (v : Value) where
+  abbrev new : List Object
+  new = change_life at.object (written at.property v) objects
+
+  differ : DifferInValues objects new
+  differ = written-differs at.object at.property v objects
+
+  there : option_map (λ (own : Value). v) (values_in objects at) ≡ values_in new at
+  there = sym (value-changed objects at v at ∙ ap (λ (b : Bool). option_map (λ (own : Value). cond b v own) (values_in objects at)) (same_place-refl at))
+
+  -- whether it reads as it did
+  pub alone-stayed : option_map (seen objects) (option_map (λ (own : Value). v) (values_in objects at)) ≡ option_map (seen objects) (values_in objects at) → AreChanged objects new (at ∷ []) []
+  alone-stayed same = one_stayed (alike-by objects new differ at _ there same) none_changed
+
+  pub alone-changed : (¬ (option_map (seen objects) (option_map (λ (own : Value). v) (values_in objects at)) ≡ option_map (seen objects) (values_in objects at))) → AreChanged objects new (at ∷ []) (at ∷ [])
+  alone-changed apart = one_changed (λ alike. apart (alike-from objects new differ at _ there alike)) none_changed
+
+  module _ (p : Loaded) (bs : List Binding) (agree : Agree p objects bs) (fits : FitsAt p objects at v) (unread : Unread (binding_at bs) at) where
+    affected : IsAffected (binding_at (without_all (at ∷ []) bs)) (at ∷ []) []
+    affected = record {
+      ordered = tt;
+      distinct = tt;
+      reached = λ q i. absurd i;
+      closed = λ q m b some reads i. elim i [
+        | inl j ↦ elim j [
+          | inl e ↦ unread q b (without-fewer at bs q b some) (subst (λ (r : Place). Reads b r) (sym e) reads)
+          | inr k ↦ k
+        ]
+        | inr k ↦ k
+      ];
+    }
+
+    pub plans-alone : (plan : Planned) → AreChanged objects new (at ∷ []) plan.changed → after plan objects ≡ new → plan.evaluated ≡ 0 → PlansThem p objects bs (one at v) plan
+    plans-alone plan changes done count =
+        let all = lifted-changes objects new (at ∷ []) bs [] [] plan.changed ((λ i. i), tt) agree.apart (tt, tt) (λ q. ((λ i. i), (λ i. i))) (λ q i j. j)
+        (rest-alike objects new new bs (at ∷ []) [] (wrote-other (one at v) objects) (λ q. refl) differ) changes in
+        plans-them p bs objects new new (one at v) (at ∷ []) [] agree (fits, tt) refl refl affected (λ q. refl)
+        plan differ all (given-sound p objects bs at v (agree.typed, agree.fit) fits) count (sym done)
