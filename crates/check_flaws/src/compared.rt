@@ -175,10 +175,10 @@ impl<'s> Compared<'s> {
         let Some(from) = self.nodes.get(from) else {
             return Ok(());
         };
-        match self.nodes.get(to) {
-            Some(to) => push_edge(text, self.source, *from, *to),
-            None => Ok(()),
+        if let Some(to) = self.nodes.get(to) {
+            push_edge(text, self.source, *from, *to)?;
         }
+        Ok(())
     }
 
     /// A set isn't as it has to be.

@@ -4,6 +4,7 @@ use crate::usage::push_usage;
 use check_flaws::broken_condition;
 use declaration_flaws::declaration_flaw;
 use diagnostics::{Flaw, Severity, Span, TextKind, meaning, push_flaw, text_spans};
+use meta_objects::Meta;
 use native_slots::Answering;
 use program_flaws::missing_certificate;
 use std::alloc::{AllocError, Global};
@@ -26,8 +27,8 @@ pub fn explanation<N: Answering + Drop>(
         Outcome::Program(ProgramOutcome::Refused(refusal)) => {
             push_refusal(&mut text, alloc, input, refusal)?
         }
-        Outcome::Program(ProgramOutcome::Uncertified(_, why)) => {
-            push_missing(&mut text, alloc, input, why)?
+        Outcome::Program(ProgramOutcome::Uncertified(meta, why)) => {
+            push_missing(&mut text, alloc, input, meta, why)?
         }
         Outcome::Ran(ran) => {
             if let Err(fault) = ran.ended {
@@ -148,6 +149,7 @@ fn push_missing(
     text: &mut String,
     alloc: Global,
     input: Option<&[u8]>,
+    meta: &Meta,
     why: &Why,
 ) -> Result<(), AllocError> {
     let Some(about) = meaning_of_reason(why) else {
@@ -167,7 +169,7 @@ fn push_missing(
         }
     }
     writeln!(text, "no certificate: {about}")?;
-    match missing_certificate(alloc, source)? {
+    match missing_certificate(alloc, source, meta, why)? {
         Some(reason) => text.push_str(reason.as_str()),
         None => Ok(()),
     }

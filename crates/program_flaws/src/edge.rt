@@ -1,28 +1,33 @@
 //! An edge, in words.
 
+ghost use Rattle.std.specs.Prelude.{IfOk, IfSome};
+ghost use Rattle.effect_scan.specs.Reasons.{Draws};
+
 use crate::names::{class_text, node_text, text_of};
-use crate::numbers::statement_at;
 use crate::source::Source;
-use crate::statement::Body;
+use crate::statement::statement_of;
 use crate::wire::wire_at;
-use effect_scan::{Member, Node, Reason, reason_for};
-use meta_objects::Work;
+use effect_scan::{Node, Reason, reason_for};
 use std::alloc::AllocError;
 
-/// Adds a line that says what draws the edge from one node to the other.
+/// Adds a line that says what draws the edge from one node to the other, and answers it.
 pub fn push_edge(
     text: &mut String,
     source: Source<'_>,
     from: Node,
     to: Node,
-) -> Result<(), AllocError> {
+) -> Result<Option<Reason>, AllocError>
+    ensures { IfOk result (λ told. IfSome told (Draws source.entry.meta.now from to)) }
+{
     let first = node_text(source.alloc, source.meta, from)?;
     let second = node_text(source.alloc, source.meta, to)?;
     write!(text, "  `{first}` leads to `{second}`: ")?;
-    if let Some(reason) = reason_for(source.meta, from, to) {
+    let drawn = reason_for(source.meta, from, to);
+    if let Some(reason) = drawn {
         push_reason(text, source, reason, from, to)?;
     }
-    text.push_str("\n")
+    text.push_str("\n")?;
+    Ok(drawn)
 }
 
 /// Adds what draws an edge.
@@ -53,30 +58,11 @@ fn push_statement(
     number: usize,
     from: Node,
 ) -> Result<(), AllocError> {
-    let Member::Method(method) = from.member else {
-        return Ok(());
-    };
-    let Some(found) = source.meta.method_at(from.class, method) else {
-        return Ok(());
-    };
-    let Work::Slot(body) = &found.work else {
-        return Ok(());
-    };
-    let Some(numbered) = statement_at(body.as_slice(), number) else {
-        return Ok(());
-    };
-    let slot = match source.slot_place(from.class, method) {
-        Some(place) => source.slot(place),
-        None => None,
-    };
-    let body = Body {
-        source,
-        class: source.declaring(from.class, method),
-        kinds: found.kinds.as_slice(),
-        slot,
-    };
-    let statement = body.statement_text(numbered.statement)?;
-    write!(text, "its body has `{statement}`")
+    if let Some((body, numbered)) = statement_of(source, from, number) {
+        let statement = body.statement_text(numbered.statement)?;
+        write!(text, "its body has `{statement}`")?;
+    }
+    Ok(())
 }
 
 /// Adds the binding at this place.

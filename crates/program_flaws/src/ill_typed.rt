@@ -1,20 +1,27 @@
 //! Literals, bodies and bindings that aren't typed.
 
 use crate::names::{class_text, node_text, property_text, text_of, type_text};
-use crate::numbers::{Numbered, statement_at};
+use crate::numbers::Numbered;
 use crate::source::Source;
-use crate::statement::Body;
+use crate::statement::{Body, statement_of};
 use effect_scan::{Member, Node};
-use meta_objects::{Statement, Work};
+use meta_objects::Statement;
 use std::alloc::AllocError;
-use syntax_trees::Slot;
-use type_check::{Spot, flaw_at};
+use type_check::{Flaw, Spot, flaw_at};
 
-/// What isn't typed, and what has to be of which type.
+/// What isn't typed at the spot, and what has to be of which type; nothing where all is typed there.
 pub fn untyped_text(source: Source<'_>, spot: Spot) -> Result<String, AllocError> {
+    match flaw_at(source.alloc, source.meta, spot)? {
+        Some(flaw) => flaw_text(source, spot, flaw),
+        None => Ok(String::new(source.alloc)),
+    }
+}
+
+/// The same of this flaw, which is the spot's.
+pub fn flaw_text(source: Source<'_>, spot: Spot, flaw: Flaw) -> Result<String, AllocError> {
     match spot {
         Spot::Node(node) => match node.member {
-            Member::Method(method) => body_text(source, node, method),
+            Member::Method(_) => body_text(source, node, flaw.statement),
             Member::Property(property) => literal_text(source, node, property),
             Member::Destruction => Ok(String::new(source.alloc)),
         },
@@ -57,44 +64,19 @@ fn binding_text(source: Source<'_>, place: usize) -> Result<String, AllocError> 
     )
 }
 
-/// A slot whose body isn't typed: the first statement of it that isn't, in its blocks and groups too.
-fn body_text(source: Source<'_>, node: Node, method: usize) -> Result<String, AllocError> {
-    if let Some(found) = source.meta.method_at(node.class, method) {
-        if let Work::Slot(body) = &found.work {
-            if let Some(flawed) = flawed_in(source, node, body.as_slice())? {
-                let body = Body {
-                    source,
-                    class: node.class,
-                    kinds: found.kinds.as_slice(),
-                    slot: slot_of(source, node, method),
-                };
-                return statement_text(body, node, flawed);
-            }
+/// A slot whose body isn't typed: the statement of this number, which is the first that isn't.
+fn body_text(
+    source: Source<'_>,
+    node: Node,
+    statement: Option<usize>,
+) -> Result<String, AllocError> {
+    if let Some(number) = statement {
+        if let Some((body, flawed)) = statement_of(source, node, number) {
+            return statement_text(body, node, flawed);
         }
     }
     let name = node_text(source.alloc, source.meta, node)?;
     format!(in source.alloc; "the body of `{name}` isn't typed\n")
-}
-
-/// The declaration of the method, if it is a slot's.
-fn slot_of(source: Source<'_>, node: Node, method: usize) -> Option<&Slot> {
-    let place = source.slot_place(node.class, method)?;
-    source.slot(place)
-}
-
-/// The first statement that isn't typed of this body, which is the node's.
-fn flawed_in<'m>(
-    source: Source<'_>,
-    node: Node,
-    body: &'m [Statement],
-) -> Result<Option<Numbered<'m>>, AllocError> {
-    let Some(flaw) = flaw_at(source.alloc, source.meta, Spot::Node(node))? else {
-        return Ok(None);
-    };
-    match flaw.statement {
-        Some(number) => Ok(statement_at(body, number)),
-        None => Ok(None),
-    }
 }
 
 /// That the statement isn't typed, which is one of the node's body.

@@ -12,8 +12,8 @@ mod statement;
 mod wire;
 
 pub use edge::push_edge;
-pub use ill_typed::untyped_text;
+pub use ill_typed::{flaw_text, untyped_text};
 pub use names::{class_text, node_text, property_text, sig_text, text_of};
-pub use reasons::missing_certificate;
+pub use reasons::{breaking, missing_certificate};
 pub use source::{Source, declarations_of, meta_of};
 pub use wire::{unfit_text, wire_text};

@@ -1,46 +1,37 @@
-//! Why a program has no certificate, from its text.
+//! Why a program has no certificate, in words.
 
 use crate::edge::push_edge;
 use crate::ill_typed::untyped_text;
 use crate::names::class_text;
-use crate::source::{Source, declarations_of, meta_of};
+use crate::source::{Source, declarations_of};
 use crate::wire::unfit_text;
 use effect_scan::{Member, Node, Reason, reason_for};
-use rank_make::{Why, make};
+use meta_objects::Meta;
+use rank_make::Why;
 use std::alloc::{AllocError, Global};
-use syntax_trees::Program;
 
 /// So many edges of a chain are told.
 const MOST_EDGES: usize = 12;
 
-/// What the reason is about for which `certify` found no certificate of this program: the wire, the member or the
-/// binding; or for a chain of members what leads from each to the next one; and how to break it. The text has whole lines.
-/// `None` where the program doesn't load, or has a certificate.
-pub fn missing_certificate(alloc: Global, program: &[u8]) -> Result<Option<String>, AllocError> {
-    match declarations_of(alloc, program)? {
-        Some(tree) => missing_in(alloc, &tree),
-        None => Ok(None),
-    }
-}
-
-/// What the reason is about, for the declarations of a program.
-fn missing_in(alloc: Global, program: &Program) -> Result<Option<String>, AllocError> {
-    match meta_of(alloc, program)? {
-        Some(meta) => reason_text(Source {
-            alloc,
-            program,
-            meta: &meta,
-        }),
-        None => Ok(None),
-    }
-}
-
-/// What the first reason is about, for which no certificate is valid; `None` where the program has one.
-pub fn reason_text(source: Source<'_>) -> Result<Option<String>, AllocError> {
-    match make(source.alloc, source.meta) {
-        Ok(_) => Ok(None),
-        Err(why) => Ok(Some(why_text(source, &why)?)),
-    }
+/// What the reason is about for which `certify` found no certificate of this program, which is loaded as this: the wire, the
+/// member or the binding; or for a chain of members what leads from each to the next one; and how to break it. The text has
+/// whole lines. `None` where the program can't be read.
+pub fn missing_certificate(
+    alloc: Global,
+    program: &[u8],
+    meta: &Meta,
+    why: &Why,
+) -> Result<Option<String>, AllocError> {
+    let Some(tree) = declarations_of(alloc, program)? else {
+        return Ok(None);
+    };
+    let source = Source {
+        alloc,
+        program: &tree,
+        meta,
+    };
+    let text = why_text(source, why)?;
+    Ok(Some(text))
 }
 
 /// What this reason is about.
@@ -58,8 +49,9 @@ fn why_text(source: Source<'_>, why: &Why) -> Result<String, AllocError> {
 /// What leads from each member of a cycle to the next one, how to break it, and whether it may come to rest.
 fn cycle_text(source: Source<'_>, nodes: &[Node]) -> Result<String, AllocError> {
     let mut text = String::new(source.alloc);
-    push_chain(&mut text, source, nodes)?;
-    text.push_str(breaking(source, nodes))?;
+    let links = push_chain(&mut text, source, nodes)?;
+    let advice = breaking(links.wired, links.bound);
+    writeln!(text, "help: {advice}")?;
     text.push_str(doubt(nodes))?;
     Ok(text)
 }
@@ -114,40 +106,46 @@ fn high_text(source: Source<'_>, nodes: &[Node]) -> Result<String, AllocError> {
     Ok(text)
 }
 
-/// Adds what leads from each node to the next one, for the first of them.
-fn push_chain(text: &mut String, source: Source<'_>, nodes: &[Node]) -> Result<(), AllocError> {
-    let mut before: Option<Node> = None;
-    for (place, node) in nodes.iter().enumerate() {
-        if place > MOST_EDGES {
-            return text.push_str("  and so on\n");
-        }
-        if let Some(from) = before {
-            push_edge(text, source, from, *node)?;
-        }
-        before = Some(*node);
-    }
-    Ok(())
+/// What leads from node to node of a chain.
+#[derive(Clone, Copy)]
+struct Links {
+    /// Whether a wire does.
+    wired: bool,
+    /// Whether a binding does.
+    bound: bool,
 }
 
-/// How to break a cycle of these nodes, by what leads from one to the next.
-fn breaking(source: Source<'_>, nodes: &[Node]) -> &'static str {
-    let mut is_bound = false;
-    let mut before: Option<Node> = None;
-    for node in nodes {
-        if let Some(from) = before {
-            match reason_for(source.meta, from, *node) {
-                Some(Reason::Wire(_)) => {
-                    return "help: make one of these wires `queued`: then its slot runs later, when the event loop turns, and the chain ends there\n";
-                }
-                Some(Reason::Binding(_)) => is_bound = true,
-                _ => {}
-            }
+/// Adds what leads from each node to the next one, for the first of them, and answers what does so of all.
+fn push_chain(text: &mut String, source: Source<'_>, nodes: &[Node]) -> Result<Links, AllocError> {
+    let mut links = Links {
+        wired: false,
+        bound: false,
+    };
+    for (place, (from, to)) in nodes.iter().zip(nodes.iter().skip(1)).enumerate() {
+        if place == MOST_EDGES {
+            text.push_str("  and so on\n")?;
         }
-        before = Some(*node);
+        let reason = if place < MOST_EDGES {
+            push_edge(text, source, *from, *to)?
+        } else {
+            reason_for(source.meta, *from, *to)
+        };
+        match reason {
+            Some(Reason::Wire(_)) => links.wired = true,
+            Some(Reason::Binding(_)) => links.bound = true,
+            _ => {}
+        }
     }
-    if is_bound {
-        "help: a binding may not come to read what it is for: leave one of these properties out of an expression\n"
+    Ok(links)
+}
+
+/// How to break a cycle on which wires lead from one node to the next, or bindings, or neither.
+pub fn breaking(wired: bool, bound: bool) -> &'static str {
+    if wired {
+        "make one of these wires `queued`: then its slot runs later, when the event loop turns, and the chain ends there"
+    } else if bound {
+        "a binding may not come to read what it is for: leave one of these properties out of an expression"
     } else {
-        "help: in the place of one of these statements, emit a signal that a `queued` wire takes to the next slot\n"
+        "in the place of one of these statements, emit a signal that a `queued` wire takes to the next slot"
     }
 }

@@ -17,13 +17,6 @@ pub struct Source<'s> {
     pub meta: &'s Meta,
 }
 
-/// Where a slot is declared: the places of its class and of itself among those of the program and of the class.
-#[derive(Clone, Copy, Debug, PartialEq, Eq)]
-pub struct SlotPlace {
-    pub class: usize,
-    pub slot: usize,
-}
-
 impl<'s> Source<'s> {
     /// The class that declares the method which the class of this number has.
     pub fn declaring(&self, class: usize, method: usize) -> usize {
@@ -37,21 +30,13 @@ impl<'s> Source<'s> {
         declaring
     }
 
-    /// Where the slot or native of this number is declared, which the class of this number has; `None` for a signal and
-    /// for what `QObject` declares.
-    pub fn slot_place(&self, class: usize, method: usize) -> Option<SlotPlace> {
+    /// The declaration of the slot or native of this number, which the class of this number has; `None` for a signal and for
+    /// what `QObject` declares.
+    pub fn slot(&self, class: usize, method: usize) -> Option<&'s Slot> {
         let declaring = self.declaring(class, method);
-        let place = declaring.checked_sub(1)?;
-        let declared = self.program.classes.get(place)?;
+        let declared: &'s Class = self.program.classes.get(declaring.checked_sub(1)?)?;
         let own = method.checked_sub(self.meta.method_offset(declaring))?;
-        let slot = own.checked_sub(declared.signals.len())?;
-        Some(SlotPlace { class: place, slot })
-    }
-
-    /// The slot or native at this place.
-    pub fn slot(&self, place: SlotPlace) -> Option<&'s Slot> {
-        let class: &'s Class = self.program.classes.get(place.class)?;
-        class.slots.get(place.slot)
+        declared.slots.get(own.checked_sub(declared.signals.len())?)
     }
 }
 

@@ -1,8 +1,10 @@
 //! How a statement is written, with `..` in the place of its expressions.
 
 use crate::names::{method_text, property_text, text_of};
+use crate::numbers::{Numbered, statement_at};
 use crate::source::Source;
-use meta_model::{MetaPath, MetaRoot, Statement, ValueType};
+use effect_scan::{Member, Node};
+use meta_model::{MetaMethod, MetaPath, MetaRoot, Statement, ValueType, Work};
 use std::alloc::AllocError;
 use syntax_trees::Slot;
 
@@ -17,6 +19,29 @@ pub struct Body<'s> {
     pub kinds: &'s [ValueType],
     /// The slot's declaration, which has the names of its parameters.
     pub slot: Option<&'s Slot>,
+}
+
+/// The statement of this number in the body of the slot that the node is, and where it stands.
+pub fn statement_of<'s>(
+    source: Source<'s>,
+    node: Node,
+    number: usize,
+) -> Option<(Body<'s>, Numbered<'s>)> {
+    let Member::Method(method) = node.member else {
+        return None;
+    };
+    let found: &'s MetaMethod = source.meta.method_at(node.class, method)?;
+    let Work::Slot(statements) = &found.work else {
+        return None;
+    };
+    let numbered = statement_at(statements.as_slice(), number)?;
+    let body = Body {
+        source,
+        class: source.declaring(node.class, method),
+        kinds: found.kinds.as_slice(),
+        slot: source.slot(node.class, method),
+    };
+    Some((body, numbered))
 }
 
 /// A path as it is written, and the class that it is declared to lead to.

@@ -5,6 +5,7 @@ use crate::search::Search;
 use crate::sentences::push_names;
 use effect_scan::Node;
 use findings::{CycleSet, Finding, Link, Place, Rule, Step, TextKind, Verdict};
+use program_flaws::breaking;
 use std::alloc::AllocError;
 
 /// Adds one cycle of each knot that isn't on the list, and counts those that are.
@@ -41,7 +42,11 @@ fn cycle_finding(
 ) -> Result<Finding, AllocError> {
     let alloc = located.source.alloc;
     let chain = located.steps(cycle)?;
-    let help = Some(String::from_str(alloc, breaking(chain.as_slice()))?);
+    let advice = breaking(
+        has_link(chain.as_slice(), Link::Wire),
+        has_link(chain.as_slice(), Link::Binding),
+    );
+    let help = Some(String::from_str(alloc, advice)?);
     Ok(Finding {
         rule: Rule::Cycle,
         message: cycle_text(located, cycle, members)?,
@@ -80,13 +85,7 @@ fn place_in(chain: &[Step]) -> Option<Place> {
     }
 }
 
-/// How to break a cycle of these steps.
-fn breaking(chain: &[Step]) -> &'static str {
-    if chain.iter().any(|step: &Step| step.link == Link::Wire) {
-        "make one of these wires `queued`: then its slot runs later, when the event loop turns, and the chain ends there"
-    } else if chain.iter().any(|step: &Step| step.link == Link::Binding) {
-        "a binding may not come to read what it is for: leave one of these properties out of an expression"
-    } else {
-        "in the place of one of these statements, emit a signal that a `queued` wire takes to the next slot"
-    }
+/// Whether one of the steps is of this sort.
+fn has_link(chain: &[Step], link: Link) -> bool {
+    chain.iter().any(|step: &Step| step.link == link)
 }

@@ -2,7 +2,7 @@
 
 use crate::places::Places;
 use diagnostics::Place;
-use effect_scan::{Member, Node, Reason, reason_for};
+use effect_scan::{Member, Node, Reason};
 use findings::{Link, Step};
 use program_flaws::{Source, node_text, push_edge};
 use std::alloc::AllocError;
@@ -120,9 +120,8 @@ impl<'s> Located<'s> {
     /// The step from the one node to the other, to which it leads.
     pub fn step(&self, from: Node, to: Node) -> Result<Step, AllocError> {
         let alloc = self.source.alloc;
-        let reason = reason_for(self.source.meta, from, to).unwrap_or(Reason::Deletion);
         let mut line = String::new(alloc);
-        push_edge(&mut line, self.source, from, to)?;
+        let reason = push_edge(&mut line, self.source, from, to)?.unwrap_or(Reason::Deletion);
         Ok(Step {
             from: node_text(alloc, self.source.meta, from)?,
             to: node_text(alloc, self.source.meta, to)?,

@@ -6,7 +6,7 @@ use diagnostics::Place;
 use effect_scan::Node;
 use findings::{Finding, Rule, TextKind, Verdict};
 use meta_objects::{Meta, MetaWire};
-use program_flaws::{unfit_text, untyped_text};
+use program_flaws::{flaw_text, unfit_text};
 use signatures::fits;
 use std::alloc::AllocError;
 use type_check::{Spot, flaw_at};
@@ -57,7 +57,7 @@ fn gather_type(located: Located<'_>, spot: Spot, found: &mut Verdict) -> Result<
     let source = located.source;
     if let Some(flaw) = flaw_at(source.alloc, source.meta, spot)? {
         if found.takes_one() {
-            let text = untyped_text(source, spot)?;
+            let text = flaw_text(source, spot, flaw)?;
             let at = spot_place(located, spot, flaw.statement);
             found.push(finding(located, Rule::IllTyped, text.as_str(), at)?)?;
         }
