@@ -1,7 +1,7 @@
 //! A certificate beside its program, and what breaks a condition.
 
 use crate::node_name::node_name_text;
-use crate::rows::{bound_row, node_row};
+use crate::rows::{cause_place, line_place};
 use effect_scan::{Node, Numbering};
 use program_flaws::{Source, class_text, node_text, push_edge, text_of, unfit_text, untyped_text};
 use rank_check::{
@@ -22,13 +22,14 @@ struct Compared<'s> {
     certificate: &'s Certificate,
 }
 
-/// What of the program or the certificate breaks a condition, for a person, in whole lines. `None` for want of memory.
+/// What of the program or the certificate breaks a condition, for a person, in whole lines; the certificate has this text.
+/// The error is that memory was refused, which may be what the cause says.
 pub fn cause_text(
     source: Source<'_>,
     text: &[u8],
     certificate: &Certificate,
     cause: Cause,
-) -> Result<Option<String>, AllocError> {
+) -> Result<String, AllocError> {
     let numbering = Numbering::of(source.alloc, source.meta.classes())?;
     let compared = Compared {
         source,
@@ -41,21 +42,44 @@ pub fn cause_text(
 
 impl<'s> Compared<'s> {
     /// What breaks the condition.
-    fn told(&self, cause: Cause) -> Result<Option<String>, AllocError> {
+    fn told(&self, cause: Cause) -> Result<String, AllocError> {
         match cause {
-            Cause::Wire(place) => Ok(Some(unfit_text(self.source, place)?)),
-            Cause::BodyType(spot) => Ok(Some(untyped_text(self.source, spot)?)),
-            Cause::Missing(node) => Ok(Some(self.missing(node)?)),
+            Cause::Wire(place) => unfit_text(self.source, place),
+            Cause::BodyType(spot) => untyped_text(self.source, spot),
+            Cause::Missing(node) => self.missing(node),
             Cause::Extra(extra) => self.extra(extra),
-            Cause::Edge(rise) => Ok(Some(self.rise(rise)?)),
-            Cause::Destroys(mistake) => Ok(Some(self.mistake(mistake)?)),
-            Cause::Bound(loose) => self.loose(loose),
-            Cause::Memory => Ok(None),
+            Cause::Edge(rise) => self.rise(rise),
+            Cause::Destroys(mistake) => self.mistake(mistake),
+            Cause::Bound(Loose::TooGreat) => self.too_great(cause),
+            Cause::Bound(Loose::NotAbove(place)) => self.not_above(place),
+            Cause::Memory => Err(AllocError),
         }
     }
 
-    fn lines(&self) -> &'s [Line] {
-        self.certificate.lines.as_slice()
+    /// The line of the certificate at this place.
+    fn line(&self, place: usize) -> Option<&'s Line> {
+        self.certificate.lines.as_slice().get(place)
+    }
+
+    /// The node that it is for.
+    fn named(&self, place: usize) -> Result<String, AllocError> {
+        match self.line(place) {
+            Some(line) => node_name_text(self.source.alloc, &line.node),
+            None => Ok(String::new(self.source.alloc)),
+        }
+    }
+
+    /// The rank that it gives.
+    fn rank(&self, place: usize) -> u32 {
+        match self.line(place) {
+            Some(line) => line.rank,
+            None => 0,
+        }
+    }
+
+    /// The number of the line of the certificate's text in which it stands.
+    fn row(&self, place: usize) -> Result<usize, AllocError> {
+        Ok(line_place(self.source.alloc, self.text, place)?.line)
     }
 
     /// A node of the program, as the certificate names it.
@@ -64,11 +88,6 @@ impl<'s> Compared<'s> {
             Some(node) => node_text(self.source.alloc, self.source.meta, *node),
             None => Ok(String::new(self.source.alloc)),
         }
-    }
-
-    /// The number of the line of the certificate's text in which the node's line of this place stands.
-    fn row(&self, place: usize) -> Result<usize, AllocError> {
-        node_row(self.source.alloc, self.text, place)
     }
 
     /// The node of this number has no line.
@@ -80,7 +99,7 @@ impl<'s> Compared<'s> {
     }
 
     /// A line or a class of a set is too much.
-    fn extra(&self, extra: Extra) -> Result<Option<String>, AllocError> {
+    fn extra(&self, extra: Extra) -> Result<String, AllocError> {
         match extra {
             Extra::Unknown(place) => self.unknown(place),
             Extra::Twice(place, other) => self.twice(place, other),
@@ -89,17 +108,16 @@ impl<'s> Compared<'s> {
     }
 
     /// The line at this place is for nothing.
-    fn unknown(&self, place: usize) -> Result<Option<String>, AllocError> {
-        let Some(line) = self.lines().get(place) else {
-            return Ok(None);
-        };
+    fn unknown(&self, place: usize) -> Result<String, AllocError> {
         let row = self.row(place)?;
-        let node = node_name_text(self.source.alloc, &line.node)?;
-        let why = self.why_unknown(&line.node);
-        let text = format!(in self.source.alloc;
+        let node = self.named(place)?;
+        let why = match self.line(place) {
+            Some(line) => self.why_unknown(&line.node),
+            None => "",
+        };
+        format!(in self.source.alloc;
             "line {row} of the certificate is for `{node}`: {why}\nhelp: make the certificate anew with `certify`, after each change of the program\n"
-        )?;
-        Ok(Some(text))
+        )
     }
 
     /// Why no node has this name.
@@ -116,33 +134,32 @@ impl<'s> Compared<'s> {
     }
 
     /// The lines at these places are for the same node.
-    fn twice(&self, place: usize, other: usize) -> Result<Option<String>, AllocError> {
-        let Some(line) = self.lines().get(place) else {
-            return Ok(None);
-        };
+    fn twice(&self, place: usize, other: usize) -> Result<String, AllocError> {
         let row = self.row(place)?;
         let other = self.row(other)?;
-        let node = node_name_text(self.source.alloc, &line.node)?;
-        let text = format!(in self.source.alloc;
+        let node = self.named(place)?;
+        format!(in self.source.alloc;
             "lines {row} and {other} of the certificate are both for `{node}`\nhelp: leave one of them out\n"
-        )?;
-        Ok(Some(text))
+        )
     }
 
     /// The class that this item of the line's set names isn't there.
-    fn class_missing(&self, place: usize, item: usize) -> Result<Option<String>, AllocError> {
-        let Some(line) = self.lines().get(place) else {
-            return Ok(None);
-        };
-        let Some(SetItem::Class(name) | SetItem::Closure(name)) = line.destroys.get(item) else {
-            return Ok(None);
-        };
+    fn class_missing(&self, place: usize, item: usize) -> Result<String, AllocError> {
         let row = self.row(place)?;
-        let class = text_of(self.source.alloc, name.bytes())?;
-        let text = format!(in self.source.alloc;
+        let class = self.class_in(place, item)?;
+        format!(in self.source.alloc;
             "line {row} of the certificate has the class `{class}`, which isn't there\nhelp: make the certificate anew with `certify`, after each change of the program\n"
-        )?;
-        Ok(Some(text))
+        )
+    }
+
+    /// The class that this item of the line's set names.
+    fn class_in(&self, place: usize, item: usize) -> Result<String, AllocError> {
+        if let Some(line) = self.line(place) {
+            if let Some(SetItem::Class(name) | SetItem::Closure(name)) = line.destroys.get(item) {
+                return text_of(self.source.alloc, name.bytes());
+            }
+        }
+        Ok(String::new(self.source.alloc))
     }
 
     /// Along an edge the rank doesn't fall.
@@ -163,10 +180,7 @@ impl<'s> Compared<'s> {
     fn push_rank(&self, text: &mut String, at: Place, gives: &str) -> Result<(), AllocError> {
         let row = self.row(at.line)?;
         let node = self.node(at.node)?;
-        let rank = match self.lines().get(at.line) {
-            Some(line) => line.rank,
-            None => 0,
-        };
+        let rank = self.rank(at.line);
         write!(text, "line {row}{gives} `{node}` the rank {rank}")
     }
 
@@ -223,35 +237,23 @@ impl<'s> Compared<'s> {
         Ok(text)
     }
 
-    /// The bound isn't as it has to be.
-    fn loose(&self, loose: Loose) -> Result<Option<String>, AllocError> {
-        match loose {
-            Loose::TooGreat => Ok(Some(self.too_great()?)),
-            Loose::NotAbove(place) => self.not_above(place),
-        }
-    }
-
     /// The bound is over 256.
-    fn too_great(&self) -> Result<String, AllocError> {
+    fn too_great(&self, cause: Cause) -> Result<String, AllocError> {
         let bound = self.certificate.bound;
-        let row = bound_row(self.source.alloc, self.text)?;
+        let row = cause_place(self.source.alloc, self.text, cause)?.line;
         format!(in self.source.alloc;
             "line {row} of the certificate: the bound {bound} is over 256\nhelp: make the certificate anew with `certify`, which finds the least bound\n"
         )
     }
 
     /// The bound isn't above the rank in the line at this place.
-    fn not_above(&self, place: usize) -> Result<Option<String>, AllocError> {
-        let Some(line) = self.lines().get(place) else {
-            return Ok(None);
-        };
+    fn not_above(&self, place: usize) -> Result<String, AllocError> {
         let bound = self.certificate.bound;
-        let rank = line.rank;
+        let rank = self.rank(place);
         let row = self.row(place)?;
-        let node = node_name_text(self.source.alloc, &line.node)?;
-        let text = format!(in self.source.alloc;
+        let node = self.named(place)?;
+        format!(in self.source.alloc;
             "line {row} of the certificate gives `{node}` the rank {rank}, and the bound is {bound}: it has to be above all ranks\nhelp: make the certificate anew with `certify`\n"
-        )?;
-        Ok(Some(text))
+        )
     }
 }

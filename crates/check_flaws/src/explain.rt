@@ -49,7 +49,7 @@ fn flaw(source: Source<'_>, certificate: &[u8], number: u8) -> Result<Option<Str
         return Ok(None);
     };
     match cause_of(source.alloc, source.meta, &read, number)? {
-        Some(cause) => cause_text(source, certificate, &read, cause),
+        Some(cause) => Ok(Some(cause_text(source, certificate, &read, cause)?)),
         None => Ok(None),
     }
 }

@@ -8,4 +8,6 @@ mod node_name;
 mod numbered;
 mod rows;
 
+pub use compared::cause_text;
 pub use explain::broken_condition;
+pub use rows::cause_place;

@@ -1,44 +1,55 @@
-//! The lines of a certificate's text.
+//! Where the rows of a certificate's text begin: its lines that have tokens.
 
+use diagnostics::Place;
+use rank_check::{Cause, Extra, Loose, Mistake};
 use std::alloc::{AllocError, Global};
-use texts::{LexFault, split_line, tokens};
+use texts::{PlaceFault, placed_tokens};
 
-/// So many lines stand before those of nodes: the version's and the bound's.
+/// So many rows stand before those of nodes: the version's and the bound's.
 const SETTINGS: usize = 2;
 
-/// The number, from 1, of the line in which the bound of the certificate stands.
-pub fn bound_row(alloc: Global, text: &[u8]) -> Result<usize, AllocError> {
-    row_number(alloc, text, 1)
-}
+/// The row of the bound, from 0.
+const BOUND_ROW: usize = 1;
 
-/// The number, from 1, of the line in which the node's line of this place stands.
-pub fn node_row(alloc: Global, text: &[u8], place: usize) -> Result<usize, AllocError> {
-    row_number(alloc, text, place.saturating_add(SETTINGS))
-}
-
-/// The number, from 1, of the line that has so many others before it that aren't empty.
-fn row_number(alloc: Global, text: &[u8], before: usize) -> Result<usize, AllocError> {
-    let mut left = text;
-    let mut number = 0usize;
-    let mut passed = 0usize;
-    while let Some((line, rest)) = split_line(left) {
-        number = number.saturating_add(1);
-        if has_tokens(alloc, line)? {
-            if passed == before {
-                return Ok(number);
-            }
-            passed = passed.saturating_add(1);
+/// Where the row of the certificate begins that breaks a condition; its first one where none does.
+pub fn cause_place(alloc: Global, text: &[u8], cause: Cause) -> Result<Place, AllocError> {
+    let line = match cause {
+        Cause::Extra(Extra::Unknown(line) | Extra::Class(line, _) | Extra::Twice(_, line)) => line,
+        Cause::Edge(rise) => rise.from.line,
+        Cause::Destroys(Mistake::Unclosed(at, _) | Mistake::Own(at) | Mistake::Lost(at, _, _)) =>
+            at.line,
+        Cause::Bound(Loose::NotAbove(line)) => line,
+        Cause::Bound(Loose::TooGreat) => return row_place(alloc, text, BOUND_ROW),
+        Cause::Missing(_) | Cause::Wire(_) | Cause::BodyType(_) | Cause::Memory => {
+            return row_place(alloc, text, 0);
         }
-        left = rest;
-    }
-    Ok(number)
+    };
+    line_place(alloc, text, line)
 }
 
-/// Whether a line is more than blanks and a comment.
-fn has_tokens(alloc: Global, line: &[u8]) -> Result<bool, AllocError> {
-    match tokens(alloc, line) {
-        Ok(tokens) => Ok(!tokens.is_empty()),
-        Err(LexFault::BadByte) => Ok(true),
-        Err(LexFault::Memory) => Err(AllocError),
+/// Where the node's line of this place begins.
+pub fn line_place(alloc: Global, text: &[u8], line: usize) -> Result<Place, AllocError> {
+    row_place(alloc, text, line.saturating_add(SETTINGS))
+}
+
+/// Where the row of this number begins, from 0.
+fn row_place(alloc: Global, text: &[u8], row: usize) -> Result<Place, AllocError> {
+    let placed = match placed_tokens(alloc, text) {
+        Ok(placed) => placed,
+        Err(PlaceFault::BadByte(_)) => return Ok(Place { line: 1, column: 1 }),
+        Err(PlaceFault::Memory) => return Err(AllocError),
+    };
+    let mut rows = 0usize;
+    let mut end = 0usize;
+    for token in placed.as_slice() {
+        let is_first = end == 0 || text.get(end..token.at).unwrap_or(&[]).contains(&b'\n');
+        if is_first {
+            if rows == row {
+                return Ok(Place::of(text, token.at.min(text.len())));
+            }
+            rows = rows.saturating_add(1);
+        }
+        end = token.end;
     }
+    Ok(Place { line: 1, column: 1 })
 }

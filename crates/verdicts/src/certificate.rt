@@ -4,25 +4,16 @@ use crate::located::Located;
 use crate::refusal::refusal_finding;
 use crate::sentences::Told;
 use certificate_lang::{Certificate, read_certificate};
-use check_flaws::broken_condition;
-use diagnostics::Place;
-use effect_scan::Scan;
+use check_flaws::{cause_place, cause_text};
+use effect_scan::Numbering;
 use findings::{Finding, Rule, TextKind, Verdict};
 use program_commands::Refusal;
-use rank_check::{Cause, Extra, Loose, Mistake, judge};
-use std::alloc::{AllocError, Global};
-use texts::{PlaceFault, placed_tokens};
-
-/// So many lines stand before those of nodes: the version's and the bound's.
-const SETTINGS: usize = 2;
-
-/// The certificate's row of the bound.
-const BOUND_ROW: usize = 1;
+use rank_check::{Cause, Mistake, judge};
+use std::alloc::AllocError;
 
 /// Adds why the certificate can't be read, or isn't valid for the program, where that lies in the certificate.
 pub fn gather_certificate(
     located: Located<'_>,
-    program: &[u8],
     text: &[u8],
     found: &mut Verdict,
 ) -> Result<(), AllocError> {
@@ -39,7 +30,7 @@ pub fn gather_certificate(
         Err(Cause::Memory) => Err(AllocError),
         Err(Cause::Wire(_) | Cause::BodyType(_)) => Ok(()),
         Err(cause) => {
-            let finding = cause_finding(located, program, text, cause)?;
+            let finding = cause_finding(located, text, &certificate, cause)?;
             push(found, finding)
         }
     }
@@ -55,29 +46,27 @@ fn push(found: &mut Verdict, finding: Finding) -> Result<(), AllocError> {
 /// What breaks a condition, which is one of those on the certificate.
 fn cause_finding(
     located: Located<'_>,
-    program: &[u8],
     text: &[u8],
+    certificate: &Certificate,
     cause: Cause,
 ) -> Result<Finding, AllocError> {
     let alloc = located.source.alloc;
-    let rule = rule_of(cause);
-    let told = match broken_condition(alloc, program, text, rule.number())? {
-        Some(reason) => Told::of(alloc, reason.as_str())?,
-        None => Told::of(alloc, rule.summary())?,
-    };
+    let reason = cause_text(located.source, text, certificate, cause)?;
+    let told = Told::of(alloc, reason.as_str())?;
     let mut chain = Vec::new(alloc);
     if let Some((from, to)) = edge_of(cause) {
-        let scan = Scan::of(alloc, located.source.meta)?;
-        if let (Some(from), Some(to)) = (scan.nodes().get(from), scan.nodes().get(to)) {
+        let numbering = Numbering::of(alloc, located.source.meta.classes())?;
+        let nodes = numbering.nodes();
+        if let (Some(from), Some(to)) = (nodes.get(from), nodes.get(to)) {
             chain.push(located.step(*from, *to)?)?;
         }
     }
     Ok(Finding {
-        rule,
+        rule: rule_of(cause),
         message: told.message,
         help: told.help,
         text: TextKind::Certificate,
-        place: Some(row_place(alloc, text, row_of(cause))?),
+        place: Some(cause_place(alloc, text, cause)?),
         chain,
     })
 }
@@ -102,40 +91,4 @@ fn edge_of(cause: Cause) -> Option<(usize, usize)> {
         Cause::Destroys(Mistake::Lost(from, to, _)) => Some((from.node, to.node)),
         _ => None,
     }
-}
-
-/// The row of the certificate that it is about, from 0: rows without tokens don't count.
-fn row_of(cause: Cause) -> usize {
-    let line = match cause {
-        Cause::Extra(Extra::Unknown(line) | Extra::Class(line, _) | Extra::Twice(_, line)) => line,
-        Cause::Edge(rise) => rise.from.line,
-        Cause::Destroys(Mistake::Unclosed(at, _) | Mistake::Own(at) | Mistake::Lost(at, _, _)) =>
-            at.line,
-        Cause::Bound(Loose::NotAbove(line)) => line,
-        Cause::Bound(Loose::TooGreat) => return BOUND_ROW,
-        Cause::Missing(_) | Cause::Wire(_) | Cause::BodyType(_) | Cause::Memory => return 0,
-    };
-    line.saturating_add(SETTINGS)
-}
-
-/// Where the row of this number begins.
-fn row_place(alloc: Global, text: &[u8], row: usize) -> Result<Place, AllocError> {
-    let placed = match placed_tokens(alloc, text) {
-        Ok(placed) => placed,
-        Err(PlaceFault::BadByte(_)) => return Ok(Place { line: 1, column: 1 }),
-        Err(PlaceFault::Memory) => return Err(AllocError),
-    };
-    let mut rows = 0usize;
-    let mut end = 0usize;
-    for token in placed.as_slice() {
-        let is_first = end == 0 || text.get(end..token.at).unwrap_or(&[]).contains(&b'\n');
-        if is_first {
-            if rows == row {
-                return Ok(Place::of(text, token.at.min(text.len())));
-            }
-            rows = rows.saturating_add(1);
-        }
-        end = token.end;
-    }
-    Ok(Place { line: 1, column: 1 })
 }

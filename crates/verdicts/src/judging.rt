@@ -124,7 +124,7 @@ fn gather(
     };
     gather_program(located, accepted, found)?;
     match texts.certificate {
-        Some(certificate) => gather_certificate(located, texts.program, certificate, found),
+        Some(certificate) => gather_certificate(located, certificate, found),
         None => Ok(()),
     }
 }
