@@ -29,8 +29,7 @@ impl World {
         ensures { Rejects self.old refusal self.new result }
     {
         let number = refusal.number();
-        self.trace
-            .append([Entry::Refused(self.events + 1, number)])?;
+        self.trace.push(Entry::Refused(self.events + 1, number))?;
         self.count_event();
         Ok(Answer::Refused(number))
     }

@@ -43,8 +43,13 @@ impl World {
         ensures agree { Agree meta.now self.new.store.tree self.new.store.bindings }
     {
         let planned = self.plan_write(meta, place, value)?;
-        let lines = self.lines(meta, depth, Cause::Write, place, &planned.planned)?;
-        self.trace.append_all(lines)?;
+        let telling = Telling {
+            meta,
+            tree: &self.store.tree,
+            planned: &planned.planned,
+            depth,
+        };
+        telling.note(&mut self.trace, Cause::Write, place)?;
         self.left -= 1;
         Ok(self.carry_out(planned))
     }

@@ -34,7 +34,7 @@ impl World {
         ensures { let target = connecting self.old (entry ∷ []) ends.now how in
             GoesTo self.old target self.new result }
     {
-        self.trace.append([entry])?;
+        self.trace.push(entry)?;
         match join(&mut self.store.connections, ends, how) {
             Ok(()) => {
                 self.left -= 1;

@@ -40,7 +40,7 @@ impl World {
         requires few { self.old.store.loops.posted < 2 ^ 63 - 1 }
         ensures { GoesTo self.old (scheduling self.old (entry ∷ []) object) self.new result }
     {
-        self.trace.append([entry])?;
+        self.trace.push(entry)?;
         match self.store.schedule(object) {
             Ok(()) => {
                 self.left -= 1;

@@ -5,9 +5,8 @@ ghost use Rattle.machine_state.specs.Objects.{shown, shown_reference, all_shown}
 
 use object_tree::Tree;
 use signatures::{ObjectId, Value};
-use sqlite_items::Items;
 use std::alloc::{AllocError, Global};
-use trace_entries::Shown;
+use trace_entries::{Shown, ShownValues};
 
 /// A value as it is written down: a reference, as it reads, by the object's name, or as null.
 pub fn show(objects: &Tree, value: &Value) -> Result<Shown, AllocError>
@@ -41,13 +40,13 @@ fn show_reference(objects: &Tree, reference: Option<ObjectId>) -> Result<Shown, 
 }
 
 /// Values as they are written down.
-pub fn show_all(alloc: Global, objects: &Tree, values: &[Value]) -> Result<Items<Shown>, AllocError>
+pub fn show_all(alloc: Global, objects: &Tree, values: &[Value]) -> Result<ShownValues, AllocError>
     ensures { IfOk result (λ texts. texts ≡ all_shown objects.now values.now) }
 {
-    let mut texts = Vec::with_capacity(alloc, values.len())?;
+    let mut texts = ShownValues::new(alloc);
     for value in values {
         let text = show(objects, value)?;
         texts.push(text)?;
     }
-    Ok(Items::from_vec(texts))
+    Ok(texts)
 }

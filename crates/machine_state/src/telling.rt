@@ -1,13 +1,13 @@
 //! What a change of properties writes down: those that are written or bound, and each other one that changes with them. The
 //! change is planned then, and nothing is changed yet.
 
-ghost use Rattle.std.specs.Prelude.{◌≡◌, [], ◌∷◌, IfOk, OnOk};
+ghost use Rattle.std.specs.Prelude.{◌≡◌, [], ◌∷◌, IfOk, OnOk, OnErr};
 ghost use Rattle.std.specs.Option.{option_copied};
 ghost use Rattle.prop_bindings.specs.Changes.{DifferInValues, once, places_in};
 ghost use Rattle.prop_bindings.specs.Values.{values_in};
 ghost use Rattle.prop_bindings.specs.Plans.{after};
 ghost use Rattle.machine_state.specs.Telling.{HasValue, IsTold, IsToldWith, IsSetTold, AreTold, IsGroupTold, Grouped, entry_kind_of, others, writes_of};
-ghost use Rattle.machine_state.specs.code.Planned.{CanBeTold, HaveValues, AddsFollowers, AddsSets, StandFirst, behind};
+ghost use Rattle.machine_state.specs.code.Planned.{CanBeTold, HaveValues, AddsFollowers, AddsSets, AddsTold, StandFirst, behind};
 
 use crate::showing::show;
 use meta_objects::Meta;
@@ -15,7 +15,7 @@ use object_tree::Tree;
 use prop_bindings::{Assignment, Place, Planned};
 use signatures::{Name, Value};
 use std::alloc::{AllocError, Global};
-use trace_entries::{Entry, EntryKind, Shown};
+use trace_entries::{Entry, EntryKind, Shown, Trace};
 
 /// How a property comes to a value.
 #[derive(Clone, Copy)]
@@ -56,11 +56,29 @@ impl<'w> Telling<'w> {
             (after self.now.planned.now self.now.tree.now) self.now.depth cause
             first.now self.now.planned.now.changed lines.items) }
     {
-        let mut lines = Vec::new(alloc);
-        lines.push(self.line(cause, first)?)?;
         let followers = self.followers(&[*first]);
+        let mut lines = Vec::with_capacity(alloc, followers.len() + 1)?;
+        lines.push(self.line(cause, first)?)?;
         self.add_followers(followers, &mut lines)?;
         Ok(lines)
+    }
+
+    /// Adds the lines of a change, as `change` gives them, to the trace; without memory the trace stays as it was. A property
+    /// with which no other changes needs no list for its one line.
+    pub fn note(&self, trace: &mut Trace, cause: Cause, first: &Place) -> Result<(), AllocError>
+        requires can { CanBeTold self.now.meta.now self.now.tree.now (first.now ∷ [])
+            self.now.planned.now }
+        ensures ok { OnOk result (AddsTold self.now.meta.now
+            (after self.now.planned.now self.now.tree.now) self.now.depth cause
+            first.now self.now.planned.now.changed trace.old trace.new) }
+        ensures err { OnErr result (trace.new ≡ trace.old) }
+    {
+        if self.followers(&[*first]).is_empty() {
+            let line = self.line(cause, first)?;
+            return trace.push(line);
+        }
+        let lines = self.change(trace.allocator(), cause, first)?;
+        trace.append_all(lines)
     }
 
     /// The lines of a group of sets, which write these properties, each once: its own, those of the sets, whatever the

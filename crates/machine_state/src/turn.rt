@@ -57,7 +57,7 @@ impl World {
             let target = posting used (entry ∷ []) home item in
             GoesTo self.old target self.new result }
     {
-        self.trace.append([entry])?;
+        self.trace.push(entry)?;
         match self.store.loops.post(home, item) {
             Ok(()) => {
                 if connection.single {

@@ -143,7 +143,7 @@ impl World {
         requires left { 0 < self.old.left }
         ensures { GoesTo self.old (noted self.old (entry ∷ [])) self.new result }
     {
-        self.trace.append([entry])?;
+        self.trace.push(entry)?;
         self.left -= 1;
         Ok(())
     }

@@ -15,9 +15,8 @@ use machine_state::World;
 use meta_model::DESTROYED;
 use native_slots::Answering;
 use signatures::{Name, ObjectId, Value};
-use sqlite_items::Items;
 use std::alloc::AllocError;
-use trace_entries::{Entry, EntryKind, Fault, Shown};
+use trace_entries::{Entry, EntryKind, Fault, Shown, ShownValues};
 
 impl<N: Answering> Interpreter<N> {
     /// Deletes an object, over what is left of the top of the stack.
@@ -142,7 +141,7 @@ impl<N: Answering> Interpreter<N> {
     fn destroyed_entry(&self, depth: usize, name: &Name) -> Result<Entry, AllocError>
         ensures { IfOk result (λ entry. entry ≡ entry_of_destroyed depth name.now) }
     {
-        let mut arguments = Items::new(self.alloc);
+        let mut arguments = ShownValues::new(self.alloc);
         arguments.push(Shown::Null)?;
         let emitted = EntryKind::Emitted {
             object: name.copy()?,

@@ -4,6 +4,7 @@ ghost use Rattle.std.specs.Prelude.{◌≡◌, [], ◌∷◌, ◌++◌, ◌+◌,
 ghost use Rattle.trace_entries.specs.Lists.{LosesLast};
 ghost use Rattle.trace_entries.specs.declared.entry.Entry.TheVariants.{Accepted};
 
+use crate::shown_values::ShownValues;
 use signatures::{Name, Text};
 use sqlite_items::Items;
 use std::alloc::{AllocError, Global};
@@ -25,6 +26,18 @@ pub enum Shown {
     Null,
 }
 
+/// Null.
+impl Default for Shown {
+    ghost use Rattle.std.specs.Prelude.{◌≡◌};
+    ghost use Rattle.trace_entries.specs.declared.entry.Shown.TheVariants.{Null};
+
+    ghost is_default = { λ v. v ≡ Null };
+
+    fn default() -> Shown {
+        Shown::Null
+    }
+}
+
 /// An action of a native as it is written down.
 #[derive(Drop)]
 pub enum ShownAction {
@@ -40,7 +53,7 @@ pub enum ShownAction {
         /// The signal.
         signal: Name,
         /// With these arguments.
-        arguments: Items<Shown>,
+        arguments: ShownValues,
     },
 }
 
@@ -54,7 +67,7 @@ pub enum EntryKind {
         /// The signal.
         signal: Name,
         /// With these arguments.
-        arguments: Items<Shown>,
+        arguments: ShownValues,
         /// Whether it calls nothing, since the object is blocked.
         blocked: bool,
     },
@@ -65,7 +78,7 @@ pub enum EntryKind {
         /// The slot or native.
         slot: Name,
         /// With these arguments.
-        arguments: Items<Shown>,
+        arguments: ShownValues,
     },
     /// A native that was called answers these actions, which come next.
     Answered {
@@ -108,7 +121,7 @@ pub enum EntryKind {
         /// The method.
         method: Name,
         /// With these arguments.
-        arguments: Items<Shown>,
+        arguments: ShownValues,
     },
     /// An object dies.
     Died {
@@ -180,6 +193,15 @@ impl Trace {
         ensures { result.now ≡ self.now }
     {
         self.entries.as_slice()
+    }
+
+    /// Adds an entry; without memory the trace stays as it was.
+    pub fn push(&mut self, entry: Entry) -> Result<(), AllocError>
+        ensures ok { OnOk result (self.new ≡ self.old ++ entry ∷ []) }
+        ensures err { OnErr result (self.new ≡ self.old) }
+    {
+        self.entries.push(entry)?;
+        Ok(())
     }
 
     /// Adds entries in their order; without memory for all of them the trace stays as it was.
@@ -264,9 +286,10 @@ fn push_list(list: &mut Vec<Entry>, entries: Vec<Entry>)
     requires room { vec_len list.old + length entries.items ≤ vec_capacity list.old }
     ensures { list.new.items ≡ list.old.items ++ entries.items }
 {
-    for entry in entries {
-        list.push_reserved(entry);
-    }
+    let mut rest = entries;
+    let Ok(()) = list.append(&mut rest) else {
+        unreachable!()
+    };
 }
 
 /// Adds entries in their order to a list that has room for them.

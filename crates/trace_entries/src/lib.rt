@@ -4,7 +4,9 @@
 mod entry;
 mod fault;
 mod refusal;
+mod shown_values;
 
 pub use entry::{Entry, EntryKind, Shown, ShownAction, Trace};
 pub use fault::{Answer, Fault};
 pub use refusal::Refusal;
+pub use shown_values::ShownValues;

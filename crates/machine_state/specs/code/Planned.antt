@@ -16,8 +16,9 @@ use Rattle.binding_graph.specs.Places.{is_in, same_place}
 use Rattle.prop_bindings.specs.Fits.{Agree}
 use Rattle.prop_bindings.specs.Plans.{after}
 use Rattle.trace_entries.specs.declared.entry.Entry.{Entry}
+use Rattle.machine_state.specs.declared.telling.Cause.{Cause}
 use Rattle.machine_state.specs.declared.telling.Cause.TheVariants.{Follow}
-use Rattle.machine_state.specs.Telling.{HasValue, IsTold, IsSetTold, others}
+use Rattle.machine_state.specs.Telling.{AreTold, HasValue, IsTold, IsSetTold, others}
 
 -- these properties have values
 abbrev pub HaveValues : Loaded → List Object → List Place → Type 0
@@ -76,4 +77,11 @@ pub record AddsFollowers (p : Loaded) (objects : List Object) (depth : ℕ) (fol
     : Type 0 where
   pub lines : List Entry
   pub told : AllZip (IsTold p objects depth Follow) followers lines
+  pub are : new ≡ old ++ lines
+
+-- .. those of a property that is written or bound, and of each other one that changes
+pub record AddsTold (p : Loaded) (objects : List Object) (depth : ℕ) (cause : Cause) (first : Place) (changed : List Place)
+    (old new : List Entry) : Type 0 where
+  pub lines : List Entry
+  pub told : AreTold p objects depth cause first changed lines
   pub are : new ≡ old ++ lines

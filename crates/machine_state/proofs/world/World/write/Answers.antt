@@ -9,8 +9,8 @@ use Rattle.machine_state.proofs.Bound.{has-written, written-agrees, noted-over}
 use Rattle.machine_state.proofs.Changed.{written-ahead}
 use Rattle.machine_state.proofs.world.World.write.Goals as goal
 
-pub lines-requires : goal.lines-requires
-lines-requires c =
+pub note-requires : goal.note-requires
+note-requires c =
     let store = c.args.self.now.store in
     record { can = written-ahead c.args.meta.now store.tree store.bindings (one c.args.place.now c.args.value) c.in_ok-planned.planned.planned c.requires.agree (c.requires.fits, tt) c.in_ok-planned.ensures.ok.will }
 
@@ -19,17 +19,17 @@ returns-clause-value c =
     let w = c.args.self.now in
     let plan = c.in_ok-planned.planned.planned in
     let target = c.in_ok-planned.planned.target in
-    let lines = c.in_ok-lines.lines.items in
+    let lines = c.in_ok-note.ensures.ok.lines in
     let cs_are : without target w.store.bindings ≡ without c.args.place.now w.store.bindings = ap (λ (q : Place). without q w.store.bindings) c.in_ok-planned.ensures.ok.target in
-    has-written c.args.meta.now (Alone c.args.place.now c.args.value) w c.carry_out.new.self plan (without target w.store.bindings) cs_are c.in_ok-planned.ensures.ok.will lines c.args.depth (noted w) c.carry_out.result c.in_ok-lines.ensures c.carry_out.ensures.changed
-    (noted-over w c.carry_out.new.self (after plan w.store.tree) (without target w.store.bindings) lines c.append_all.new.self c.in_ok-append_all.ensures.ok c.carry_out.ensures.world)
+    has-written c.args.meta.now (Alone c.args.place.now c.args.value) w c.carry_out.new.self plan (without target w.store.bindings) cs_are c.in_ok-planned.ensures.ok.will lines c.args.depth (noted w) c.carry_out.result c.in_ok-note.ensures.ok.told c.carry_out.ensures.changed
+    (noted-over w c.carry_out.new.self (after plan w.store.tree) (without target w.store.bindings) lines c.note.new.trace c.in_ok-note.ensures.ok.are c.carry_out.ensures.world)
 
 pub returns-clause-agree : goal.returns-clause-agree
 returns-clause-agree c =
     let w = c.args.self.now in
     let plan = c.in_ok-planned.planned.planned in
     let target = c.in_ok-planned.planned.target in
-    let lines = c.in_ok-lines.lines.items in
+    let lines = c.in_ok-note.ensures.ok.lines in
     let cs_are : without target w.store.bindings ≡ without c.args.place.now w.store.bindings = ap (λ (q : Place). without q w.store.bindings) c.in_ok-planned.ensures.ok.target in
     written-agrees c.args.meta.now (Alone c.args.place.now c.args.value) w c.carry_out.new.self plan (without target w.store.bindings) cs_are c.in_ok-planned.ensures.ok.will lines (noted w lines)
-    (noted-over w c.carry_out.new.self (after plan w.store.tree) (without target w.store.bindings) lines c.append_all.new.self c.in_ok-append_all.ensures.ok c.carry_out.ensures.world)
+    (noted-over w c.carry_out.new.self (after plan w.store.tree) (without target w.store.bindings) lines c.note.new.trace c.in_ok-note.ensures.ok.are c.carry_out.ensures.world)
