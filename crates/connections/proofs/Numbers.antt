@@ -67,3 +67,18 @@ pub take_one : (places : List Place) (n : ℕ) → n ≡ min (length places) 1 �
 take_one [] zero e = refl
 take_one [] (suc n) e = refl
 take_one (p ∷ places) n e = let one : n ≡ 1 = omega arith in rw one refl
+
+-- what stands at a place doesn't depend on what would stand past the end
+any_default : (places : List Place) (i : ℕ) (d e : Place) → i < length places → get_or places i d ≡ get_or places i e
+any_default [] i d e h = absurd (omega (arith, h))
+any_default (q ∷ places) zero d e h = refl
+any_default (q ∷ places) (suc i) d e h = any_default places i d e (omega arith)
+
+-- the numbers before a place are below its number, and those from it on aren't
+pub splits_at : (last : ℕ) (places : List Place) (number i : ℕ) (e : Place) → Rising 0 places last → i < length places → (get_or places i e).number ≡ number → SplitsAt places number i
+splits_at last places number i e r h same =
+    let here : (d : Place) → (get_or places i d).number ≡ number = λ d. ap (λ (q : Place). q.number) (any_default places i d e h) ∙ same in
+    record {
+      below = λ k d w. omega (arith, here d, Rising-order 0 last places k i d r w h);
+      above = λ k d w g. omega (arith, here d, Rising-sorted last places r i k d w g);
+    }

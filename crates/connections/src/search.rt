@@ -1,6 +1,6 @@
 //! Searches in lists of places, whose numbers rise.
 
-ghost use Rattle.std.specs.Prelude.{◌≡◌, ℕ, ◌<◌, ◌≤◌, length, eqb, nat_lt, drop};
+ghost use Rattle.std.specs.Prelude.{◌≡◌, ℕ, ◌<◌, ◌≤◌, length, eqb, nat_lt, drop, IfSome};
 ghost use Rattle.std.specs.List.{Contains, find, list_any};
 ghost use Rattle.connections.specs.Cells.{fits};
 ghost use Rattle.connections.specs.Places.{live, first_above, AreRising, SplitsAt, IsRestFrom, HoldNumbered};
@@ -18,7 +18,32 @@ fn from_number(places: &[Place], number: u64) -> usize
     ensures within { result ≤ length places.now }
     ensures split { SplitsAt places.now number result }
 {
-    places.partition_point(|p| p.number < number)
+    match guess(places, number) {
+        Some(place) => place,
+        None => places.partition_point(|p| p.number < number),
+    }
+}
+
+/// Where the place of this number stands, if it stands where it does among places whose numbers follow one another, as
+/// those of connections that were made one after the other do.
+fn guess(places: &[Place], number: u64) -> Option<usize>
+    requires { AreRising places.now }
+    ensures { IfSome result (λ at. (at < length places.now) × SplitsAt places.now number at) }
+{
+    let (first, _) = places.split_first()?;
+    if number < first.number {
+        return None;
+    }
+    let ahead = number - first.number;
+    if ahead >= places.len() as u64 {
+        return None;
+    }
+    let at = ahead as usize;
+    if places[at].number == number {
+        Some(at)
+    } else {
+        None
+    }
 }
 
 /// The places of at least this number.

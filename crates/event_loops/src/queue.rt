@@ -54,6 +54,7 @@ fn remove_before(items: &mut VecDeque<Posted>, marks: &Marks, number: u64) -> Op
 {
     match first_before(items, marks, number) {
         None => None,
+        Some(0) => items.pop_front(),
         Some(place) => items.remove(place),
     }
 }

@@ -5,8 +5,8 @@ use Rattle.connections.specs.declared.place.Place.{Place}
 use Rattle.connections.proofs.Numbers.{Rising-sorted}
 use Rattle.connections.proofs.search.from_number.Goals as goal
 
-pub returns-clause-split : goal.returns-clause-split
-returns-clause-split c =
+pub returns-in-None-clause-split : goal.returns-in-None-clause-split
+returns-in-None-clause-split c =
     let point = IsPartitionPoint-from_clause (λ (p : Place). ltb p.number c.args.number) c.args.places.now c.partition_point.result c.partition_point.ensures.partitioned
     (IsPartitionedBy-ltb (λ (p : Place). p.number) c.args.places.now c.args.number (Rising-sorted c.requires.0 c.args.places.now c.requires.1)) (λ a b f' k. search rules) in
     record {
