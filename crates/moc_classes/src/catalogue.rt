@@ -18,7 +18,7 @@ pub struct Listed<'f> {
 }
 
 /// Why a class of objects is left out.
-#[derive(Clone, Copy, Debug, PartialEq, Eq)]
+#[derive(Clone, Copy)]
 pub enum NoClass {
     /// No class of the language can have its name.
     Name,

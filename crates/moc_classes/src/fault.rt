@@ -4,7 +4,7 @@ use std::alloc::AllocError;
 use thiserror::Error;
 
 /// Why nothing is imported.
-#[derive(Clone, Copy, Debug, PartialEq, Eq, Error)]
+#[derive(Clone, Copy, Debug, Error)]
 pub enum ImportFault {
     /// A text isn't what moc writes: its number among the texts, and the line and column where that shows.
     #[error("text {text}, line {line}, column {column}: this isn't what `moc --output-json` writes")]

@@ -254,7 +254,7 @@ impl<'f> Import<'f> {
 }
 
 /// A member that is looked for.
-#[derive(Clone, Copy, Debug, PartialEq, Eq)]
+#[derive(Clone, Copy, PartialEq, Eq)]
 enum Sought<'n> {
     /// The property of this name.
     Property(&'n str),

@@ -4,7 +4,7 @@ use crate::catalogue::Catalogue;
 use std::alloc::AllocError;
 
 /// A type of the language.
-#[derive(Clone, Copy, Debug, PartialEq, Eq)]
+#[derive(Clone, Copy, PartialEq, Eq)]
 pub enum Kind {
     Int,
     Bool,
@@ -54,7 +54,7 @@ fn push_pointer(
 }
 
 /// What a type of C++ becomes.
-#[derive(Clone, Copy, Debug, PartialEq, Eq)]
+#[derive(Clone, Copy)]
 pub struct Mapped {
     pub kind: Kind,
     /// Whether the type is another number or an enum in C++.

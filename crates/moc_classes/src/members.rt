@@ -8,7 +8,7 @@ use std::alloc::{AllocError, Global};
 use thiserror::Error;
 
 /// Why a member is left out.
-#[derive(Clone, Copy, Debug, PartialEq, Eq, Error)]
+#[derive(Clone, Copy, Debug, Error)]
 pub enum LeftOut<'f> {
     /// The language has nothing for this type.
     #[error("there is nothing for {0}")]
@@ -28,7 +28,7 @@ pub enum LeftOut<'f> {
 }
 
 /// What a method is.
-#[derive(Clone, Copy, Debug, PartialEq, Eq)]
+#[derive(Clone, Copy, PartialEq, Eq)]
 pub enum Sort {
     Signal,
     /// A slot, or an invokable method.
