@@ -1,5 +1,5 @@
 -- What a step of a body gives is of the types that are asked.
-use Rattle.std.proofs.Common.{◌≡◌, ℕ, suc, ◌-◌, ◌&&◌, Bool, true, false, IsTrue, List, [], ◌∷◌, length, map, Option, Some, None, slice_get, refl, sym, ap, ◌∙◌, subst, arith}
+use Rattle.std.proofs.Common.{◌≡◌, ℕ, ◌-◌, ◌&&◌, Bool, true, false, IsTrue, List, [], ◌∷◌, length, map, Option, Some, None, slice_get, refl, sym, ◌∙◌, subst}
 use Rattle.std.specs.Prelude.{IfSome, nat_le}
 use Rattle.std.specs.List.{AllByRecursion, list_all}
 use Rattle.std.specs.Option.{option_and_then, option_map, option_map_or}
@@ -9,20 +9,17 @@ use Rattle.signatures.specs.declared.value.Value.TheVariants as value
 use Rattle.meta_model.specs.declared.effects.MetaEffects.{MetaEffects}
 use Rattle.meta_model.specs.declared.object.MetaMethod.{MetaMethod}
 use Rattle.meta_model.specs.declared.object.MetaObject.{MetaObject}
-use Rattle.meta_model.specs.declared.object.MetaPath.{MetaPath}
 use Rattle.meta_model.specs.declared.object.MetaProperty.{MetaProperty}
-use Rattle.meta_model.specs.declared.object.MetaRoot.{MetaRoot}
 use Rattle.meta_model.specs.declared.object.Statement.{Statement}
 use Rattle.meta_model.specs.declared.object.Statement.TheOpen as layer
 use Rattle.meta_model.specs.declared.object.Statement.TheViews.{out-Statement}
-use Rattle.meta_model.specs.declared.object.Step.{Step as PathStep}
 use Rattle.meta_model.specs.declared.object.ValueType.{ValueType}
 use Rattle.meta_model.specs.declared.object.ValueType.TheVariants as type
 use Rattle.meta_model.specs.declared.object.Work.{Work}
 use Rattle.meta_model.specs.declared.object.Work.TheVariants.{Native}
 use Rattle.meta_model.specs.Loaded.{Loaded}
 use Rattle.meta_model.specs.Members.{IsMethod, IsProperty, Below}
-use Rattle.meta_model.specs.Sound.{IsSound, HasRoot, this_has, parameter_has, Leads, here, on, LeadsToClass, IsSet, IsSoundStatement, set_sound, emit_sound, call_sound, if_sound, connect_sound, disconnect_sound, delete_sound, later_sound, group_sound, IsSoundWork}
+use Rattle.meta_model.specs.Sound.{IsSound, IsSet, IsSoundStatement, set_sound, emit_sound, call_sound, if_sound, connect_sound, disconnect_sound, delete_sound, later_sound, group_sound, IsSoundWork}
 use Rattle.meta_model.specs.Values.{HaveTypes}
 use Rattle.native_slots.specs.declared.action.Action.{Action}
 use Rattle.native_slots.specs.declared.action.Action.TheVariants as action
@@ -37,7 +34,7 @@ use Rattle.object_tree.specs.Typed.{AreTyped, ReadsAs, ReadAs}
 use Rattle.object_tree.proofs.TypedObjects.{has-reads}
 use Rattle.type_check.specs.Bodies.{IsTypedStatement}
 use Rattle.type_check.specs.Typed.{IsTypedWork}
-use Rattle.type_check.proofs.Values.{body_has, arguments_have}
+use Rattle.type_check.proofs.Values.{arguments_have}
 use Rattle.effect_scan.specs.declared.node.Node.{Node}
 use Rattle.certificate_lang.specs.declared.certificate.Certificate.{Certificate}
 use Rattle.rank_check.specs.Valid.{IsValid}
@@ -46,9 +43,9 @@ use Rattle.statement_meaning.specs.Operations.{Operation, Write, Begin, Choose, 
 use Rattle.machine_rules.specs.Natives.{NativeAnswers}
 use Rattle.statement_meaning.specs.Paths.{path_value, value_of, values_of}
 use Rattle.machine_rules.specs.Rules.{Answers}
-use Rattle.machine_rules.specs.There.{IsMember, IsField}
+use Rattle.machine_rules.specs.There.{IsMember}
 use Rattle.rule_interpreter.proofs.Beginning.{fit-of}
-use Rattle.machine_rules.proofs.Fields.{field-property, member-method}
+use Rattle.machine_rules.proofs.Fields.{member-method}
 use Rattle.machine_rules.proofs.Inherited.{method-below, property-below}
 use Rattle.rule_interpreter.proofs.Keeps.{lives-of-class, class-of-lives}
 use Rattle.rule_interpreter.proofs.Promised.{declared-at, promised}

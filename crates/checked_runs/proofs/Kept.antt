@@ -9,8 +9,6 @@ use Rattle.binding_graph.specs.declared.place.Place.{Place}
 use Rattle.binding_graph.specs.Bindings.{binding_at, without, replaced, Chain, direct, further}
 use Rattle.prop_bindings.specs.Fits.{IsFit, IsInOneLoop, Agree}
 use Rattle.effect_scan.specs.declared.node.Node.{Node}
-use Rattle.effect_scan.specs.declared.node.Member.TheVariants.{Property}
-use Rattle.effect_scan.specs.Nodes.{node}
 use Rattle.certificate_lang.specs.declared.certificate.Certificate.{Certificate}
 use Rattle.rank_check.specs.Valid.{IsValid}
 use Rattle.trace_entries.specs.declared.fault.Answer.{Answer}

@@ -1,5 +1,5 @@
 -- The class that a path is declared to lead to.
-use Rattle.std.proofs.Common.{◌≡◌, ℕ, suc, ◌-◌, false, List, [], ◌∷◌, length, Option, Some, slice_get, refl, sym, ap, ◌∙◌, arith}
+use Rattle.std.proofs.Common.{◌≡◌, ℕ, suc, ◌-◌, false, List, [], ◌∷◌, length, Some, slice_get, refl, sym, ap, ◌∙◌, arith}
 use Rattle.std.proofs.lemmas.Option.{same_Some}
 use Rattle.meta_model.specs.declared.object.MetaPath.{MetaPath}
 use Rattle.meta_model.specs.declared.object.MetaRoot.{MetaRoot}

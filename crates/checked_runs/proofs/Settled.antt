@@ -2,7 +2,7 @@
 -- follows is settled, and of what sort an expression's value is, is a matter of the sorts of what it reads.
 use Rattle.std.proofs.Common.{◌≡◌, inl, inr, ℕ, zero, suc, cond, not, Bool, true, false, List, [], ◌∷◌, map, All, Option, None, Some, slice_get, refl, sym, ap, ◌∙◌, subst}
 use Rattle.std.specs.Option.{option_map, option_and_then}
-use Rattle.std.proofs.lemmas.Bool.{cases_Bool, false≢true}
+use Rattle.std.proofs.lemmas.Bool.{cases_Bool}
 use Rattle.std.proofs.lemmas.List.Elements.{All-push}
 use Rattle.std.proofs.lemmas.Option.{same_Some}
 use Rattle.signatures.specs.declared.value.Value.{Value}
@@ -33,7 +33,7 @@ use Rattle.prop_bindings.proofs.Fitting.{all-stay, lives-on}
 use Rattle.prop_bindings.proofs.Homes.{all-joined}
 use Rattle.prop_bindings.proofs.Leaving.{agree-fewer}
 use Rattle.binding_graph.proofs.Naming.{value-agree}
-use Rattle.binding_graph.proofs.Places.{decide_place, decide_in, is_in-true, is_in-false, same_place-refl}
+use Rattle.binding_graph.proofs.Places.{decide_in, is_in-true, is_in-false}
 use Rattle.prop_bindings.proofs.There.{bound-has}
 use Rattle.machine_state.specs.State.{State, Activation}
 use Rattle.machine_state.specs.Telling.{Assigning, writes_of}

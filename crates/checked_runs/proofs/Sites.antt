@@ -1,10 +1,9 @@
 -- What bindings read leads to what they bind: so values change only where ranks and sets are no higher than those of the
 -- property that is written or bound, and no chain of bindings leads back.
-use Rattle.std.proofs.Common.{◌≡◌, ◌⊎◌, inl, inr, ℕ, zero, suc, ◌+◌, ◌<◌, ◌≤◌, true, false, List, [], ◌∷◌, ◌++◌, filter_map, Option, Some, None, slice_get, refl, sym, ap, ◌∙◌, subst, arith}
+use Rattle.std.proofs.Common.{◌≡◌, ◌⊎◌, inl, inr, ℕ, zero, suc, ◌+◌, ◌<◌, ◌≤◌, List, [], ◌∷◌, ◌++◌, filter_map, Option, Some, None, slice_get, refl, sym, ap, ◌∙◌, subst, arith}
 use Rattle.std.specs.List.{AllZip}
 use Rattle.std.specs.Option.{option_map}
 use Rattle.std.proofs.lemmas.Option.{same_Some, none-some}
-use Rattle.std.proofs.lemmas.Bool.{false≢true}
 use Rattle.signatures.specs.declared.value.Value.{Value}
 use Rattle.syntax_trees.specs.declared.syntax.Expr.{Expr}
 use Rattle.syntax_trees.specs.declared.syntax.Expr.TheOpen as layer
@@ -17,7 +16,7 @@ use Rattle.meta_model.specs.Sound.{IsSound}
 use Rattle.binding_graph.specs.declared.binding.Binding.{Binding}
 use Rattle.binding_graph.specs.declared.place.Place.{Place}
 use Rattle.binding_graph.specs.Bindings.{named_in, named_step, source_place, Reads, Settled, Chain, direct, further, Loop}
-use Rattle.binding_graph.specs.Places.{property_of, same_place, In}
+use Rattle.binding_graph.specs.Places.{property_of, In}
 use Rattle.binding_graph.proofs.Naming.{value-agree}
 use Rattle.binding_graph.proofs.Places.{decide_in}
 use Rattle.rank_check.proofs.Elements.{element_at}

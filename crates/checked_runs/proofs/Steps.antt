@@ -1,13 +1,9 @@
 -- What every state of a run keeps where natives keep their promise, and that every step is good.
 use Rattle.std.proofs.Common.{ℕ, List, [], ◌∷◌, Option, None, subst}
-use Rattle.signatures.specs.declared.value.Value.{Value}
 use Rattle.script_lang.specs.declared.event.Event.{Event}
-use Rattle.meta_model.specs.declared.object.MetaProperty.{MetaProperty}
 use Rattle.meta_model.specs.Loaded.{Loaded}
 use Rattle.meta_model.specs.Sound.{IsSound}
 use Rattle.native_slots.specs.Promises.{Takes, Promises}
-use Rattle.object_tree.specs.declared.object.Object.{Object}
-use Rattle.object_tree.specs.Typed.{ReadsAs}
 use Rattle.certificate_lang.specs.declared.certificate.Certificate.{Certificate}
 use Rattle.rank_check.specs.Valid.{IsValid}
 use Rattle.trace_entries.specs.declared.fault.Answer.{Answer}
@@ -21,7 +17,6 @@ use Rattle.machine_rules.specs.Natives.{NativeAnswers}
 use Rattle.machine_rules.specs.Rules.{Rule}
 use Rattle.machine_rules.specs.Next.{WritesNext, WritesIll}
 use Rattle.rule_interpreter.proofs.Writes.{fits-read}
-use Rattle.machine_rules.specs.There.{IsField}
 use Rattle.machine_events.specs.Runs.{Run, done, goes, takes, Each, Follows, by_rule, by_event}
 use Rattle.machine_events.specs.Takes.{Takes as Taking}
 use Rattle.machine_events.proofs.Preservation.{after-rule, after-event}

@@ -12,7 +12,6 @@ use Rattle.script_lang.specs.declared.event.Event.TheVariants.{Loop, Turn as Tur
 use Rattle.script_lang.specs.declared.event.Input.{Input}
 use Rattle.meta_model.specs.declared.object.MetaMethod.{MetaMethod}
 use Rattle.meta_model.specs.declared.object.MetaObject.{MetaObject}
-use Rattle.meta_model.specs.declared.object.MetaProperty.{MetaProperty}
 use Rattle.meta_model.specs.declared.object.Work.{Work}
 use Rattle.meta_model.specs.declared.object.Work.TheVariants.{Signal, Slot, Native}
 use Rattle.meta_model.specs.Literals.{HoldsNoObject}
@@ -31,7 +30,6 @@ use Rattle.object_tree.specs.Creating.{BeginsAs, BeginsWell, fresh, initial_valu
 use Rattle.object_tree.specs.Family.{moved}
 use Rattle.object_tree.specs.Objects.{life_of, class_with, change_life, blocked}
 use Rattle.object_tree.specs.Seen.{seen}
-use Rattle.object_tree.specs.Typed.{ReadsAs}
 use Rattle.object_tree.proofs.TypedObjects.{typed-change, typed-moved, typed-created}
 use Rattle.binding_graph.specs.declared.binding.Binding.{Binding}
 use Rattle.binding_graph.specs.declared.place.Place.{Place}
@@ -59,9 +57,7 @@ use Rattle.machine_rules.specs.Judgement.{found as finds, holds as so, becomes, 
 use Rattle.machine_rules.specs.Natives.{NativeAnswers}
 use Rattle.machine_rules.specs.Rules.{Rule, RuleAt, BodyRule, Does, EmitRule, UpdateRule, NotifiesIf, TurnRule, Serves, Delivers, Arrives, BeginsIf, begun, with_used, linked, unlinked}
 use Rattle.machine_rules.specs.Next.{WritesNext}
-use Rattle.machine_rules.specs.There.{IsField}
 use Rattle.machine_rules.proofs.Differing.{scheduled-agree}
-use Rattle.machine_rules.proofs.Fields.{field-property}
 use Rattle.machine_rules.proofs.Lists.{all-filtered, all-snoc}
 use Rattle.machine_events.specs.declared.events.invoke.Invocation.{Invocation}
 use Rattle.machine_events.specs.declared.events.invoke.Invocation.TheVariants.{Emit as EmitIt, Call as CallIt}

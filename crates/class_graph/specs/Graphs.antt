@@ -1,6 +1,6 @@
 -- What is answered of a program's text (docs/graph.md): a graph where the program loads, and else what refuses it, which is
 -- what refuses it to the command `meta` (docs/commands.md, "Refusals").
-use Rattle.std.specs.Prelude.{◌≡◌, ℕ, List, Result, Ok, Err, Some, ⊤}
+use Rattle.std.specs.Prelude.{◌≡◌, ℕ, List, Ok, Err, Some, ⊤}
 use Rattle.meta_model.specs.Loaded.{Loaded}
 use Rattle.program_commands.specs.Loading.{LoadsProgram}
 use Rattle.program_commands.specs.Refusals.{refusal_number}

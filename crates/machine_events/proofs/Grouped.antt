@@ -1,6 +1,6 @@
 -- What the sets of a group read, and what they write: properties that are there, as long as the values that were written
 -- before fit.
-use Rattle.std.proofs.Common.{◌≡◌, ℕ, List, [], ◌∷◌, ◌++◌, map, Option, Some, None, refl, sym, ap, ◌∙◌, subst}
+use Rattle.std.proofs.Common.{◌≡◌, ℕ, List, [], ◌∷◌, ◌++◌, Option, Some, None, refl, sym, ap, ◌∙◌, subst}
 use Rattle.std.specs.Prelude.{IfSome}
 use Rattle.std.specs.Option.{option_map, option_and_then}
 use Rattle.signatures.specs.declared.value.Value.{Value}
@@ -12,11 +12,11 @@ use Rattle.meta_model.specs.declared.object.Statement.TheViews.{out-Statement}
 use Rattle.meta_model.specs.declared.object.ValueType.{ValueType}
 use Rattle.meta_model.specs.Loaded.{Loaded}
 use Rattle.meta_model.specs.Members.{Below, IsProperty}
-use Rattle.meta_model.specs.Sound.{IsSound, IsSoundSet, IsSoundStatement, set_sound, LeadsToClass, AreSound, next_sound}
+use Rattle.meta_model.specs.Sound.{IsSound, IsSoundStatement, set_sound, LeadsToClass, AreSound, next_sound}
 use Rattle.object_tree.specs.declared.life.Life.{Life}
 use Rattle.object_tree.specs.declared.object.Object.{Object}
-use Rattle.object_tree.specs.Objects.{Lives, change_life, written}
-use Rattle.object_tree.specs.Typed.{AreTyped, ReadAs, ReadsAs}
+use Rattle.object_tree.specs.Objects.{Lives}
+use Rattle.object_tree.specs.Typed.{AreTyped, ReadAs}
 use Rattle.object_tree.proofs.Changing.{life-of-lives}
 use Rattle.object_tree.proofs.TypedObjects.{reads-still, read-still, typed-written}
 use Rattle.prop_bindings.specs.declared.assignment.Assignment.{Assignment}
@@ -28,7 +28,7 @@ use Rattle.binding_graph.specs.Places.{property_of}
 use Rattle.prop_bindings.proofs.Fitting.{lives-on}
 use Rattle.prop_bindings.proofs.Values.{written-differs}
 use Rattle.machine_state.specs.Telling.{Grouped, writes_of}
-use Rattle.statement_meaning.specs.Operations.{led_to, set_at, set_in, sets_in, after_set}
+use Rattle.statement_meaning.specs.Operations.{led_to, set_in, sets_in, after_set}
 use Rattle.statement_meaning.specs.Paths.{path_value, value_of}
 use Rattle.machine_rules.specs.There.{HasField}
 use Rattle.machine_rules.proofs.Differing.{differ-stay}

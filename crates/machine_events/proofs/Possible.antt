@@ -5,7 +5,6 @@ use Rattle.std.specs.Option.{option_map}
 use Rattle.signatures.specs.declared.value.Value.{Value}
 use Rattle.signatures.specs.declared.value.Value.TheVariants as value
 use Rattle.meta_model.specs.declared.object.MetaMethod.{MetaMethod}
-use Rattle.meta_model.specs.declared.object.MetaProperty.{MetaProperty}
 use Rattle.meta_model.specs.declared.object.Statement.{Statement}
 use Rattle.meta_model.specs.declared.object.Statement.TheOpen as layer
 use Rattle.meta_model.specs.declared.object.Statement.TheViews.{out-Statement}
@@ -33,7 +32,7 @@ use Rattle.statement_meaning.specs.Operations.{set_at, sets_in, operation_of_set
 use Rattle.object_tree.specs.Typed.{AreTyped}
 use Rattle.statement_meaning.specs.Paths.{path_value, value_of, values_of}
 use Rattle.machine_rules.specs.There.{HasField, IsMember}
-use Rattle.machine_rules.proofs.Inherited.{method-below, property-below}
+use Rattle.machine_rules.proofs.Inherited.{method-below}
 use Rattle.machine_events.proofs.Standing.{ActionStands, StepStands, BodyStands}
 use Rattle.machine_events.proofs.TypedPaths.{Reaches, to_null, to_object, path-reaches}
 

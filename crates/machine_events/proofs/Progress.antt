@@ -44,7 +44,7 @@ use Rattle.machine_rules.specs.Next.{DoesNext}
 use Rattle.machine_rules.specs.code.Going.{IsStuck, RulesStop}
 use Rattle.machine_state.specs.Telling.{Assigning, writes_of}
 use Rattle.machine_events.specs.Causes.{StopsFor, spent, short, brings, lacks_value, writes_ill, goes_ill, goes_fatal, writes_deep, goes_deep}
-use Rattle.machine_rules.specs.There.{IsField, LacksField}
+use Rattle.machine_rules.specs.There.{IsField}
 use Rattle.rule_interpreter.specs.code.Writing.{MayNotify}
 use Rattle.rule_interpreter.proofs.Beginning.{next-delivered}
 use Rattle.machine_rules.proofs.Fields.{old-there}

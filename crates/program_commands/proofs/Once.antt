@@ -1,5 +1,5 @@
 -- Each step comes to one thing, want of memory aside, and so do steps one after another.
-use Rattle.std.proofs.Common.{◌≡◌, ◌≢◌, ◌⊎◌, inl, inr, ℕ, List, Option, Some, None, Result, Ok, Err, codes, refl, sym, ap, ◌∙◌, subst}
+use Rattle.std.proofs.Common.{◌≡◌, ◌≢◌, ◌⊎◌, inl, inr, ℕ, List, None, Result, Ok, Err, codes, refl, sym, ap, ◌∙◌, subst}
 use Rattle.certificate_lang.specs.Reads.{ReadsCertificate, number_of as certificate_number}
 use Rattle.certificate_lang.specs.declared.certificate.Certificate.{Certificate}
 use Rattle.certificate_lang.specs.declared.fault.CertificateFault.{CertificateFault}
@@ -7,7 +7,7 @@ use Rattle.certificate_lang.specs.declared.fault.CertificateFault.TheVariants as
 use Rattle.certificate_lang.proofs.Certificates.{one_certificate}
 use Rattle.certificate_laws.proofs.Makings.{one_making}
 use Rattle.certificate_laws.proofs.Verdicts.{one_verdict}
-use Rattle.class_lang.specs.Reads.{ReadsProgram, number_of as text_number}
+use Rattle.class_lang.specs.Reads.{number_of as text_number}
 use Rattle.class_lang.specs.declared.fault.TextFault.{TextFault}
 use Rattle.class_lang.specs.declared.fault.TextFault.TheVariants as of_text
 use Rattle.class_lang.proofs.OneAnswer.{one_answer as one_reading}
@@ -28,15 +28,15 @@ use Rattle.rank_make.specs.declared.why.Why.TheVariants as why
 use Rattle.script_lang.specs.declared.fault.ScriptFault.{ScriptFault}
 use Rattle.script_lang.specs.declared.fault.ScriptFault.TheVariants as of_script
 use Rattle.syntax_trees.specs.declared.program.Program.{Program}
-use Rattle.program_commands.specs.Commands.{MetaComesTo, CertifyComesTo, CheckComesTo, IsSameOutcome, OneDescription, OneCertifying, OneCheck}
+use Rattle.program_commands.specs.Commands.{IsSameOutcome, OneDescription, OneCertifying, OneCheck}
 use Rattle.program_commands.specs.declared.outcome.Outcome.{Outcome}
 use Rattle.program_commands.specs.declared.outcome.Outcome.TheVariants.{Refused, Uncertified, Certificate as Certified}
 use Rattle.program_commands.specs.declared.refusal.Refusal.{Refusal}
 use Rattle.program_commands.specs.declared.refusal.Refusal.TheVariants as refusal
 use Rattle.program_commands.specs.Loading.{LoadsProgram, LoadsCertified, LoadsValid}
 use Rattle.program_commands.specs.Outcomes.{IsShort}
-use Rattle.program_commands.specs.Refusals.{refusal_number, refusal_line, refusal_status, line_of, status_of}
-use Rattle.program_commands.specs.Steps.{First, Is, Gives, fails, goes_on}
+use Rattle.program_commands.specs.Refusals.{refusal_number, line_of, status_of}
+use Rattle.program_commands.specs.Steps.{First, Is, fails, goes_on}
 use Rattle.program_commands.proofs.Stepping.{loads_of}
 
 -- what holds is one thing, or short of memory

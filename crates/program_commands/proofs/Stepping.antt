@@ -1,7 +1,5 @@
 -- Steps one after another, backwards from what they come to.
-use Rattle.std.proofs.Common.{◌≡◌, ℕ, List, Result, Ok, Err, refl, sym, subst}
-use Rattle.certificate_lang.specs.Reads.{ReadsCertificate}
-use Rattle.certificate_lang.specs.declared.certificate.Certificate.{Certificate}
+use Rattle.std.proofs.Common.{◌≡◌, ℕ, List, Result, Ok, refl, sym, subst}
 use Rattle.class_lang.specs.Reads.{ReadsProgram}
 use Rattle.meta_model.specs.Loaded.{Loaded}
 use Rattle.meta_objects.specs.Builds.{Builds}

@@ -1,11 +1,8 @@
 -- What the commands on programs and certificates come to (docs/commands.md). Want of memory may come at any step; that it
 -- comes only where a growth of memory was refused is not stated here.
-use Rattle.std.specs.Prelude.{◌≡◌, ◌⊎◌, ℕ, List, Result, Ok, Err}
-use Rattle.certificate_lang.specs.declared.certificate.Certificate.{Certificate}
+use Rattle.std.specs.Prelude.{◌≡◌, ◌⊎◌, ℕ, List}
 use Rattle.certificate_laws.specs.Laws.{IsSameReason}
-use Rattle.meta_model.specs.Loaded.{Loaded}
 use Rattle.rank_make.specs.Makes.{Makes}
-use Rattle.rank_make.specs.declared.why.Why.{Why}
 use Rattle.program_commands.specs.declared.outcome.Outcome.{Outcome}
 use Rattle.program_commands.specs.declared.outcome.Outcome.TheVariants.{Refused, Classes, Certificate as Certified, Uncertified, Valid}
 use Rattle.program_commands.specs.Loading.{LoadsProgram, LoadsValid}

@@ -14,7 +14,6 @@ use Rattle.machine_rules.specs.Rules.{Rule, RuleAt, StepRule, Does}
 use Rattle.machine_rules.specs.Settling.{Writes, notified}
 use Rattle.statement_meaning.specs.Operations.{Operation, Write, TakeAnswer}
 use Rattle.meta_model.specs.declared.effects.MetaEffects.{MetaEffects}
-use Rattle.signatures.specs.declared.value.Value.{Value}
 use Rattle.prop_bindings.specs.Fits.{Agree}
 use Rattle.binding_graph.specs.declared.place.Place.{Place}
 use Rattle.object_tree.specs.declared.object.Object.{Object}

@@ -1,5 +1,5 @@
 -- What a call of the machine's code does, whatever activations are below (docs/machine.md, "Runs").
-use Rattle.std.specs.Prelude.{◌≡◌, ◌≢◌, ℕ, ◌+◌, ◌-◌, ◌<◌, ◌≤◌, ◌⊎◌, List, ◌++◌, length, Result, Ok, Err, MatchResult, Bool, Option, Some, ◌∷◌, [], true, false}
+use Rattle.std.specs.Prelude.{◌≡◌, ℕ, ◌+◌, ◌-◌, ◌<◌, ◌≤◌, ◌⊎◌, List, ◌++◌, length, Result, Ok, Err, MatchResult, Option, Some, ◌∷◌, [], true, false}
 use Rattle.meta_model.specs.Loaded.{Loaded}
 use Rattle.signatures.specs.declared.value.Value.{Value}
 use Rattle.meta_model.specs.declared.object.MetaMethod.{MetaMethod}
