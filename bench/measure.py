@@ -93,6 +93,13 @@ ROWS = {
 }
 
 
+def build():
+    """Builds the program, as ./gammonfig builds it."""
+    built = subprocess.run([f"{ROOT}/gammonfig", *RUN], input=b"%%\n", stdout=subprocess.DEVNULL)
+    if built.returncode:
+        sys.exit("the program can't be built")
+
+
 def measured(path):
     """The user seconds and the most memory, in MB, of a run on this input."""
     with open(path, "rb") as text:
@@ -109,9 +116,7 @@ def main():
     unknown = [row for row in rows if row not in ROWS]
     if unknown:
         sys.exit(f"no such row: {' '.join(unknown)}; there are {' '.join(ROWS)}")
-    built = subprocess.run([f"{ROOT}/gammonfig", *RUN], input=b"%%\n", stdout=subprocess.DEVNULL)
-    if built.returncode:
-        sys.exit("the program can't be built")
+    build()
     with tempfile.TemporaryDirectory() as room:
         for row in rows:
             path = f"{room}/{row}"
