@@ -15,7 +15,7 @@ abbrev pub reached_by : Option Binding → List Place → Bool
 reached_by None ps = false
 reached_by (Some b) ps = reads_any b ps
 
--- of what came before the rest, what chains lead to from t stands in `reached`, and the others that are bound in `sooner`
+-- of what came before the rest, what chains lead to from t is in `reached`, and the others that are bound in `sooner`
 pub record Halved (F G : Place → Option Binding) (t : Place) (order reached sooner rest : List Place) : Type 0 where
   pub rest_ordered : Ordered F rest
   pub reached_ordered : Ordered G reached

@@ -36,7 +36,7 @@ read_by b = filter_map (source_place b.sources) (named_in b.formula)
 abbrev pub Reads : Binding → Place → Type 0
 Reads b p = In p (read_by b)
 
--- .. one of these
+-- the binding reads one of these
 abbrev pub reads_any : Binding → List Place → Bool
 reads_any b ps = list_any (is_in ps) (read_by b)
 
@@ -59,7 +59,7 @@ AreApart (b ∷ bs) = (binding_at bs b.target ≡ None) × AreApart bs
 abbrev pub without : Place → List Binding → List Binding
 without p bs = filter (λ b. not (same_place b.target p)) bs
 
--- .. after a write of several
+-- what is left of the bindings after a write of several properties
 abbrev pub without_all : List Place → List Binding → List Binding
 without_all [] bs = bs
 without_all (p ∷ ps) bs = without_all ps (without p bs)
@@ -84,7 +84,7 @@ joined_by b = b.target.object ∷ b.sources
 abbrev pub leads_out : List ℕ → Binding → Bool
 leads_out os b = list_any (λ o. is_among o os) (joined_by b) && list_any (λ o. not (is_among o os)) (joined_by b)
 
--- .. of some binding
+-- some binding joins one of these objects with another that isn't among them
 abbrev pub lead_out : List ℕ → List Binding → Bool
 lead_out os bs = list_any (leads_out os) bs
 
@@ -98,10 +98,10 @@ pub data Chain (F : Place → Option Binding) : Place → Place → Type 0 where
   direct : {p q : Place} (b : Binding) → F q ≡ Some b → Reads b p → Chain F p q
   further : {p m q : Place} (b : Binding) → Chain F p m → F q ≡ Some b → Reads b m → Chain F p q
 
--- .. from one of these
+-- a chain leads from one of these properties to another
 abbrev pub ChainFrom : (Place → Option Binding) → List Place → Place → Type 0
 ChainFrom F ps q = (p : Place) × In p ps × Chain F p q
 
--- .. from one back to itself
+-- a chain leads from a property back to itself
 abbrev pub Loop : (Place → Option Binding) → Type 0
 Loop F = (p : Place) × Chain F p p

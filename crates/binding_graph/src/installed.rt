@@ -110,7 +110,7 @@ impl Installed {
         self.len() == 0
     }
 
-    /// The one that stands at this place in the order.
+    /// The one that is at this place in the order.
     pub fn at(&self, position: usize) -> Option<&Reader>
         ensures { option_copied result ≡ slice_get (bindings_in self.now) position }
     {
@@ -151,7 +151,7 @@ impl Installed {
         self.by_target.get(&place.key())
     }
 
-    /// The binding of a property, and where it stands in the order.
+    /// The binding of a property, and where it is in the order.
     pub fn find(&self, place: &Place) -> Option<(usize, &Reader)>
         requires { AreKeyed self.now }
         ensures position { option_map (λ f. f.0) result ≡ position_of (bindings_in self.now) place.now }

@@ -34,7 +34,7 @@ fn place_for(found: &[Numbered], number: usize) -> usize
     found.partition_point(|each| each.number < number)
 }
 
-/// Whether this number stands at this place.
+/// Whether this number is at this place.
 fn is_at(found: &[Numbered], at: usize, number: usize) -> bool
     ensures { result ≡ is_at found.now at number }
 {

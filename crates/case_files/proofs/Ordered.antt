@@ -6,7 +6,7 @@ use Rattle.std.proofs.lemmas.List.Elements.{All-nil, All-head, All-tail, All-pus
 use Rattle.case_files.specs.declared.section.Section.{Section}
 use Rattle.case_files.specs.Order.{AreInOrder}
 
--- the sections, and the one that is read, stand in order, up to this line
+-- the sections, and the one that is read, are in order, up to this line
 pub record Reading (sections : List Section) (current : Section) (number : ℕ) : Type 0 where
   pub ordered : AreInOrder sections
   pub before : All (λ (a : Section). a.line ≤ current.line) sections

@@ -2,7 +2,7 @@
 use Rattle.std.specs.Prelude.{◌≤◌, List, [], ◌∷◌, All}
 use Rattle.case_files.specs.declared.section.Section.{Section}
 
--- the sections stand in the order of their first lines
+-- the sections are in the order of their first lines
 abbrev pub AreInOrder : List Section → Type 0
 AreInOrder [] = Unit {0}
 AreInOrder (a ∷ rest) = All (λ (b : Section). a.line ≤ b.line) rest × AreInOrder rest

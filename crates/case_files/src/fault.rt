@@ -13,7 +13,7 @@ pub enum CaseFault {
     /// The file isn't in the format: the line, counted from 1, and what is wrong there.
     #[error("line {0}: {1}")]
     Malformed(usize, &'static str),
-    /// What was told of the runs couldn't be written.
+    /// What was reported of the runs couldn't be written.
     #[error("{0}")]
     Io(#[from] io::Error),
 }

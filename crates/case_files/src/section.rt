@@ -106,7 +106,7 @@ pub struct Section {
     pub part: Part,
     /// The number of its first line in the file, counted from 1; 0 of the preface, which has none.
     pub line: usize,
-    /// What stands behind the name in the first line: of a title the title, of words the words, of a status the status.
+    /// What follows the name in the first line: of a title the title, of words the words, of a status the status.
     pub head: String,
     /// How its lines are meant.
     pub marks: Marks,
@@ -115,7 +115,7 @@ pub struct Section {
 }
 
 impl Section {
-    /// What stands in front of the first case.
+    /// What comes before the first case.
     pub fn preface(alloc: Global) -> Section
         ensures part { result.part ≡ Part.Preface }
         ensures line { result.line ≡ 0 }

@@ -1,4 +1,4 @@
-//! The cases of a file, run one after another, and what is told of them.
+//! The cases of a file, run one after another, and what is reported of them.
 
 use crate::case::{Case, cases};
 use crate::fault::CaseFault;

@@ -24,7 +24,7 @@ AreRows [] rows = rows ≡ []
 AreRows (line ∷ lines) rows =
     (tokens : List Token) × (later : List (List Token)) × AreTokens line tokens × AreRows lines later × (rows ≡ before tokens later)
 
--- .. of the text's lines
+-- the tokens of those of the text's lines that have some
 pub record HasRows (text : List ℕ) (rows : List (List Token)) : Type 0 where
   pub lines : List (List ℕ)
   pub cut : AreLines text lines
@@ -54,7 +54,7 @@ ReadsCertificate text (Ok certificate) = IsCertificate text certificate
 ReadsCertificate text (Err Format) = (certificate : Certificate) → ¬ IsCertificate text certificate
 ReadsCertificate text (Err Memory) = Unit {0}
 
--- the number of a refusal; want of memory has none
+-- the number of a refusal; running out of memory has none
 abbrev pub number_of : CertificateFault → Option ℕ
 number_of Format = Some 77
 number_of Memory = None

@@ -47,7 +47,7 @@ pub struct Line {
     /// Its rank, which is above the rank of each node that it may lead to at once.
     pub rank: u32,
     /// Its destroy set: its items stand for the classes whose objects may be destroyed in a chain of calls that begins at
-    /// the node. They may stand in any order, and one may stand twice.
+    /// the node. They may be in any order, and one may appear twice.
     pub destroys: Items<SetItem>,
 }
 
@@ -62,7 +62,7 @@ impl Drop for Line {
 }
 
 /// A certificate: a bound on how deep activations nest, and a rank and a destroy set for each node. Whether it is valid
-/// for a program is told by `check`.
+/// for a program is reported by `check`.
 pub struct Certificate {
     /// The bound, which is above each rank.
     pub bound: u32,

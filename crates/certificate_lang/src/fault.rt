@@ -59,7 +59,7 @@ impl From<ParseFault> for CertificateFault {
 }
 
 impl CertificateFault {
-    /// The refusal's number; want of memory has none.
+    /// The refusal's number; running out of memory has none.
     pub fn number(&self) -> Option<u8>
         ensures { result ≡ number_of self.now }
     {

@@ -82,7 +82,7 @@ module _ (p : Loaded) (c : Certificate) where
   below_6 a b d e f g (suc (suc (suc (suc (suc zero))))) h = g
   below_6 a b d e f g (suc (suc (suc (suc (suc (suc j)))))) h = absurd (omega arith)
 
-  -- a no other than want of memory is that of the first condition that fails
+  -- a no other than that memory ran out is that of the first condition that fails
   first_of : (answer : No) → IsNo p c answer → (answer ≡ Memory) ⊎ ((k : ℕ) × (answer ≡ no_at k) × IsFirst p c k)
   first_of Wire h = inr (0, refl, record { fails = h; before = λ j low. absurd (omega arith) })
   first_of BodyType h = inr (1, refl, record { fails = h.1; before = below_1 h.0 })

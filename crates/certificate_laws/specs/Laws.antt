@@ -43,19 +43,19 @@ IsSameReason (why.DestroyPath m) (why.DestroyPath n) = Unit {0}
 IsSameReason (why.TooHigh m) (why.TooHigh n) = Unit {0}
 IsSameReason _ _ = ⊥
 
--- .. or the same certificate
+-- the same reason, or the same certificate
 abbrev pub IsSameAnswer : Result Certificate Why → Result Certificate Why → Type 0
 IsSameAnswer (Ok a) (Ok b) = a ≡ b
 IsSameAnswer (Err v) (Err w) = IsSameReason v w
 IsSameAnswer _ _ = ⊥
 
--- but for want of memory, a maker answers one thing
+-- unless memory runs out, a maker answers one thing
 abbrev pub OneMaking : Type 0
 OneMaking =
     (p : Loaded) → IsSound p → (a b : Result Certificate Why) → Makes p a → Makes p b
     → (a ≡ Err why.Memory) ⊎ (b ≡ Err why.Memory) ⊎ IsSameAnswer a b
 
--- .. and so does a check
+-- unless memory runs out, a check answers one thing
 abbrev pub OneVerdict : Type 0
 OneVerdict =
     (p : Loaded) (certificate : Certificate) (a b : Result Checking No) → Checks p certificate a → Checks p certificate b

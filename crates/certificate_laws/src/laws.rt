@@ -9,13 +9,13 @@ pub fn one_least()
     ensures made { OneMade }
 {}
 
-/// But for want of memory, what is made for a program is one certificate or one reason: the same wire, the same node or
+/// Unless memory runs out, what is made for a program is one certificate or one reason: the same wire, the same node or
 /// binding, or that there is a cycle, a path to a destruction or too long a chain.
 pub fn one_making()
     ensures { OneMaking }
 {}
 
-/// But for want of memory, a check of a program with a certificate has one answer: a yes, or the no of one number.
+/// Unless memory runs out, a check of a program with a certificate has one answer: a yes, or the no of one number.
 pub fn one_verdict()
     ensures { OneVerdict }
 {}

@@ -24,7 +24,7 @@ abbrev pub item_text : SetItem → List ℕ
 item_text (Class name) = name
 item_text (Closure name) = codes "~" ++ name
 
--- .. with a blank in front
+-- an item's text with a blank in front
 abbrev pub listed_text : SetItem → List ℕ
 listed_text item = codes " " ++ item_text item
 

@@ -57,6 +57,6 @@ TextsAreRead = (certificate : Certificate) → IsWritable certificate → IsCert
 abbrev pub NodesAreRead : Type 0
 NodesAreRead = (node : NodeName) → IsWritableNode node → IsNodeText (node_text node) node
 
--- .. and of no other
+-- a text is the name of one node at most
 abbrev pub OneNode : Type 0
 OneNode = (text : List ℕ) (a b : NodeName) → IsNodeText text a → IsNodeText text b → a ≡ b

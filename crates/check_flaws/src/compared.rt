@@ -77,7 +77,7 @@ impl<'s> Compared<'s> {
         }
     }
 
-    /// The number of the line of the certificate's text in which it stands.
+    /// The number of the line of the certificate's text in which it is.
     fn row(&self, place: usize) -> Result<usize, AllocError> {
         Ok(line_place(self.source.alloc, self.text, place)?.line)
     }

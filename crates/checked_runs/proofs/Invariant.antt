@@ -1,4 +1,4 @@
--- What a run of a checked program keeps (docs/certificate.md, "The check"): each activation but an update stands at a node,
+-- What a run of a checked program keeps (docs/certificate.md, "The check"): each activation but an update is at a node,
 -- and rank and destroy set fall from each to the one above it; connections are covered by wires, bindings by sites, adoptions by `owns`.
 use Rattle.std.specs.Prelude.{◌≡◌, ◌≢◌, ℕ, ◌<◌, ◌≤◌, List, [], ◌∷◌, length, Option, None, Some, slice_get}
 use Rattle.std.specs.List.{AllByRecursion, AllZip}
@@ -64,7 +64,7 @@ abbrev pub FallsTo : (p : Loaded) {certificate : Certificate} → List (Level ce
 FallsTo p [] line = Unit {0}
 FallsTo p (level ∷ levels) line = Falls p level.line line
 
--- ---- what activations stand at. `classes` are the classes of all objects that were ever created.
+-- ---- where activations are. `classes` are the classes of all objects that were ever created.
 
 -- a step is left of what is done when the method is called
 pub data IsStepOf (work : Work) : Step → Type 0 where
@@ -72,7 +72,7 @@ pub data IsStepOf (work : Work) : Step → Type 0 where
   asks : {effects : MetaEffects} → work ≡ Native effects → IsStepOf work (Ask effects)
   acts : {effects : MetaEffects} {action : Action} → work ≡ Native effects → IsStepOf work (Act effects action)
 
--- a body of a living object stands at the method of its class; its arguments are the method's
+-- a body of a living object is at the method of its class; its arguments are the method's
 pub record BodyStands (p : Loaded) (objects : List Object) (o m : ℕ) (arguments : List Value) (left : List Step) (x : Node) : Type 0 where
   pub class : ℕ
   pub lives : class_of objects o ≡ Some class
@@ -106,7 +106,7 @@ abbrev pub IsTornIf : Loaded → (ℕ → Option ℕ) → ℕ → Option ℕ →
 IsTornIf p classes c None = Unit {0}
 IsTornIf p classes c (Some o) = IsTorn p classes c o
 
--- a deletion stands at the destruction of the class of the object that was deleted first
+-- a deletion is at the destruction of the class of the object that was deleted first
 pub record DestroyStands (p : Loaded) (classes : ℕ → Option ℕ) (next : Option ℕ) (torn : List ℕ) (x : Node) : Type 0 where
   pub class : ℕ
   pub at : x ≡ node class Destruction
@@ -120,7 +120,7 @@ Stands p {certificate} classes objects (Emit o g arguments used last) level = At
 Stands p {certificate} classes objects (Update places) level = AllByRecursion (IsFollower p certificate classes level.line) places
 Stands p {certificate} classes objects (Destroy next torn) level = AtNode p certificate level (DestroyStands p classes next torn)
 
--- the activations of a stack stand at these levels, which fall from each to the one above it
+-- the activations of a stack are at these levels, which fall from each to the one above it
 abbrev pub Stacked : (p : Loaded) {certificate : Certificate} → (ℕ → Option ℕ) → List Object → List Activation → List (Level certificate) → Type 0
 Stacked p classes objects [] [] = Unit {0}
 Stacked p classes objects [] (level ∷ levels) = ⊥

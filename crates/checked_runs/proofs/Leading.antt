@@ -133,7 +133,7 @@ group-parts {p} {me} {kinds} f sets all at = of_group (subst (IsSoundStatement p
     of_group : IsSoundStatement p me kinds (layer.Group sets) → AreSound p me kinds sets × AreSets sets
     of_group (group_sound is only) = (is, only)
 
--- what stands in a group stands in the body
+-- what is in a group is in the body
 pub occurs-in : (t : Statement) (sets whole : List Statement) → Occurs t whole → out-Statement t ≡ layer.Group sets → (u : Statement) → Occurs u sets → Occurs u whole
 occurs-in t sets whole first at u i = grouped at i
 occurs-in t sets whole (after rest) at u i = after (occurs-in t sets _ rest at u i)

@@ -20,7 +20,7 @@ use Rattle.effect_scan.specs.Laws.{IsNode}
 use Rattle.effect_scan.proofs.Numbered.{stands, stands_after, place_low}
 use Rattle.effect_scan.proofs.Standing.{named_cases}
 
--- what is found stands in the list
+-- what is found is in the list
 pub found-in : {X : Type 0} (xs : List X) (k : ℕ) (x : X) → slice_get xs k ≡ Some x → IsIn x xs
 found-in [] k x e = absurd (none-some x e)
 found-in (y ∷ ys) zero x e = inl (sym (same_Some y x e))

@@ -64,7 +64,7 @@ EachRunIsFaultless accepts natives =
     IsReached accepts natives p certificate s left → (run : Run p natives s left events answers t after) →
     Each (IsFaultless p certificate.bound) run
 
--- .. and so is whatever may follow, if it may be carried out or not
+-- whatever may follow from a state that is reached is faultless, whether it may be carried out or not
 abbrev pub EachIsFaultless : Takes → NativeAnswers → Type 0
 EachIsFaultless accepts natives =
     (p : Loaded) (certificate : Certificate) (s t : State) (left : ℕ) (next : List Event) →
@@ -92,11 +92,11 @@ Never natives Is =
     IsSound p → IsValid p certificate → GoodRun p natives certificate.bound (at (untouched steps) []) steps taken answers s left →
     ¬ Is p certificate s left
 
--- .. that it stops there for this fault, whatever events come next: nothing is too deep, in use, or a chain that closes
+-- no such run stops for this fault, whatever events come next: nothing is too deep, in use, or a chain that closes
 abbrev pub NeverStops : Fault → NativeAnswers → Type 0
 NeverStops fault natives = (next : List Event) → Never natives (λ p certificate s left. StopsFor p natives certificate.bound s left next fault)
 
--- .. an expression lacks a value, or a condition a truth value
+-- in no such run does an expression lack a value, or a condition a truth value
 abbrev pub NeverLacksValue : NativeAnswers → Type 0
 NeverLacksValue natives = Never natives (λ p certificate s left. LacksValue s)
 
@@ -108,6 +108,6 @@ pub record LacksRule (p : Loaded) (natives : NativeAnswers) (s : State) : Type 0
   pub writes_none : (what : Assigning) → WritesNext s what → LacksFirst p s.objects (writes_of what)
   pub asks_none : (effects : MetaEffects) → ¬ DoesNext s (TakeAnswer effects)
 
--- .. which is never so
+-- in no such run is a rule lacking so
 abbrev pub NeverStuck : NativeAnswers → Type 0
 NeverStuck natives = Never natives (λ p certificate s left. LacksRule p natives s)

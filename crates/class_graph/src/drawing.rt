@@ -158,7 +158,7 @@ impl Finding {
         })
     }
 
-    /// Whether the one node stands behind the other in the chain.
+    /// Whether the one node comes after the other in the chain.
     fn follows(&self, from: Node, to: Node) -> bool {
         let mut before: Option<Node> = None;
         for node in self.chain.as_slice() {

@@ -50,7 +50,7 @@ impl From<AllocError> for PartFault {
     }
 }
 
-/// What refuses a program, by its number; only want of memory has none.
+/// What refuses a program, by its number; only running out of memory has none.
 pub fn refused(refusal: &Refusal) -> GraphFault
     ensures { MatchOption (refusal_number refusal.now) (result ≡ Memory) (λ number. result ≡ Refused number) }
 {

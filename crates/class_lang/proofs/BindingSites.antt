@@ -21,7 +21,7 @@ use Rattle.texts.specs.declared.token.Token.TheVariants as token
 use Rattle.token_reading.proofs.Underway.{None}
 use Rattle.class_lang.specs.Sites.{is_no_null, is_of_formal, bexpr_step, is_bexpr, FormalReading, formal, spell_formal, tree_of_formal, SiteReading, site, spell_site, tree_of_site}
 
--- ---- whether an expression may stand in a binding, from its parts
+-- ---- whether an expression may be in a binding, from its parts
 
 pub bexpr-Literal : (v : Value) → is_bexpr (e.Literal v) ≡ is_no_null v
 bexpr-Literal v = ap is_bexpr (sym (e.rolls-Literal v)) ∙ fold-roll-Expr Path Bool bexpr_step (layer.Literal v)
@@ -71,7 +71,7 @@ module _ {before at_class at_dot at_property at_formals at_value : List Token} {
         only = λ r rest ends g. let z = its_value r rest g in v.only z.0 rest tt z.2;
       }
 
-  -- an expression that may not stand in a binding has no other reading that may
+  -- an expression that may not be in a binding has no other reading that may
   pub no_site : {expression : Expr Path} {after : List Token} → Found spell_value tree_of_expression EndsAnywhere at_value expression after → is_bexpr expression ≡ false → None spell_site EndsAnywhere before
   no_site {expression} {after} v unfit r rest ends g =
       let z = its_value r rest g in

@@ -11,7 +11,7 @@ use Rattle.class_lang.specs.declared.fault.TextFault.{TextFault}
 use Rattle.class_lang.specs.declared.fault.TextFault.TheVariants.{TooLarge, BadByte, TooDeepText, Syntax, BadType, TooMany, Memory}
 use Rattle.syntax_trees.specs.declared.program.Program.{Program}
 
--- the number of a refusal; want of memory has none
+-- the number of a refusal; running out of memory has none
 abbrev pub number_of : TextFault → Option ℕ
 number_of TooLarge = Some 7
 number_of BadByte = Some 4
@@ -89,7 +89,7 @@ pub record IsAccepted (bytes : List ℕ) (program : Program) : Type 0 where
   pub few : HasFewParameters program
   pub within : IsWithinLimits program
 
--- the program of the text, or the first thing that is wrong with it; want of memory says nothing of the text
+-- the program of the text, or the first thing that is wrong with it; running out of memory says nothing of the text
 abbrev pub ReadsProgram : List ℕ → Result Program TextFault → Type 0
 ReadsProgram bytes (Ok program) = IsAccepted bytes program
 ReadsProgram bytes (Err TooLarge) = IsLongText bytes ⊎ IsLargeProgram bytes
@@ -110,7 +110,7 @@ HasOneReading tokens = (p q : Program) → IsProgram tokens p → IsProgram toke
 abbrev pub HasOneProgram : List ℕ → Type 0
 HasOneProgram bytes = (p q : Program) → IsProgramText bytes p → IsProgramText bytes q → p ≡ q
 
--- the text has one answer at most, want of memory aside
+-- the text has one answer at most, unless memory runs out
 abbrev pub HasOneAnswer : List ℕ → Type 0
 HasOneAnswer bytes =
     (a b : Result Program TextFault) → ReadsProgram bytes a → ReadsProgram bytes b → (a ≡ Err Memory) ⊎ (b ≡ Err Memory) ⊎ (a ≡ b)

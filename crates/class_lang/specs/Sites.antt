@@ -22,7 +22,7 @@ use Rattle.texts.specs.declared.token.Token.TheVariants as token
 use Rattle.syntax_trees.specs.declared.program.Formal.{Formal}
 use Rattle.syntax_trees.specs.declared.program.Site.{Site}
 
--- ---- what may stand in a binding's expression
+-- ---- what may be in a binding's expression
 abbrev pub is_name : Root → Bool
 is_name root.This = false
 is_name (root.Name name) = true

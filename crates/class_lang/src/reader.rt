@@ -74,7 +74,7 @@ pub fn one_reading()
     ensures text { (bytes : List ℕ) → HasOneProgram bytes }
 {}
 
-/// A text has at most one answer, want of memory aside.
+/// A text has at most one answer, unless memory runs out.
 pub fn one_answer()
     ensures { (bytes : List ℕ) → HasOneAnswer bytes }
 {}

@@ -64,7 +64,7 @@ impl Part for FormalPart {
 }
 
 #[tactic(auto, using(crate::proofs::BindingSites::bexpr_equations))]
-/// Whether no null stands in the expression, and each of its paths is a property of a formal source.
+/// Whether no null is in the expression, and each of its paths is a property of a formal source.
 fn is_bexpr(expression: &Expr<Path>) -> bool
     ensures { result ≡ is_bexpr expression.now }
 {

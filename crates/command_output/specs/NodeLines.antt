@@ -26,7 +26,7 @@ text_in class (Method number) = member_text class.name (method_text (slice_get c
 text_in class (Property number) = member_text class.name (name_text (slice_get class.properties number))
 text_in class Destruction = codes "~" ++ class.name
 
--- .. of a class that may be missing
+-- the same of a class that may be missing, which has no text
 abbrev pub text_under : Option MetaObject → Member → List ℕ
 text_under None member = []
 text_under (Some class) member = text_in class member

@@ -11,7 +11,7 @@ pub record Takes {A E : Type 0} (before after : Option (List ℕ)) (bytes : List
   pub whole : taken ++ left ≡ bytes
   pub all : OnOk result (left ≡ [])
 
--- .. and the answer is this exit status, where there is one
+-- What a writer took of these bytes, where the answer, if there is one, is this exit status.
 pub record TakesWith {E : Type 0} (before after : Option (List ℕ)) (bytes : List ℕ) (expected : ℕ) (result : Result ℕ E) : Type 0 where
   pub takes : Takes before after bytes result
   pub status : IfOk result (λ status. status ≡ expected)

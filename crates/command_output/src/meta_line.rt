@@ -172,14 +172,14 @@ impl<W: Write> Output<'_, W> {
     }
 }
 
-/// What stands in front of a type's name.
+/// What comes before a type's name.
 fn const_text(constant: bool) -> &'static [u8]
     ensures { result.now ≡ const_text constant }
 {
     if constant { b"const " } else { b"" }
 }
 
-/// What stands behind a type's name.
+/// What follows a type's name.
 fn star_text(pointer: bool) -> &'static [u8]
     ensures { result.now ≡ star_text pointer }
 {
@@ -227,7 +227,7 @@ fn property_offset(base: Option<&MetaObject>) -> usize
     }
 }
 
-/// What stands behind the first ones, so many.
+/// What follows the first ones, so many.
 fn behind_front<T>(front: usize, items: &[T]) -> &[T]
     ensures { result.now ≡ drop front items.now }
 {

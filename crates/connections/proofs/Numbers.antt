@@ -68,7 +68,7 @@ take_one [] zero e = refl
 take_one [] (suc n) e = refl
 take_one (p ∷ places) n e = let one : n ≡ 1 = omega arith in rw one refl
 
--- what stands at a place doesn't depend on what would stand past the end
+-- what is at a place doesn't depend on what would be past the end
 any_default : (places : List Place) (i : ℕ) (d e : Place) → i < length places → get_or places i d ≡ get_or places i e
 any_default [] i d e h = absurd (omega (arith, h))
 any_default (q ∷ places) zero d e h = refl

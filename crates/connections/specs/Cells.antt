@@ -32,7 +32,7 @@ abbrev pub counted : (Connection → Bool) → Option Cell → Bool
 counted test None = false
 counted test (Some cell) = cell.live && test cell.connection
 
--- .. and is one of those to be removed
+-- the cell's connection is there, and is one of those to be removed
 abbrev pub is_due : Removal → Option Cell → Bool
 is_due removal x = counted (fits removal) x
 

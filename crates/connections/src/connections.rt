@@ -19,7 +19,7 @@ use std::marker::Model;
 
 /// The connections that were made and not removed, in the order in which they were made, and the last number given.
 ///
-/// They stand in cells, to which lists lead: one of all, one for each sender and signal, one for each signal and method
+/// They are in cells, to which lists lead: one of all, one for each sender and signal, one for each signal and method
 /// that are joined, one for each object. So an emission costs what is connected to its signal, and a disconnect what it
 /// breaks, and not what is connected in all. A connection that is removed is marked and its cell stays until the next
 /// [`Connections::sweep`], since emissions below may stand on it: whoever uses the connections sweeps where none goes on.

@@ -29,7 +29,7 @@ impl From<AllocError> for ConnectFault {
 }
 
 impl ConnectFault {
-    /// The refusal's number; want of memory has none.
+    /// The refusal's number; running out of memory has none.
     pub fn number(self) -> Option<u8>
         ensures { result ≡ connect_number self }
     {

@@ -17,9 +17,10 @@ use syntax_trees::Program;
 use texts::{PlaceFault, PlacedToken, Token, placed_tokens};
 
 /// The declaration of a program that breaks the rule of this number, where the program is refused for that: a class's name
-/// (10), a base (11), a name that stands twice (12), a name that isn't there (13), a notify signature (14), a type (15), a
-/// native without a closure (17) or with one of other effects (18). Of 10 to 15 it is the one for which loading refuses the
-/// program. The place is that of the name that is wrong. `None` for other numbers, and where the text is no program.
+/// (10), a base (11), a name that appears twice (12), a name that isn't there (13), a notify signature (14), a type
+/// (15), a native without a closure (17) or with one of other effects (18). Of 10 to 15 it is the one for which loading
+/// refuses the program. The place is that of the name that is wrong. `None` for other numbers, and where the text is no
+/// program.
 pub fn declaration_flaw(alloc: Global, text: &[u8], number: u8) -> Result<Option<Flaw>, AllocError>
     ensures { IfOk result (λ flaw. IfSome flaw (λ f. f.at ≤ length text.now)) }
 {

@@ -1,4 +1,4 @@
-//! Which declaration of a program breaks a rule of loading, where, and in which words that is told.
+//! Which declaration of a program breaks a rule of loading, where, and in which words that is reported.
 #![tactic(auto)]
 
 mod declarations;

@@ -11,14 +11,14 @@ use signatures::{Name, Sig};
 use std::alloc::{AllocError, Global};
 use syntax_trees::{Program, Property};
 
-/// An offence, as it is told.
+/// An offence, as it is reported.
 #[derive(Clone, Copy)]
 pub struct Told<'a> {
     pub alloc: Global,
     pub program: &'a Program,
     /// The declaration.
     pub declared: Declared<'a>,
-    /// Where the name stands in the text that is wrong, from 0.
+    /// Where the name that is wrong is in the text, from 0.
     pub at: usize,
     /// The name.
     pub name: &'a Name,

@@ -37,7 +37,8 @@ first_child_of objects (Some o) = slice_get (children_of objects o) 0
 abbrev pub next_in : List Object → List ℕ → Option ℕ
 next_in objects torn = first_child_of objects (last_of torn)
 
--- .. it is a living child of the last one; and there is none where no object is torn down, or the last one has no such child
+-- the object that is deleted next is a living child of the last one; there is none where no object is torn down, or the
+-- last one has no such child
 pub record IsNext (objects : List Object) (torn : List ℕ) (o : ℕ) : Type 0 where
   pub parent : ℕ
   pub last : last_of torn ≡ Some parent

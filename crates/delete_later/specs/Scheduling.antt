@@ -23,7 +23,7 @@ deferred_to home object s = record s {
   loops = posted_to home (Deletion object) s.loops;
 }
 
--- .. where the object's life is this one: one that is scheduled already changes nothing, nor does a number of no living object
+-- an object of this life is scheduled: one that is so already changes nothing, nor does a number of no living object
 abbrev pub scheduled_with : Option Life → ℕ → Store → Store
 scheduled_with None object s = s
 scheduled_with (Some life) object s = if life.scheduled then s else deferred_to life.home object s

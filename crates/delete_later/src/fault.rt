@@ -50,7 +50,7 @@ impl From<PostFault> for MoveFault {
 }
 
 impl MoveFault {
-    /// The refusal's number; want of memory has none.
+    /// The refusal's number; running out of memory has none.
     pub fn number(self) -> Option<u8>
         ensures { result ≡ move_number self }
     {

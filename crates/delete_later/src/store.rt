@@ -53,7 +53,8 @@ impl Store {
     }
 
     /// Schedules an object for deletion: the deletion waits, with the next number, at the end of the loop in which the
-    /// object lives. An object that is scheduled already, or doesn't live, changes nothing; nor does want of memory.
+    /// object lives. An object that is scheduled already, or doesn't live, changes nothing; nor does running out of
+    /// memory.
     pub fn schedule(&mut self, object: ObjectId) -> Result<(), AllocError>
         requires home { IsHoused object self.old }
         requires few { self.old.loops.posted < 2 ^ 63 - 1 }

@@ -37,8 +37,8 @@ impl Flaw {
         })
     }
 
-    /// The flaw of a part of a text, which goes from one byte to another, as one of the text: it stands in that part, or at its
-    /// end.
+    /// The flaw of a part of a text, which goes from one byte to another, as one of the text: it is in that part, or at
+    /// its end.
     pub fn within(self, begin: usize, end: usize) -> Flaw
         ensures place { result.at ≡ min (begin + self.at) end }
         ensures said { result.sentence ≡ self.sentence }

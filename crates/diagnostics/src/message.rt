@@ -6,7 +6,7 @@ use crate::place::Place;
 use crate::spans::Span;
 use std::alloc::AllocError;
 
-/// How grave it is what is told.
+/// How grave what is reported is.
 #[derive(Clone, Copy, Debug, PartialEq, Eq)]
 pub enum Severity {
     /// The text is refused.

@@ -92,7 +92,7 @@ impl<'s> Graph<'s> {
         Ok(hops)
     }
 
-    /// A shortest cycle through the first node of a knot: it stands at both ends.
+    /// A shortest cycle through the first node of a knot: it is at both ends.
     pub fn cycle_in(&self, knot: &[usize]) -> Result<Vec<usize>, AllocError> {
         let mut nodes = Vec::new(self.alloc);
         let Some(first) = knot.first().copied() else {

@@ -47,7 +47,7 @@ impl Roots {
     }
 }
 
-/// The knots. The nodes of each stand in their order, and the knots in that of their first nodes.
+/// The knots. The nodes of each are in their order, and the knots in that of their first nodes.
 pub fn knots(graph: &Graph<'_>) -> Result<Vec<Vec<usize>>, AllocError> {
     let order = finished(graph)?;
     let mut roots = Roots::none(graph.alloc, graph.len())?;

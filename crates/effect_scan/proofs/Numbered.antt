@@ -68,7 +68,7 @@ length-class c shape =
     let sum = length-append (method_nodes c shape.methods ++ property_nodes c shape.properties) (node c Destruction ∷ []) in
     omega (arith, length-members c shape)
 
--- a member stands at its place
+-- a member is at its place
 pub stands : (c : ℕ) (shape : Shape) (member : Member) (k : ℕ) → IsPlaceIn shape member k → slice_get (class_nodes c shape) k ≡ Some (node c member)
 stands c shape (Method m) k h =
     let count = length-methods c shape in

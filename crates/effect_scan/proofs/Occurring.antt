@@ -67,7 +67,7 @@ occurs_at [] i t s e o = absurd (none-some t e)
 occurs_at (x ∷ xs) zero t s e o = occurs_left s (x ∷ []) xs (subst (λ (y : Statement). Occurs s (y ∷ [])) (sym (same_Some _ _ e)) o)
 occurs_at (x ∷ xs) (suc i) t s e o = after (occurs_at xs i t s e o)
 
--- no statement stands in the statement: it is no `if` and no group
+-- no statement is in this one: it is no `if` and no group
 abbrev pub IsPlain : Statement → Type 0
 IsPlain t =
     ((x : Expr MetaPath) (block other : List Statement) → ¬ (t ≡ whole.If x block other))
@@ -179,7 +179,7 @@ module _ (kinds : List ValueType) where
       gathers_then (BodyHas kinds block) (BodyHas kinds other) (StatementHas kinds z) first then last p q
       (λ e. subst (λ (w : layer.Statement-F Statement). StatementHas kinds w e ↔ (BodyHas kinds block e ⊎ BodyHas kinds other e)) (sym is) (λ h. h, λ h. h))
 
-  -- a statement in which none stands
+  -- a statement in which none is
   gather_effect : (z : layer.Statement-F Statement) (e : Effect) (xs ys : List Effect) → HasNoBlocks z → effect_of kinds z ≡ Some e → ys ≡ xs ++ e ∷ [] → Gathers (StatementHas kinds z) xs ys
   gather_effect z e xs ys bare is eq = gathers_one (StatementHas kinds z) e xs ys eq (plain z e is) (λ f has. same_Some _ _ (sym (plain_only z f bare has) ∙ is))
 

@@ -43,7 +43,7 @@ reach_of kinds path = of_path (Some Own) (option_and_then reach_of_type) kinds p
 abbrev pub effect_on : List ValueType → Member → MetaPath → Option Effect
 effect_on kinds member path = option_map (λ reach. record { reach = reach; member = member }) (reach_of kinds path)
 
--- what a statement does at once; what stands in the blocks of an `if` and in a group is looked at on its own
+-- what a statement does at once; what is in the blocks of an `if` and in a group is looked at on its own
 abbrev pub effect_of : List ValueType → layer.Statement-F Statement → Option Effect
 effect_of kinds (layer.Set path q e) = effect_on kinds (Property q) path
 effect_of kinds (layer.Emit m es) = Some (record { reach = Own; member = Method m })
@@ -55,7 +55,7 @@ effect_of kinds (layer.Delete path) = effect_on kinds Destruction path
 effect_of kinds (layer.Later path) = None
 effect_of kinds (layer.Group sets) = None
 
--- a statement stands in a body, or in a block or a group of it
+-- a statement is in a body, or in a block or a group of it
 pub data Occurs : Statement → List Statement → Type 0 where
   here : {s : Statement} {rest : List Statement} → Occurs s (s ∷ rest)
   after : {s t : Statement} {rest : List Statement} → Occurs s rest → Occurs s (t ∷ rest)
@@ -72,7 +72,7 @@ pub record BodyHas (kinds : List ValueType) (body : List Statement) (effect : Ef
   pub occurs : Occurs statement body
   pub is : effect_of kinds (out-Statement statement) ≡ Some effect
 
--- one statement does this, or one that stands in it
+-- one statement does this, or one that is in it
 abbrev pub StatementHas : List ValueType → layer.Statement-F Statement → Effect → Type 0
 StatementHas kinds (layer.If e block other) effect = BodyHas kinds block effect ⊎ BodyHas kinds other effect
 StatementHas kinds (layer.Set path q e) effect = effect_of kinds (layer.Set path q e) ≡ Some effect

@@ -15,6 +15,6 @@ abbrev pub of_last : {A : Type 0} → A → (Option ValueType → A) → List Va
 of_last own of kinds root None = of_root own of kinds root
 of_last own of kinds root (Some step) = of (Some step.kind)
 
--- .. of its last property, what the declared type gives, and without properties of what it begins with
+-- of a path: what the declared type of its last property gives, and without properties what it begins with gives
 abbrev pub of_path : {A : Type 0} → A → (Option ValueType → A) → List ValueType → MetaPath → A
 of_path own of kinds path = of_last own of kinds path.root (slice_get path.steps (length path.steps - 1))

@@ -44,7 +44,7 @@ pub record WireJoins (p : Loaded) (x y : Node) (wire : MetaWire) : Type 0 where
   pub from : AtOrBelow p wire.sender (Method (named wire.signal)) x
   pub to : AtOrBelow p wire.receiver (Method wire.method) y
 
--- .. it is the wire at this place
+-- the wire at this place leads from the one node to the other at once
 pub record WireDraws (p : Loaded) (x y : Node) (k : ℕ) : Type 0 where
   pub wire : MetaWire
   pub stands : slice_get p.wires k ≡ Some wire
@@ -56,7 +56,7 @@ pub record IsSource (p : Loaded) (formals : List ℕ) (x : Node) (source : Sourc
   pub formal : slice_get formals source.source ≡ Some class
   pub from : AtOrBelow p class (Property source.property) x
 
--- .. which the expression reads
+-- the node is a property of a formal source that the expression reads
 pub record Reads (p : Loaded) (formals : List ℕ) (x : Node) (e : Expr SourceProperty) : Type 0 where
   pub source : SourceProperty
   pub among : Contains (paths_in e) source
@@ -67,7 +67,7 @@ pub record SiteBinds (p : Loaded) (x y : Node) (site : MetaSite) : Type 0 where
   pub reads : Reads p site.formals x site.formula
   pub to : AtOrBelow p site.class (Property site.property) y
 
--- .. it is the binding at this place
+-- the binding at this place reads the one node for the other
 pub record SiteDraws (p : Loaded) (x y : Node) (k : ℕ) : Type 0 where
   pub site : MetaSite
   pub stands : slice_get p.sites k ≡ Some site

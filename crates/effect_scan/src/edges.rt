@@ -87,7 +87,7 @@ pub fn add_works(
     Ok(())
 }
 
-/// .. from those of the class of this number.
+/// Adds the edges from the methods of the class of this number.
 fn add_methods(
     alloc: Global,
     places: &Places,
@@ -104,7 +104,7 @@ fn add_methods(
     Ok(())
 }
 
-/// .. from the method of this number in the class: a signal does nothing by itself.
+/// Adds the edges from the method of this number in the class: a signal does nothing by itself.
 fn add_method(
     alloc: Global,
     places: &Places,
@@ -123,7 +123,7 @@ fn add_method(
     }
 }
 
-/// .. to what its work does.
+/// Adds the edges from a method to what its work does.
 fn add_effects(
     alloc: Global,
     places: &Places,
@@ -195,7 +195,7 @@ pub fn add_notifiers(
     Ok(())
 }
 
-/// .. from those of the class of this number.
+/// Adds the edges from the properties of the class of this number.
 fn add_properties(
     alloc: Global,
     places: &Places,
@@ -213,7 +213,7 @@ fn add_properties(
     Ok(())
 }
 
-/// .. from the property of this number in the class.
+/// Adds the edges from the property of this number in the class.
 fn add_property(
     alloc: Global,
     places: &Places,
@@ -254,7 +254,7 @@ pub fn add_sites(
     Ok(())
 }
 
-/// .. of this site.
+/// Adds the edges of this binding site.
 fn add_site(
     alloc: Global,
     places: &Places,
@@ -337,7 +337,7 @@ pub fn add_closures(
     Ok(())
 }
 
-/// .. of an object of this class.
+/// Adds the edges from the destruction of an object of this class.
 fn add_closure(
     alloc: Global,
     places: &Places,

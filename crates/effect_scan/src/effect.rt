@@ -54,7 +54,7 @@ fn reach_of_type(kind: ValueType) -> Option<Reach>
     }
 }
 
-/// What the statement does at once, where the parameters are of these types; nothing, where what stands in it does it, or
+/// What the statement does at once, where the parameters are of these types; nothing, where what is in it does it, or
 /// where it connects or posts.
 pub fn effect_of(kinds: &[ValueType], statement: &Statement) -> Option<Effect>
     ensures { result ≡ effect_of kinds.now (out-Statement statement.now) }
@@ -98,7 +98,7 @@ pub fn gather(
     Ok(())
 }
 
-/// What the statement does at once, and those that stand in it.
+/// What the statement does at once, and those that are in it.
 #[cycle(bodies)]
 fn gather_one(
     kinds: &[ValueType],

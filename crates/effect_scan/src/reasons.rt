@@ -145,7 +145,7 @@ fn leads(search: &Search, body: &[Statement], passed: &mut usize) -> bool
     false
 }
 
-/// Whether the statement leads to the node, or one that stands in it.
+/// Whether the statement leads to the node, or one that is in it.
 #[cycle(bodies)]
 fn whole_leads(search: &Search, statement: &Statement, passed: &mut usize) -> bool
     ensures { IsTrue result →

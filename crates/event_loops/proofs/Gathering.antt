@@ -89,7 +89,7 @@ rest-of-rest zero (x ∷ xs) more below = refl
 rest-of-rest (suc i) (x ∷ xs) more below = let less : i < length xs = omega (arith, below) in rest-of-rest i xs more less
 
 module _ (going : ℕ → Bool) (xs : List Posted) (i : ℕ) where
-  -- the first i items were looked at: those that stay stand behind the others
+  -- the first i items were looked at: those that stay come after the others
   abbrev pub turned : List Posted
   turned = drop i xs ++ those_staying going (take i xs)
 

@@ -17,7 +17,7 @@ pub record Within {A S : Type 0} (last : ℕ) (queues : IndexMap (List ℕ) (Vec
   pub upto : AreUpto last (loops_in queues)
   pub marked : MarkedUpto last (since_of marks)
 
--- .. and still so
+-- where at least so many items were posted, that still holds
 abbrev pub StayWithin : {A S : Type 0} → IndexMap (List ℕ) (VecDeque Posted A) S → Marks → IndexMap (List ℕ) (VecDeque Posted A) S → Marks → Type 0
 StayWithin queues marks queues' marks' = (last : ℕ) → Within last queues marks → Within last queues' marks'
 

@@ -23,7 +23,7 @@ is_above (Some since) number = nat_lt since number
 abbrev pub waits : (ℕ → Option ℕ) → Posted → Bool
 waits since p = is_above (since (receiver_of p.item)) p.number
 
--- .. and was posted before the item of this number
+-- the item waits, and was posted before the one of this number
 abbrev pub is_due : (ℕ → Option ℕ) → ℕ → Posted → Bool
 is_due since number p = waits since p && is_before number p
 
@@ -40,7 +40,8 @@ abbrev pub trimmed : (ℕ → Option ℕ) → List Posted → List Posted
 trimmed since [] = []
 trimmed since (p ∷ items) = if waits since p then p ∷ items else trimmed since items
 
--- .. once the first that waits and was posted before the one of this number has left
+-- the items from the first on that waits, once the first that waits and was posted before the one of this number has
+-- left
 abbrev pub taken_due : (ℕ → Option ℕ) → ℕ → List Posted → List Posted
 taken_due since number items = trimmed since (without_first (is_due since number) items)
 

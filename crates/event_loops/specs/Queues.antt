@@ -117,7 +117,7 @@ abbrev pub all_items : List Loop → List Posted
 all_items [] = []
 all_items (l ∷ loops) = l.items ++ all_items loops
 
--- .. of those but the one at a place
+-- the items of all loops but the one at a place
 abbrev pub items_elsewhere : ℕ → List Loop → List Posted
 items_elsewhere home loops = all_items (change home (with_items (λ items. [])) loops)
 

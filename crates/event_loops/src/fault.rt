@@ -29,7 +29,7 @@ impl From<AllocError> for AddFault {
 }
 
 impl AddFault {
-    /// The refusal's number; want of memory has none.
+    /// The refusal's number; running out of memory has none.
     pub fn number(self) -> Option<u8>
         ensures { result ≡ add_number self }
     {
@@ -63,7 +63,7 @@ impl From<AllocError> for PostFault {
 }
 
 impl PostFault {
-    /// The refusal's number; want of memory has none.
+    /// The refusal's number; running out of memory has none.
     pub fn number(self) -> Option<u8>
         ensures { result ≡ post_number self }
     {

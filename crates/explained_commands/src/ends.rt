@@ -1,4 +1,4 @@
-//! What a command writes on standard output, what is told of its end on standard error, and its exit status.
+//! What a command writes on standard output, what is reported of its end on standard error, and its exit status.
 
 ghost use Rattle.std.specs.Prelude.{◌≡◌, ◌↔◌, map, false, IsTrue};
 ghost use Rattle.explained_commands.specs.Judged.{IsUnjudged};
@@ -19,9 +19,9 @@ const SUCCESS: u8 = 0;
 const MOST_EXPLAINED: usize = 8388608;
 
 /// Does what the words say, as [`trace_tool::command`] does, and then writes to `errors` what a person needs of this end: why
-/// events were refused, where `tells_refusals` asks for it, what another answer than success means, or what is told beside a
-/// yes, and why the input can't be read or the output can't be written. Where that fails nothing else changes. Where nothing
-/// is judged (`meta`, `run --unchecked`) nothing is told beside success.
+/// events were refused, where `tells_refusals` asks for it, what another answer than success means, or what is reported
+/// beside a yes, and why the input can't be read or the output can't be written. Where that fails nothing else changes.
+/// Where nothing is judged (`meta`, `run --unchecked`) nothing is reported beside success.
 pub fn explained_command<R: Read, W: Write, E: Write>(
     alloc: Global,
     words: &[&str],
@@ -52,7 +52,7 @@ pub fn explained_command<R: Read, W: Write, E: Write>(
 }
 
 /// Writes what a person needs of what the words come to, with this exit status: why events were refused, where that is asked
-/// for, and what another answer than success means, or what is told beside a yes.
+/// for, and what another answer than success means, or what is reported beside a yes.
 fn tell_end<E: Write>(
     alloc: Global,
     words: &[&str],
@@ -119,8 +119,8 @@ fn explain<E: Write>(alloc: Global, words: &[&str], answered: &Answered<Natives>
     }
 }
 
-/// What is told of the fault that stopped a run, if one did, from what was written down since the last whole event, or else for
-/// that one.
+/// What is reported of the fault that stopped a run, if one did, from what was written down since the last whole event,
+/// or else for that one.
 fn report_on_fault(
     alloc: Global,
     input: Option<&[u8]>,

@@ -1,4 +1,4 @@
-//! What is told beside a yes, from what the words came to.
+//! What is reported beside a yes, from what the words came to.
 
 ghost use Rattle.std.specs.Prelude.{◌↔◌, map, IsTrue};
 ghost use Rattle.explained_commands.specs.Judged.{IsUnjudged};
@@ -24,9 +24,9 @@ pub fn is_judged(words: &[&str]) -> bool
     }
 }
 
-/// What is told beside the yes that the words came to on this input, if they came to one: warnings of the program, which is
-/// the first text, and where it didn't run how deep its chains are. `None` where there is nothing to tell, and where the
-/// input isn't known.
+/// What is reported beside the yes that the words came to on this input, if they came to one: warnings of the program,
+/// which is the first text, and where it didn't run how deep its chains are. `None` where there is nothing to tell, and
+/// where the input isn't known.
 pub fn remarks_on<N: Answering + Drop>(
     alloc: Global,
     input: Option<&[u8]>,

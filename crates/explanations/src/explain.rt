@@ -13,8 +13,8 @@ use trace_tool::{Fault, Outcome, ProgramOutcome, Refusal, ScriptFault, Why};
 
 /// Explains what the words come to on this input: what it means, in one sentence; and where the input is at fault, what is
 /// wrong there, its line and column in the input and in its text, that line with a caret below the place, and what to write
-/// instead, where that is known. Where the input isn't known no place is told. `None` where there is nothing to explain: a
-/// command did what it was asked, memory was wanting, or there is no input.
+/// instead, where that is known. Where the input isn't known no place is reported. `None` where there is nothing to
+/// explain: a command did what it was asked, memory was wanting, or there is no input.
 pub fn explanation<N: Answering + Drop>(
     alloc: Global,
     words: &[&str],
@@ -175,7 +175,7 @@ fn push_missing(
     }
 }
 
-/// What a reason says, in one sentence; want of memory says nothing of the program.
+/// What a reason says, in one sentence; running out of memory says nothing of the program.
 fn meaning_of_reason(why: &Why) -> Option<&'static str> {
     match why {
         Why::Wire(_) => Some(

@@ -4,7 +4,7 @@ use crate::rule::Rule;
 use diagnostics::Place;
 use effect_scan::Reason;
 
-/// The text that something stands in.
+/// The text that something is in.
 #[derive(Clone, Copy, Debug, PartialEq, Eq)]
 pub enum TextKind {
     Program,
@@ -20,9 +20,9 @@ pub struct Finding {
     pub message: String,
     /// What to do about it, where that is known.
     pub help: Option<String>,
-    /// The text in which it stands.
+    /// The text that it is in.
     pub text: TextKind,
-    /// Where it stands there; `None` for what stands in no line, as the objects' class `QObject`.
+    /// Where it is there; `None` for what is in no line, as the objects' class `QObject`.
     pub place: Option<Place>,
     /// The steps that lead to it, one after another; there may be none.
     pub chain: Vec<Step>,
@@ -82,6 +82,6 @@ pub struct Step {
     pub link: Link,
     /// The same in a sentence.
     pub message: String,
-    /// Where in the program that stands by which it does; `None` for what stands in no line.
+    /// Where in the program it is by which it does; `None` for what is in no line.
     pub place: Option<Place>,
 }

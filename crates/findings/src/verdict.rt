@@ -6,7 +6,7 @@ use crate::cycle_set::CycleSet;
 use crate::finding::Finding;
 use std::alloc::{AllocError, Global};
 
-/// So many findings are told.
+/// So many findings are reported.
 const MOST_TOLD: usize = 100;
 
 /// What is found of a program and its certificate.
@@ -44,7 +44,7 @@ impl Verdict {
         }
     }
 
-    /// Whether one more finding is told; where it isn't, it is counted.
+    /// Whether one more finding is reported; where it isn't, it is counted.
     pub fn takes_one(&mut self) -> bool
         ensures told { IsTrue result ↔ (length self.old.findings.items < 100) }
         ensures counted { IsFalse result → self.old.more < 2 ^ 64 - 1 → self.new.more ≡ self.old.more + 1 }
@@ -59,7 +59,7 @@ impl Verdict {
         is_taken
     }
 
-    /// Adds a finding that is told.
+    /// Adds a finding that is reported.
     pub fn push(&mut self, finding: Finding) -> Result<(), AllocError>
         ensures findings { OnOk result (self.new.findings.items ≡ self.old.findings.items ++ finding ∷ []) }
         ensures more { self.new.more ≡ self.old.more }

@@ -45,7 +45,7 @@ first_in_front P xs ys m h = record {
 }
 
 -- ---- `QObject`
--- `objectNameChanged(QString)` stands at its number alone
+-- `objectNameChanged(QString)` is at its number alone
 pub name_changed_first : StandsFirst (IsSignalOf name_changed) qobject.methods 2
 name_changed_first = record { at = record { item = heading name_changed sort.Signal; is = refl; has = (refl, refl) }; first = before }
   where
@@ -126,7 +126,7 @@ module _ (classes : List Class) (all : List Outline) (are : Outlines classes all
       (λ i class o is e k p at_k lacks. none i class o is e (any_of (λ (x : Property). LacksNotifier o x x.notify) class.properties k (record { item = p; is = at_k; has = lacks })))
       at.0 at.1.item at.1.is at.1.has
 
-  -- an own member stands behind the inherited ones
+  -- an own member comes after the inherited ones
   own_any : {X : Type 0} (list : Outline → List X) (mine : List X) (o base : Outline) → list o ≡ list base ++ mine → (P : X → Type 0) → Any P mine → Any P (list o)
   own_any list mine o base e P any = subst (λ xs. Any P xs) (sym e) (any_back P (list base) mine any)
 

@@ -1,4 +1,4 @@
-//! Names that stand twice.
+//! Names that appear twice.
 
 ghost use Rattle.std.specs.Prelude.{◌≡◌, ◌↔◌, IsTrue, Any};
 ghost use Rattle.meta_model.specs.Twice.{FindsRepeated};
@@ -22,7 +22,7 @@ use meta_model::{
 use signatures::{Name, Sig};
 use syntax_trees::{Class, EffectNames, Formal, Parameter, Program, Signal, Site, Slot, SlotWork};
 
-/// What may not stand twice in a list.
+/// What may not appear twice in a list.
 trait Alike {
     ghost alike: { Self → Self → Type 0 };
 
@@ -150,8 +150,8 @@ fn is_taken(name: &Name) -> bool
         || bytes == b"QString".as_slice()
 }
 
-/// The first method with two parameters of one name, or native with a name that stands twice in one of its lists; or else
-/// the first binding site with the name of another one, or with two formal sources of one name.
+/// The first method with two parameters of one name, or native with a name that appears twice in one of its lists; or
+/// else the first binding site with the name of another one, or with two formal sources of one name.
 pub fn repeated_name(program: &Program) -> Option<Offence>
     ensures { TellsOffence program.now fault.DuplicateMember (RepeatsDeclared program.now) result }
 {
@@ -161,7 +161,7 @@ pub fn repeated_name(program: &Program) -> Option<Offence>
     }
 }
 
-/// A parameter that stands twice in a method of a class, or a name in a list of a native.
+/// A parameter that appears twice in a method of a class, or a name in a list of a native.
 fn repeated_in_classes(program: &Program) -> Option<Offence>
     ensures { TellsOffence program.now fault.DuplicateMember (Any RepeatsInMethod program.now.classes) result }
 {
@@ -183,7 +183,7 @@ fn repeated_in_class(number: usize, class: &Class) -> Option<Offence>
     }
 }
 
-/// A parameter that stands twice in a signal.
+/// A parameter that appears twice in a signal.
 fn repeated_in_signals(number: usize, class: &Class) -> Option<Offence>
     ensures { TellsOffenceIn number class.now fault.DuplicateMember
         (Any (λ (signal : ASignal). RepeatsName signal.parameters) class.now.signals) result }
@@ -196,7 +196,7 @@ fn repeated_in_signals(number: usize, class: &Class) -> Option<Offence>
     None
 }
 
-/// A parameter that stands twice in a slot or native, or a name in a list of a native.
+/// A parameter that appears twice in a slot or native, or a name in a list of a native.
 fn repeated_in_slots(number: usize, class: &Class) -> Option<Offence>
     ensures { TellsOffenceIn number class.now fault.DuplicateMember (Any RepeatsInSlot class.now.slots) result }
 {
@@ -208,7 +208,7 @@ fn repeated_in_slots(number: usize, class: &Class) -> Option<Offence>
     None
 }
 
-/// That this stands twice, by the name of this number.
+/// That this appears twice, by the name of this number.
 fn twice(name: usize, what: Repeated) -> Breach
     ensures { result ≡ record { name = name; reason = reason.DuplicateMember what } }
 {
@@ -231,7 +231,7 @@ fn repeated_parameter(parameters: &[Parameter]) -> Option<Breach>
     }
 }
 
-/// A parameter that stands twice in the slot or native, or a name in a list of the native.
+/// A parameter that appears twice in the slot or native, or a name in a list of the native.
 fn repeated_in_slot(slot: &Slot) -> Option<Breach>
     ensures { TellsBreach fault.DuplicateMember (RepeatsInSlot slot.now) result }
 {
@@ -242,7 +242,7 @@ fn repeated_in_slot(slot: &Slot) -> Option<Breach>
     }
 }
 
-/// A name that stands twice in a list of what is a native. The names of its lists begin with this number.
+/// A name that appears twice in a list of what is a native. The names of its lists begin with this number.
 fn repeated_effect_in(first: usize, work: &SlotWork) -> Option<Breach>
     ensures { TellsBreach fault.DuplicateMember (RepeatsEffectIn work.now) result }
 {
@@ -252,7 +252,8 @@ fn repeated_effect_in(first: usize, work: &SlotWork) -> Option<Breach>
     }
 }
 
-/// A property that stands twice among those that the native reads or sets, or a signal's name among those that it emits.
+/// A property that appears twice among those that the native reads or sets, or a signal's name among those that it
+/// emits.
 fn repeated_effect(first: usize, effects: &EffectNames) -> Option<Breach>
     ensures { TellsBreach fault.DuplicateMember (RepeatsEffect effects.now) result }
 {
@@ -263,7 +264,7 @@ fn repeated_effect(first: usize, effects: &EffectNames) -> Option<Breach>
     }
 }
 
-/// A property that stands twice among those that the native sets, or a signal's name among those that it emits.
+/// A property that appears twice among those that the native sets, or a signal's name among those that it emits.
 fn repeated_action(first: usize, effects: &EffectNames) -> Option<Breach>
     ensures { TellsBreach fault.DuplicateMember (RepeatsAction effects.now) result }
 {
@@ -290,7 +291,7 @@ fn names_behind(before: usize, sigs: &[Sig]) -> usize {
     names
 }
 
-/// A binding site with the name of one before it, or with a formal source that stands twice.
+/// A binding site with the name of one before it, or with a formal source that appears twice.
 fn repeated_in_sites(program: &Program) -> Option<Offence>
     ensures { TellsOffence program.now fault.DuplicateMember (RepeatsSite program.now.sites) result }
 {
@@ -300,7 +301,7 @@ fn repeated_in_sites(program: &Program) -> Option<Offence>
     }
 }
 
-/// A formal source that stands twice in a binding site.
+/// A formal source that appears twice in a binding site.
 fn repeated_in_formals(program: &Program) -> Option<Offence>
     ensures { TellsOffence program.now fault.DuplicateMember (Any RepeatsFormal program.now.sites) result }
 {
@@ -312,7 +313,7 @@ fn repeated_in_formals(program: &Program) -> Option<Offence>
     None
 }
 
-/// A formal source that stands twice in the site.
+/// A formal source that appears twice in the site.
 fn repeated_formal(site: &Site) -> Option<Breach>
     ensures { TellsBreach fault.DuplicateMember (RepeatsFormal site.now) result }
 {

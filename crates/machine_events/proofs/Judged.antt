@@ -27,7 +27,7 @@ pub err-is : {X Y : Type 0} {Judged : Result Y Refusal → Type 0} {n : NotAccep
 err-is (Ok x) not is = absurd is
 err-is {Judged = Judged} (Err y) not is = subst (λ (m : NotAccepted). IsNotAccepted Judged m) (sym is) not
 
--- .. for want of memory
+-- .. where memory ran out
 pub short-is : {X Y : Type 0} (Judged : Result Y Refusal → Type 0) (r : Result X NotAccepted) → IsErrAnd r (λ y. y ≡ Memory) → IfErr r (λ y. IsNotAccepted Judged y)
 short-is Judged (Ok x) is = absurd is
 short-is Judged (Err y) is = subst (λ (m : NotAccepted). IsNotAccepted Judged m) (sym is) short

@@ -1,4 +1,4 @@
--- What stands in a run: an object lives as long as a body of it is active, the properties that are to be notified are
+-- What holds in a run: an object lives as long as a body of it is active, the properties that are to be notified are
 -- there as long as their objects live, and bodies are sound.
 use Rattle.std.proofs.Common.{◌≡◌, ℕ, eqb, Some, slice_get, ◌||◌, Bool, true, false, IsTrue, List, [], ◌∷◌, sym, subst, refl}
 use Rattle.std.specs.List.{AllByRecursion}
@@ -112,6 +112,6 @@ all-stand-still p old new (Update places ∷ below) stay spared all =
     (all-may-still p old new places stay all.0, all-stand-still p old new below stay spared all.1)
 all-stand-still p old new (Destroy next torn ∷ below) stay spared all = (tt, all-stand-still p old new below stay spared all.1)
 
--- what stands in a state
+-- what holds in a state
 abbrev pub AllStand : Loaded → State → Type 0
 AllStand p s = AllByRecursion (Stands p s.objects) s.stack

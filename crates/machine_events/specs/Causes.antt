@@ -28,14 +28,14 @@ pub record BindsNext (p : Loaded) (s : State) (events : List Event) (b : Binding
   pub is_next : events ≡ Bind site target sources ∷ rest
   pub may : may_bind p s site target sources (Ok b)
 
--- .. and its expression has no value of the target's type. Where a bind may not be, no state need follow in which all
--- values are settled; so this is told of the binding.
+-- the next event asks for a binding whose expression has no value of the target's type. Where a bind may not be, no
+-- state need follow in which all values are settled; so this is said of the binding.
 pub record BindsIll (p : Loaded) (s : State) (events : List Event) : Type 0 where
   pub binding : Binding
   pub next : BindsNext p s events binding
   pub ill : ¬ IsFit p s.objects binding
 
--- .. which has one, and a chain of bindings would lead from a property back to itself
+-- the next event asks for a binding that has such a value, and a chain would lead from a property back to itself
 pub record BindsLoop (p : Loaded) (s : State) (events : List Event) : Type 0 where
   pub binding : Binding
   pub next : BindsNext p s events binding
@@ -45,9 +45,9 @@ pub record BindsLoop (p : Loaded) (s : State) (events : List Event) : Type 0 whe
 -- What comes next brings this fault's bad moment: the statement or the event that is next, or the state that follows. Of
 -- several faults it is the first of 60, 63, 62 and 61: at each of these it is said that those before it are not the case.
 pub data Brings (p : Loaded) (natives : NativeAnswers) (depth : ℕ) (s : State) (events : List Event) : Fault → Type 0 where
-  -- 60: a value is missing ..
+  -- 60: a value is missing
   lacks_value : LacksValue s → Brings p natives depth s events BadType
-  -- .. or is not of the type of the property or of the parameter that it is given to
+  -- 60: a value is not of the type of the property or of the parameter that it is given to
   writes_ill : WritesIll p s → Brings p natives depth s events BadType
   binds_ill : BindsIll p s events → Brings p natives depth s events BadType
   goes_ill : GoesIll p s (λ t. Follows p natives s t events) → Brings p natives depth s events BadType

@@ -78,7 +78,7 @@ pub record IsMethodOf (p : Loaded) (class : ℕ) (sig : Sig) (m : Numbered MetaM
   pub is : IsMethod p class m.number m.it
   pub signed : m.it.sig ≡ sig
 
--- .. and it is a signal
+-- the class's signal of this signature
 pub record IsSignalOf (p : Loaded) (class : ℕ) (sig : Sig) (g : Numbered MetaMethod) : Type 0 where
   pub of : IsMethodOf p class sig g
   pub signal : g.it.work ≡ Signal

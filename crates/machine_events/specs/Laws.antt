@@ -31,7 +31,7 @@ OneJudgement =
     (p : Loaded) (s : State) (e : Event) (a b : Result State Refusal) → IsSound p → Agree p s.objects s.bindings →
     judged p s e a → judged p s e b → IsAcyclicIn a → a ≡ b
 
--- .. so that it is taken with one answer, and at most one state follows by it
+-- So an event is taken with one answer, and at most one state follows by it, unless a chain of bindings closes.
 abbrev pub OneTaking : Type 0
 OneTaking =
     (p : Loaded) (e : Event) (a b : Answer) (s t u : State) → IsSound p → Agree p s.objects s.bindings →
@@ -72,7 +72,7 @@ pub record IsFront {p : Loaded} {natives : NativeAnswers} {depth : ℕ} {s : Sta
   pub runs : GoodRun p natives depth t j more said u k
   pub grows : Grows t.trace u.trace
 
--- .. of two runs of fronts of one list of events, from one state and with as many rules left, one goes on where the other
+-- of two runs of fronts of one list of events, from one state and with as many rules left, one goes on where the other
 -- ends, and writes after what that one wrote: so a run that stops on the way is a front of the whole one
 abbrev pub OneFront : NativeAnswers → Type 0
 OneFront natives =
@@ -80,8 +80,8 @@ OneFront natives =
     IsSound p → Agree p s.objects s.bindings →
     (a : RunsFront p natives depth s n events t j) (b : RunsFront p natives depth s n events u k) → IsFront a b ⊎ IsFront b a
 
--- .. whatever natives may answer, if they answered alike in both: so what a run wrote that stopped, be it for want of memory,
--- is a front of what each longer run with the same answers writes
+-- two such runs are so whatever natives may answer, if they answered alike in both: what a run wrote that stopped, be
+-- it that memory ran out, is a front of what each longer run with the same answers writes
 abbrev pub OneFrontOfAnswers : NativeAnswers → Type 0
 OneFrontOfAnswers natives =
     (said : ℕ → List Action) (p : Loaded) (depth : ℕ) (s : State) (n : ℕ) (events : List Event) (t u : State) (j k : ℕ) →

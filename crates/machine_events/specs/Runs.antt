@@ -38,13 +38,13 @@ pub record GoodRun (p : Loaded) (natives : NativeAnswers) (depth : ℕ) (s : Sta
   pub run : Run p natives s n events answers t k
   pub good : Each (IsGood p depth) run
 
--- .. a whole one: it takes all these events, and ends where nothing is going on
+-- a whole run without a bad moment: it takes all these events, and ends where nothing is going on
 pub record RunsWhole (p : Loaded) (natives : NativeAnswers) (depth : ℕ) (s : State) (n : ℕ) (events : List Event) (answers : List Answer)
     (t : State) (k : ℕ) : Type 0 where
   pub runs : GoodRun p natives depth s n events answers t k
   pub ends : IsIdle t
 
--- .. one that takes a front of these events
+-- a run without a bad moment that takes a front of these events
 pub record RunsFront (p : Loaded) (natives : NativeAnswers) (depth : ℕ) (s : State) (n : ℕ) (events : List Event) (t : State) (k : ℕ) : Type 0 where
   pub taken : List Event
   pub rest : List Event

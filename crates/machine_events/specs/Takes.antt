@@ -38,7 +38,7 @@ pub data Takes (p : Loaded) (e : Event) : Answer → State → State → Type 0 
   accepts : {s t : State} → IsIdle s → judged p s e (Ok t) → Takes p e Done s t
   refuses : {s : State} (r : Refusal) → IsIdle s → judged p s e (Err r) → Takes p e (Refused (refusal_number r)) s (refused s r)
 
--- .. of a world: the event is refused for the reason of this number, and only its line is written
+-- In a world, the event is refused for the reason of this number, and only its line is written.
 pub record IsRefusedAs (p : Loaded) (w : World) (e : Event) (n : ℕ) (v : World) : Type 0 where
   pub refusal : Refusal
   pub numbered : n ≡ refusal_number refusal

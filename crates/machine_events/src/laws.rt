@@ -35,8 +35,8 @@ pub fn one_front<N: Answering>(_natives: &N)
 {}
 
 /// Whatever these natives may answer, of two runs of fronts of one list of events in which they answered alike one goes on
-/// where the other ends, and its trace begins with the other's: so what a machine wrote that stopped, for want of memory or
-/// another fault, is a front of what each longer run with these answers writes.
+/// where the other ends, and its trace begins with the other's: so what a machine wrote that stopped, as memory ran out
+/// or for another fault, is a front of what each longer run with these answers writes.
 pub fn one_front_of_answers<N: Answering>(_natives: &N)
     ensures { OneFrontOfAnswers (N.gives _natives.now) }
 {}

@@ -49,7 +49,7 @@ pub record AreThere (p : Loaded) (objects : List Object) (ends : Endpoints) : Ty
   pub method : MetaMethod
   pub receives : IsMember p objects ends.receiver ends.method receiver method
 
--- .. as they are written down
+-- the names of the objects and the methods at two ends, as they are written down
 abbrev pub names_of : {p : Loaded} {objects : List Object} {ends : Endpoints} → AreThere p objects ends → Named (List ℕ)
 names_of there = record { sender = there.sender.name; signal = there.signal.sig; receiver = there.receiver.name; method = there.method.sig }
 

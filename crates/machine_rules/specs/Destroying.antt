@@ -35,7 +35,7 @@ died s stack x name = record (with_store s (died_in x (store_of s))) {
       ∷ At (suc (length stack)) (entry_kind.Emitted name destroyed.name (show.Null ∷ []) false) ∷ [];
 }
 
--- .. whatever its name is
+-- Object x dies so, whatever its name is.
 pub record Dies (s : State) (stack : List Activation) (x : ℕ) (t : State) : Type 0 where
   pub name : List ℕ
   pub named : name_of s.objects x ≡ Some name

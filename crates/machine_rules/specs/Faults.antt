@@ -30,7 +30,7 @@ pub record IsAfterFit (p : Loaded) (objects : List Object) (writes : List Assign
   pub are : writes ≡ front ++ set ∷ back
   pub fit : AllFit p objects front
 
--- .. and its property isn't there
+-- one of the writes comes after such as fit, and its property isn't there
 pub record LacksFirst (p : Loaded) (objects : List Object) (writes : List Assignment) : Type 0 where
   pub set : Assignment
   pub after : IsAfterFit p objects writes set

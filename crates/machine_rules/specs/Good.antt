@@ -29,7 +29,7 @@ pub record ArgumentsFit (p : Loaded) (objects : List Object) (o m : ℕ) (argume
 abbrev pub destroyed_kinds : List ValueType
 destroyed_kinds = type.Reference QOBJECT false ∷ []
 
--- .. as many as the object's signal declares; of a dead object only `destroyed` is emitted
+-- an emission has the arguments that the object's signal declares; of a dead object only `destroyed` is emitted
 pub data EmissionFits (p : Loaded) (objects : List Object) (o g : ℕ) (arguments : List Value) : Type 0 where
   of_living : ArgumentsFit p objects o g arguments → EmissionFits p objects o g arguments
   of_dead : IsDead objects o → g ≡ DESTROYED → ReadAs p objects arguments destroyed_kinds → EmissionFits p objects o g arguments
@@ -48,7 +48,7 @@ abbrev pub whose : Activation → Option ℕ
 whose (Body o m arguments left) = Some o
 whose _ = None
 
--- .. of each of a stack
+-- for each activation of a stack the object whose body it is
 abbrev pub shows : List Activation → List (Option ℕ)
 shows [] = []
 shows (a ∷ below) = whose a ∷ shows below
@@ -63,7 +63,7 @@ has_body o stack = list_any (is_the o) (shows stack)
 abbrev pub HasArguments : Loaded → State → State → Type 0
 HasArguments p s t = length s.stack < length t.stack → TopFits p t.objects t.stack
 
--- .. and every property of a living object has a value of its type
+-- what was pushed has its arguments, and every property of a living object has a value of its type
 pub record IsWell (p : Loaded) (s t : State) : Type 0 where
   pub arguments : HasArguments p s t
   pub values : AreTyped p t.objects
@@ -76,7 +76,7 @@ Spares s t = (o : ℕ) → IsTrue (has_body o s.stack) → IsDead t.objects o �
 abbrev pub IsAcyclic : State → Type 0
 IsAcyclic t = ¬ Loop (binding_at t.bindings)
 
--- .. and no bad moment is among these: activations nest no deeper than the depth, either, and what is written next in s are
+-- from s to t is no bad moment: activations nest no deeper than the depth, either, and what is written next in s are
 -- values of their properties' types. The last is asked of s, since in a group a later write may hide the value from t.
 pub record IsGood (p : Loaded) (depth : ℕ) (s t : State) : Type 0 where
   pub well : IsWell p s t

@@ -18,7 +18,7 @@ abbrev pub RuleSettles : NativeAnswers → Type 0
 RuleSettles natives =
     (p : Loaded) (s t : State) → Agree p s.objects s.bindings → Rule p natives s t → IsWell p s t → Agree p t.objects t.bindings
 
--- .. so in every state that rules without a bad moment lead to, from one in which they do, properties and bindings agree
+-- so in every state that rules without a bad moment lead to from one in which they agree, properties and bindings agree
 abbrev pub StaysSettled : NativeAnswers → Type 0
 StaysSettled natives =
     (p : Loaded) (depth : ℕ) (s t : State) (left after : ℕ) →

@@ -69,7 +69,7 @@ pub data IsShownAs (p : Loaded) (objects : List Object) (o : ℕ) (effects : Met
       slice_get effects.emits k ≡ Some g → IsMember p objects o g x signal →
       IsShownAs p objects o effects (action.Emit k arguments) (show.Emit signal.sig.name (all_shown objects arguments))
 
--- .. a list of them
+-- each of a list of actions is written down so
 abbrev pub AreShownAs : Loaded → List Object → ℕ → MetaEffects → List Action → List ShownAction → Type 0
 AreShownAs p objects o effects actions lines = AllZip (IsShownAs p objects o effects) actions lines
 
@@ -90,7 +90,7 @@ pub record IsTellable (p : Loaded) (objects : List Object) (o : ℕ) (effects : 
   pub line : ShownAction
   pub is : IsShownAs p objects o effects action line
 
--- .. each of a list
+-- each of a list of actions can be written down
 abbrev pub AreTellable : Loaded → List Object → ℕ → MetaEffects → List Action → Type 0
 AreTellable p objects o effects actions = AllByRecursion (IsTellable p objects o effects) actions
 

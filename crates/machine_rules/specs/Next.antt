@@ -23,12 +23,12 @@ pub record DoesNext (s : State) (what : Operation) : Type 0 where
   pub is_next : s.stack ≡ Body object method arguments (step ∷ rest) ∷ below
   pub does : operation_of_step s.objects object arguments step ≡ Some what
 
--- .. it writes this
+-- what is going on is a body whose next step writes this
 abbrev pub WritesNext : State → Assigning → Type 0
 WritesNext s what = DoesNext s (Write what)
 
--- .. a value for an object's property that is not of its type. What follows from the property need have no values then, so
--- this is told of the step, and not of what it makes.
+-- the next step writes a value for an object's property that is not of its type. What follows from the property need
+-- have no values then, so this is said of the step, and not of what it makes.
 pub record WritesIll (p : Loaded) (s : State) : Type 0 where
   pub what : Assigning
   pub next : WritesNext s what

@@ -51,7 +51,7 @@ top_of o m arguments last Signal = Emit o m arguments 0 last
 top_of o m arguments last (Slot statements) = Body o m arguments (map Run statements)
 top_of o m arguments last (Native effects) = Body o m arguments (Ask effects ∷ [])
 
--- .. and its entry, which tells of a signal whether it calls nothing
+-- the entry of what begins with a method, which says of a signal whether it calls nothing
 abbrev pub begin_entry : ℕ → Object → ℕ → List ℕ → List Shown → Work → Entry
 begin_entry depth x m method given Signal = At depth (entry_kind.Emitted x.name method given (is_silent x m))
 begin_entry depth x m method given _ = At depth (entry_kind.Called x.name method given)
@@ -85,7 +85,7 @@ pub record Notifies (p : Loaded) (s : State) (below : List Activation) (place : 
   pub is_method : IsMethod p is.life.class signal method
   pub gives : t ≡ begun s below place.object object signal method (take (length method.kinds) (present ∷ [])) Signal
 
--- .. if its object lives; a dead one notifies nobody
+-- the notify signal is emitted if the property's object lives; a dead one notifies nobody
 abbrev pub NotifiesIf : Loaded → State → List Activation → Place → State → Option Life → Type 0
 NotifiesIf p s below place t None = t ≡ record s { stack = below }
 NotifiesIf p s below place t (Some l) = Notifies p s below place t
@@ -170,7 +170,7 @@ posted s stack name home o x m method arguments = record s {
   trace = s.trace ++ At (length stack) (entry_kind.Posted name x.name method.sig.name (all_shown s.objects arguments)) ∷ [];
 }
 
--- .. of this loop
+-- a call of a method is posted so to this loop, which has a name
 pub record Posts (s : State) (stack : List Activation) (home o : ℕ) (x : Object) (m : ℕ) (method : MetaMethod) (arguments : List Value) (t : State) : Type 0 where
   pub name : List ℕ
   pub is_loop : HasName s.queues.loops name home
@@ -185,7 +185,7 @@ Arrives s stack home o x m method arguments t false = Posts s stack home o x m m
 abbrev pub with_used : State → Connection → State
 with_used s c = record s { connected = after_use c s.connected }
 
--- .. and its method is called at the receiver, with as many arguments as it declares
+-- a connection is used, and its method is called at the receiver, with as many arguments as it declares
 pub record Uses (p : Loaded) (s : State) (below : List Activation) (c : Connection) (arguments : List Value) (t : State) : Type 0 where
   pub receiver : Object
   pub method : MetaMethod

@@ -29,7 +29,7 @@ pub record IsField (p : Loaded) (objects : List Object) (o q : ℕ) (x : Object)
   pub is_class : IsClass p life.class class
   pub is_property : slice_get class.properties q ≡ Some property
 
--- .. at a place
+-- the living object and the property at a place
 pub record HasField (p : Loaded) (objects : List Object) (at : Place) : Type 0 where
   pub object : Object
   pub property : MetaProperty

@@ -51,7 +51,7 @@ module _ (old new : List Object) (differ : DifferInValues old new) where
       let same : seen_reference new r ≡ seen_reference old r = cc both in
       reference-alike (seen_reference new r) ∙ ap (shown_reference old) same
 
-  -- a property that will have a value is told with one
+  -- a property that will have a value is written down with one
   pub told-ahead : (p : Loaded) (d : ℕ) (cause : Cause) (at : Place) (x : Object) (l : Life) (class : MetaObject) (q : MetaProperty) (v : Value) (entry : Entry) → HasValue p new at → Lives old at.object x l → Some class ≡ slice_get p.classes l.class → Some q ≡ slice_get class.properties at.property → entry ≡ At d (entry_kind_of cause x.name q.name (shown old v)) → IsToldWith p new d cause at v entry
   told-ahead p d cause at x l class q v entry has lives is_class is_property is =
       let object : valueless has.object ≡ valueless x = same_Some (valueless has.object) (valueless x) (sym (ap (option_map valueless) has.lives.is) ∙ alike at.object ∙ ap (option_map valueless) lives.is) in

@@ -1,4 +1,4 @@
--- What is written down of a change is determined, and one more property is told.
+-- What is written down of a change is determined, and one more property is written down.
 use Rattle.std.proofs.Common.{◌≡◌, ℕ, List, [], ◌∷◌, ◌++◌, Option, None, Some, refl, ap, sym, ◌∙◌, subst, append_assoc}
 use Rattle.std.proofs.lemmas.List.{append-nil}
 use Rattle.std.specs.Prelude.{slice_get, IfSome}

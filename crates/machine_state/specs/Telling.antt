@@ -43,7 +43,7 @@ pub record IsToldWith (p : Loaded) (objects : List Object) (depth : ℕ) (cause 
   pub has : HasValue p objects at
   pub is : entry ≡ At depth (entry_kind_of cause has.object.name has.property.name (shown objects value))
 
--- .. with the value that it has now
+-- it is written down with the value that it has now
 pub record IsTold (p : Loaded) (objects : List Object) (depth : ℕ) (cause : Cause) (at : Place) (entry : Entry) : Type 0 where
   pub has : HasValue p objects at
   pub is : entry ≡ At depth (entry_kind_of cause has.object.name has.property.name (shown objects has.value))

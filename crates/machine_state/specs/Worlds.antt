@@ -64,7 +64,7 @@ with_connected w connected = record w { store = record w.store { connections = c
 abbrev pub with_queues : World → Queues → World
 with_queues w queues = record w { store = record w.store { loops = queues } }
 
--- .. with other objects and bindings
+-- a world with other objects and bindings
 abbrev pub with_bound : World → List Object → List Binding → World
 with_bound w objects bindings = record w { store = record w.store { tree = objects; bindings = bindings } }
 
@@ -77,22 +77,22 @@ ticked w = record w { left = w.left - 1 }
 abbrev pub noted : World → List Entry → World
 noted w entries = record w { left = w.left - 1; trace = w.trace ++ entries }
 
--- .. that also uses a connection
+-- a world in which a connection was used, and one after a rule that also writes these entries down
 abbrev pub having_used : World → Connection → World
 having_used w c = with_connected w (after_use c w.store.connections)
 
 abbrev pub using : World → List Entry → Connection → World
 using w entries c = noted (having_used w c) entries
 
--- .. that also posts an item to an event loop
+-- a world after a rule that also posts an item to an event loop
 abbrev pub posting : World → List Entry → ℕ → Item → World
 posting w entries home item = with_queues (noted w entries) (posted_to home item w.store.loops)
 
--- .. that also takes the first item of an event loop that was posted before the one of this number
+-- a world after a rule that also takes the first item of an event loop that was posted before the one of this number
 abbrev pub taking : World → List Entry → ℕ → ℕ → World
 taking w entries home number = with_queues (noted w entries) (taken_before home number w.store.loops)
 
--- .. the item was taken, if there was one, or memory was refused and nothing changed
+-- such an item was taken, if there was one, or memory was refused and nothing changed
 abbrev pub TakesFirst : World → List Entry → ℕ → ℕ → World → Result (Option Posted) Fault → Type 0
 TakesFirst w entries home number v (Ok found) =
     (found ≡ find (is_before number) (items_at w.store.loops.loops home)) × (v ≡ taking w entries home number)
@@ -106,7 +106,7 @@ taking_unwritten w home number = with_queues (ticked w) (taken_before home numbe
 abbrev pub turn_ended : World → World
 turn_ended w = record (ticked w) { turn = None }
 
--- .. that also makes a connection between these ends, and that removes those between them
+-- a world after a rule that also makes a connection between these ends, and after one that removes those between them
 abbrev pub connecting : World → List Entry → Endpoints → ConnectionType → World
 connecting w entries ends how = with_connected (noted w entries) (newly_joined ends how w.store.connections)
 
@@ -119,7 +119,7 @@ pub record IsUnscheduled (objects : List Object) (o : ℕ) : Type 0 where
   pub lives : life_of objects o ≡ Some life
   pub unmarked : life.scheduled ≡ false
 
--- .. that also schedules an object's deletion, and that ends an object's life
+-- a world after a rule that also schedules an object's deletion, and after one that ends an object's life
 abbrev pub scheduling : World → List Entry → ℕ → World
 scheduling w entries o = record (noted w entries) { store = scheduled_in o w.store }
 
@@ -140,7 +140,7 @@ pub record HasWritten (p : Loaded) (depth : ℕ) (what : Assigning) (w : World) 
   pub are_told : IsAssigningTold p v.store.tree depth what changed lines
   pub gives : v ≡ with_bound (told lines) v.store.tree v.store.bindings
 
--- .. or memory was refused, and nothing changed
+-- this was written, and it is written down; or memory was refused, and nothing changed
 abbrev pub WritesIn : Loaded → ℕ → Assigning → World → (List Entry → World) → Result (List Place) Fault → World → Type 0
 WritesIn p depth what w told (Ok changed) v = HasWritten p depth what w told changed v
 WritesIn p depth what w told (Err fault) v = (fault ≡ Memory) × (v ≡ w)
@@ -153,7 +153,7 @@ pub record HasBound (p : Loaded) (site target : ℕ) (sources : List ℕ) (w : W
   pub are_told : AreTold p v.store.tree 1 Bind (new_binding binds.may).target changed lines
   pub gives : v ≡ with_bound (told lines) v.store.tree v.store.bindings
 
--- .. or it wasn't, and nothing changed
+-- the binding of a site was installed, and this is written down; or it wasn't, and nothing changed
 abbrev pub BindsIn : Loaded → ℕ → ℕ → List ℕ → World → (List Entry → World) → Result (List Place) BindFault → World → Type 0
 BindsIn p site target sources w told (Ok changed) v = HasBound p site target sources w told changed v
 BindsIn p site target sources w told (Err fault) v =
@@ -184,19 +184,19 @@ counted w = record w { events = w.events + 1; left = w.left - 1 }
 abbrev pub accepting : World → World
 accepting w = after w (accepted (at w []))
 
--- .. its objects are these afterwards
+-- an event is accepted, and the objects are these afterwards
 abbrev pub accepting_objects : World → List Object → World
 accepting_objects w objects = after w (record (accepted (at w [])) { objects = objects })
 
--- .. its stores are these afterwards
+-- an event is accepted, and the stores are these afterwards
 abbrev pub accepting_store : World → Store → World
 accepting_store w store = after w (with_store (accepted (at w [])) store)
 
--- .. an object is blocked or may emit again, if it lives
+-- an event is accepted by which an object is blocked or may emit again, if it lives
 abbrev pub accepting_block : World → ℕ → Bool → World
 accepting_block w o on = accepting_objects w (change_life o (blocked on) w.store.tree)
 
--- .. these entries are written down
+-- an event is accepted, and these entries are written down
 abbrev pub accepting_entries : World → List Entry → World
 accepting_entries w entries = after w (with_entries (accepted (at w [])) entries)
 
@@ -204,7 +204,7 @@ accepting_entries w entries = after w (with_entries (accepted (at w [])) entries
 abbrev pub with_scheduled : State → ℕ → State
 with_scheduled s o = with_store s (scheduled_in o (store_of s))
 
--- .. that is so, and these entries are written down
+-- an event is accepted by which an object's deletion is scheduled, and these entries are written down
 abbrev pub accepting_schedule : World → List Entry → ℕ → World
 accepting_schedule w entries o = after w (with_scheduled (with_entries (accepted (at w [])) entries) o)
 
@@ -217,7 +217,7 @@ Rejects w r v (Err fault) = (fault ≡ Memory) × (v ≡ w)
 abbrev pub with_connection : State → Endpoints → ConnectionType → State
 with_connection s ends how = record s { connected = newly_joined ends how s.connected }
 
--- .. a connection is made
+-- an event is accepted by which a connection is made
 abbrev pub accepting_connection : World → Endpoints → ConnectionType → World
 accepting_connection w ends how = after w (with_connection (accepted (at w [])) ends how)
 
@@ -225,15 +225,15 @@ accepting_connection w ends how = after w (with_connection (accepted (at w [])) 
 abbrev pub without_connections : State → Endpoints → State
 without_connections s ends = record s { connected = parted ends s.connected }
 
--- .. they are removed
+-- an event is accepted by which the connections that join these ends are removed
 abbrev pub accepting_disconnection : World → Endpoints → World
 accepting_disconnection w ends = after w (without_connections (accepted (at w [])) ends)
 
--- .. an event loop is added
+-- an event is accepted by which an event loop is added
 abbrev pub accepting_loop : World → List ℕ → World
 accepting_loop w name = after w (record (accepted (at w [])) { queues = with_loop name w.store.loops })
 
--- .. a turn of an event loop begins: it delivers what is posted by now
+-- a state in which a turn of an event loop begins: it delivers what is posted by now
 abbrev pub begun_turn : State → ℕ → State
 begun_turn s home = record s { turn = Some (record { home = home; limit = s.queues.posted + 1 }) }
 

@@ -1,7 +1,7 @@
 use memory_trials::Told;
 use std::alloc::Global;
 
-/// What holds things that can be told part by part.
+/// What holds things that can be reported part by part.
 pub trait Holds {
     /// Tells all that it holds.
     fn tell(&self, told: &mut Told);
@@ -14,7 +14,7 @@ pub fn told_of<H: Holds>(alloc: Global, holder: &H) -> Option<Told> {
     Some(told)
 }
 
-/// Whether it holds what was told.
+/// Whether it holds what was reported.
 pub fn is_as_told<H: Holds>(alloc: Global, holder: &H, before: &Told) -> bool {
     match told_of(alloc, holder) {
         Some(now) => now.is_same(before),

@@ -1,4 +1,5 @@
-//! Makes each call of the languages, the checker, the stores and natives that can want memory, and tells what it answers.
+//! Makes each call of the languages, the checker, the stores and natives that can run out of memory, and tells what it
+//! answers.
 #![tactic(auto)]
 
 mod bindings;

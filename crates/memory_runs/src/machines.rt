@@ -89,7 +89,7 @@ fn apply_each<N: Answering + Drop>(
     tell_trace(alloc, machine.trace(), told)
 }
 
-/// Applies one more event to a machine that has stopped for want of memory, and tells its trace.
+/// Applies one more event to a machine that has stopped as memory ran out, and tells its trace.
 fn stopped<N: Answering + Drop>(
     alloc: Global,
     machine: &mut Machine<N>,

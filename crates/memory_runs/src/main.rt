@@ -1,4 +1,4 @@
-//! Makes each call of machines and commands that can want memory, and tells what it answers.
+//! Makes each call of machines and commands that can run out of memory, and tells what it answers.
 #![tactic(auto)]
 
 mod commanding;

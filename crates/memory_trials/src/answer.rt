@@ -1,16 +1,16 @@
 /// How a call was answered.
 #[derive(Clone, Copy)]
 pub enum Answer {
-    /// It did what it is for, and what it answered is told.
+    /// It did what it is for, and what it answered is reported.
     Ample,
-    /// A command ended with this exit status, and what it wrote is told.
+    /// A command ended with this exit status, and what it wrote is reported.
     Ended(u8),
     /// There was no memory.
     Memory,
     /// There was no memory, and what was lent to the call is as before or isn't. Made again it did what it is for.
     Again { is_as_before: bool },
-    /// A machine stopped for want of memory, and its trace is told. It answers the next event as one that has stopped, and
-    /// leaves its trace, or it doesn't.
+    /// A machine stopped as memory ran out, and its trace is reported. It answers the next event as one that has
+    /// stopped, and leaves its trace, or it doesn't.
     Stopped { stays: bool },
     /// The call was made, and there was no memory to tell what it answered.
     Untold,

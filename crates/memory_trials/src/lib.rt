@@ -1,5 +1,5 @@
-//! How calls are tried that can want memory: what each answers, where there is memory for all and where a request is refused,
-//! and whether what was lent to it is then as before.
+//! How calls are tried that can run out of memory: what each answers, where there is memory for all and where a request
+//! is refused, and whether what was lent to it is then as before.
 #![tactic(auto)]
 
 mod answer;

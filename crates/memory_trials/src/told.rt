@@ -9,14 +9,14 @@ use std::str;
 /// How many bytes there is room for.
 const ROOM: usize = 4096;
 
-/// A text whose room is there from the beginning, so that no memory is asked for when something is told.
+/// A text whose room is there from the beginning, so that no memory is asked for when something is reported.
 #[derive(Drop)]
 pub struct Told {
     pub text: Vec<u8>,
 }
 
 impl Told {
-    /// Nothing is told yet.
+    /// Nothing is reported yet.
     pub fn new(alloc: Global) -> Result<Told, AllocError> {
         let text = Vec::with_capacity(alloc, ROOM)?;
         Ok(Told { text })

@@ -3,7 +3,7 @@ use Rattle.std.proofs.Common.{◌≡◌, ℕ, zero, suc, ◌<◌, List, [], ◌�
 use Rattle.std.proofs.lemmas.Option.{none-some, same_Some}
 
 module _ {A : Type 0} where
-  -- what stands in a front stands there in the list
+  -- what is in a front is at the same place in the list
   pub get_take : (n : ℕ) (xs : List A) (k : ℕ) (x : A) → slice_get (take n xs) k ≡ Some x → (slice_get xs k ≡ Some x) × (k < n)
   get_take zero xs k x e = absurd (none-some x e)
   get_take (suc n) [] k x e = absurd (none-some x e)
@@ -31,7 +31,7 @@ module _ {A : Type 0} where
   last_of x y zero e = (refl, same_Some _ _ e)
   last_of x y (suc j) e = absurd (none-some y e)
 
--- what stands in a list stands in its fronts
+-- what is in a list is in its fronts
 pub take_get : {A : Type 0} (n : ℕ) (xs : List A) (k : ℕ) (x : A) → slice_get xs k ≡ Some x → k < n → slice_get (take n xs) k ≡ Some x
 take_get n [] k x e below = absurd (none-some x e)
 take_get zero (y ∷ xs) k x e below = absurd (omega (arith, below))

@@ -10,7 +10,7 @@ use Rattle.meta_model.specs.Places.{NoneStands}
 use Rattle.meta_model.specs.code.OwnMembers.{IsNext}
 use Rattle.meta_model.proofs.Zips.{any_of, place_of_any}
 
--- what stands behind a list
+-- what follows a list
 pub get_behind : {X : Type 0} (xs ys : List X) (x : X) → slice_get (xs ++ x ∷ ys) (length xs) ≡ Some x
 get_behind [] ys x = refl
 get_behind (y ∷ xs) ys x = get_behind xs ys x

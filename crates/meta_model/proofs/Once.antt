@@ -1,11 +1,11 @@
--- Elements that stand once.
+-- Elements that appear once.
 use Rattle.std.proofs.Common.{◌≡◌, ℕ, zero, suc, ◌+◌, List, [], ◌∷◌, ◌++◌, length, slice_get, Some, Any, ◌⊎◌, inl, inr, refl, sym, ap, subst, arith}
 use Rattle.std.proofs.lemmas.Option.{none-some, same_Some}
 use Rattle.meta_model.specs.Twice.{StandsTwice}
 use Rattle.meta_model.proofs.Zips.{any_of}
 
 module _ {X : Type 0} (alike : X → X → Type 0) where
-  -- where no element stands twice, two elements that are alike stand at one place
+  -- where no element appears twice, two elements that are alike are at one place
   pub once : (xs : List X) → (¬ StandsTwice alike xs) → (i j : ℕ) (x y : X) → slice_get xs i ≡ Some x → slice_get xs j ≡ Some y → alike x y → alike y x → i ≡ j
   once [] not_twice i j x y ex ey a b = absurd (none-some x ex)
   once (z ∷ xs) not_twice zero zero x y ex ey a b = refl

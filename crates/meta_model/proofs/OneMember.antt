@@ -1,4 +1,4 @@
--- Each member of a class stands once.
+-- Each member of a class appears once.
 use Rattle.std.proofs.Common.{◌≡◌, ℕ, zero, suc, List, [], ◌∷◌, ◌++◌, length, slice_get, Some, Any, ap, inl, inr, sym, subst}
 use Rattle.std.proofs.lemmas.Option.{none-some, same_Some}
 use Rattle.signatures.specs.declared.sig.Sig.{Sig}

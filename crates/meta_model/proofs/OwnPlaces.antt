@@ -1,4 +1,5 @@
--- The second of two members of a class that are one is declared by the class itself, where each of its base's stands once.
+-- The second of two members of a class that are one is declared by the class itself, where each of its base's appears
+-- once.
 use Rattle.std.proofs.Common.{◌≡◌, ℕ, zero, suc, ◌+◌, ◌-◌, ◌<◌, ◌≤◌, List, [], ◌∷◌, ◌++◌, map, length, take, slice_get, Option, Some, Any, ◌⊎◌, inl, inr, refl, sym, ap, ◌∙◌, subst, arith, length-append}
 use Rattle.std.specs.Option.{option_and_then}
 use Rattle.std.proofs.lemmas.Bool.{cases_lt}
@@ -26,7 +27,7 @@ use Rattle.meta_model.proofs.Outlined.{Declared, outline_of}
 use Rattle.meta_model.proofs.Fronts.{take_get}
 use Rattle.meta_model.proofs.Zips.{any_of}
 
--- ---- two that are alike stand twice
+-- ---- two that are alike appear twice
 pub twins_twice : {X : Type 0} (alike : X → X → Type 0) (xs : List X) (t : Twins) → AreTwins alike xs t → StandsTwice alike xs
 twins_twice alike xs t are = twice_at alike xs t.first t.again are.x are.y are.is_x are.is_y are.before are.are
 

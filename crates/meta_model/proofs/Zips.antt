@@ -34,7 +34,7 @@ module _ {A : Type 0} (P : A → Type 0) (xs : List A) where
   place_of_any any = (any.0, met P xs any.0 any.1 any.2 (sym any.3) any.4)
 
 module _ {A B : Type 0} (R : A → B → Type 0) where
-  -- the element that stands at the same place in the other list
+  -- the element that is at the same place in the other list
   pub zip_left : (xs : List A) (ys : List B) → AllZip R xs ys → (i : ℕ) (x : A) → slice_get xs i ≡ Some x → (y : B) × (slice_get ys i ≡ Some y) × R x y
   zip_left [] ys h i x e = absurd (none-some x e)
   zip_left (a ∷ xs) [] h i x e = absurd h

@@ -39,7 +39,7 @@ LacksBase before (class ∷ classes) =
 abbrev pub NoBase : Program → Type 0
 NoBase program = LacksBase (codes "QObject" ∷ []) program.classes
 
--- ---- members that stand twice
+-- ---- members that appear twice
 -- both parameters have a name, and it is the same
 abbrev pub AreOneParameter : Parameter → Parameter → Type 0
 AreOneParameter a b = (name : List ℕ) × (a.name ≡ Some name) × (b.name ≡ Some name)
@@ -57,11 +57,11 @@ abbrev pub HasTwoMembers : Outline → Type 0
 HasTwoMembers outline =
     StandsTwice AreOneCall outline.methods ⊎ StandsTwice (λ (a b : Property). a.name ≡ b.name) outline.properties
 
--- two parameters of a slot or native have one name, or a name stands twice in a list of a native
+-- two parameters of a slot or native have one name, or a name appears twice in a list of a native
 abbrev pub RepeatsInSlot : Slot → Type 0
 RepeatsInSlot slot = RepeatsName slot.parameters ⊎ RepeatsEffectIn slot.work
 
--- .. of the class, or two parameters of one of its signals have one name
+-- two parameters of a method of the class have one name, or a name appears twice in a list of one of its natives
 abbrev pub RepeatsInMethod : Class → Type 0
 RepeatsInMethod class = Any (λ (signal : Signal). RepeatsName signal.parameters) class.signals ⊎ Any RepeatsInSlot class.slots
 

@@ -25,23 +25,23 @@ IndexesHeadings methods indexes = IndexesCalls (λ (h : Heading). h.sig.name) (�
 abbrev pub IndexesDeclared : List Property → List Index → Type 0
 IndexesDeclared properties indexes = IndexesCalls (λ (p : Property). p.name) (λ (p : Property). 0) properties indexes
 
--- the indexes of a class's members, each of which stands once
+-- the indexes of a class's members, each of which appears once
 pub record IndexesOutline (outline : Outline) (methods properties : List Index) : Type 0 where
   pub methods_by : IndexesHeadings outline.methods methods
   pub properties_by : IndexesDeclared outline.properties properties
   pub once : ¬ HasTwoMembers outline
 
--- a class with its indexes is the class that was given, and each of its members stands once
+-- a class with its indexes is the class that was given, and each of its members appears once
 pub record IsIndexed (outline indexed : Outline) : Type 0 where
   pub same : indexed ≡ outline
   pub each_once : ¬ HasTwoMembers outline
 
--- .. and so are all
+-- all classes with their indexes are those that were given, and each of their members appears once
 pub record AreIndexed (outlines indexed : List Outline) : Type 0 where
   pub same : indexed ≡ outlines
   pub each_once : ¬ Any HasTwoMembers outlines
 
--- all classes are indexed; or `DuplicateMember`, where a member of one of them stands twice
+-- all classes are indexed; or `DuplicateMember`, where a member of one of them appears twice
 abbrev pub IndexesOutlines : Program → List Outline → Result (List Outline) LoadFault → Type 0
 IndexesOutlines program outlines result =
     LoadsOf program fault.DuplicateMember (Any HasTwoMembers outlines) (AreIndexed outlines) result

@@ -16,11 +16,11 @@ IsTypeOf IsNamed T Bool = T ≡ value_type (codes "bool")
 IsTypeOf IsNamed T Text = T ≡ value_type (codes "QString")
 IsTypeOf IsNamed T (Reference c constant) = (T.pointer ≡ true) × (T.constant ≡ constant) × IsNamed T.name c
 
--- .. in a loaded program
+-- a declared type, in a loaded program
 abbrev pub IsKind : Loaded → QType → ValueType → Type 0
 IsKind p T kind = IsTypeOf (IsClassNamed p) T kind
 
--- .. and while it is loaded
+-- a declared type, while the program is loaded
 abbrev pub IsKindIn : List Outline → QType → ValueType → Type 0
 IsKindIn outlines T kind = IsTypeOf (IsOutlineNamed outlines) T kind
 

@@ -6,7 +6,7 @@ use Rattle.std.specs.Prelude.{◌≡◌, ℕ, ◌<◌, List, length, Any, Option
 abbrev pub LooksUp : {X : Type 0} → (X → Type 0) → Option X → Type 0
 LooksUp {X} P answer = MatchOption answer ((x : X) → ¬ P x) (λ found. P found)
 
--- .. by a reference to it
+-- what is found, by a reference to it, has P; where nothing is found, nothing has
 abbrev pub LooksUpRef : {X : Type 0} → (X → Type 0) → Option (Bor X) → Type 0
 LooksUpRef {X} P answer = MatchOption answer ((x : X) → ¬ P x) (λ found. P found.now)
 

@@ -80,7 +80,7 @@ abbrev pub methods_in : Option MetaObject → ℕ
 methods_in None = 0
 methods_in (Some class) = length class.methods
 
--- .. and how many properties
+-- how many properties a class has, inherited ones too; what is no class has none
 abbrev pub properties_in : Option MetaObject → ℕ
 properties_in None = 0
 properties_in (Some class) = length class.properties
@@ -124,7 +124,7 @@ pub record OwnsBy (p : Loaded) (c d : ℕ) (owns : MetaOwns) : Type 0 where
   pub parent : Below p c owns.parent
   pub child : Below p d owns.child
 
--- .. by a declaration of the program
+-- an object of class c may be the parent of one of class d by a declaration of the program
 pub record Owns (p : Loaded) (c d : ℕ) : Type 0 where
   pub owns : MetaOwns
   pub declared : IsIn owns p.owns

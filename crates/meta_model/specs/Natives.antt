@@ -1,5 +1,5 @@
--- Natives as declared: which names may not stand twice, and that no reference may be among what a native takes, reads, emits
--- or sets (docs/language.md, "Names").
+-- Natives as declared: which names may not appear twice, and that no reference may be among what a native takes, reads,
+-- emits or sets (docs/language.md, "Names").
 use Rattle.std.specs.Prelude.{◌≡◌, ℕ, ◌⊎◌, true, List, Any}
 use Rattle.signatures.specs.declared.qtype.QType.{QType}
 use Rattle.signatures.specs.declared.sig.Sig.{Sig}
@@ -13,17 +13,17 @@ use Rattle.meta_model.specs.declared.outline.Outline.{Outline}
 use Rattle.meta_model.specs.Twice.{StandsTwice}
 use Rattle.meta_model.specs.Sites.{IsReferenceIn}
 
--- ---- names that stand twice
+-- ---- names that appear twice
 -- two of the signals that the native emits have one name, or a property is named twice among those that it sets
 abbrev pub RepeatsAction : EffectNames → Type 0
 RepeatsAction effects =
     StandsTwice (λ (a b : Sig). a.name ≡ b.name) effects.emits ⊎ StandsTwice (λ (a b : List ℕ). a ≡ b) effects.sets
 
--- .. or among those that it reads
+-- two signals that the native emits have one name, or a property is named twice among those that it sets, or reads
 abbrev pub RepeatsEffect : EffectNames → Type 0
 RepeatsEffect effects = StandsTwice (λ (a b : List ℕ). a ≡ b) effects.reads ⊎ RepeatsAction effects
 
--- .. of a slot that is a native
+-- the slot is a native that repeats a name so
 abbrev pub RepeatsEffectIn : SlotWork → Type 0
 RepeatsEffectIn (work.Body body) = ⊥
 RepeatsEffectIn (work.Native effects) = RepeatsEffect effects
@@ -41,7 +41,7 @@ abbrev pub ActsOnReference : List Outline → List ℕ → EffectNames → Type 
 ActsOnReference outlines class effects =
     Any (λ (sig : Sig). Any IsPointer sig.types) effects.emits ⊎ Any (IsReferenceIn outlines class) effects.sets
 
--- .. or a property that it reads
+-- a parameter of a signal that the native of this class emits, or a property that it sets or reads, is a reference
 abbrev pub AffectsReference : List Outline → List ℕ → EffectNames → Type 0
 AffectsReference outlines class effects =
     Any (IsReferenceIn outlines class) effects.reads ⊎ ActsOnReference outlines class effects
@@ -52,7 +52,7 @@ TouchesReference outlines class parameters (work.Body body) = ⊥
 TouchesReference outlines class parameters (work.Native effects) =
     TakesReference parameters ⊎ AffectsReference outlines class effects
 
--- .. of one of the class's slots
+-- one of the class's slots is a native that takes or affects a reference
 abbrev pub HasReferenceNative : List Outline → Class → Type 0
 HasReferenceNative outlines class =
     Any (λ (slot : Slot). TouchesReference outlines class.name slot.parameters slot.work) class.slots

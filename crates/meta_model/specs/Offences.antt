@@ -48,7 +48,7 @@ abbrev pub fault_in : PartFault → MetaFault
 fault_in (part.Breach b) = fault_of b.reason
 fault_in part.Memory = fault.Memory
 
--- .. and a program's
+-- the refusal that a program's fault leads to
 abbrev pub fault_told : LoadFault → MetaFault
 fault_told (load.Offence o) = fault_of o.reason
 fault_told load.Memory = fault.Memory
@@ -68,14 +68,14 @@ pub record IsOffence (program : Program) (fault : MetaFault) (o : Offence) : Typ
   pub leads : fault_of o.reason ≡ fault
   pub declared : IsDeclared program o.declaration
 
--- .. and is of a member of this class, which has this place in the program
+-- the offence has this fault, and is of a member of this class, which has this place in the program
 pub record IsOffenceIn (i : ℕ) (class : Class) (fault : MetaFault) (o : Offence) : Type 0 where
   pub leads : fault_of o.reason ≡ fault
   pub member : Member
   pub is : o.declaration ≡ declaration.Member i member
   pub declares : IsMember class member
 
--- .. of a fault
+-- loading failed by an offence of this fault, and memory didn't run out
 abbrev pub IsOffenceBy : Program → MetaFault → LoadFault → Type 0
 IsOffenceBy program fault (load.Offence o) = IsOffence program fault o
 IsOffenceBy program fault load.Memory = ⊥
@@ -85,12 +85,12 @@ abbrev pub TellsOffence : Program → MetaFault → Type 0 → Option Offence �
 TellsOffence program fault Broken None = ¬ Broken
 TellsOffence program fault Broken (Some o) = Broken × IsOffence program fault o
 
--- .. in this class
+-- what breaks the rule in this class, where it is broken
 abbrev pub TellsOffenceIn : ℕ → Class → MetaFault → Type 0 → Option Offence → Type 0
 TellsOffenceIn i class fault Broken None = ¬ Broken
 TellsOffenceIn i class fault Broken (Some o) = Broken × IsOffenceIn i class fault o
 
--- .. in a declaration
+-- what breaks the rule in a declaration, where it is broken
 abbrev pub TellsBreach : MetaFault → Type 0 → Option Breach → Type 0
 TellsBreach fault Broken None = ¬ Broken
 TellsBreach fault Broken (Some b) = Broken × (fault_of b.reason ≡ fault)
@@ -100,12 +100,12 @@ abbrev pub LoadsPart : {Y : Type 0} → MetaFault → Type 0 → (Y → Type 0) 
 LoadsPart fault Lacks Is (Ok y) = Is y
 LoadsPart fault Lacks Is (Err e) = (e ≡ part.Memory) ⊎ ((fault_in e ≡ fault) × Lacks)
 
--- .. of a program
+-- something of a program is loaded, or lacks something, which is this fault; memory may always be refused
 abbrev pub LoadsOf : {Y : Type 0} → Program → MetaFault → Type 0 → (Y → Type 0) → Result Y LoadFault → Type 0
 LoadsOf program fault Lacks Is (Ok y) = Is y
 LoadsOf program fault Lacks Is (Err e) = (e ≡ load.Memory) ⊎ (IsOffenceBy program fault e × Lacks)
 
--- .. of this class
+-- loading failed by an offence of this fault in this class, and memory didn't run out
 abbrev pub IsOffenceInBy : ℕ → Class → MetaFault → LoadFault → Type 0
 IsOffenceInBy i class fault (load.Offence o) = IsOffenceIn i class fault o
 IsOffenceInBy i class fault load.Memory = ⊥

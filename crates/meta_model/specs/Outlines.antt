@@ -96,7 +96,7 @@ abbrev pub OutlinesClass : List Outline → ℕ → Class → Result Outline Par
 OutlinesClass done i class result =
     LoadsPart fault.NoBase (NoneStands (IsBase class.base) done) (IsOutline done i class) result
 
--- .. as it stands among all, over those before it
+-- the class has an outline among all, over those before it
 pub record HasOutline (all : List Outline) (i : ℕ) (class : Class) : Type 0 where
   pub outline : Outline
   pub is : slice_get all (suc i) ≡ Some outline

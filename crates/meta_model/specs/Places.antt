@@ -2,18 +2,18 @@
 use Rattle.std.specs.Borrow.{Bor}
 use Rattle.std.specs.Prelude.{◌≡◌, ℕ, ◌<◌, List, Option, Some, slice_get, MatchOption, IfSome}
 
--- an element with P stands at this place
+-- an element with P is at this place
 pub record StandsAt {X : Type 0} (P : X → Type 0) (xs : List X) (place : ℕ) : Type 0 where
   pub item : X
   pub is : slice_get xs place ≡ Some item
   pub has : P item
 
--- .. and none before it
+-- an element with P is at this place, and none before it
 pub record StandsFirst {X : Type 0} (P : X → Type 0) (xs : List X) (place : ℕ) : Type 0 where
   pub at : StandsAt P xs place
   pub first : (k : ℕ) → k < place → ¬ StandsAt P xs k
 
--- .. and it is this element
+-- the first element with P is this one, at this place
 pub record Found {X : Type 0} (P : X → Type 0) (xs : List X) (place : ℕ) (item : X) : Type 0 where
   pub first : StandsFirst P xs place
   pub is : first.at.item ≡ item
@@ -30,7 +30,7 @@ NoneStands P xs = (k : ℕ) → ¬ StandsAt P xs k
 abbrev pub IsFirst : {X : Type 0} → (X → Type 0) → List X → Option (ℕ × Bor X) → Type 0
 IsFirst P xs answer = MatchOption answer (NoneStands P xs) (λ found. Found P xs found.0 found.1.now)
 
--- .. and no other element has P
+-- where an element is found, no other one has P
 abbrev pub IsAlone : {X : Type 0} → (X → Type 0) → List X → Option (ℕ × Bor X) → Type 0
 IsAlone P xs answer = IfSome answer (λ found. StandsOnlyAt P xs found.0)
 

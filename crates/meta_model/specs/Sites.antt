@@ -20,7 +20,7 @@ use Rattle.meta_model.specs.Places.{StandsFirst, StandsAt}
 use Rattle.meta_model.specs.Twice.{StandsTwice}
 use Rattle.meta_model.specs.Outlines.{IsOutlineNamed}
 
--- ---- names that stand twice
+-- ---- names that appear twice
 -- two formal sources of a binding have one name
 pub record RepeatsFormal (site : Site) : Type 0 where
   pub twice : StandsTwice (λ (a b : Formal). a.name ≡ b.name) site.formals
@@ -77,7 +77,7 @@ literals_step (layer.Path p) = []
 literals_step (layer.Unary op vs) = vs
 literals_step (layer.Binary op vs ws) = vs ++ ws
 
--- .. and its literals
+-- the literals of an expression, from left to right
 abbrev pub literals_in : {P : Type 0} → Expr P → List Value
 literals_in {P} = fold-Expr P (List Value) literals_step
 

@@ -57,7 +57,7 @@ pub record LeadsTo (p : Loaded) (me : ℕ) (kinds : List ValueType) (path : Meta
   pub root : HasRoot me kinds path.root root_type
   pub steps : Leads p root_type path.steps T
 
--- .. to a reference of class c
+-- the path's names are there, and it is declared to lead to a reference of class c
 pub record LeadsToClass (p : Loaded) (me : ℕ) (kinds : List ValueType) (path : MetaPath) (c : ℕ) : Type 0 where
   pub constant : Bool
   pub leads : LeadsTo p me kinds path (type.Reference c constant)
@@ -118,7 +118,7 @@ pub record AreSoundEnds (p : Loaded) (me : ℕ) (kinds : List ValueType) (ends :
   pub receiver : LeadsToClass p me kinds ends.receiver to_class
   pub connects : AreConnectable p from_class ends.signal to_class ends.method
 
--- the statement is a `set`: nothing else stands in a group
+-- the statement is a `set`: nothing else is in a group
 pub record IsSet (s : Statement) : Type 0 where
   pub path : MetaPath
   pub property : ℕ
@@ -152,7 +152,7 @@ mutual
     group_sound : {sets : List Statement}
         → AreSound p me kinds sets → AreSets sets → IsSoundStatement p me kinds (statement.Group sets)
 
-  -- .. of the statements of a block
+  -- the members and paths of the statements of a block are there
   pub data AreSound (p : Loaded) (me : ℕ) (kinds : List ValueType) : List Statement → Type 0 where
     none_sound : AreSound p me kinds []
     next_sound : {s : Statement} {rest : List Statement}
@@ -184,7 +184,7 @@ pub record IsPlainSignal (p : Loaded) (c m : ℕ) : Type 0 where
   pub emitted : OBJECT_NAME_CHANGED < m
   pub plain : All IsPlain signal.kinds
 
--- no number stands twice in the list
+-- no number appears twice in the list
 abbrev pub AreOnce : List ℕ → Type 0
 AreOnce numbers = ¬ StandsTwice (λ (a b : ℕ). a ≡ b) numbers
 

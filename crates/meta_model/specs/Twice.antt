@@ -1,4 +1,4 @@
--- Elements that stand twice (docs/language.md, "Names").
+-- Elements that appear twice (docs/language.md, "Names").
 use Rattle.std.specs.Prelude.{ℕ, ◌<◌, List, [], ◌∷◌, length, Any, ◌⊎◌, Option, MatchOption}
 
 -- an element is alike to a later one

@@ -6,7 +6,7 @@ use sqlite_items::Items;
 use std::alloc::{AllocError, Global};
 
 /// What a native may read and do: the numbers of members of the class that declares it, in the order declared, which are
-/// the same members in every class below that. No number stands twice in one of the lists.
+/// the same members in every class below that. No number appears twice in one of the lists.
 pub struct MetaEffects {
     /// The properties whose values it is given.
     pub reads: Items<usize>,

@@ -8,7 +8,7 @@ use thiserror::Error;
 /// Why a program doesn't load.
 #[derive(Debug, Drop, Error)]
 pub enum MetaFault {
-    /// A class's name stands twice, or is one that no class may have.
+    /// A class's name appears twice, or is one that no class may have.
     #[error("a class name stands twice, or no class may have it")]
     DuplicateClass,
     /// A class's base is neither `QObject` nor a class that stands before it.
@@ -55,7 +55,7 @@ impl From<LoadFault> for MetaFault {
 }
 
 impl MetaFault {
-    /// The refusal's number; want of memory has none.
+    /// The refusal's number; running out of memory has none.
     pub fn number(&self) -> Option<u8>
         ensures { result ≡ number_of self.now }
     {

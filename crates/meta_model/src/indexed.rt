@@ -22,7 +22,7 @@ use std::alloc::Global;
 use std::marker::Model;
 use syntax_trees::{Program, Property};
 
-/// A class with its whole lists of members, each of which stands once. They are found by name, methods also by their
+/// A class with its whole lists of members, each of which appears once. They are found by name, methods also by their
 /// number of parameters, in time that doesn't grow with their number.
 pub struct IndexedOutline {
     outline: Outline,
@@ -185,7 +185,7 @@ fn has_named(methods: &[Heading], name: &Name) -> bool
     methods.iter().any(|method| method.sig.name.is_same(name))
 }
 
-/// The classes with indexes of their members; or the first class of which a member stands twice.
+/// The classes with indexes of their members; or the first class of which a member appears twice.
 pub fn index_outlines(
     alloc: Global,
     program: &Program,
@@ -202,7 +202,7 @@ pub fn index_outlines(
     Ok(indexed)
 }
 
-/// The class that comes next behind these, with indexes of its members; or which of them stands twice.
+/// The class that comes next behind these, with indexes of its members; or which of them appears twice.
 fn index_outline(
     alloc: Global,
     program: &Program,

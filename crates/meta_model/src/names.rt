@@ -18,18 +18,18 @@ pub fn names_of_parameters(parameters: &[Parameter]) -> usize {
     names
 }
 
-/// The names that stand in front of the type of the parameter of this place; the method's own is the first.
+/// The names that come before the type of the parameter of this place; the method's own is the first.
 pub fn names_before_parameter(parameters: &[Parameter], place: usize) -> usize {
     let (before, _) = parameters.split_at(place.min(parameters.len()));
     names_of_parameters(before).saturating_add(1)
 }
 
-/// The names that stand in front of a slot's body, or of a native's lists.
+/// The names that come before a slot's body, or of a native's lists.
 pub fn names_before_work(parameters: &[Parameter]) -> usize {
     names_of_parameters(parameters).saturating_add(1)
 }
 
-/// The names that stand in front of a binding's expression: its own, its class and its property, and two of each formal
+/// The names that come before a binding's expression: its own, its class and its property, and two of each formal
 /// source.
 pub fn names_before_expression(site: &Site) -> usize {
     site.formals.len().saturating_mul(2).saturating_add(3)

@@ -5,12 +5,12 @@ use signatures::{Name, Sig};
 use sqlite_items::Items;
 use syntax_trees::Property;
 
-/// Where a method's work stands in the program.
+/// Where a method's work is in the program.
 #[derive(Clone, Copy, Debug, PartialEq, Eq)]
 pub enum Sort {
     /// A signal has none.
     Signal,
-    /// `deleteLater()` has a body that stands in no program.
+    /// `deleteLater()` has a body that is in no program.
     DeleteLater,
     /// A slot or native has it: the number of its class among the program's, and its place among that class's slots and
     /// natives.

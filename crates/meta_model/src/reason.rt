@@ -14,7 +14,7 @@ pub enum Reason {
     DuplicateClass(ClassClash),
     /// The class's base doesn't stand before it, but here.
     NoBase(BasePlace),
-    /// The name stands twice.
+    /// The name appears twice.
     DuplicateMember(Repeated),
     /// The name isn't declared.
     NoMember(Missing),
@@ -54,7 +54,7 @@ pub enum ClassClash {
 pub enum BasePlace {
     /// It is the class itself.
     Itself,
-    /// It stands behind its class.
+    /// It comes after its class.
     Behind,
     /// It isn't declared.
     Nowhere,

@@ -1,4 +1,4 @@
-//! Members that stand twice in a class.
+//! Members that appear twice in a class.
 
 ghost use Rattle.std.specs.Prelude.{◌≡◌, ◌+◌, ◌<◌, length, Some, slice_get};
 ghost use Rattle.meta_model.specs.Indexed.{IndexesHeadings, IndexesDeclared};
@@ -77,7 +77,7 @@ pub fn twin_offence(
     }
 }
 
-/// That the member of the class of this number stands twice, by the name of that number.
+/// That the member of the class of this number appears twice, by the name of that number.
 fn twin(class: usize, member: Member, name: usize, repeated: Repeated) -> Offence
     ensures { result ≡ record {
       declaration = declaration.Member class member;

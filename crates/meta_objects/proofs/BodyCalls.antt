@@ -18,7 +18,7 @@ use Rattle.meta_model.proofs.Firsts.{found_item, same_in}
 use Rattle.meta_objects.proofs.Bodies.{same_object}
 use Rattle.meta_objects.proofs.BodyPieces.{by_parts, parts_of}
 
--- what is found in an outline stands in an equal one
+-- what is found in an outline is in an equal one
 module _ (P : Heading → Type 0) (u o : Outline) (e : u ≡ o) where
   method_in : (m : ℕ) (h : Heading) → Found P o.methods m h → (place : StandsFirst P u.methods m) × (place.at.item ≡ h)
   method_in m h found =

@@ -99,7 +99,8 @@ signal_sort works sort.Signal e = refl
 signal_sort works sort.DeleteLater e = absurd (cc)
 signal_sort works (sort.Slot i j) e = absurd (not_signal (work_at works i j) e)
 
--- the loaded classes are those of these outlines, of which no two have one name, and in each of which members stand once
+-- the loaded classes are those of these outlines, of which no two have one name, and in each of which members appear
+-- once
 module _ (outlines : List Outline) (works : List (List ResolvedWork)) (p : Loaded) (objects : AllZip (IsObject outlines works) outlines p.classes)
     (distinct : (i j : ℕ) (a b : Outline) → slice_get outlines i ≡ Some a → slice_get outlines j ≡ Some b → a.name ≡ b.name → i ≡ j)
     (each_once : (c : ℕ) (o : Outline) → slice_get outlines c ≡ Some o → ¬ HasTwoMembers o) where

@@ -31,7 +31,7 @@ use Rattle.meta_model.proofs.Zips.{any_of, place_of_any, zip_right, zip_also}
 use Rattle.meta_objects.proofs.Sited.{all_of, named_in, plain_kind, plain_in}
 use Rattle.meta_objects.proofs.Soundness.{IsTyped, FoundMethod, method_at}
 
--- ---- numbers stand once where the names that they stand for do
+-- ---- numbers appear once where the names that they stand for do
 module _ {A : Type 0} (R : A → ℕ → Type 0) (alike : A → A → Type 0) (joined : (x y : A) (n : ℕ) → R x n → R y n → alike x y) where
   twice_back : (xs : List A) (ns : List ℕ) → AllZip R xs ns → StandsTwice (λ (a b : ℕ). a ≡ b) ns → StandsTwice alike xs
   twice_back [] [] h twice = twice

@@ -52,7 +52,7 @@ answers program e h (Err x) is same = subst (λ f. LoadsProgram program (Err f))
 pub refused : (program : Program) (fault : MetaFault) (o : Offence) → IsOffence program fault o → Builds program (Err fault) → LoadsProgram program (Err (load.Offence o))
 refused program fault o is h = (subst (λ f. Builds program (Err f)) (sym is.leads) h, is.declared)
 
--- .. or want of memory
+-- .. or memory ran out
 refused_by : (program : Program) (fault : MetaFault) (e : LoadFault) → (e ≡ load.Memory) ⊎ (IsOffenceBy program fault e × Builds program (Err fault)) → LoadsProgram program (Err e)
 refused_by program fault (load.Offence o) (inl m) = absurd (cc)
 refused_by program fault (load.Offence o) (inr n) = refused program fault o n.0 n.1
@@ -66,7 +66,7 @@ pub refused_use : (program : Program) (o : List Outline) (e : LoadFault) → Has
 refused_use program o e are members Is (inl m) = refused_by program fault.NoMember e (inl m)
 refused_use program o e are members Is (inr n) = refused_by program fault.NoMember e (inr (n.0, (o, are, members, n.1)))
 
--- no member, no parameter and no binding site stands twice
+-- no member, no parameter and no binding site appears twice
 pub members_once : (program : Program) (o indexed : List Outline) → AreIndexed o indexed → (¬ RepeatsDeclared program) → ¬ DuplicateMember program o
 members_once program o indexed are none (inl any) = are.each_once any
 members_once program o indexed are none (inr any) = none any
@@ -75,7 +75,7 @@ pub refused_member : (program : Program) (o : List Outline) (e : LoadFault) → 
 refused_member program o e are Is (inl m) = refused_by program fault.DuplicateMember e (inl m)
 refused_member program o e are Is (inr n) = refused_by program fault.DuplicateMember e (inr (n.0, (o, are, inl n.1)))
 
--- .. of which the fault alone is told
+-- .. of which the fault alone is reported
 pub told : (program : Program) (e : LoadFault) → LoadsProgram program (Err e) → (r : Result Loaded MetaFault) → IsErr r → IsErrAnd r (λ x. x ≡ fault_told e) → Builds program r
 told program e h (Ok loaded) is same = absurd (cc)
 told program e h (Err x) is same = subst (λ f. Builds program (Err f)) (sym same) h.0

@@ -186,7 +186,7 @@ module _ (program : Program) (o : List Outline) (outlined : HasOutlines program 
       subst (λ w. IsLoadedWork (site p (suc i) slot.parameters kinds) slot.work (found_work w)) (sym found.1)
       (loads_by i class (is_first class.name (suc i) u is_outline u_named) slot kinds typed slot.work found.0 found.2)
 
-  -- no name stands twice in a list of a native, and it touches no reference
+  -- no name appears twice in a list of a native, and it touches no reference
   once_in_slot : (i : ℕ) (class : Class) → slice_get program.classes i ≡ Some class → (j : ℕ) (slot : Slot) → slice_get class.slots j ≡ Some slot → ¬ RepeatsInSlot slot
   once_in_slot i class is_class j slot is_slot =
       none_at RepeatsInSlot class.slots (λ any. none_at RepeatsInMethod program.classes (λ twice. clean.members (inr (inl twice))) i class is_class (inr any)) j slot is_slot
@@ -486,7 +486,7 @@ module _ (program : Program) (o : List Outline) (outlined : HasOutlines program 
             properties = above.properties ∙ ap (λ ps. ps ++ above.own_properties) rest.properties;
           }
 
-  -- ---- members that stand once
+  -- ---- members that appear once
   has_one : (c : ℕ) (u : Outline) → slice_get o c ≡ Some u → ¬ HasTwoMembers u
   has_one c u e = none_at HasTwoMembers o (λ any. clean.members (inl any)) c u e
 

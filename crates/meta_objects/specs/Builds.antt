@@ -19,7 +19,7 @@ pub record HasOutlines (program : Program) (outlines : List Outline) : Type 0 wh
   pub based : ¬ NoBase program
   pub are : Outlines program.classes outlines
 
--- .. no two members are alike, the names that are used are there, notify signals fit, types are there
+-- no two members are alike, the names that are used are there, notify signals fit, types are there
 pub record IsClean (program : Program) (outlines : List Outline) : Type 0 where
   pub members : ¬ DuplicateMember program outlines
   pub names : ¬ LacksMember program outlines
@@ -47,17 +47,17 @@ Builds program (Err fault.NoType) =
     (o : List Outline) × HasOutlines program o × (¬ DuplicateMember program o) × (¬ LacksMember program o) × (¬ BadNotify o) × NoType program o
 Builds program (Err fault.Memory) = Unit {0}
 
--- .. and where one refuses it, it is told which of its declarations leads to that
+-- the program is loaded; or a condition refuses it, and it is reported which of its declarations leads to that
 abbrev pub LoadsProgram : Program → Result Loaded LoadFault → Type 0
 LoadsProgram program (Ok loaded) = Builds program (Ok loaded)
 LoadsProgram program (Err e) = Builds program (Err (fault_told e)) × IsPlaced program e
 
--- .. alone; there is none exactly where the program is loaded
+-- what refuses the program, by itself; there is none exactly where the program is loaded
 abbrev pub TellsRefusal : Program → Option Offence → Type 0
 TellsRefusal program None = (loaded : Loaded) × Builds program (Ok loaded)
 TellsRefusal program (Some o) = Builds program (Err (fault_of o.reason)) × IsDeclared program o.declaration
 
--- where no class and no member stands twice and bases are there, a program is loaded as declared in one way at most
+-- where no class and no member appears twice and bases are there, a program is loaded as declared in one way at most
 abbrev pub OneAsDeclared : Type 0
 OneAsDeclared =
     (program : Program) (outlines : List Outline) → HasOutlines program outlines → (¬ DuplicateMember program outlines)
@@ -67,7 +67,7 @@ OneAsDeclared =
 abbrev pub OneLoading : Type 0
 OneLoading = (program : Program) (a b : Loaded) → Builds program (Ok a) → Builds program (Ok b) → a ≡ b
 
--- but for want of memory, a program has one answer: one refusal, or one loaded form
+-- unless memory runs out, a program has one answer: one refusal, or one loaded form
 abbrev pub OneAnswer : Type 0
 OneAnswer =
     (program : Program) (a b : Result Loaded MetaFault) → Builds program a → Builds program b

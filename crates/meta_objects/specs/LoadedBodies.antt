@@ -76,7 +76,7 @@ pub record IsLoadedPath (s : Site) (path : Path) (loaded : MetaPath) (T : ValueT
   pub root : IsLoadedRoot s path.root loaded.root root_type
   pub steps : AreLoadedSteps s.program root_type path.properties loaded.steps T
 
--- .. to a reference of class c
+-- the path, which is declared to lead to a reference of class c
 pub record IsLoadedObject (s : Site) (path : Path) (loaded : MetaPath) (c : ℕ) : Type 0 where
   pub constant : Bool
   pub leads : IsLoadedPath s path loaded (type.Reference c constant)
@@ -155,7 +155,7 @@ mutual
         → IsLoadedObject s path found class → IsLoadedStatement s (stmt.Delete path) (statement.Delete found)
     later_loaded : {path : Path} {found : MetaPath} {class : ℕ}
         → IsLoadedObject s path found class → IsLoadedStatement s (stmt.Later path) (statement.Later found)
-    -- nothing but a `set` stands in a group
+    -- nothing but a `set` is in a group
     group_loaded : {sets : List Stmt} {found : List Statement}
         → AreLoadedStatements s sets found → AreSets found
         → IsLoadedStatement s (stmt.Group sets) (statement.Group found)

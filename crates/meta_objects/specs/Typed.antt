@@ -15,7 +15,7 @@ abbrev pub TellsType : Loaded → Value → Option ℕ → ValueType → Bool �
 TellsType p v class T answer =
     (classes : ℕ → Option ℕ) → IsOfClass classes v class → (IsTrue answer ↔ Has p classes v T)
 
--- .. where it is null or refers to this object
+-- whether the value, where it is null or refers to this object, has the type
 abbrev pub TellsReference : Loaded → Option ℕ → Option ℕ → ValueType → Bool → Type 0
 TellsReference p object class T answer =
     (classes : ℕ → Option ℕ) → ((o : ℕ) → object ≡ Some o → classes o ≡ class)

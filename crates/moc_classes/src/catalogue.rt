@@ -99,7 +99,7 @@ impl<'f> Catalogue<'f> {
             .any(|it: &&MocClass| it.object && is_called(it, name))
     }
 
-    /// The number of the class that the name leads to where it stands in the class of the full name `from`.
+    /// The number of the class that the name leads to where it is in the class of the full name `from`.
     fn number_from(&self, from: &str, name: &str) -> Option<usize> {
         let mut nearest: Option<(usize, usize)> = None;
         for (number, it) in self.classes.iter().enumerate() {
@@ -112,7 +112,7 @@ impl<'f> Catalogue<'f> {
         nearest.map(|(number, _): (usize, usize)| number)
     }
 
-    /// The class that a pointer to this name leads to where it stands in a class: `Some(None)` for `QObject`, `None` where
+    /// The class that a pointer to this name leads to where it is in a class: `Some(None)` for `QObject`, `None` where
     /// it isn't imported.
     pub fn pointed(&self, class: usize, name: &str) -> Option<Option<usize>> {
         if name == QOBJECT {

@@ -45,7 +45,7 @@ pub fn is_around(scope: &MocClass, class: &MocClass) -> bool {
     }
 }
 
-/// What stands in front of the name in a full name: nothing, or a scope with its `::`.
+/// What comes before the name in a full name: nothing, or a scope with its `::`.
 fn front_of<'n>(full: &'n str, name: &str) -> Option<&'n str> {
     let front = full.strip_suffix(name)?;
     if front.is_empty() || front.ends_with("::") {

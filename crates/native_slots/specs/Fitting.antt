@@ -84,7 +84,7 @@ pub record IsNativeOf (p : Loaded) (class : MetaObject) (method : MetaMethod) (e
   pub m : ℕ
   pub is : IsNative p c m class method effects
 
--- .. of the natives that the program declares
+-- how the closures fit the natives that the program declares
 abbrev pub Fit : List NativeHead → Loaded → Result (Unit {0}) NativeFault → Type 0
 Fit heads p answer = FitAmong heads (IsNativeOf p) answer
 

@@ -20,7 +20,7 @@ use Rattle.native_slots.specs.Within.{is_allowed, are_allowed}
 abbrev pub Takes : Type 0
 Takes = List ℕ → Sig → List Value → List Value → Bool
 
--- .. and which lists of actions they may answer
+-- which lists of actions natives may answer to such a call
 abbrev pub Gives : Type 1
 Gives = List ℕ → Sig → List Value → List Value → List Action → Type 0
 

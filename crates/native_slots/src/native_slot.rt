@@ -59,7 +59,7 @@ impl NativeSlot {
         NativeSlot { head, work }
     }
 
-    /// What the closure answers; the error is its own, or want of memory.
+    /// What the closure answers; the error is its own, or that memory ran out.
     pub fn call(&self, arguments: &[Value], reads: &[Value]) -> Result<Vec<Action>, AllocError>
         requires { IsTrue (accepts self.now.head.effects arguments.now reads.now) }
         ensures answers { FnReturnsAtPair Work.Fn self.now.work arguments.now reads.now result }

@@ -122,7 +122,7 @@ impl Natives {
         None
     }
 
-    /// What the closure at this place answers; the error is its own, or want of memory.
+    /// What the closure at this place answers; the error is its own, or that memory ran out.
     pub fn call(
         &self,
         place: usize,

@@ -1,4 +1,4 @@
--- Want of memory behind a `?`.
+-- Running out of memory, behind a `?`.
 use Rattle.std.proofs.Common.{◌≡◌, ℕ, List, Result, Ok, Err, subst, sym}
 use Rattle.std.specs.Result.{IsErrAnd}
 use Rattle.meta_model.specs.Loaded.{Loaded}

@@ -121,7 +121,7 @@ leaves-gone (Some parent) child k objects listed distinct = ⊎_elim
     (λ (apart : k ≢ parent). ap (is_among child) (children-change_other parent k (left_by child) objects apart) ∙ listed ∙ ne_eqb parent k (λ e. apart (sym e)))
     (cases_eq k parent)
 
--- .. and no child stands twice
+-- .. and no child appears twice
 leaves-distinct : (from : Option ℕ) (child k : ℕ) (objects : List Object) → are_distinct (children_of objects k) ≡ true → are_distinct (children_of (leaves from child objects) k) ≡ true
 leaves-distinct None child k objects distinct = distinct
 leaves-distinct (Some parent) child k objects distinct = ⊎_elim

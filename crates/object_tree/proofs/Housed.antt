@@ -128,7 +128,7 @@ living-there slots entries n key k lives =
     by_object name None there l = absurd (cc l)
     by_object name (Some o) there l = (o, there)
 
--- no child stands twice among those of an object in its slot
+-- no child appears twice among those of an object in its slot
 pub distinct-in : (slots : Slab Slot) (entries : List Entry) (n key : ℕ) → key_at entries n ≡ Some key → are_distinct (children_of (shown_from slots 0 entries) n) ≡ true → AreDistinctIn (object_in n (get slots key))
 distinct-in slots entries n key k distinct =
     let (e, is, at) = entry-of entries n key k in

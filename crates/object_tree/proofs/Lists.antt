@@ -46,7 +46,7 @@ none-removes c ks found = by_test (ltb (position_or_len (λ k. eqb k c) ks) (len
 
 -- ---- who is among them
 
--- who stands at some place is among them
+-- who is at some place is among them
 among-at : (c : ℕ) (ks : List ℕ) (i : ℕ) → slice_get ks i ≡ Some c → is_among c ks ≡ true
 among-at c [] i e = absurd (cc e)
 among-at c (k ∷ ks) zero e = rw (eq-eqb k c (same_Some _ _ e)) refl
@@ -56,7 +56,7 @@ among-at c (k ∷ ks) (suc i) e = by_test (eqb k c) (among-at c ks i e)
     by_test true r = refl
     by_test false r = r
 
--- where no child stands twice, to take out what stands at its place is to take the child out
+-- where no child appears twice, to take out what is at its place is to take the child out
 pub remove-at : (c : ℕ) (ks : List ℕ) (i : ℕ) → are_distinct ks ≡ true → slice_get ks i ≡ Some c → remove ks i ≡ without c ks
 remove-at c [] i d e = absurd (cc e)
 remove-at c (k ∷ ks) zero d e = rw (eq-eqb k c (same_Some _ _ e)) refl

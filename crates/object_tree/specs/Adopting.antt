@@ -39,7 +39,7 @@ abbrev pub Adopts : Loaded → ℕ → ℕ → Life → Life → List Object →
 Adopts p a c x y old (Ok done) new = MayAdopt p old a c x y × IsAdopted a c y old new
 Adopts p a c x y old (Err fault) new = IsNotAdopted p old a c x y fault × (new ≡ old)
 
--- .. for whatever objects have these numbers and live
+-- what `adopt` answers for whatever objects have these numbers and live
 abbrev pub AdoptsLiving : Loaded → ℕ → ℕ → List Object → Result (Unit {0}) AdoptFault → List Object → Type 0
 AdoptsLiving p a c old result new =
     (u v : Object) (x y : Life) → Lives old a u x → Lives old c v y → Adopts p a c x y old result new

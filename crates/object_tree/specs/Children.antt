@@ -11,12 +11,12 @@ abbrev pub is_among : ℕ → List ℕ → Bool
 is_among c [] = false
 is_among c (k ∷ ks) = eqb k c || is_among c ks
 
--- whether no child stands in the list twice
+-- whether no child appears in the list twice
 abbrev pub are_distinct : List ℕ → Bool
 are_distinct [] = true
 are_distinct (k ∷ ks) = not (is_among k ks) && are_distinct ks
 
--- the child that stands at some place, if there is one, is this one
+-- the child that is at some place, if there is one, is this one
 abbrev pub is_child : ℕ → Option ℕ → Bool
 is_child c None = false
 is_child c (Some k) = eqb k c

@@ -21,7 +21,7 @@ most_objects = 100000
 abbrev pub BeginsAs : Loaded → List Object → ℕ → MetaProperty → Type 0
 BeginsAs p objects number q = Has p (class_with objects number) (seen objects q.initial) q.kind
 
--- .. each property
+-- each property of a new object has at first a value that reads as its type
 abbrev pub BeginsWell : Loaded → List Object → ℕ → MetaObject → Type 0
 BeginsWell p objects number class = All (BeginsAs p objects number) class.properties
 

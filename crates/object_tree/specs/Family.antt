@@ -42,7 +42,7 @@ joined_by child x = record x { children = x.children ++ child ∷ [] }
 abbrev pub left_by : ℕ → Object → Object
 left_by child x = record x { children = without child x.children }
 
--- .. those of its parent, if it has one
+-- a child leaves the children of its parent, if it has one
 abbrev pub leaves : Option ℕ → ℕ → List Object → List Object
 leaves None child objects = objects
 leaves (Some parent) child objects = change parent (left_by child) objects
@@ -60,6 +60,6 @@ moved parent child objects =
 abbrev pub dead : Object → Object
 dead x = record x { life = None }
 
--- .. leaves its parent's children; its own stay its children
+-- an object that lives no more leaves its parent's children; its own stay its children
 abbrev pub without_life : ℕ → List Object → List Object
 without_life o objects = change o dead (leaves (parent_of objects o) o objects)

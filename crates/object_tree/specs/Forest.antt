@@ -9,12 +9,12 @@ abbrev pub is_the : ℕ → Option ℕ → Bool
 is_the a None = false
 is_the a (Some b) = eqb b a
 
--- no child stands twice among the children of this parent
+-- no child appears twice among the children of this parent
 abbrev pub HasDistinct : List Object → ℕ → Type 0
 HasDistinct objects parent = are_distinct (children_of objects parent) ≡ true
 
--- Parents and children agree, a child stands once among its parent's children, no object is its own ancestor, and a child
--- lives in the loop of its parent, if that lives.
+-- Parents and children agree, a child appears once among its parent's children, no object is its own ancestor, and a
+-- child lives in the loop of its parent, if that lives.
 pub record Forest (objects : List Object) : Type 0 where
   pub listed : (parent child : ℕ) → is_among child (children_of objects parent) ≡ is_the parent (parent_of objects child)
   pub distinct : (parent : ℕ) → are_distinct (children_of objects parent) ≡ true

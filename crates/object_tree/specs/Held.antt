@@ -10,7 +10,7 @@ are_any (k ∷ ks) = true
 abbrev pub is_held : Object → Bool
 is_held x = is_some x.life || are_any x.children
 
--- .. if there is such a one
+-- an object, if there is one that lives or has a living child
 abbrev pub held_in : Option Object → Option Object
 held_in None = None
 held_in (Some x) = if is_held x then Some x else None

@@ -10,7 +10,7 @@ use Rattle.object_tree.specs.Family.{IsChild, Above}
 abbrev pub in_loop : ℕ → Life → Life
 in_loop home l = record l { home = home }
 
--- .. each of these objects that lives
+-- each of these objects that lives is in this loop
 abbrev pub all_in_loop : List ℕ → ℕ → List Object → List Object
 all_in_loop [] home objects = objects
 all_in_loop (o ∷ os) home objects = all_in_loop os home (change_life o (in_loop home) objects)

@@ -32,15 +32,15 @@ IsFree objects name = (o : ℕ) → name_of objects o ≢ Some name
 abbrev pub life_of : List Object → ℕ → Option Life
 life_of objects o = option_and_then (λ (x : Object). x.life) (slice_get objects o)
 
--- .. its class
+-- the class of an object that lives
 abbrev pub class_of : List Object → ℕ → Option ℕ
 class_of objects o = option_map (λ (l : Life). l.class) (life_of objects o)
 
--- .. the event loop in which it lives
+-- the event loop in which an object lives
 abbrev pub home_of : List Object → ℕ → Option ℕ
 home_of objects o = option_map (λ (l : Life). l.home) (life_of objects o)
 
--- .. the value of one of its properties
+-- the value of a property of an object that lives
 abbrev pub stored : List Object → ℕ → ℕ → Option Value
 stored objects o q = option_and_then (λ (l : Life). slice_get l.values q) (life_of objects o)
 

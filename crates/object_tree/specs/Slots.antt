@@ -17,7 +17,7 @@ abbrev pub object_in : ℕ → Option Slot → Option Object
 object_in n None = None
 object_in n (Some slot) = if eqb slot.serial n then Some slot.object else None
 
--- .. and else one that is gone
+-- the object, or one that is gone where there is none
 abbrev pub or_gone : List ℕ → Option Object → Object
 or_gone name None = gone name
 or_gone name (Some x) = x
@@ -53,7 +53,7 @@ abbrev pub adoption_in : Option Slot → ℕ
 adoption_in None = 0
 adoption_in (Some slot) = slot.adoption
 
--- .. stays
+-- the number of an adoption stays
 abbrev pub as_it_was : ℕ → ℕ
 as_it_was a = a
 
@@ -64,7 +64,7 @@ changed_in n g f slot = record slot {
   object = if eqb slot.serial n then f slot.object else slot.object;
 }
 
--- no child stands twice among the children of an object
+-- no child appears twice among the children of an object
 abbrev pub AreDistinctIn : Option Object → Type 0
 AreDistinctIn None = Unit {0}
 AreDistinctIn (Some x) = are_distinct x.children ≡ true
@@ -74,7 +74,7 @@ pub record Changes (key n : ℕ) (g : ℕ → ℕ) (f : Object → Object) (old 
   pub slots : (k : ℕ) → get new k ≡ (if eqb k key then option_map (changed_in n g f) (get old k) else get old k)
   pub len : slab_len new ≡ slab_len old
 
--- .. and not the number of its adoption
+-- the slots after such a change of the object, which leaves the number of its adoption
 abbrev pub Writes : ℕ → ℕ → (Object → Object) → Slab Slot → Slab Slot → Type 0
 Writes key n f old new = Changes key n as_it_was f old new
 
@@ -83,7 +83,7 @@ pub record KeepsSlots (old new : Slab Slot) : Type 0 where
   pub slots : (k : ℕ) → get new k ≡ get old k
   pub len : slab_len new ≡ slab_len old
 
--- .. after the slot of this key was given up, if it had no use
+-- the slots after that of this key was given up, if it had no use
 pub record GivesUp (key : ℕ) (old new : Slab Slot) : Type 0 where
   pub slots : (k : ℕ) → get new k ≡ (if eqb k key then (if is_idle (get old k) then None else get old k) else get old k)
   pub len : slab_len new + as_number (is_idle (get old key)) ≡ slab_len old

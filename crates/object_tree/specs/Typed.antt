@@ -16,7 +16,7 @@ use Rattle.object_tree.specs.Seen.{seen, all_seen}
 abbrev pub ReadsAs : Loaded → List Object → Value → ValueType → Type 0
 ReadsAs p objects v kind = Has p (class_of objects) (seen objects v) kind
 
--- .. there are as many values as types, each of its type
+-- as they read, there are as many values as types, each of its type
 abbrev pub ReadAs : Loaded → List Object → List Value → List ValueType → Type 0
 ReadAs p objects values kinds = HaveTypes p (class_of objects) (all_seen objects values) kinds
 
@@ -26,7 +26,7 @@ pub record IsTyped (p : Loaded) (objects : List Object) (life : Life) : Type 0 w
   pub is_class : IsClass p life.class class
   pub typed : ReadAs p objects life.values (map (λ (q : MetaProperty). q.kind) class.properties)
 
--- .. of each living object
+-- of each living object the class is there, and the values are as many as its properties, each of its type
 abbrev pub AreTyped : Loaded → List Object → Type 0
 AreTyped p objects = (o : ℕ) (x : Object) (life : Life) → Lives objects o x life → IsTyped p objects life
 
@@ -34,7 +34,7 @@ AreTyped p objects = (o : ℕ) (x : Object) (life : Life) → Lives objects o x 
 abbrev pub StayTyped : List Object → List Object → Type 0
 StayTyped old new = (p : Loaded) → AreTyped p old → AreTyped p new
 
--- .. by each program of which this holds
+-- what was typed stays so, by each program of which this holds
 abbrev pub StayTypedIf : (Loaded → Type 0) → List Object → List Object → Type 0
 StayTypedIf holds old new = (p : Loaded) → holds p → AreTyped p old → AreTyped p new
 

@@ -106,7 +106,7 @@ impl Children {
         }
     }
 
-    /// Whether it is this child that stands behind so many others.
+    /// Whether it is this child that comes after so many others.
     fn is_at(&self, place: usize, child: ObjectId) -> bool
         ensures { result ≡ is_child child (slice_get self.now place) }
     {

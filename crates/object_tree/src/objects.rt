@@ -232,7 +232,7 @@ impl Objects {
         self.end_life(object);
     }
 
-    /// A child comes last among a living object's children, and the number of its adoption is told. Without memory
+    /// A child comes last among a living object's children, and the number of its adoption is answered. Without memory
     /// nothing changes.
     fn join(&mut self, parent: ObjectId, child: ObjectId) -> Result<u64, AllocError>
         requires { IsSome (life_of self.old parent) }

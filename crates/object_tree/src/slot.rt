@@ -154,7 +154,8 @@ pub fn put_under_in(
     }
 }
 
-/// A child comes last among an object's children, and the number of its adoption is told. Without memory nothing changes.
+/// A child comes last among an object's children, and the number of its adoption is answered. Without memory nothing
+/// changes.
 pub fn join_in(
     slots: &mut Slab<Slot>,
     key: usize,

@@ -1,4 +1,4 @@
--- Each step comes to one thing, want of memory aside, and so do steps one after another.
+-- Each step comes to one thing, unless memory runs out, and so do steps one after another.
 use Rattle.std.proofs.Common.{◌≡◌, ◌≢◌, ◌⊎◌, inl, inr, ℕ, List, None, Result, Ok, Err, codes, refl, sym, ap, ◌∙◌, subst}
 use Rattle.certificate_lang.specs.Reads.{ReadsCertificate, number_of as certificate_number}
 use Rattle.certificate_lang.specs.declared.certificate.Certificate.{Certificate}
@@ -92,7 +92,7 @@ one_is Short what a b p q = inr (inr (p ∙ sym q))
 
 -- ---- the steps
 
--- a refusal that is want of memory
+-- a refusal as memory ran out
 abbrev pub IsShortResult : {X : Type 0} → Result X Refusal → Type 0
 IsShortResult (Ok x) = ⊥
 IsShortResult (Err r) = refusal_number r ≡ None

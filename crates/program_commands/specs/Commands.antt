@@ -1,4 +1,4 @@
--- What the commands on programs and certificates come to (docs/commands.md). Want of memory may come at any step; that it
+-- What the commands on programs and certificates come to (docs/commands.md). Memory may run out at any step; that it
 -- comes only where a growth of memory was refused is not stated here.
 use Rattle.std.specs.Prelude.{◌≡◌, ◌⊎◌, ℕ, List}
 use Rattle.certificate_laws.specs.Laws.{IsSameReason}
@@ -31,18 +31,18 @@ CertifiedIsAgreed =
     (program : List ℕ) (outcome : Outcome) → CertifyComesTo program outcome → outcome_status outcome ≡ 0 →
     CheckComesTo program (outcome_text outcome) Valid
 
--- But for want of memory a command comes to one thing, and so writes one thing: `meta` ..
+-- Unless memory runs out, `meta` comes to one thing, and so writes one thing.
 abbrev pub OneDescription : Type 0
 OneDescription =
     (program : List ℕ) (a b : Outcome) → MetaComesTo program a → MetaComesTo program b → IsShort a ⊎ IsShort b ⊎ (a ≡ b)
 
--- .. `check` ..
+-- Unless memory runs out, `check` comes to one thing.
 abbrev pub OneCheck : Type 0
 OneCheck =
     (program certificate : List ℕ) (a b : Outcome) → CheckComesTo program certificate a → CheckComesTo program certificate b →
     IsShort a ⊎ IsShort b ⊎ (a ≡ b)
 
--- .. and `certify`; but which cycle, path or chain shows why there is no certificate isn't fixed
+-- outcomes are the same; but which cycle, path or chain shows why there is no certificate isn't fixed
 abbrev pub IsSameOutcome : Outcome → Outcome → Type 0
 IsSameOutcome (Uncertified p v) (Uncertified q w) = (p ≡ q) × IsSameReason v w
 IsSameOutcome a b = a ≡ b

@@ -16,13 +16,13 @@ LoadsProgram program =
     First (ReadsProgram program) (λ fault. Err (Text fault)) (λ tree.
     First (Builds tree) (λ fault. Err (Loading fault)) Gives)
 
--- .. and then its certificate is read
+-- the program is loaded, and then its certificate is read
 abbrev pub LoadsCertified : List ℕ → List ℕ → Result (Loaded × Certificate) Refusal → Type 0
 LoadsCertified program certificate =
     First (LoadsProgram program) Err (λ loaded.
     First (ReadsCertificate certificate) (λ fault. Err (OfCertificate fault)) (λ read. Gives (loaded, read)))
 
--- .. and then the one is checked with the other
+-- the program and its certificate are read, and then the one is checked with the other
 abbrev pub LoadsValid : List ℕ → List ℕ → Result Checking Refusal → Type 0
 LoadsValid program certificate =
     First (LoadsCertified program certificate) Err (λ both.

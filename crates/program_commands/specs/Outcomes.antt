@@ -16,7 +16,7 @@ outcome_text (Certificate certificate) = certificate_text certificate
 outcome_text (Uncertified p why) = reason_line p why
 outcome_text Valid = yes_line
 
--- .. and its exit status
+-- the exit status of an outcome
 abbrev pub outcome_status : Outcome → ℕ
 outcome_status (Refused refusal) = refusal_status refusal
 outcome_status (Classes p) = 0
@@ -32,7 +32,7 @@ pub record WritesAs {O E : Type 0} (text : O → List ℕ) (status : O → ℕ) 
   pub comes : ComesTo outcome
   pub takes : TakesWith before after (text outcome) (status outcome) result
 
--- .. of a command that runs nothing
+-- A writer took the bytes of what a command that runs nothing comes to.
 abbrev pub Writes : {E : Type 0} → (Outcome → Type 0) → Option (List ℕ) → Option (List ℕ) → Result ℕ E → Type 0
 Writes ComesTo before after result = WritesAs outcome_text outcome_status ComesTo before after result
 

@@ -11,7 +11,7 @@ use Rattle.program_commands.specs.declared.refusal.Refusal.{Refusal}
 use Rattle.program_commands.specs.declared.refusal.Refusal.TheVariants.{Text, Loading, Certificate, Script, Check, Natives}
 use Rattle.command_output.specs.Lines.{newline}
 
--- the number of a refused script; want of memory has none
+-- the number of a refused script; running out of memory has none
 abbrev pub script_number : ScriptFault → Option ℕ
 script_number TooLarge = Some 7
 script_number (BadLine n) = Some 16
@@ -41,7 +41,7 @@ yes_line = codes "yes\n"
 abbrev pub fault_line : ℕ → List ℕ
 fault_line k = codes "fault " ++ decimal k ++ newline
 
--- a line of words and a number; without one it is that of want of memory
+-- a line of words and a number; without one it is that of running out of memory
 abbrev pub line_of : List ℕ → Option ℕ → List ℕ
 line_of words (Some k) = words ++ decimal k ++ newline
 line_of words None = memory_line
@@ -61,7 +61,7 @@ refusal_line (Natives fault) = line_of (codes "refused ") (Some (native_number f
 
 -- ---- the exit status
 
--- .. where there is a number; that of want of memory is 1
+-- this status where there is a number, and 1 where memory ran out
 abbrev pub status_of : ℕ → Option ℕ → ℕ
 status_of status (Some k) = status
 status_of status None = 1

@@ -22,9 +22,9 @@ pub fn meta_outcome(alloc: Global, program: &[u8]) -> Outcome
 
 /// Writes the classes of a program with their members, or why it is refused.
 ///
-/// The answer is the exit status: 0 where the classes are written, 2 where the program is refused, 1 for want of memory.
-/// There is a `WriteFault` only where a write failed: what was taken by then is the beginning of what is written, and
-/// nothing is written after that.
+/// The answer is the exit status: 0 where the classes are written, 2 where the program is refused, 1 where memory ran
+/// out. There is a `WriteFault` only where a write failed: what was taken by then is the beginning of what is written,
+/// and nothing is written after that.
 pub fn meta<W: Write>(alloc: Global, program: &[u8], w: &mut W) -> Result<u8, WriteFault>
     ensures { Writes (MetaComesTo program.now) (W.contents w.old) (W.contents w.new) result }
 {
@@ -48,8 +48,8 @@ pub fn certify_outcome(alloc: Global, program: &[u8]) -> Outcome
 
 /// Writes the least valid certificate of a program, or the first reason why it has none.
 ///
-/// The answer is the exit status: 0 after a certificate, 3 after a reason, 2 where the program is refused, 1 for want of
-/// memory. There is a `WriteFault` only where a write failed: what was taken by then is the
+/// The answer is the exit status: 0 after a certificate, 3 after a reason, 2 where the program is refused, 1 where
+/// memory ran out. There is a `WriteFault` only where a write failed: what was taken by then is the
 /// beginning of what is written, and nothing is written after that.
 pub fn certify<W: Write>(alloc: Global, program: &[u8], w: &mut W) -> Result<u8, WriteFault>
     ensures { Writes (CertifyComesTo program.now) (W.contents w.old) (W.contents w.new) result }
@@ -69,7 +69,7 @@ pub fn check_outcome(alloc: Global, program: &[u8], certificate: &[u8]) -> Outco
 
 /// Checks a program with its certificate, and writes `yes`, or why there is none.
 ///
-/// The answer is the exit status: 0 after a yes, 3 after a no, 2 where a text is refused, 1 for want of memory.
+/// The answer is the exit status: 0 after a yes, 3 after a no, 2 where a text is refused, 1 where memory ran out.
 /// There is a `WriteFault` only where a write failed: what was taken by then is the beginning of what is written, and
 /// nothing is written after that.
 pub fn check<W: Write>(

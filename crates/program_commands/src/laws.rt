@@ -7,8 +7,8 @@ pub fn certified_is_agreed()
     ensures { CertifiedIsAgreed }
 {}
 
-/// But for want of memory, what `meta`, `certify` and `check` write is determined by their texts; of several cycles, paths or
-/// chains that show why a program has no certificate `certify` may name any one.
+/// Unless memory runs out, what `meta`, `certify` and `check` write is determined by their texts; of several cycles,
+/// paths or chains that show why a program has no certificate `certify` may name any one.
 pub fn one_outcome()
     ensures meta { OneDescription }
     ensures certify { OneCertifying }

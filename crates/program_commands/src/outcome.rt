@@ -33,7 +33,7 @@ pub enum Outcome {
 
 impl Outcome {
     /// The exit status: 0 where the command did what it was asked, 3 where no certificate is valid for the program or this one
-    /// isn't, 2 where a text is refused, 1 for want of memory.
+    /// isn't, 2 where a text is refused, 1 where memory ran out.
     pub fn status(&self) -> u8
         ensures { result ≡ outcome_status self.now }
     {

@@ -46,7 +46,7 @@ pub const DENIED: u8 = 3;
 
 impl Refusal {
     /// The number under which it is answered: that of the refusal, from 2 to 18 or 77, or of the checker's no, from 70 to
-    /// 76. Want of memory has none.
+    /// 76. Running out of memory has none.
     pub fn number(&self) -> Option<u8>
         ensures { result ≡ refusal_number self.now }
     {
@@ -89,7 +89,7 @@ impl Refusal {
     }
 }
 
-/// The number of a refused script; want of memory has none.
+/// The number of a refused script; running out of memory has none.
 fn number_of_script(fault: &ScriptFault) -> Option<u8>
     ensures { result ≡ script_number fault.now }
 {
@@ -111,7 +111,7 @@ fn put_script<W: Write>(output: &mut Output<'_, W>, fault: &ScriptFault)
     }
 }
 
-/// This exit status, where there is a number, and else that of want of memory.
+/// This exit status, where there is a number, and else that of running out of memory.
 fn status_or_undone(status: u8, number: Option<u8>) -> u8
     ensures { result ≡ status_of status number }
 {
@@ -121,7 +121,7 @@ fn status_or_undone(status: u8, number: Option<u8>) -> u8
     }
 }
 
-/// Adds a line of these words and a number, or that of want of memory.
+/// Adds a line of these words and a number, or that of running out of memory.
 fn put_line<W: Write>(output: &mut Output<'_, W>, words: &[u8], number: Option<u8>)
     ensures { Puts W.contents output.old output.new (line_of words.now number) }
 {

@@ -3,14 +3,14 @@
 
 use meta_objects::Statement;
 
-/// A statement of a body, or one that stands in a statement of it.
+/// A statement of a body, or one that is in a statement of it.
 #[derive(Clone, Copy)]
 pub struct Numbered<'m> {
     /// The statement.
     pub statement: &'m Statement,
-    /// The place from 0, among the statements of the body itself, of the one that it is or stands in.
+    /// The place from 0, among the statements of the body itself, of the one that it is or is in.
     pub place: usize,
-    /// Whether it stands in a statement of the body.
+    /// Whether it is in a statement of the body.
     pub is_inner: bool,
 }
 
@@ -30,7 +30,7 @@ pub fn statement_at(body: &[Statement], number: usize) -> Option<Numbered<'_>> {
     None
 }
 
-/// The statement before which so many are left, counted from this one through those that stand in it; `left` loses those
+/// The statement before which so many are left, counted from this one through those that are in it; `left` loses those
 /// that were passed.
 #[cycle(bodies)]
 fn found_in<'m>(statement: &'m Statement, left: &mut usize) -> Option<&'m Statement> {
@@ -48,7 +48,7 @@ fn found_in<'m>(statement: &'m Statement, left: &mut usize) -> Option<&'m Statem
     }
 }
 
-/// .. counted through these statements.
+/// The statement before which so many are left, counted through these statements.
 #[cycle(bodies)]
 fn found_among<'m>(body: &'m [Statement], left: &mut usize) -> Option<&'m Statement> {
     for statement in body {

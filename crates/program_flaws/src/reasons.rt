@@ -10,7 +10,7 @@ use meta_objects::Meta;
 use rank_make::Why;
 use std::alloc::{AllocError, Global};
 
-/// So many edges of a chain are told.
+/// So many edges of a chain are reported.
 const MOST_EDGES: usize = 12;
 
 /// What the reason is about for which `certify` found no certificate of this program, which is loaded as this: the wire, the

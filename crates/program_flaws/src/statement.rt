@@ -52,7 +52,7 @@ struct Spelled {
 }
 
 impl<'s> Body<'s> {
-    /// The statement as it is written, with `..` in the place of its expressions and of what stands in it.
+    /// The statement as it is written, with `..` in the place of its expressions and of what is in it.
     pub fn statement_text(&self, statement: &Statement) -> Result<String, AllocError> {
         let alloc = self.source.alloc;
         match statement {

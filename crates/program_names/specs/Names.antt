@@ -28,7 +28,8 @@ abbrev pub IsNamedProgram : Program → Type 0
 IsNamedProgram program = AllByRecursion IsNamedClass program.classes
 
 -- ---- what is loaded
--- .. with inherited members
+-- the class and its properties, inherited ones too, have names that aren't reserved, and the signatures of its methods
+-- are in normal form
 pub record IsNamedObject (class : MetaObject) : Type 0 where
   pub named : IsFreeName class.name
   pub methods : AllByRecursion (λ (m : MetaMethod). IsNormalSig m.sig) class.methods

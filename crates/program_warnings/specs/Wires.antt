@@ -36,7 +36,7 @@ pub record MayServe (p : Loaded) (wire wanted : MetaWire) : Type 0 where
   pub sender : Below p wire.sender wanted.sender ⊎ Below p wanted.sender wire.sender
   pub receiver : Below p wire.receiver wanted.receiver ⊎ Below p wanted.receiver wire.receiver
 
--- .. some wire of the program
+-- some wire of the program may serve for the wanted one
 pub record IsServed (p : Loaded) (wanted : MetaWire) : Type 0 where
   pub wire : MetaWire
   pub declared : IsIn wire p.wires

@@ -1,10 +1,10 @@
-//! How deep chains are, and how chains are told.
+//! How deep chains are, and how chains are reported.
 
 use crate::ranked::Ranked;
 use program_flaws::node_text;
 use std::alloc::{AllocError, Global};
 
-/// So many members of a chain are told from its front, and from its back, where it has more than both together.
+/// So many members of a chain are reported from its front, and from its back, where it has more than both together.
 const FRONT: usize = 6;
 
 const BACK: usize = 2;

@@ -86,7 +86,7 @@ impl<'m> Wiring<'m> {
     }
 }
 
-/// .. in this body, or in a block of it.
+/// Adds a warning for each `connect` in this body, or in a block of it, that no wire covers.
 #[cycle(bodies)]
 fn add_in_body(
     wiring: &Wiring,
@@ -104,7 +104,7 @@ fn add_in_body(
     Ok(())
 }
 
-/// .. of this statement, or of one that stands in it.
+/// Adds a warning for each `connect` that no wire covers, of this statement and of those in it.
 #[cycle(bodies)]
 fn add_in_statement(
     wiring: &Wiring,

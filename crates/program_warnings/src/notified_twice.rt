@@ -80,7 +80,7 @@ impl OwnEffects {
     }
 }
 
-/// Adds what the statements do, and those that stand in them.
+/// Adds what the statements do, and those that are in them.
 #[cycle(effects)]
 fn add_effects(effects: &mut OwnEffects, body: &[Statement]) -> Result<(), AllocError> {
     for statement in body {
@@ -89,7 +89,7 @@ fn add_effects(effects: &mut OwnEffects, body: &[Statement]) -> Result<(), Alloc
     Ok(())
 }
 
-/// Adds what the statement does, and those that stand in it.
+/// Adds what the statement does, and those that are in it.
 #[cycle(effects)]
 fn add_effect(effects: &mut OwnEffects, statement: &Statement) -> Result<(), AllocError> {
     match statement {
@@ -177,7 +177,7 @@ fn ways_through(pair: Pair, body: &[Statement], passed: &mut usize) -> Ways {
     ways
 }
 
-/// The ways through the statement and those that stand in it.
+/// The ways through the statement and those that are in it.
 #[cycle(ways)]
 fn ways_of(pair: Pair, statement: &Statement, passed: &mut usize) -> Ways {
     match statement {

@@ -6,7 +6,7 @@ use rank_check::SetItem;
 use rank_make::Certificate;
 use std::alloc::{AllocError, Global};
 
-/// A program that has a certificate, with the least one, whose lines stand in the order of nodes.
+/// A program that has a certificate, with the least one, whose lines are in the order of nodes.
 #[derive(Clone, Copy)]
 pub struct Ranked<'p> {
     /// The program.

@@ -1,4 +1,4 @@
-//! What is told beside a yes.
+//! What is reported beside a yes.
 
 ghost use Rattle.std.specs.Prelude.{All, IfOk};
 ghost use Rattle.program_warnings.specs.Wires.{IsLineageOf, IsSo};
@@ -26,13 +26,13 @@ pub enum Yes<'a> {
     Certified(&'a Certificate),
     /// The certificate that is given with it is valid.
     Valid,
-    /// .. and it ran.
+    /// The certificate that is given with it is valid, and the program ran.
     Ran,
 }
 
-/// What is told of a program beside a yes to it: a line for each of the first warnings, and where it didn't run a line that
-/// says how many members it has, and which chain of them is the longest. `None` where there is nothing to tell, or the text
-/// is no program that has a certificate.
+/// What is reported of a program beside a yes to it: a line for each of the first warnings, and where it didn't run a
+/// line that says how many members it has, and which chain of them is the longest. `None` where there is nothing to
+/// tell, or the text is no program that has a certificate.
 pub fn told_beside(alloc: Global, text: &[u8], yes: Yes<'_>) -> Result<Option<String>, AllocError> {
     let Some(program) = declarations_of(alloc, text)? else {
         return Ok(None);
@@ -59,7 +59,7 @@ pub fn told_beside(alloc: Global, text: &[u8], yes: Yes<'_>) -> Result<Option<St
     }
 }
 
-/// Adds what is told of a program with the least certificate, if there is one.
+/// Adds what is reported of a program with the least certificate, if there is one.
 fn push_made(
     told: &mut String,
     source: Source<'_>,
@@ -73,7 +73,7 @@ fn push_made(
     }
 }
 
-/// Adds what is told of a program with its least certificate.
+/// Adds what is reported of a program with its least certificate.
 fn push_ranked(
     told: &mut String,
     source: Source<'_>,

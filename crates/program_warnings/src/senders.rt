@@ -30,7 +30,7 @@ fn deletes(work: &Work) -> bool {
     }
 }
 
-/// Whether some statement is a `delete`, or some that stands in one.
+/// Whether some statement is a `delete`, or some that is in one.
 #[cycle(deletions)]
 fn has_delete(body: &[Statement]) -> bool {
     for statement in body {
@@ -41,7 +41,7 @@ fn has_delete(body: &[Statement]) -> bool {
     false
 }
 
-/// Whether the statement is a `delete`, or one that stands in it.
+/// Whether the statement is a `delete`, or one that is in it.
 #[cycle(deletions)]
 fn is_delete(statement: &Statement) -> bool {
     match statement {
@@ -64,7 +64,7 @@ pub fn add_lost_senders(
     requires { All (IsSo meta.now) found.old.items }
     ensures { IfOk result (λ _. All (IsSo meta.now) found.new.items) }
 {
-    // The nodes of which it is told, of themselves or for a class above.
+    // The nodes of which that is reported, of themselves or for a class above.
     let mut told = Vec::new(alloc);
     for (number, node) in ranked.scan.nodes().iter().enumerate() {
         if let Some(signal) = signal_at(meta, *node)
@@ -93,7 +93,7 @@ fn signal_at(meta: &Meta, node: Node) -> Option<usize> {
     }
 }
 
-/// Whether the same signal of the base is one of these nodes, which stand in their order.
+/// Whether the same signal of the base is one of these nodes, which are in their order.
 fn is_told_above(ranked: Ranked<'_>, told: &[usize], node: Node) -> bool {
     let Some(base) = ranked.meta.base(node.class) else {
         return false;

@@ -9,7 +9,7 @@ use texts::{PlacedToken, Token, Word};
 pub enum Spot {
     /// Its first byte.
     Begin,
-    /// The word that stands there for the time of this number, counted from 0. It begins whatever it stands in.
+    /// The word that is there for the time of this number, counted from 0. It begins whatever it is in.
     Word(Word, usize),
     /// None: the text doesn't have it.
     Nowhere,

@@ -1,4 +1,4 @@
-//! How warnings are told.
+//! How warnings are reported.
 
 use crate::ranked::Ranked;
 use crate::spot::Spot;
@@ -10,7 +10,7 @@ use program_flaws::{Source, node_text, property_text, wire_text};
 use std::alloc::AllocError;
 use texts::PlacedToken;
 
-/// So many warnings are told.
+/// So many warnings are reported.
 const MOST_TOLD: usize = 20;
 
 /// A program that warnings are about.
@@ -64,7 +64,7 @@ impl Subject<'_> {
         told.push_str("\n")
     }
 
-    /// .. of a wire beside this one.
+    /// Adds what is said of a wire that is idle beside this one.
     fn push_idle_wire(&self, told: &mut String, other: usize) -> Result<(), AllocError> {
         let Source { alloc, meta, .. } = self.source;
         if let Some(wider) = meta.wires().get(other) {
@@ -77,7 +77,7 @@ impl Subject<'_> {
         Ok(())
     }
 
-    /// .. of a `connect` that lacks this wire.
+    /// Adds what is said of a `connect` that lacks this wire.
     fn push_unwired(&self, told: &mut String, wanted: &MetaWire) -> Result<(), AllocError> {
         let Source { alloc, meta, .. } = self.source;
         let wanted = wire_text(alloc, meta, wanted)?;
@@ -87,7 +87,7 @@ impl Subject<'_> {
         )
     }
 
-    /// .. of a slot that sets the property, and emits its notify signal.
+    /// Adds what is said of a slot that sets the property, and emits its notify signal.
     fn push_notified_twice(
         &self,
         told: &mut String,
@@ -111,7 +111,7 @@ impl Subject<'_> {
         )
     }
 
-    /// .. of a signal that may lead to the destruction of its sender.
+    /// Adds what is said of a signal that may lead to the destruction of its sender.
     fn push_lost_sender(
         &self,
         told: &mut String,

@@ -18,7 +18,7 @@ use Rattle.binding_graph.proofs.Keyed.{none-stands, position-target}
 use Rattle.prop_bindings.proofs.EachOnce.{distinct-once}
 use Rattle.binding_graph.proofs.Several.{is_in-not, left, without_all-left}
 
--- each stands at its number among these, which begin at k
+-- each is at its number among these, which begin at k
 abbrev Stand : ℕ → List Binding → List Numbered → Type 0
 Stand k bs [] = Unit {0}
 Stand k bs (f ∷ fs) = ((i : ℕ) × (b : Binding) × (f.number ≡ k + i) × (slice_get bs i ≡ Some b) × (b.target ≡ f.place)) × Stand k bs fs

@@ -37,7 +37,7 @@ CountsGroup F writes objects changed n =
     (HaveLasting objects writes → (changed ≡ []) × (n ≡ 0))
     × ((¬ HaveLasting objects writes) → CountsReached F (places_in writes) changed n)
 
--- .. and so does a write of one property
+-- A write of one property evaluates what a group of this write alone does.
 abbrev pub CountsWritten : (Place → Option Binding) → Place → Value → List Object → List Place → ℕ → Type 0
 CountsWritten F at v objects changed n = CountsGroup F (one at v) objects changed n
 
@@ -47,7 +47,7 @@ pub record CountsFrom (F : Place → Option Binding) (target : Place) (changed :
   pub one_more : n ≡ suc others
   pub counts : CountsReached F (target ∷ []) changed others
 
--- .. to the target of a site's binding
+-- A bind by a site, to this target, evaluates the new binding too.
 abbrev pub CountsBound : Loaded → ℕ → ℕ → List Binding → List Place → ℕ → Type 0
 CountsBound p number target bs changed n = (site : MetaSite) → slice_get p.sites number ≡ Some site
     → CountsFrom (binding_at bs) (property_of target site.property) changed n

@@ -27,7 +27,7 @@ pub record IsFit (p : Loaded) (objects : List Object) (b : Binding) : Type 0 whe
 abbrev pub InOneLoop : List Object → ℕ → List ℕ → Type 0
 InOneLoop objects target sources = All (λ (o : ℕ). home_of objects o ≡ home_of objects target) sources
 
--- .. those of a binding
+-- the sources of a binding live in its target's event loop
 abbrev pub IsInOneLoop : List Object → Binding → Type 0
 IsInOneLoop objects b = InOneLoop objects b.target.object b.sources
 

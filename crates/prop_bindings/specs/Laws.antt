@@ -18,7 +18,7 @@ WrittenOnce = (p : Loaded) (bs : List Binding) (old : List Object) (writes : Lis
     → IsWritten bs cs old new writes changed → IsWritten bs ds old other writes others
     → (cs ≡ ds) × (new ≡ other) × (changed ≡ others)
 
--- .. and what a bind makes of them, unless it closes a chain
+-- what a bind makes of bindings and objects that agree is one thing, unless it closes a chain
 abbrev pub InstalledOnce : Type 0
 InstalledOnce = (p : Loaded) (bs : List Binding) (old : List Object) (b : Binding) → Agree p old bs → (¬ Loop (binding_at (replaced bs b)))
     → (cs ds : List Binding) (new other : List Object) (changed others : List Place)

@@ -52,7 +52,7 @@ abbrev pub PlansWrite : Loaded → List Assignment → List Binding → List Obj
 PlansWrite p writes bs objects (Ok plan) = IsPlannedWrite p writes bs objects plan.planned
 PlansWrite p writes bs objects (Err fault) = IsNotWritten p objects writes fault
 
--- .. of a group of writes
+-- A plan of a group of writes; or why there is none, and nothing changes.
 abbrev pub PlansGroup : Loaded → List Assignment → List Binding → List Object → Result PlannedGroup WriteFault → Type 0
 PlansGroup p writes bs objects (Ok plan) = IsPlannedWrite p writes bs objects plan.planned
 PlansGroup p writes bs objects (Err fault) = IsNotWritten p objects writes fault

@@ -40,7 +40,7 @@ pub record Completes {N : Type 0} (gives : N → NativeAnswers) (before : Seen N
   pub same : after ≡ record before { world = after.world }
   pub whole : run.Completes before.program (gives before.natives) before.depth before.world events answers after.world
 
--- .. it stopped on the way
+-- the machine stopped on the way through these events, for this fault
 pub record Halts {N : Type 0} (gives : N → NativeAnswers) (before : Seen N) (events : List Event) (f : Fault) (after : Seen N)
     : Type 0 where
   pub went : before.stopped ≡ false
@@ -69,7 +69,7 @@ IsSettled m = AreSettled (at m.world [])
 abbrev pub cleared : {N : Type 0} → Seen N → Seen N
 cleared m = record m { world = record m.world { trace = [] } }
 
--- .. and one that had written this down before
+-- a machine that had written this down before
 abbrev pub with_front : {N : Type 0} → List Entry → Seen N → Seen N
 with_front front m = record m { world = record m.world { trace = front ++ m.world.trace } }
 

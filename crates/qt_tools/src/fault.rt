@@ -25,7 +25,7 @@ pub enum ToolFault {
     /// What is imported isn't what moc writes, or a class that is asked for isn't there.
     #[error("{0}")]
     Unimported(ImportFault),
-    /// Lines of effects have mistakes, which are told before.
+    /// Lines of effects have mistakes, which are reported before.
     #[error("nothing is imported, since the effects have mistakes")]
     Mistaken,
     /// The script isn't run, since a text is refused with this number.
@@ -43,10 +43,10 @@ pub enum ToolFault {
     /// Events of the script went otherwise than is expected.
     #[error("events went otherwise than is expected")]
     Otherwise,
-    /// Something is wrong with the program or its certificate, and was told.
+    /// Something is wrong with the program or its certificate, and was reported.
     #[error("there are findings")]
     Found,
-    /// A text is refused, which was told.
+    /// A text is refused, which was reported.
     #[error("a text is refused")]
     Unjudged,
     /// A list of cycles can't be read.
@@ -58,7 +58,7 @@ pub enum ToolFault {
     /// The input isn't text.
     #[error("the input isn't text in UTF-8")]
     NoText,
-    /// Members were left out, and that is asked to be told by the exit status.
+    /// Members were left out, and that is asked to be reported by the exit status.
     #[error("members were left out")]
     LeftOut,
     /// The input can't be read.

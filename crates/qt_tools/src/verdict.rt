@@ -17,7 +17,7 @@ const REFUSED: u8 = 2;
 /// The line between two texts of an input.
 const BORDER: &[u8] = b"%%";
 
-/// How a verdict is told.
+/// How a verdict is reported.
 #[derive(Clone, Copy, Debug, PartialEq, Eq)]
 enum Form {
     /// As lines.

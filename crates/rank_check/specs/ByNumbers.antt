@@ -25,7 +25,7 @@ pub record IsPlaceOf (entries : List Entry) (place : Place) (entry : Entry) : Ty
 abbrev pub AreLower : List ℕ → List Entry → ℕ → Type 0
 AreLower targets entries rank = (b : ℕ) (y : Entry) → Contains targets b → slice_get entries b ≡ Some y → y.rank < rank
 
--- .. but this one of them hasn't
+-- the node at this place is one of these, and its rank is not below this one
 pub record IsAsHigh (targets : List ℕ) (entries : List Entry) (rank : ℕ) (place : Place) : Type 0 where
   pub held : Contains targets place.node
   pub entry : Entry
@@ -37,7 +37,7 @@ abbrev pub Fall : List (List ℕ) → List Entry → Type 0
 Fall rows entries =
     (a b : ℕ) (x y : Entry) → slice_get entries a ≡ Some x → Edge rows a b → slice_get entries b ≡ Some y → y.rank < x.rank
 
--- .. but not along this one
+-- ranks don't fall along this edge
 pub record IsRiseIn (rows : List (List ℕ)) (entries : List Entry) (rise : Rise) : Type 0 where
   pub edge : Edge rows rise.from.node rise.to.node
   pub upper : Entry
@@ -56,7 +56,7 @@ IsWithin set other = (d : ℕ) → IsMarked set d → IsMarked other d
 abbrev pub AreWithin : List ℕ → List Entry → List Bool → Type 0
 AreWithin targets entries set = (b : ℕ) (y : Entry) → Contains targets b → slice_get entries b ≡ Some y → IsWithin y.destroys set
 
--- .. but that of the node of this place has a class that isn't in it
+-- the set of the node at this place, which is one of these, has a class that isn't in this one
 pub record HasLost (targets : List ℕ) (entries : List Entry) (set : List Bool) (place : Place) (d : ℕ) : Type 0 where
   pub held : Contains targets place.node
   pub entry : Entry
@@ -69,19 +69,19 @@ pub record HoldsOwn (p : Loaded) (x : Node) (set : List Bool) : Type 0 where
   pub closure : x.member ≡ Destruction → (d : ℕ) → Closure p x.class d → IsMarked set d
   pub spared : HasBody p x → ¬ IsMarked set x.class
 
--- .. but for this mistake in that of the node at this place
+-- the set of the node at this place has this mistake in what it has to hold by itself
 abbrev pub IsOwnMistake : Loaded → Node → List Bool → Place → Mistake → Type 0
 IsOwnMistake p x set place (Unclosed at d) = (at ≡ place) × (x.member ≡ Destruction) × Closure p x.class d × ¬ IsMarked set d
 IsOwnMistake p x set place (Own at) = (at ≡ place) × HasBody p x × IsMarked set x.class
 IsOwnMistake p x set place (Lost first second d) = ⊥
 
--- so do all, and sets are passed on along edges
+-- all sets hold what they have to by themselves, and are passed on along edges
 pub record Hold (p : Loaded) (nodes : List Node) (rows : List (List ℕ)) (entries : List Entry) : Type 0 where
   pub passed_on : (a b : ℕ) (x y : Entry) → slice_get entries a ≡ Some x → Edge rows a b → slice_get entries b ≡ Some y
       → IsWithin y.destroys x.destroys
   pub own : (a : ℕ) (x : Node) (e : Entry) → slice_get nodes a ≡ Some x → slice_get entries a ≡ Some e → HoldsOwn p x e.destroys
 
--- .. but for a mistake in the set of one node
+-- the set of one node has this mistake in what it has to hold by itself
 pub record IsMistakeOfOne (p : Loaded) (nodes : List Node) (entries : List Entry) (mistake : Mistake) : Type 0 where
   pub place : Place
   pub node : Node
@@ -90,7 +90,7 @@ pub record IsMistakeOfOne (p : Loaded) (nodes : List Node) (entries : List Entry
   pub is : IsPlaceOf entries place entry
   pub wrong : IsOwnMistake p node entry.destroys place mistake
 
--- .. or for a class that isn't passed on along an edge
+-- a class isn't passed on along the edge from the first place to the second
 pub record IsLostAlong (rows : List (List ℕ)) (entries : List Entry) (first second : Place) (d : ℕ) : Type 0 where
   pub edge : Edge rows first.node second.node
   pub upper : Entry

@@ -54,13 +54,13 @@ pub record AreTwice (p : Loaded) (lines : List Line) (j k : ℕ) : Type 0 where
 abbrev pub StandsForNoClass : Loaded → SetItem → Type 0
 StandsForNoClass p item = (d : ℕ) → ¬ StandsFor p item d
 
--- .. the item at this place
+-- the item at this place stands for no class
 pub record StandsForNone (p : Loaded) (items : List SetItem) (place : ℕ) : Type 0 where
   pub item : SetItem
   pub stands : slice_get items place ≡ Some item
   pub none : StandsForNoClass p item
 
--- .. of the set of the line at this place
+-- the item at this place, in the set of the line at place k, stands for no class
 pub record LacksClass (p : Loaded) (lines : List Line) (k item : ℕ) : Type 0 where
   pub line : Line
   pub stands : slice_get lines k ≡ Some line
@@ -138,7 +138,7 @@ IsLoose certificate (NotAbove k) = IsNotBelow certificate k
 
 -- ---- all causes
 
--- What the cause names breaks the condition of its number; want of memory says nothing.
+-- What the cause names breaks the condition of its number; running out of memory says nothing.
 abbrev pub Breaks : Loaded → Certificate → Cause → Type 0
 Breaks p certificate (cause.Wire place) = IsFirstWithout (IsFitWire p) p.wires place
 Breaks p certificate (cause.BodyType spot) = FindsUntyped p (Some spot)

@@ -11,7 +11,7 @@ use Rattle.rank_check.specs.declared.causes.Cause.TheVariants as cause
 use Rattle.rank_check.specs.Valid.{HasEachNode, HasNothingElse, RanksFall, SetsHold, IsBounded, IsValid}
 use Rattle.rank_check.specs.Causes.{Breaks}
 
--- the number of a no; want of memory has none
+-- the number of a no; running out of memory has none
 abbrev pub number_of : No → Option ℕ
 number_of Wire = Some 70
 number_of BodyType = Some 71
@@ -38,7 +38,7 @@ pub record Checking : Type 0 where
   pub program : Loaded
   pub certificate : Certificate
 
--- The condition of the no doesn't hold, and those of the nos with lower numbers do; want of memory says nothing.
+-- The condition of the no doesn't hold, and those of the nos with lower numbers do; running out of memory says nothing.
 abbrev pub IsNo : Loaded → Certificate → No → Type 0
 IsNo p certificate Wire = ¬ AreFitWires p
 IsNo p certificate BodyType = AreFitWires p × ¬ IsTypedProgram p

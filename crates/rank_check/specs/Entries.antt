@@ -35,7 +35,7 @@ pub record HasNumber (p : Loaded) (line : Line) (number : Option ℕ) : Type 0 w
   pub found : LooksUp (IsNumberNamed p line.node) number
   pub only : FindsOnly (IsNumberNamed p line.node) number
 
--- .. for each of the lines
+-- for each line the number of the node that it is for, if it is for one
 abbrev pub AreNumbers : Loaded → List Line → List (Option ℕ) → Type 0
 AreNumbers p lines numbers = AllZip (HasNumber p) lines numbers
 
@@ -57,7 +57,7 @@ pub record PlacesFirst (count end : ℕ) (numbers places : List (Option ℕ)) : 
   pub is_for : (n k : ℕ) → place_at places n ≡ Some k → IsFor numbers k n
   pub each : (n k : ℕ) → k < end → IsFor numbers k n → ¬ (place_at places n ≡ None)
 
--- .. where a line is
+-- for each node the place of a line that is for it, where there is one
 abbrev pub PlacesEach : ℕ → List (Option ℕ) → List (Option ℕ) → Type 0
 PlacesEach count numbers places = PlacesFirst count (length numbers) numbers places
 
@@ -90,11 +90,11 @@ pub record IsPlaced (numbers : List (Option ℕ)) (places : List ℕ) (k : ℕ) 
   pub is_for : IsFor numbers k node
   pub placed : slice_get places node ≡ Some k
 
--- .. each line is
+-- the line of each place is that of its node
 abbrev pub AreOnce : List (Option ℕ) → List ℕ → Type 0
 AreOnce numbers places = (k : ℕ) → k < length numbers → IsPlaced numbers places k
 
--- .. but this one isn't: it is for no node, or for one whose line is another
+-- the line of place j is for a node whose line is another
 pub record IsSecond (numbers : List (Option ℕ)) (places : List ℕ) (j k : ℕ) : Type 0 where
   pub node : ℕ
   pub is_for : IsFor numbers j node
@@ -126,11 +126,11 @@ pub record IsEntry (p : Loaded) (line : Line) (entry : Entry) : Type 0 where
   pub rank : entry.rank ≡ line.rank
   pub destroys : IsSet p line.destroys entry.destroys
 
--- .. of the line at this place, or the place of an item of its set whose class isn't there
+-- the rank and the set of the line at this place, or the place of an item of its set whose class isn't there
 abbrev pub FindsEntry : Loaded → Line → ℕ → Result Entry ℕ → Type 0
 FindsEntry p line k found = MatchResult found (λ entry. (entry.line ≡ k) × IsEntry p line entry) (StandsForNone p line.destroys)
 
--- .. of the line at this place
+-- the rank and the set of the line at this place
 pub record IsEntryAt (p : Loaded) (lines : List Line) (k : ℕ) (entry : Entry) : Type 0 where
   pub line : Line
   pub stands : slice_get lines k ≡ Some line

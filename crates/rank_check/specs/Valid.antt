@@ -29,13 +29,13 @@ abbrev pub StandsFor : Loaded → SetItem → ℕ → Type 0
 StandsFor p (item.Class name) d = IsClassNamed p name d
 StandsFor p (item.Closure name) d = (c : ℕ) × IsClassNamed p name c × Closure p c d
 
--- .. that one of the items stands for
+-- class d is one of those that one of the items stands for
 pub record IsListed (p : Loaded) (items : List SetItem) (d : ℕ) : Type 0 where
   pub item : SetItem
   pub listed : Contains items item
   pub stands_for : StandsFor p item d
 
--- .. in the line's destroy set
+-- class d is in the line's destroy set
 abbrev pub Destroys : Loaded → Line → ℕ → Type 0
 Destroys p line d = IsListed p line.destroys d
 

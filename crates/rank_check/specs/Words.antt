@@ -8,6 +8,6 @@ use Rattle.rank_check.specs.declared.class_set.TheConstants.{BITS}
 unfoldable pub has : List ℕ → ℕ → Bool
 has words c = bit_at (slice_index_or words (c / BITS) 0) (c % BITS) == 1
 
--- .. of each of the first classes
+-- the bit of each of the first classes
 unfoldable pub marks_of : List ℕ → ℕ → List Bool
 marks_of words room = map (has words) (range_with_len 0 room)

@@ -16,7 +16,7 @@ pub struct Place {
     pub line: usize,
 }
 
-/// What is too much in a certificate. Lines are told by their places among the certificate's, from 0.
+/// What is too much in a certificate. Lines are given by their places among the certificate's, from 0.
 #[derive(Clone, Copy, Debug, PartialEq, Eq)]
 pub enum Extra {
     /// This line is for nothing that is a node.
@@ -36,7 +36,7 @@ pub struct Rise {
     pub to: Place,
 }
 
-/// What is wrong with a destroy set. Classes are told by their numbers.
+/// What is wrong with a destroy set. Classes are given by their numbers.
 #[derive(Clone, Copy, Debug, PartialEq, Eq)]
 pub enum Mistake {
     /// That of this destruction lacks a class of its closure.

@@ -47,7 +47,7 @@ impl From<AllocError> for No {
 }
 
 impl No {
-    /// The number of the no; want of memory has none.
+    /// The number of the no; running out of memory has none.
     pub fn number(&self) -> Option<u8>
         ensures { result ≡ number_of self.now }
     {

@@ -419,7 +419,7 @@ once_top : (child : ℕ) (path : List Visit) → AreOnce child path → ¬ OnPat
 once_top child [] h on = on
 once_top child (v ∷ vs) h on = h.0 on
 
--- of the nodes so far, the last one first, none stands twice, and none is on the path that is left
+-- of the nodes so far, the last one first, none appears twice, and none is on the path that is left
 pub record AreSoFar (current : ℕ) (path : List Visit) (nodes : List ℕ) : Type 0 where
   pub once : AreOnce current path
   pub distinct : AreDistinct (reverse nodes)

@@ -53,7 +53,7 @@ begins_least nodes all p e inside least = λ b has.
     let head : get_or all 0 0 ≡ get_or nodes p 0 = ap (λ (l : List ℕ). get_or l 0 0) e ∙ first_at nodes p inside in
     omega arith
 
--- with its first node again at the end it is told whole
+-- with its first node again at the end it is reported whole
 closed : (rows : List (List ℕ)) (all told : List ℕ) → told ≡ all ++ get_or all 0 0 ∷ [] → LeadsRound rows all → AreDistinct all → ((b : ℕ) → Contains all b → get_or all 0 0 ≤ b) → IsToldCycle rows told
 closed rows [] told e round once least = absurd round
 closed rows (a ∷ xs) told e round once least =

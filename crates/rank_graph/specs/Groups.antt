@@ -12,7 +12,7 @@ use Rattle.rank_graph.specs.Entries.{owns, IsSearched}
 abbrev pub HasGroup : ℕ → List ℕ → Bits → Type 0
 HasGroup k classes s = (c : ℕ) → c < SIZE → (has s c ≡ true) ↔ Contains classes (SIZE * k + c)
 
--- .. for each node
+-- for each node just those of its classes that are in the group, by their places
 pub record AreGroup (k : ℕ) (own : List (List ℕ)) (bits : List Bits) : Type 0 where
   pub len : length bits ≡ length own
   pub members : (a c : ℕ) → c < SIZE → owns bits a c ↔ Edge own a (SIZE * k + c)

@@ -13,7 +13,7 @@ pub record IsWalk {X : Type 0} (E : X → X → Type 0) (from to : X) (nodes : L
   pub nodes_are : nodes ≡ from ∷ after
   pub leads : Leads E from after to
 
--- nothing stands twice in the list
+-- nothing appears twice in the list
 abbrev pub AreDistinct : {X : Type 0} → List X → Type 0
 AreDistinct [] = Unit {0}
 AreDistinct (x ∷ xs) = ¬ Contains xs x × AreDistinct xs
@@ -24,7 +24,7 @@ pub record IsPath {X : Type 0} (E : X → X → Type 0) (from to : X) (nodes : L
   pub walk : IsWalk E from to nodes
   pub once : AreDistinct nodes
 
--- .. of so many edges
+-- a path of so many edges
 pub record IsChain {X : Type 0} (E : X → X → Type 0) (count : ℕ) (from : X) (nodes : List X) : Type 0 where
   pub to : X
   pub path : IsPath E from to nodes
@@ -36,12 +36,12 @@ pub record ComesBack {X : Type 0} (E : X → X → Type 0) (x : X) (nodes : List
   pub walk : IsWalk E x x nodes
   pub some : 1 < length nodes
 
--- .. that comes to nothing twice, and to where it began at the end alone
+-- a walk that comes back to where it began, at its end alone, and to nothing else twice
 pub record IsCycle {X : Type 0} (E : X → X → Type 0) (x : X) (nodes : List X) : Type 0 where
   pub comes_back : ComesBack E x nodes
   pub once : AreDistinct (drop 1 nodes)
 
--- .. from the first of what it comes to: `B a b` says that a doesn't stand behind b
+-- a cycle from the first of what it comes to: `B a b` says that a doesn't come after b
 pub record IsCycleFromFirst {X : Type 0} (E B : X → X → Type 0) (nodes : List X) : Type 0 where
   pub first : X
   pub cycle : IsCycle E first nodes

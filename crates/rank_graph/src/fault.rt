@@ -7,8 +7,8 @@ use thiserror::Error;
 /// Why the nodes of a graph have no ranks.
 #[derive(Debug, Drop, Error)]
 pub enum Unranked {
-    /// These nodes, by number, are a cycle: an edge leads from each to the next. The least of them stands at both ends, and no
-    /// other one twice.
+    /// These nodes, by number, are a cycle: an edge leads from each to the next. The least of them is at both ends, and
+    /// no other one twice.
     #[error("there is a cycle")]
     Cycle(Items<usize>),
     /// A growth of memory was refused.

@@ -13,7 +13,7 @@ use sqlite_items::Items;
 use std::alloc::{AllocError, Global};
 
 /// A path along edges from the node to one that has the class itself: each node has the classes of its row of `own`. None of
-/// its nodes stands twice. Its error is that memory was refused.
+/// its nodes appears twice. Its error is that memory was refused.
 pub fn path_to(
     alloc: Global,
     rows: &[Items<usize>],
@@ -56,8 +56,8 @@ fn next_leading(nodes: &[usize], solution: &Solution, class: usize) -> Option<us
     None
 }
 
-/// A chain from the node of this many edges, of which there is one: none of its nodes stands twice. Its error is that memory
-/// was refused.
+/// A chain from the node of this many edges, of which there is one: none of its nodes appears twice. Its error is that
+/// memory was refused.
 pub fn chain_from(
     alloc: Global,
     rows: &[Items<usize>],

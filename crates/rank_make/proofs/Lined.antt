@@ -172,7 +172,7 @@ module _ (p : Loaded) (sound : IsSound p) (join : EdgesJoinNodes p) (scan : Scan
         let x = some_inside (nodes_of p) n inside in
         (x.0, x.1, are.line n x.0 line x.1 at)
 
-    -- the line of a node stands at its number
+    -- the line of a node is at its number
     number_of : (x : Node) (line : Line) → IsLineOf p certificate x line → (n : ℕ) × IsAt (nodes_of p) x n × IsLineFor p rank leads n x line
     number_of x line of =
         let at = place_of lines line of.stands in

@@ -48,7 +48,7 @@ module _ (p : Loaded) where
         placed = only.1;
       }
 
-  -- a node stands once
+  -- a node appears once
   pub one_number : (x : Node) (n m : ℕ) → IsAt (nodes_of p) x n → IsAt (nodes_of p) x m → n ≡ m
   one_number x n m h g =
       let a = place_in x n h in

@@ -1,4 +1,4 @@
--- Walks as they are told, from their numbers.
+-- Walks as they are reported, from their numbers.
 use Rattle.std.proofs.Common.{◌≡◌, ℕ, zero, suc, ◌<◌, ◌≤◌, List, [], ◌∷◌, length, get_or, slice_get, drop, Some, refl, sym, ap, ◌∙◌, subst, arith}
 use Rattle.std.specs.List.{Contains, AllZip}
 use Rattle.std.proofs.lemmas.Option.{slice_get_within, get_or_from_slice_get, same_Some, none-some}
@@ -46,7 +46,7 @@ module _ (p : Loaded) (scan : Scanned) (is : IsScan p scan) where
       let at = place_of numbers n held in
       walk_inside a ws b leads low at.0 n (subst (λ (l : List ℕ). slice_get l at.0 ≡ Some n) e at.1)
 
-  -- a walk by numbers is told by the nodes of these numbers
+  -- a walk by numbers is given by the nodes of these numbers
   walk_told : (a : ℕ) (ws : List ℕ) (b : ℕ) (numbers : List ℕ) (zs : List Node) (x : Node) → numbers ≡ a ∷ ws → Leads (Edge scan.rows) a ws b → AreAt scan.nodes numbers zs → IsAt (nodes_of p) x a
       → (y : Node) × IsAt (nodes_of p) y b × IsWalk (MayLead p) x y zs
   walk_told a ws b numbers zs x e leads zip at =

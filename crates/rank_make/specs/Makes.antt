@@ -15,7 +15,7 @@ use Rattle.rank_make.specs.Least.{IsLeastValid}
 abbrev pub NoneIsValid : Loaded → Type 0
 NoneIsValid p = (certificate : Certificate) → ¬ IsValid p certificate
 
--- What is named is so, the reasons before don't hold, and no certificate is valid; want of memory says nothing.
+-- What is named is so, the reasons before don't hold, and no certificate is valid; running out of memory says nothing.
 abbrev pub IsReason : Loaded → Why → Type 0
 IsReason p (Wire place) = IsFirstWithout (IsFitWire p) p.wires place × NoneIsValid p
 IsReason p (BodyType spot) = AreFitWires p × FindsUntyped p (Some spot) × NoneIsValid p

@@ -27,7 +27,7 @@ own_by closures c Destruction = row closures c
 abbrev pub own_of : List (List ℕ) → Node → List ℕ
 own_of closures x = own_by closures x.class x.member
 
--- .. for each node
+-- what each node destroys itself
 abbrev pub own_rows : Scanned → List (List ℕ)
 own_rows scan = map (own_of scan.closures) scan.nodes
 
@@ -43,11 +43,11 @@ pub record EndsItself (p : Loaded) (leads : ℕ → ℕ → Bool) (n : ℕ) (x :
   pub body : HasBody p x
   pub leads_to : leads n x.class ≡ true
 
--- none of the first nodes does
+-- none of the first nodes is of a slot or native that may destroy an object of its own class
 abbrev pub NoneEndsBefore : Loaded → (ℕ → ℕ → Bool) → ℕ → Type 0
 NoneEndsBefore p leads end = (n : ℕ) (x : Node) → n < end → ¬ EndsItself p leads n x
 
--- .. none does
+-- no slot or native may destroy an object of its own class
 abbrev pub NoneEnds : Loaded → (ℕ → ℕ → Bool) → Type 0
 NoneEnds p leads = (n : ℕ) (x : Node) → ¬ EndsItself p leads n x
 
@@ -80,6 +80,6 @@ pub record AreLinesTo (p : Loaded) (rank : ℕ → ℕ) (leads : ℕ → ℕ →
   pub count : length lines ≡ end
   pub line : (n : ℕ) (x : Node) (line : Line) → IsAt (nodes_of p) x n → slice_get lines n ≡ Some line → IsLineFor p rank leads n x line
 
--- .. of all nodes
+-- the lines of all nodes, in their order
 abbrev pub AreLinesFor : Loaded → (ℕ → ℕ) → (ℕ → ℕ → Bool) → List Line → Type 0
 AreLinesFor p rank leads lines = AreLinesTo p rank leads (length (nodes_of p)) lines

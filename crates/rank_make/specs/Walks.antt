@@ -13,7 +13,7 @@ use Rattle.rank_graph.specs.Walks.{IsWalk, AreDistinct, IsChain, ComesBack, IsCy
 abbrev pub NoCycle : Loaded → Type 0
 NoCycle p = (x : Node) (nodes : List Node) → ¬ ComesBack (MayLead p) x nodes
 
--- x doesn't stand behind y in the order of nodes
+-- x doesn't come after y in the order of nodes
 abbrev pub NotBehind : Loaded → Node → Node → Type 0
 NotBehind p x y = (n m : ℕ) → IsAt (nodes_of p) x n → IsAt (nodes_of p) y m → n ≤ m
 
@@ -34,7 +34,7 @@ pub record LeadsToDestruction (p : Loaded) (nodes : List Node) : Type 0 where
 abbrev pub NoDestroyPath : Loaded → Type 0
 NoDestroyPath p = (nodes : List Node) → ¬ LeadsToDestruction p nodes
 
--- .. that comes to none of its nodes twice
+-- a walk from a slot or native to such a destruction that comes to none of its nodes twice
 pub record IsDestroyPath (p : Loaded) (nodes : List Node) : Type 0 where
   pub leads : LeadsToDestruction p nodes
   pub once : AreDistinct nodes

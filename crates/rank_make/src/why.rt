@@ -15,8 +15,8 @@ pub enum Why {
     /// The first node that isn't typed, by the order of nodes, else the first such binding.
     #[error("a literal, a body or a binding isn't typed")]
     BodyType(Spot),
-    /// The nodes of a cycle of edges, from its first one in the order of nodes back to it: that one stands at both ends, and
-    /// no other one twice.
+    /// The nodes of a cycle of edges, from its first one in the order of nodes back to it: that one is at both ends,
+    /// and no other one twice.
     #[error("members lead back to themselves")]
     Cycle(Items<Node>),
     /// The nodes of a path along edges from a slot or native of a class C to a `~X` whose closure holds C, none of them

@@ -153,7 +153,7 @@ impl<N: Answering> Interpreter<N> {
     }
 
     /// Schedules an object for deletion by a statement, where `depth` activations are on the stack. An object that is
-    /// scheduled already, or doesn't live, changes nothing; nor does want of memory.
+    /// scheduled already, or doesn't live, changes nothing; nor does running out of memory.
     pub fn schedule(&self, world: &mut World, depth: usize, object: ObjectId) -> Result<(), Fault>
         requires sound { IsSoundWorld self.now.meta world.old }
         requires left { 0 < world.old.left }

@@ -20,7 +20,7 @@ use trace_entries::Fault;
 
 impl<N: Answering> Interpreter<N> {
     /// Takes the answer of a native, carries its actions out, and ends its body. A native that was refused memory stops the
-    /// run, as any other want of memory does.
+    /// run, as running out of memory elsewhere does.
     #[cycle(machine)]
     pub fn run_native(
         &self,

@@ -16,7 +16,7 @@ HaveEvents [] n = n ≡ 0
 HaveEvents (line ∷ lines) n =
     (IsEmptyLine line × HaveEvents lines n) ⊎ ((k : ℕ) × (¬ IsEmptyLine line) × (n ≡ k + 1) × HaveEvents lines k)
 
--- the line has an event of the script, and stands behind those of the events before it
+-- the line has an event of the script, and comes after those of the events before it
 pub record IsEventLine (script : List ℕ) (event : ℕ) (found : EventLine) : Type 0 where
   pub before : List (List ℕ)
   pub from_line : List ℕ

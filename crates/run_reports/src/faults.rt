@@ -1,4 +1,4 @@
-//! What is told of a fault.
+//! What is reported of a fault.
 
 use crate::active::active;
 use crate::events::nature_in;
@@ -24,9 +24,9 @@ struct LastEvent {
     was_refused: bool,
 }
 
-/// What is told of a fault that ended a run with this trace, behind what the fault means: the event at which it came, or the two at one of which
-/// it came where the trace doesn't tell more, with the event's line; what that event had begun; and what to do. Where the
-/// input isn't known no line is told.
+/// What is reported of a fault that ended a run with this trace, behind what the fault means: the event at which it
+/// came, or the two at one of which it came where the trace doesn't tell more, with the event's line; what that event
+/// had begun; and what to do. Where the input isn't known no line is reported.
 pub fn fault_report(
     alloc: Global,
     input: Option<&[u8]>,

@@ -1,11 +1,11 @@
-//! What is told of refused events.
+//! What is reported of refused events.
 
 use crate::script::Script;
 use diagnostics::meaning;
 use std::alloc::{AllocError, Global};
 use trace_entries::Entry;
 
-/// So many refused events are told.
+/// So many refused events are reported.
 const MOST_TOLD: usize = 100;
 
 /// An event that was refused, and why.
@@ -17,8 +17,8 @@ struct RefusedEvent {
     reason: u8,
 }
 
-/// What is told of the events that were refused in a run with this trace: of each of the first 100 what its reason means, and
-/// its line, where the input is known; and how many more there were. `None` where no event was refused.
+/// What is reported of the events that were refused in a run with this trace: of each of the first 100 what its reason
+/// means, and its line, where the input is known; and how many more there were. `None` where no event was refused.
 pub fn refusal_report(
     alloc: Global,
     input: Option<&[u8]>,
@@ -57,7 +57,7 @@ fn refused_events(alloc: Global, trace: &[Entry]) -> Result<Vec<RefusedEvent>, A
     Ok(refused)
 }
 
-/// Adds what is told of a refused event.
+/// Adds what is reported of a refused event.
 fn push_refusal(
     text: &mut String,
     alloc: Global,

@@ -66,7 +66,7 @@ impl Choice {
         }
     }
 
-    /// The script of those that aren't left out, and don't stand at these places either.
+    /// The script of those that aren't left out, and aren't at these places either.
     pub fn script(&self, alloc: Global, part: Part) -> Result<String, AllocError> {
         let mut script = String::new(alloc);
         for (place, event) in self.events.iter().enumerate() {

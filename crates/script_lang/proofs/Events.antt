@@ -25,7 +25,7 @@ use Rattle.script_lang.specs.Grammar.{InputReading, literal, named, spell_input,
 use Rattle.script_lang.specs.code.Grammar.{tree_of_invocation, ReadsFollow, ReadsEvent}
 use Rattle.script_lang.proofs.OneTree.{literal_unnamed, no_name_at_end, how_at_end, one_verb}
 
--- the same reading of a whole line, whose tree stands in another one
+-- the same reading of a whole line, whose tree is in another one
 pub within : {R A B : Type 0} {spell : R → List Token → List Token} {tree : R → A} {before after : List Token} {a : A} (outer : A → B) → Found spell tree EndsAnywhere before a after → Found spell (λ r. outer (tree r)) IsAtEnd before (outer a) after
 within outer f = record { reading = f.reading; spelled = f.spelled; tree_is = ap outer f.tree_is; only = λ r rest ends g. f.only r rest tt g }
 

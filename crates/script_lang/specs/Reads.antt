@@ -20,7 +20,7 @@ pub record IsEventLine (line : List ℕ) (event : Event) : Type 0 where
   pub cut : AreTokens line tokens
   pub is_event : IsEvent tokens event
 
--- what stands in a line: nothing, or an event
+-- what is in a line: nothing, or an event
 abbrev pub Holds : List ℕ → Option Event → Type 0
 Holds line None = IsEmptyLine line
 Holds line (Some event) = IsEventLine line event
@@ -73,7 +73,7 @@ HasOneContent line = (a b : Option Event) → Holds line a → Holds line b → 
 abbrev pub HasOneScript : List ℕ → Type 0
 HasOneScript text = (a b : List Event) → IsScript text a → IsScript text b → a ≡ b
 
--- .. and one answer, where memory isn't refused
+-- the text has one answer at most, where memory isn't refused
 abbrev pub HasOneAnswer : List ℕ → Type 0
 HasOneAnswer text =
     (a b : Result (List Event) ScriptFault) → ReadsScript text a → ReadsScript text b → a ≢ Err Memory → b ≢ Err Memory → a ≡ b

@@ -53,7 +53,7 @@ impl Verb {
         }
     }
 
-    /// .. that the reserved word is.
+    /// The verb that the reserved word is, or `None` where it is no verb.
     fn reserved(word: Word) -> Option<Verb>
         ensures { IsVerbOf (token.Word word) result }
     {
@@ -69,7 +69,7 @@ impl Verb {
         }
     }
 
-    /// .. that the name is.
+    /// The verb that the name is, or `None` where it is no verb.
     fn named(name: &Name) -> Option<Verb>
         ensures { IsVerbOf (token.Name name.now) result }
     {

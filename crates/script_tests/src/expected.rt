@@ -9,7 +9,7 @@ use thiserror::Error;
 /// How a line begins that expects a line of the trace.
 const MARK: &[u8] = b"//=";
 
-/// Behind what a number stands at the end of an event's line.
+/// What comes before a number at the end of an event's line.
 const REFUSED: &[u8] = b"// refused";
 
 const FAULT: &[u8] = b"// fault";

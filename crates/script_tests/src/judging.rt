@@ -12,8 +12,8 @@ pub struct Test<'t> {
 }
 
 /// What the script expects of each of its events, and what the trace of its run tells of that event. A fault that comes
-/// where the next event is to be taken has its line below the event before; it is told of the next one, if that is expected
-/// to stop the run so. Errors: as of `expectations`.
+/// where the next event is to be taken has its line below the event before; it is reported of the next one, if that is
+/// expected to stop the run so. Errors: as of `expectations`.
 pub fn judge<'t>(
     alloc: Global,
     script: &'t [u8],

@@ -21,7 +21,7 @@ use Rattle.signatures.specs.declared.word.Word.TheVariants as reserved
 pub const_is_reserved : (name : List ℕ) → IsFreeName name → name ≡ codes "const" → ⊥
 const_is_reserved name h e = h.free reserved.Const e
 
--- what stands behind a type comes next
+-- what may follow a type comes next
 pub record AtSeparator (tokens : List Token) : Type 0 where
   pub is_last : Bool
   pub rest : List Token

@@ -13,7 +13,7 @@ use Rattle.signatures.specs.declared.sig.Sig.{Sig}
 abbrev pub OneNormalForm : Type 0
 OneNormalForm = (text : List ℕ) → (a b : Sig) → Normal text a → Normal text b → a ≡ b
 
--- a text has at most one answer, want of memory aside
+-- a text has at most one answer, unless memory runs out
 abbrev pub OneAnswer : Type 0
 OneAnswer = (text : List ℕ) → (a b : Result Sig SigFault) → Normalises text a → Normalises text b → (a ≡ Err Memory) ⊎ (b ≡ Err Memory) ⊎ (a ≡ b)
 

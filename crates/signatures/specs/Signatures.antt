@@ -120,7 +120,7 @@ pub record HasTooMany (text : List ℕ) : Type 0 where
   pub typed : IsTyped text sig
   pub many : most_parameters < length sig.types
 
--- the normal form of the text, or the first thing that is wrong with it; want of memory says nothing of the text
+-- the normal form of the text, or the first thing that is wrong with it; running out of memory says nothing of the text
 abbrev pub Normalises : List ℕ → Result Sig SigFault → Type 0
 Normalises text (Ok sig) = Normal text sig
 Normalises text (Err BadName) = ¬ IsFramed text
@@ -130,7 +130,7 @@ Normalises text (Err Memory) = Unit {0}
 
 -- ---- faults
 
--- the number of a refusal; want of memory has none
+-- the number of a refusal; running out of memory has none
 abbrev pub number_of : SigFault → Option ℕ
 number_of BadName = Some 1
 number_of BadType = Some 2

@@ -35,7 +35,7 @@ impl From<AllocError> for SigFault {
 }
 
 impl SigFault {
-    /// The refusal's number; want of memory has none.
+    /// The refusal's number; running out of memory has none.
     pub fn number(&self) -> Option<u8>
         ensures { result ≡ number_of self.now }
     {

@@ -6,7 +6,7 @@ ghost use Rattle.signatures.specs.Normal.{normal_of};
 use crate::name::Name;
 use crate::qtype::QType;
 
-/// Where `const` stands in a spelled type.
+/// Where `const` is in a spelled type.
 #[derive(Clone, Copy, Debug, PartialEq, Eq)]
 pub enum ConstPlace {
     /// Nowhere.

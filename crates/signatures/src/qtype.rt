@@ -10,7 +10,7 @@ use std::alloc::{AllocError, Global};
 pub struct QType {
     /// The name T.
     pub name: Name,
-    /// Whether `const` stands in front, which it does of pointers only.
+    /// Whether `const` is in front, as it is of pointers only.
     pub constant: bool,
     /// Whether it is a pointer.
     pub pointer: bool,
@@ -90,14 +90,14 @@ impl QType {
     }
 }
 
-/// What stands in front of a constant type's name.
+/// What comes before a constant type's name.
 fn const_text(constant: bool) -> &'static [u8]
     ensures { result.now ≡ const_text constant }
 {
     if constant { b"const " } else { b"" }
 }
 
-/// What stands behind a pointer's name.
+/// What follows a pointer's name.
 fn star_text(pointer: bool) -> &'static [u8]
     ensures { result.now ≡ star_text pointer }
 {

@@ -48,7 +48,7 @@ pub fn normalise(alloc: Global, text: &str) -> Result<Sig, SigFault>
     Ok(Sig { name, types })
 }
 
-/// A text has at most one normal form, with at most 8 parameters, and at most one answer, want of memory aside.
+/// A text has at most one normal form, with at most 8 parameters, and at most one answer, unless memory runs out.
 pub fn one_normal_form()
     ensures one { OneNormalForm }
     ensures few { AtMostEight }
@@ -153,7 +153,7 @@ impl<'a> Scanner<'a> {
         }
     }
 
-    /// A type and what stands behind it: the type in its normal form, and whether it is the last one.
+    /// A type and what follows it: the type in its normal form, and whether it is the last one.
     fn kind(&mut self, alloc: Global) -> Result<(QType, bool), SigFault>
         ensures read { ReadsType self.old result self.new }
         ensures shorter { OnOk result (length self.new < length self.old) }

@@ -59,7 +59,7 @@ fn line_of<'e>(alloc: Global, scanner: &mut Scanner<'e>) -> Result<EffectLine<'e
     })
 }
 
-/// Takes a verb, and adds what stands behind it.
+/// Takes a verb, and adds what follows it.
 fn push_effects<'e>(
     alloc: Global,
     scanner: &mut Scanner<'e>,

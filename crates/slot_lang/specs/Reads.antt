@@ -9,7 +9,7 @@ use Rattle.token_reading.specs.Signatures.{HasPlainReference}
 use Rattle.syntax_trees.specs.declared.syntax.Stmt.{Stmt}
 use Rattle.texts.specs.declared.token.Token.{Token}
 
--- the number of a refusal; want of memory has none
+-- the number of a refusal; running out of memory has none
 abbrev pub number_of : BodyFault → Option ℕ
 number_of Syntax = Some 5
 number_of BadType = Some 2
@@ -38,7 +38,7 @@ pub record IsAccepted (tokens : List Token) (body : List Stmt) : Type 0 where
   pub normal : IsNormalBody tokens body
   pub few : All HasFewTypes (signatures_in body)
 
--- the body, or the first thing that is wrong; want of memory says nothing of the tokens
+-- the body, or the first thing that is wrong; running out of memory says nothing of the tokens
 abbrev pub ReadsBody : List Token → Result (List Stmt) BodyFault → Type 0
 ReadsBody tokens (Ok body) = IsAccepted tokens body
 ReadsBody tokens (Err Syntax) = IsNoBody tokens
@@ -46,7 +46,7 @@ ReadsBody tokens (Err BadType) = HasBadType tokens
 ReadsBody tokens (Err TooMany) = HasTooManyParameters tokens
 ReadsBody tokens (Err Memory) = Unit {0}
 
--- tokens have at most one answer, want of memory aside
+-- tokens have at most one answer, unless memory runs out
 abbrev pub OneAnswer : Type 0
 OneAnswer =
     (tokens : List Token) (a b : Result (List Stmt) BodyFault) → ReadsBody tokens a → ReadsBody tokens b → (a ≡ Err Memory) ⊎ (b ≡ Err Memory) ⊎ (a ≡ b)

@@ -57,7 +57,7 @@ pub fn parse_body(alloc: Global, tokens: &[Token]) -> Result<Body, BodyFault>
     Ok(body)
 }
 
-/// Tokens have at most one answer as a body, want of memory aside.
+/// Tokens have at most one answer as a body, unless memory runs out.
 pub fn one_answer()
     ensures { OneAnswer }
 {}

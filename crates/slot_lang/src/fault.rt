@@ -38,7 +38,7 @@ impl From<ParseFault> for BodyFault {
 }
 
 impl BodyFault {
-    /// The refusal's number; want of memory has none.
+    /// The refusal's number; running out of memory has none.
     pub fn number(&self) -> Option<u8>
         ensures { result ≡ number_of self.now }
     {

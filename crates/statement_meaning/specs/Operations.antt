@@ -36,7 +36,7 @@ pub data Operation : Type 0 where
   Disconnect : (ends : Endpoints) → Operation
   -- an object is deleted
   Delete : (object : ℕ) → Operation
-  -- .. when control returns to the event loop in which it lives
+  -- an object is deleted when control returns to the event loop in which it lives
   Schedule : (object : ℕ) → Operation
   -- a native's answer is taken
   TakeAnswer : (effects : MetaEffects) → Operation

@@ -35,7 +35,7 @@ abbrev pub path_value : List Object → ℕ → List Value → MetaPath → Opti
 path_value objects o arguments path =
     steps_value objects path.steps (option_map (seen objects) (root_value o arguments path.root))
 
--- .. that an expression has
+-- the value that an expression has, for the object o and the arguments of a call
 abbrev pub value_of : List Object → ℕ → List Value → Expr MetaPath → Option Value
 value_of objects o arguments e = Evaluation.value (path_value objects o arguments) e
 

@@ -35,7 +35,7 @@ pub enum Operation<'p> {
     Disconnect(Endpoints),
     /// An object is deleted.
     Delete(ObjectId),
-    /// .. when control returns to the event loop in which it lives.
+    /// An object is deleted when control returns to the event loop in which it lives.
     Schedule(ObjectId),
     /// Nothing, since a path leads to null.
     Nothing,
@@ -192,7 +192,7 @@ impl<'w> Scope<'w> {
         Ok(Operation::Delete(target))
     }
 
-    /// .. when control returns to its event loop.
+    /// The object that a path leads to is deleted when control returns to its event loop.
     fn later_deletion<'p>(&self, path: &MetaPath) -> Result<Operation<'p>, EvalFault>
         ensures { Yields (operation_in self.now (Later path.now)) result }
     {

@@ -184,7 +184,7 @@ pub struct Site {
     pub property: Name,
     /// The formal sources, at most 8, in their order.
     pub formals: Items<Formal>,
-    /// What the property is bound to: no null stands in it, and each of its paths is a property of a formal source.
+    /// What the property is bound to: no null is in it, and each of its paths is a property of a formal source.
     pub expression: Expr<Path>,
 }
 

@@ -4,7 +4,7 @@ use Rattle.std.proofs.lemmas.List.{length-append}
 use Rattle.texts.specs.Lines.{IsFrontLine, AreFrontLines}
 use Rattle.texts.proofs.FrontLines.{one_more_line}
 
--- so many lines stand in front of what is left
+-- so many lines come before what is left
 pub record LinesSoFar (text : List ℕ) (number : ℕ) (left : List ℕ) : Type 0 where
   pub lines : List (List ℕ)
   pub lead : AreFrontLines text lines left

@@ -2,7 +2,7 @@
 use Rattle.std.specs.Prelude.{ℕ, ◌≡◌, ◌+◌, ◌≤◌, List, length}
 use Rattle.texts.specs.Lines.{IsFrontLine, AreFrontLines}
 
--- the byte stands in the line of this number, counted from 1, or at its end, and so behind the lines before it
+-- the byte is in the line of this number, counted from 1, or at its end, and so behind the lines before it
 pub record IsInLine (text : List ℕ) (number at : ℕ) : Type 0 where
   pub before : List (List ℕ)
   pub from_line : List ℕ

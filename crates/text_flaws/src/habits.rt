@@ -297,7 +297,7 @@ impl Habit {
 }
 
 impl Spot {
-    /// Whether a misfit stands at such a spot.
+    /// Whether a misfit is at such a spot.
     fn holds(self, misfit: Misfit) -> bool {
         let word = |word| misfit.wants_word(word);
         let symbol = |symbol| misfit.wants_symbol(symbol);

@@ -190,7 +190,7 @@ fn is_plain_reference(source: Source, at: usize) -> bool {
 }
 
 /// The first signature with more than eight types or parameters, or binding with more formal sources. Those of a certificate
-/// stand behind a dot.
+/// come after a dot.
 pub fn parameters_flaw(
     alloc: Global,
     source: Source,

@@ -14,7 +14,7 @@ use token_reading::{Trail, Wanted};
 pub struct Misfit<'a> {
     /// The text, which may be a line of one.
     pub source: Source<'a>,
-    /// How many tokens stand in front of it.
+    /// How many tokens come before it.
     pub at: usize,
     trail: &'a Trail,
 }
@@ -69,12 +69,12 @@ impl<'a> Misfit<'a> {
         })
     }
 
-    /// Whether it stands in a line by itself, of a script or of a certificate, or in front of all declarations.
+    /// Whether it is in a line by itself, of a script or of a certificate, or in front of all declarations.
     pub fn is_in_line(self) -> bool {
         self.trail.begun().is_empty()
     }
 
-    /// The first token of the innermost part in which it stands: a statement, a member, a declaration or a line.
+    /// The first token of the innermost part in which it is: a statement, a member, a declaration or a line.
     pub fn head(self) -> usize {
         let begun = self.trail.begun().iter().filter(|begun| begun.at < self.at);
         begun.last().map_or(0, |begun| begun.at)
@@ -126,7 +126,7 @@ impl<'a> Misfit<'a> {
         Ok(sentence)
     }
 
-    /// The first token that can't stand in the expression of a binding, where one was read to its `;`.
+    /// The first token that can't be in the expression of a binding, where one was read to its `;`.
     fn of_no_binding(self) -> Option<usize> {
         if !self.source.is(self.at, Symbol::Semicolon) || !self.wants_symbol(Symbol::Semicolon) {
             return None;

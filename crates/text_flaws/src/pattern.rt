@@ -1,10 +1,10 @@
 //! Patterns of tokens around a misfit.
 //!
-//! A pattern is words with blanks between them: what stands in front of the misfit, `^`, and what stands from it on. In front of
-//! ` .. ` it may say with which token the innermost part begins in which the misfit stands. A word is a token as it is spelled,
-//! or one of several with `/` between them, or a kind of tokens: `$name`, `$word` (a reserved word), `$number`, `$text`, `$any`,
-//! `$tail` (a name right behind the token before it), `$path` (`this` or a name, and names behind dots or arrows, as far as they
-//! go), `$end` (the end of the text).
+//! A pattern is words with blanks between them: what comes before the misfit, `^`, and what comes from it on. In front
+//! of ` .. ` it may say with which token the innermost part begins in which the misfit is. A word is a token as it
+//! is spelled, or one of several with `/` between them, or a kind of tokens: `$name`, `$word` (a reserved word),
+//! `$number`, `$text`, `$any`, `$tail` (a name right behind the token before it), `$path` (`this` or a name, and names
+//! behind dots or arrows, as far as they go), `$end` (the end of the text).
 
 use crate::misfit::Misfit;
 use crate::source::Source;

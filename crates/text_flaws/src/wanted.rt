@@ -106,7 +106,7 @@ fn push_one(text: &mut String, wanted: Wanted) -> Result<(), AllocError> {
     text.push('`')
 }
 
-/// How a symbol is told that is looked for by itself, as no operator is.
+/// How a symbol is reported that is looked for by itself, as no operator is.
 fn quoted(symbol: Symbol) -> &'static str {
     match symbol {
         Symbol::OpenBrace => "`{`",

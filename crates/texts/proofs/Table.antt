@@ -6,7 +6,7 @@ use Rattle.texts.specs.Symbols.{spelling, Begins, IsSymbolAt}
 use Rattle.texts.specs.declared.symbol.Symbol.{Symbol}
 use Rattle.texts.specs.declared.symbol.Symbol.TheVariants as s
 
--- none of these symbols stands at the front
+-- none of these symbols is at the front
 abbrev pub NoneBegins : List Symbol → List ℕ → Type 0
 NoneBegins symbols bytes = AllByRecursion (λ s. ¬ Begins (spelling s) bytes) symbols
 

@@ -39,7 +39,7 @@ IsComment bytes rest = (tail line : List ℕ) × (bytes ≡ 47 ∷ tail) × IsRu
 abbrev pub IsQuoted : List ℕ → List ℕ → List ℕ → Type 0
 IsQuoted bytes inner rest = IsRun run.Text bytes inner (34 ∷ rest)
 
--- the piece stands at the front of the bytes, and `rest` follows it
+-- the piece is at the front of the bytes, and `rest` follows it
 abbrev pub IsFront : Piece → List ℕ → List ℕ → Type 0
 IsFront (blank b) bytes rest = (is_blank b ≡ true) × (bytes ≡ b ∷ rest)
 IsFront (comment line) bytes rest = (tail : List ℕ) × (bytes ≡ 47 ∷ 47 ∷ tail) × IsRun run.Line tail line rest

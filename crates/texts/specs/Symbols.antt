@@ -29,7 +29,7 @@ spelling s.Arrow = codes "->"
 spelling s.Ampersand = codes "&"
 spelling s.Tilde = codes "~"
 
--- the front stands at the front of the bytes
+-- the front is at the front of the bytes
 abbrev pub Begins : List ℕ → List ℕ → Type 0
 Begins front bytes = (rest : List ℕ) × (bytes ≡ front ++ rest)
 

@@ -21,7 +21,7 @@ pub fn split_line(text: &[u8]) -> Option<(&[u8], &[u8])>
     }
 }
 
-/// What stands in front of the first line that is `line`, whole lines, and what follows it; `None` where no line of the text
+/// What comes before the first line that is `line`, whole lines, and what follows it; `None` where no line of the text
 /// is that one.
 pub fn split_at_line<'a>(text: &'a [u8], line: &[u8]) -> Option<(&'a [u8], &'a [u8])>
     ensures { SplitsAtLine line.now text.now result }

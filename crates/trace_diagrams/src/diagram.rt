@@ -31,7 +31,7 @@ fn depth_of(depth: u64) -> usize {
     usize::try_from(depth).unwrap_or(usize::MAX)
 }
 
-/// Draws what a line says that happens at a depth, of which this stands behind the depth.
+/// Draws what a line says that happens at a depth, of which this comes after the depth.
 fn draw<'t>(
     drawing: &mut Drawing<'t>,
     depth: usize,

@@ -1,4 +1,4 @@
-//! What stands at an arrow or in a note.
+//! What is written at an arrow or in a note.
 
 use std::alloc::AllocError;
 use std::str;

@@ -66,7 +66,7 @@ pub record ShownLine : Type 0 where
   pub text : List ℕ
   pub shown : List ℕ
 
--- The line stands at the front of the text, and what it is shown as at the front of the output; where a newline ends the
+-- The line is at the front of the text, and what it is shown as at the front of the output; where a newline ends the
 -- one, a newline ends the other.
 pub record ShowsFront (colours : Bool) (line : ShownLine) (input output input_rest output_rest : List ℕ) : Type 0 where
   pub unbroken : AllByRecursion (λ b. b ≢ 10) line.text
@@ -75,7 +75,7 @@ pub record ShowsFront (colours : Bool) (line : ShownLine) (input output input_re
       ((input ≡ line.text ++ 10 ∷ input_rest) × (output ≡ line.shown ++ 10 ∷ output_rest))
       ⊎ ((line.text ≢ []) × (input ≡ line.text) × (output ≡ line.shown) × (input_rest ≡ []) × (output_rest ≡ []))
 
--- the output is what the lines are shown as that stand at the front of the text, before this rest of it
+-- the output is what the lines at the front of the text, before this rest of it, are shown as
 abbrev pub ShowsUpTo : Bool → List ShownLine → List ℕ → List ℕ → List ℕ → Type 0
 ShowsUpTo colours [] input rest output = (input ≡ rest) × (output ≡ [])
 ShowsUpTo colours (line ∷ lines) input rest output =

@@ -13,8 +13,8 @@ const NEWLINE: u8 = 10;
 
 /// Writes each line that the reader has left as it is shown, to the reader's end. Of the trace one line is kept at a time.
 ///
-/// The error is the reader's, the writer's or want of memory. Then the lines before were written, each but the last one
-/// of them in full.
+/// The error is the reader's, the writer's, or that memory ran out. Then the lines before were written, each but the
+/// last one of them in full.
 pub fn show_trace<R: BufRead, W: Write>(
     alloc: Global,
     reader: &mut R,

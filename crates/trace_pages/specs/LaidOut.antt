@@ -33,7 +33,7 @@ pub record IsLaidOutBeside (colours : Bool) (statements : List (List ℕ)) (trac
   pub cut : AreLines trace lines
   pub laid_out : AreLaidOutAs colours statements lines output
 
--- .. beside its script
+-- a trace is laid out beside its script
 pub record IsLaidOut (colours : Bool) (trace script output : List ℕ) : Type 0 where
   pub statements : List (List ℕ)
   pub of_script : AreStatements script statements

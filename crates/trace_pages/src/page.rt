@@ -77,7 +77,7 @@ impl<'s> Page<'s> {
         self.text.push_str("</div>\n")
     }
 
-    /// Adds a fault. It stands behind all events, since the last one that began need not be the one in which it came.
+    /// Adds a fault. It comes after all events, since the last one that began need not be the one in which it came.
     fn add_fault(&mut self, line: &[u8]) -> Result<(), AllocError> {
         self.close()?;
         self.text.push_str("<p class=\"fault\">")?;

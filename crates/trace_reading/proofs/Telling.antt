@@ -180,6 +180,6 @@ module _ (text word : List ℕ) (after : Option (Bor (List ℕ))) (c : CutsWord 
               told (inl t) = (g.0, inl (rest.now, t, whole))
               told (inr r) = (g.0, inr (r.0, r.1, (rest.now, r.2, whole)))
 
--- what is answered is the event of what is told
+-- what is answered is the event of what is reported
 pub found_as : (text : List ℕ) (told also : Option TraceLine) (found : Option ℕ) → told ≡ also → found ≡ event_of also → ((event : ℕ) → IsEventsLine text event ↔ (event_of told ≡ Some event)) → (event : ℕ) → IsEventsLine text event ↔ (found ≡ Some event)
 found_as text told also found t f each = subst (λ o. (event : ℕ) → IsEventsLine text event ↔ (o ≡ Some event)) (ap event_of t ∙ sym f) each

@@ -6,7 +6,7 @@ ghost use Rattle.trace_reading.specs.Words.{CutsWord};
 
 const BLANK: u8 = 32;
 
-/// What stands before the first blank, and what stands behind it; `None` where there is no blank.
+/// What comes before the first blank, and what follows it; `None` where there is no blank.
 pub fn cut_word(text: &[u8]) -> (&[u8], Option<&[u8]>)
     ensures { CutsWord text.now result.0.now result.1 }
 {

@@ -1,4 +1,4 @@
--- Where `run` accepts, it refuses nothing but for want of memory, and runs what it accepts.
+-- Where `run` accepts, it refuses nothing unless memory runs out, and runs what it accepts.
 use Rattle.std.proofs.Common.{◌≡◌, ◌≢◌, ℕ, ◌⊎◌, inl, inr, List, Some, None, Result, Ok, Err, refl, sym, ap, ◌∙◌, subst}
 use Rattle.certificate_lang.specs.declared.certificate.Certificate.{Certificate}
 use Rattle.meta_model.specs.Loaded.{Loaded}

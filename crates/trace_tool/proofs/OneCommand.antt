@@ -122,7 +122,7 @@ cuts-once command input (Err (Texts m)) (Err (Texts n)) x y =
 
 -- ---- the commands on programs
 
--- each thing but want of memory is the same as itself
+-- each thing but that memory ran out is the same as itself
 same-or-short : (a : ProgramOutcome) → IsShortOfProgram a ⊎ IsSameOfProgram a a
 same-or-short (of_program.Refused r) = inr refl
 same-or-short (of_program.Classes p) = inr refl

@@ -1,4 +1,4 @@
--- What runs and command lines come to (docs/commands.md). Want of memory outside a run may come at any time before the run;
+-- What runs and command lines come to (docs/commands.md). Memory may run out outside a run at any time before the run;
 -- that it comes only where a growth of memory was refused is not stated here.
 use Rattle.std.specs.Prelude.{◌≡◌, ℕ, ◌<◌, ◌≤◌, ◌⊎◌, List, [], ◌∷◌, length, take, Option, Result, Ok, Err, IfSome}
 use Rattle.std.specs.Borrow.{Bor}
@@ -74,7 +74,7 @@ abbrev pub Accepts : List NativeHead → List ℕ → List ℕ → List ℕ → 
 Accepts heads program certificate script loaded read events =
     Accepting heads program certificate script (Ok (record { program = loaded; certificate = read }, events))
 
--- the run of a machine that is accepted ends whole, or at the step limit, or for want of memory
+-- the run of a machine that is accepted ends whole, or at the step limit, or as memory runs out
 abbrev pub EndsAtLimit : Result (Unit {0}) Fault → Type 0
 EndsAtLimit (Ok _) = Unit {0}
 EndsAtLimit (Err fault) = IsLimit fault
@@ -91,7 +91,7 @@ RunComesTo gives heads natives program certificate script steps =
     First (Accepting heads program certificate script) refused (λ both.
     RunsFaultless gives (begun both.0.program natives both.0.certificate.bound steps) both.1)
 
--- where it accepts: the run of this program for these events; or, for want of memory, `memory`
+-- where it accepts: the run of this program for these events; or, where memory runs out, `memory`
 abbrev pub AcceptedComesTo : {N : Type 0} → (N → NativeAnswers) → N → Loaded → Certificate → List Event → ℕ → Outcome N → Type 0
 AcceptedComesTo gives natives loaded read events steps outcome =
     RunsFaultless gives (begun loaded natives read.bound steps) events outcome ⊎ IsShort outcome
@@ -137,7 +137,7 @@ Does gives heads natives (RunUnchecked options) (program ∷ script ∷ []) outc
     UncheckedRunComesTo gives heads natives program script options.depth options.steps outcome
 Does gives heads natives command texts outcome = ⊥
 
--- .. with its input
+-- what a command comes to with its input
 abbrev pub InputComesTo : {N : Type 0} → (N → NativeAnswers) → List NativeHead → N → Command → List ℕ → Outcome N → Type 0
 InputComesTo gives heads natives command input = First (Cuts command input) Usage (Does gives heads natives command)
 
@@ -165,7 +165,7 @@ pub record ReadsAndComesTo {N : Type 0} (gives : N → NativeAnswers) (heads : L
   pub reads : Reads left input
   pub comes : CommandComesTo gives heads natives words input outcome
 
--- .. and that is written
+-- what a command line comes to for what was read is written
 abbrev pub WritesCommand : {N E : Type 0} → (N → NativeAnswers) → List NativeHead → N → List (List ℕ) → Option (List ℕ) →
     Option (List ℕ) → Option (List ℕ) → Result ℕ E → Type 0
 WritesCommand gives heads natives words left before after result = Writes (ReadsAndComesTo gives heads natives words left) before after result

@@ -24,7 +24,7 @@ use Rattle.trace_tool.specs.declared.outcome.Ran.{Ran}
 use Rattle.trace_tool.specs.Commands.{RunComesTo, UncheckedRunComesTo, CommandComesTo}
 use Rattle.trace_tool.specs.Outcomes.{outcome_text, outcome_status, IsShort}
 
--- Where nothing was done nothing stands in front of `usage` or `memory`, nor behind it; after a read that failed nothing is
+-- Where nothing was done nothing comes before `usage` or `memory`, nor after it; after a read that failed nothing is
 -- written at all.
 abbrev pub UndoneIsALine : Type 0 → Type 0
 UndoneIsALine N =
@@ -39,36 +39,36 @@ pub record AreOneRun {N : Type 0} (x y : Ran N) : Type 0 where
   pub enough : x.ended ≡ Ok tt → y.ended ≢ Err Steps
   pub enough_too : y.ended ≡ Ok tt → x.ended ≢ Err Steps
 
--- .. and of commands on programs which cycle, path or chain shows why there is no certificate isn't fixed
+-- outcomes are the same; but which cycle, path or chain shows why a program has no certificate isn't fixed
 abbrev pub IsSameOutcome : {N : Type 0} → Outcome N → Outcome N → Type 0
 IsSameOutcome (OfRun x) (OfRun y) = AreOneRun x y
 IsSameOutcome (Program x) (Program y) = IsSameOfProgram x y
 IsSameOutcome a b = a ≡ b
 
--- Where natives have one answer to one question, and but for want of memory outside a run: `run` comes to one refusal, or to one
--- run ..
+-- Where natives have one answer to one question, and unless memory runs out outside a run, `run` comes to one refusal,
+-- or to one run.
 abbrev pub OneRunOutcome : {N : Type 0} → (N → NativeAnswers) → Type 0
 OneRunOutcome {N} gives =
     (heads : List NativeHead) (natives : N) (program certificate script : List ℕ) (steps : ℕ) (a b : Outcome N) →
     AnswersOnce (gives natives) → RunComesTo gives heads natives program certificate script steps a →
     RunComesTo gives heads natives program certificate script steps b → IsShort a ⊎ IsShort b ⊎ IsSameOutcome a b
 
--- .. and so does `run --unchecked`
+-- So `run --unchecked` comes to one refusal, or to one run.
 abbrev pub OneUncheckedOutcome : {N : Type 0} → (N → NativeAnswers) → Type 0
 OneUncheckedOutcome {N} gives =
     (heads : List NativeHead) (natives : N) (program script : List ℕ) (depth steps : ℕ) (a b : Outcome N) →
     AnswersOnce (gives natives) → UncheckedRunComesTo gives heads natives program script depth steps a →
     UncheckedRunComesTo gives heads natives program script depth steps b → IsShort a ⊎ IsShort b ⊎ IsSameOutcome a b
 
--- .. and so does each command line, from what was read: one line `usage`, one thing of a command on programs, or one run
+-- So each command line comes, from what was read, to one line `usage`, one thing of a command on programs, or one run.
 abbrev pub OneCommandOutcome : {N : Type 0} → (N → NativeAnswers) → Type 0
 OneCommandOutcome {N} gives =
     (heads : List NativeHead) (natives : N) (words : List (List ℕ)) (input : Result (List ℕ) InputFault) (a b : Outcome N) →
     AnswersOnce (gives natives) → CommandComesTo gives heads natives words input a →
     CommandComesTo gives heads natives words input b → IsShort a ⊎ IsShort b ⊎ IsSameOutcome a b
 
--- Whatever natives may answer: a run that stopped, for want of memory or another fault, wrote a front of what each whole run of
--- the same events writes in which they answered alike.
+-- Whatever natives may answer: a run that stopped, as memory ran out or for another fault, wrote a front of what each
+-- whole run of the same events writes in which they answered alike.
 abbrev pub StoppedIsFront : {N : Type 0} → (N → NativeAnswers) → Type 0
 StoppedIsFront {N} gives =
     (said : ℕ → List Action) (p : Loaded) (natives : N) (depth steps : ℕ) (events : List Event) (fault : Fault) (after : Seen N)

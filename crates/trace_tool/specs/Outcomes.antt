@@ -33,7 +33,7 @@ outcome_text (Program outcome) = program_text outcome
 outcome_text (Ran ran) = run_text ran.machine.world.trace ran.ended
 outcome_text Memory = memory_line
 
--- .. and its exit status
+-- the exit status of an outcome
 abbrev pub outcome_status : {N : Type 0} → Outcome N → ℕ
 outcome_status (Usage fault) = 1
 outcome_status (NoInput fault) = 1

@@ -33,7 +33,7 @@ MayBeDone takes gives (OfReady ready) = AreKept takes gives ready.machine
 abbrev pub ComesOfRun : {N : Type 0} → (N → NativeAnswers) → Seen N → List Event → Outcome N → Type 0
 ComesOfRun {N} gives machine events end = (ran : Ran N) × RunsSo gives machine events ran × (end ≡ OfRun ran)
 
--- .. and what is prepared to this
+-- what is prepared comes to this
 abbrev pub ComesOf : {N : Type 0} → (N → NativeAnswers) → Prepared N → Outcome N → Type 0
 ComesOf gives (Done outcome) end = end ≡ outcome
 ComesOf gives (OfReady ready) end = ComesOfRun gives ready.machine ready.events end

@@ -24,8 +24,8 @@ pub enum InputFault {
 }
 
 /// Reads all that is left, but no more than a byte past the largest input. Each error of the reader is a read that
-/// failed, whatever its kind, but for an interrupted read, which is tried again; want of memory is only this function's
-/// own.
+/// failed, whatever its kind, but for an interrupted read, which is tried again; running out of memory is only this
+/// function's own.
 pub fn read_input<R: Read>(alloc: Global, reader: &mut R) -> Result<Vec<u8>, InputFault>
     ensures { IfOk result (λ input.
         IfSome (R.remaining reader.old) (λ left. input.items ≡ take 67108865 left)) }

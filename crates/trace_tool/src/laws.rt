@@ -10,23 +10,23 @@ pub fn undone_is_a_line<N: Answering>(_natives: &N)
     ensures { UndoneIsALine N }
 {}
 
-/// Where natives have one answer to one question, what both forms of `run` come to is determined by their arguments, but for
-/// want of memory: one refusal, or runs of which the one wrote a front of what the other did, and the same where both took all
-/// events; where one did, the other wasn't stopped by the limit of rules. A run with a certificate stops for nothing else but
-/// memory: so where one is whole each other one is, or had no memory.
+/// Where natives have one answer to one question, what both forms of `run` come to is determined by their arguments,
+/// unless memory runs out: one refusal, or runs of which the one wrote a front of what the other did, and the same
+/// where both took all events; where one did, the other wasn't stopped by the limit of rules. A run with a certificate
+/// stops for nothing else but memory: so where one is whole each other one is, or had no memory.
 pub fn one_run_outcome<N: Answering>(_natives: &N)
     ensures checked { OneRunOutcome N.gives }
     ensures unchecked { OneUncheckedOutcome N.gives }
 {}
 
-/// .. and so is what a whole command line comes to, from its words and from what was read; of several cycles, paths or chains
-/// that show why a program has no certificate any one may be named.
+/// What a whole command line comes to is determined so, too, by its words and by what was read; of several cycles, paths
+/// or chains that show why a program has no certificate any one may be named.
 pub fn one_command_outcome<N: Answering>(_natives: &N)
     ensures { OneCommandOutcome N.gives }
 {}
 
 /// Whatever natives may answer, a run that a fault stopped wrote a front of what each whole run of the same events writes in
-/// which they answered alike: so does a run that wanted memory, whose trace `fault 65` follows.
+/// which they answered alike: so does a run that ran out of memory, whose trace `fault 65` follows.
 pub fn stopped_is_front<N: Answering>(_natives: &N)
     ensures { StoppedIsFront N.gives }
 {}

@@ -33,7 +33,7 @@ pub enum UsageFault {
 /// A run that has ended.
 #[derive(Drop)]
 pub struct Ran<N: Drop> {
-    /// The machine that ran, as it stands at the end.
+    /// The machine that ran, as it is at the end.
     pub machine: Machine<N>,
     /// Whether all events were taken, or the fault that stopped the run.
     pub ended: Result<(), Fault>,

@@ -76,7 +76,7 @@ fn refused(refusal: Refusal) -> Prepared<Natives>
 ///
 /// At most as many activations nest as the certificate's bound says, and at most `steps` rules are used (1 to 2^63 - 1).
 /// The answer is the exit status: 0 after a whole run, 4 after a fault, 3 where the certificate isn't valid, 2 where a
-/// text or a native is refused, 1 for want of memory outside the run.
+/// text or a native is refused, 1 where memory ran out outside the run.
 /// Where it accepts, as `Accepts` says, the run's text is written, or `memory`, and nothing is refused.
 /// There is a `WriteFault` only where a write failed: what was taken by then is the beginning of what is written, and
 /// nothing is written after that.
@@ -171,8 +171,8 @@ pub(crate) fn prepare_unchecked_run(
 /// Runs a program, which need not be checked, on a script, and writes the trace, or why there is none.
 ///
 /// At most `depth` activations nest (1 to 256), and at most `steps` rules are used (1 to 2^63 - 1). The answer is the
-/// exit status: 0 after a whole run, 4 after a fault, 2 where a text or a native is refused, 1 for want of memory outside
-/// the run.
+/// exit status: 0 after a whole run, 4 after a fault, 2 where a text or a native is refused, 1 where memory ran out
+/// outside the run.
 /// There is a `WriteFault` only where a write failed: what was taken by then is the beginning of what is written, and
 /// nothing is written after that.
 pub fn run_unchecked<W: Write>(

@@ -36,7 +36,7 @@ module _ (p : Loaded) (me : ℕ) (kinds : List ValueType) where
   pub whole_of : (t : Statement) → IsTypedBody p me kinds (t ∷ []) → IsTypedStatement p me kinds (out-Statement t)
   whole_of t typed = typed t here
 
-  -- in which none stands
+  -- in which none is
   pub plain : (t : Statement) → IsPlain t → IsTypedStatement p me kinds (out-Statement t) → IsTypedBody p me kinds (t ∷ [])
   plain t bare typed s here = typed
   plain t bare typed s (after o) = elim o [ ]

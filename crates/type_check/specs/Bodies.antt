@@ -64,7 +64,7 @@ pub record IsTypedDeletion (me : ℕ) (kinds : List ValueType) (path : MetaPath)
   pub class : ℕ
   pub leads : LeadsToMutable me kinds path class
 
--- one statement; what stands in the blocks of an `if` and in a group is looked at on its own
+-- one statement; what is in the blocks of an `if` and in a group is looked at on its own
 abbrev pub IsTypedStatement : Loaded → ℕ → List ValueType → layer.Statement-F Statement → Type 0
 IsTypedStatement p me kinds (layer.Set path q e) = IsTypedSet p me kinds path q e
 IsTypedStatement p me kinds (layer.Emit m es) = AcceptsArguments p me kinds me m es

@@ -11,7 +11,7 @@ pub record LacksFirst {X : Type 0} (P : X → Type 0) (xs : List X) (place : ℕ
   pub lacks : ¬ P item
   pub before : (k : ℕ) (x : X) → k < place → slice_get xs k ≡ Some x → P x
 
--- .. whatever it is
+-- the element at this place is the first that lacks P, whatever it is
 pub record IsFirstWithout {X : Type 0} (P : X → Type 0) (xs : List X) (place : ℕ) : Type 0 where
   pub item : X
   pub first : LacksFirst P xs place item

@@ -31,7 +31,7 @@ GivenHaveValues p =
     (classes : ℕ → Option ℕ) (me : ℕ) (kinds : List ValueType) (read : MetaPath → Option Value) → PathsAreTyped p classes me kinds read
     → (T : ValueType) (e : Expr MetaPath) → IsSoundExpr p me kinds e → IsGivenIn p me kinds T e → HasValueOf p classes T (value read e)
 
--- .. and so have the arguments of a call, each its parameter's
+-- In such a state the arguments of a call have values, each of its parameter's type.
 abbrev pub ArgumentsHaveValues : Loaded → Type 0
 ArgumentsHaveValues p =
     (classes : ℕ → Option ℕ) (me : ℕ) (kinds : List ValueType) (read : MetaPath → Option Value) → PathsAreTyped p classes me kinds read

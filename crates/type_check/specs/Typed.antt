@@ -91,7 +91,7 @@ FindsUntyped p None = IsTypedProgram p
 FindsUntyped p (Some (spot.Node x)) = IsUntypedNode p x
 FindsUntyped p (Some (spot.Binding site)) = IsUntypedSite p site
 
--- ---- what is told of a node by itself: an inherited method is judged where it is declared
+-- ---- what is said of a node by itself: an inherited method is judged where it is declared
 abbrev pub IsTypedMemberHere : Loaded → ℕ → Member → Type 0
 IsTypedMemberHere p c (Method m) = Declares p c m → IsTypedMethod p c m
 IsTypedMemberHere p c (Property q) = IsTypedProperty p c q
@@ -100,7 +100,7 @@ IsTypedMemberHere p c Destruction = Unit {0}
 abbrev pub IsTypedHere : Loaded → Node → Type 0
 IsTypedHere p x = IsTypedMemberHere p x.class x.member
 
--- .. of a part of the program; what isn't there is taken to be typed
+-- a part of the program is typed; what isn't there is taken to be
 abbrev pub IsTypedSpot : Loaded → Spot → Type 0
 IsTypedSpot p (spot.Node x) = IsTypedHere p x
 IsTypedSpot p (spot.Binding k) = (site : MetaSite) → slice_get p.sites k ≡ Some site → IsTypedSite p site

@@ -14,6 +14,6 @@ pub record IsFitWire (p : Loaded) (wire : MetaWire) : Type 0 where
   pub to : IsMethod p wire.receiver wire.method method
   pub fits : Fits signal.sig method.sig
 
--- .. of each wire
+-- of each wire the method's parameter types are the first of the signal's
 abbrev pub AreFitWires : Loaded → Type 0
 AreFitWires p = AllHave (IsFitWire p) p.wires

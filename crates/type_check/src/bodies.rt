@@ -28,7 +28,7 @@ pub fn body_flaw(
     Ok(None)
 }
 
-/// What isn't typed in the statement, or in one that stands in it.
+/// What isn't typed in the statement, or in one that is in it.
 #[cycle(bodies)]
 fn whole_flaw(
     scope: &Scope,

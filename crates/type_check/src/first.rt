@@ -12,9 +12,9 @@ use meta_objects::Meta;
 use std::alloc::{AllocError, Global};
 
 /// The first node that isn't typed, in the order of nodes, else the first binding site that isn't, or `None` where the
-/// whole program is typed. A node isn't typed where it is a slot with an ill-typed statement in its body, which is told for
-/// `this` of the class that declares the slot, or a property whose value at first isn't of its type. Its error is that
-/// memory was refused.
+/// whole program is typed. A node isn't typed where it is a slot with an ill-typed statement in its body, which is
+/// reported for `this` of the class that declares the slot, or a property whose value at first isn't of its type. Its
+/// error is that memory was refused.
 pub fn untyped(alloc: Global, meta: &Meta) -> Result<Option<Spot>, AllocError>
     ensures { IfOk result (FindsUntyped meta.now) }
 {

@@ -16,8 +16,8 @@ pub enum Given {
     Of(ValueType),
 }
 
-/// Why something isn't typed. Expressions are told by their places, from 0: an argument's among the arguments; 0 for the
-/// value of a `set`, the condition of an `if` and the expression of a binding.
+/// Why something isn't typed. Expressions are given by their places, from 0: an argument's among the arguments; 0 for
+/// the value of a `set`, the condition of an `if` and the expression of a binding.
 #[derive(Clone, Copy, Debug, PartialEq, Eq)]
 pub enum Fault {
     /// The path of a `set`, `call`, `delete` or `later` leads behind a `const` pointer, or to no object.

@@ -41,7 +41,7 @@ impl<'m> Names<MetaPath> for Scope<'m> {
 }
 
 impl<'m> Scope<'m> {
-    /// Whether the statement is typed; of an `if`, whether its condition is. What stands in it is looked at on its own.
+    /// Whether the statement is typed; of an `if`, whether its condition is. What is in it is looked at on its own.
     pub fn is_typed(&self, statement: &Statement) -> Result<bool, AllocError>
         ensures { IfOk result (λ answer. IsTrue answer
             ↔ IsTypedStatement self.now.meta.now self.now.class self.now.kinds.now (out-Statement statement.now)) }

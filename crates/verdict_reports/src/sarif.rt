@@ -36,7 +36,7 @@ struct Run<'v> {
     properties: Counts,
 }
 
-/// What isn't told, by its number.
+/// What isn't reported, by its number.
 #[derive(Drop, Serialize)]
 struct Counts {
     more: usize,

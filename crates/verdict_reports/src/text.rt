@@ -4,7 +4,7 @@ use crate::names::Names;
 use findings::{Finding, Place, Step, TextKind, Verdict};
 use std::alloc::{AllocError, Global};
 
-/// So many steps of a chain are told.
+/// So many steps of a chain are reported.
 const MOST_STEPS: usize = 12;
 
 /// The findings, each a line `NAME:LINE:COLUMN: error: MESSAGE [RULE]` with its steps as notes and what to do below it; and a

@@ -76,7 +76,7 @@ fn cycle_text(located: Located<'_>, cycle: &[Node], members: usize) -> Result<St
     Ok(text)
 }
 
-/// Where a cycle is told: at its first wire, where it has one.
+/// Where a cycle is reported: at its first wire, where it has one.
 fn place_in(chain: &[Step]) -> Option<Place> {
     let wire = chain.iter().find(|step: &&Step| step.link == Link::Wire);
     match wire {

@@ -7,7 +7,7 @@ use findings::{Link, Step};
 use program_flaws::{Source, node_text, push_edge};
 use std::alloc::AllocError;
 
-/// A program that loads, and where its parts stand in its text.
+/// A program that loads, and where its parts are in its text.
 #[derive(Clone, Copy)]
 pub struct Located<'s> {
     /// The program.

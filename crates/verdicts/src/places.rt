@@ -1,4 +1,4 @@
-//! Where the declarations, the members and the statements of a program stand in its text.
+//! Where the declarations, the members and the statements of a program are in its text.
 
 use class_lang::program_trail;
 use diagnostics::Place;

@@ -37,12 +37,12 @@ readers_at x m = list_of same_key x.by_source (key_of m)
 abbrev pub KeepReaders : Readers → Readers → Type 0
 KeepReaders old new = (m q : Place) → In q (readers_at old m) → In q (readers_at new m)
 
--- .. but this reader of this property
+-- nothing is lost but this reader of this property
 abbrev pub LosesOnly : Place → Place → Readers → Readers → Type 0
 LosesOnly source reader old new =
     (m q : Place) → In q (readers_at old m) → In q (readers_at new m) ⊎ ((source ≡ m) × (reader ≡ q))
 
--- .. and this reader of properties that aren't among these
+-- nothing is lost but this reader, of properties that aren't among these
 abbrev pub LosesReader : List Place → Place → Readers → Readers → Type 0
 LosesReader kept reader old new =
     (m q : Place) → In q (readers_at old m) → In q (readers_at new m) ⊎ ((reader ≡ q) × (In m kept → ⊥))

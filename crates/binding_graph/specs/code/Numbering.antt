@@ -62,7 +62,7 @@ pub record IsReach (F : Place → Option Binding) (N : Place → Option ℕ) (fr
   pub closed : (q m : Place) (b : Binding) → F q ≡ Some b → Reads b m → In m from ⊎ In m (places_of front)
       → In q (places_of found)
 
--- whether this number stands at this place
+-- whether this number is at this place
 abbrev pub has_number : ℕ → Option Numbered → Bool
 has_number n None = false
 has_number n (Some f) = eqb f.number n

@@ -40,7 +40,7 @@ given (Some b) p e = update e p (value_of b e)
 abbrev pub evaluated : (Place → Option Binding) → Place → (Place → Option Value) → Place → Option Value
 evaluated F p e = given (F p) p e
 
--- .. each in its turn
+-- these properties are given their expressions' values, each in its turn
 abbrev pub pass : (Place → Option Binding) → List Place → (Place → Option Value) → Place → Option Value
 pass F [] e = e
 pass F (p ∷ ps) e = pass F ps (evaluated F p e)

@@ -33,6 +33,6 @@ ReadsNode before result after = Reads spell_node tree_of_node EndsNode before re
 abbrev pub ReadsItem : Version → List Token → Result SetItem ParseFault → List Token → Type 0
 ReadsItem version before result after = Reads (spell_item version) (tree_of_item version) EndsAnywhere before result after
 
--- .. for all tokens of a line
+-- all tokens of a line are read as a node's line
 abbrev pub ReadsNodeLine : Version → List Token → Result Line ParseFault → List Token → Type 0
 ReadsNodeLine version before result after = Reads (spell_line version) (tree_of_line version) IsAtEnd before result after

@@ -32,7 +32,7 @@ pub record TakesRow (text : List ℕ) (tokens : List Token) (rest : List ℕ) : 
   pub onward : (later : List (List Token)) → HasRows rest later → HasRows text (tokens ∷ later)
   pub back : (rows : List (List Token)) → HasRows text rows → (later : List (List Token)) × HasRows rest later × (rows ≡ tokens ∷ later)
 
--- .. or there is none; or the text can't be cut
+-- the first of the text's rows is taken; or there is none; or the text can't be cut
 abbrev pub SplitsRow : List ℕ → Result (Option (List Token × Bor (List ℕ))) CertificateFault → Type 0
 SplitsRow text (Ok (Some parts)) = TakesRow text parts.0 parts.1.now
 SplitsRow text (Ok None) = HasRows text []

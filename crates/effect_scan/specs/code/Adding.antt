@@ -16,7 +16,7 @@ pub record Among {X : Type 0} (L : ℕ → X → ℕ → ℕ → Type 0) (xs : L
   pub is : slice_get xs place ≡ Some item
   pub leads : L place item a b
 
--- .. one before this place
+-- some element before this place gives the edge
 pub record AmongFirst {X : Type 0} (L : ℕ → X → ℕ → ℕ → Type 0) (xs : List X) (end a b : ℕ) : Type 0 where
   pub among : Among L xs a b
   pub before : among.place < end

@@ -33,7 +33,7 @@ AreJust P list = (n : ℕ) → Contains list n ↔ P n
 abbrev pub InEach : List Node → List ℕ → Member → ℕ → Type 0
 InEach nodes classes member n = (d : ℕ) × Contains classes d × IsAt nodes (node d member) n
 
--- .. in the class or one below it
+-- the number of this member in the class or one below it
 abbrev pub InBelow : Places → ℕ → Member → ℕ → Type 0
 InBelow places c member n = InEach places.numbering (row places.lineage c) member n
 
@@ -41,7 +41,7 @@ abbrev pub ReachedBy : Places → ℕ → Member → Reach → ℕ → Type 0
 ReachedBy places c member reach.Own n = IsAt places.numbering (node c member) n
 ReachedBy places c member (reach.Below k) n = InBelow places k member n
 
--- .. in a class whose objects the effect reaches from one of class c
+-- the number of the effect's member in a class whose objects the effect reaches from one of class c
 abbrev pub IsReached : Places → ℕ → Effect → ℕ → Type 0
 IsReached places c effect n = ReachedBy places c effect.member effect.reach n
 
@@ -54,6 +54,6 @@ pub record ArePlaces (p : Loaded) (places : Places) : Type 0 where
 abbrev pub IsRead : Places → List ℕ → SourceProperty → ℕ → Type 0
 IsRead places formals source n = (class : ℕ) × (slice_get formals source.source ≡ Some class) × InBelow places class (Property source.property) n
 
--- .. that one of these has
+-- the number that one of these has
 abbrev pub OfSome : {X : Type 0} → (X → ℕ → Type 0) → List X → ℕ → Type 0
 OfSome {X} P xs n = (x : X) × Contains xs x × P x n

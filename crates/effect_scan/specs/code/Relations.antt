@@ -39,7 +39,7 @@ pub record Extends (P : ℕ → ℕ → Type 0) (before after : List (List Bool)
 abbrev pub OwnsRows : List (List ℕ) → ℕ → MetaOwns → ℕ → ℕ → Type 0
 OwnsRows lineage place owns i j = Contains (row lineage owns.parent) i × Contains (row lineage owns.child) j
 
--- .. of one of these
+-- the first class is a parent's of one of these declarations, or below it, the second its child's
 abbrev pub IsOwned : List (List ℕ) → List MetaOwns → ℕ → ℕ → Type 0
 IsOwned lineage owned = Among (OwnsRows lineage) owned
 
@@ -60,7 +60,7 @@ pub record IsClosed (before after : List (List Bool)) : Type 0 where
   pub square : IsSquare (length before) after
   pub chains : (i j : ℕ) → Holds after i j ↔ Chains (Holds before) i j
 
--- .. by way of numbers below n
+-- classes are related by way of numbers below n, and none but those that chains joined before
 pub record Closing (n : ℕ) (before after : List (List Bool)) : Type 0 where
   pub square : IsSquare (length before) after
   pub kept : (i j : ℕ) → Holds before i j → Holds after i j

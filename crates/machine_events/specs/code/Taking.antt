@@ -63,7 +63,7 @@ TookCases p natives depth w e v (Err f) = Halts p natives depth w (e ∷ []) f v
 pub record Took (p : Loaded) (natives : NativeAnswers) (depth : ℕ) (w : World) (e : Event) (v : World) (result : Result Answer Fault) : Type 0 where
   pub cases : TookCases p natives depth w e v result
 
--- .. in the interpreter of a run
+-- the event was taken so in the interpreter of a run
 abbrev pub TookBy : {N : Type 0} → (N → NativeAnswers) → Interpreter N → Event → World → World → Result Answer Fault → Type 0
 TookBy gives interpreter e w v result = Took interpreter.meta (gives interpreter.natives) interpreter.depth w e v result
 
@@ -80,21 +80,21 @@ creation_reason create.TooMany = Ok TooManyObjects
 creation_reason create.BadType = Err BadType
 creation_reason create.Memory = Err Memory
 
--- .. where an object isn't adopted
+-- why an event is refused, or the run stops, where an object isn't adopted
 abbrev pub adoption_reason : AdoptFault → Result Refusal Fault
 adoption_reason adopt.NotOwned = Ok NotOwned
 adoption_reason adopt.Cycle = Ok Cycle
 adoption_reason adopt.OtherLoop = Ok OtherLoop
 adoption_reason adopt.Memory = Err Memory
 
--- .. where no object moves
+-- why an event is refused, or the run stops, where no object moves
 abbrev pub moving_reason : MoveFault → Result Refusal Fault
 moving_reason move.NoLoop = Ok NoLoop
 moving_reason move.HasParent = Ok HasParent
 moving_reason move.Bound = Ok Bound
 moving_reason move.Memory = Err Memory
 
--- .. where no binding is installed
+-- why an event is refused, or the run stops, where no binding is installed
 abbrev pub binding_reason : BindFault → Result Refusal Fault
 binding_reason bind.BadSource = Ok BadSource
 binding_reason bind.OtherLoop = Ok OtherLoop
@@ -106,15 +106,15 @@ binding_reason bind.Memory = Err Memory
 pub record AsksFor (p : Loaded) (w : World) (o m : ℕ) (values : List Value) (e : Event) : Type 0 where
   pub effect : (t : State) → Begins p (accepted (at w [])) [] o m values t → judged p (at w []) e (Ok t)
 
--- .. that the property is written
+-- the event is accepted, and its effect is that the property is written
 pub record WritesTo (p : Loaded) (w : World) (place : Place) (value : Value) (e : Event) : Type 0 where
   pub effect : (t : State) → Writes p (accepted (at w [])) [] (Alone place value) t → judged p (at w []) e (Ok t)
 
--- .. that the objects and methods of these numbers are connected
+-- the event is accepted, and its effect is that the objects and methods of these numbers are connected
 abbrev pub ConnectsThese : Loaded → World → Named (List ℕ) → ConnectionType → Endpoints → Type 0
 ConnectsThese p w e how ends = connect p (at w []) e how (Ok (with_connection (accepted (at w [])) ends how))
 
--- .. that they aren't connected any more
+-- the event is accepted, and its effect is that the objects and methods of these numbers aren't connected any more
 abbrev pub DisconnectsThese : Loaded → World → Named (List ℕ) → Endpoints → Type 0
 DisconnectsThese p w e ends = disconnect p (at w []) e (Ok (without_connections (accepted (at w [])) ends))
 

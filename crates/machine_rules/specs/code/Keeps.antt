@@ -44,6 +44,6 @@ pub record Keeps (p : Loaded) (s : State) (left : ℕ) (t : State) (after : ℕ)
   pub fewer : after ≤ left
   pub grows : Grows s.trace t.trace
 
--- .. from one world to another, whatever is going on in them
+-- All this is kept from one world to another, whatever is going on in them.
 abbrev pub KeepsWorld : Loaded → World → World → Type 0
 KeepsWorld p w v = Keeps p (at w []) w.left (at v []) v.left

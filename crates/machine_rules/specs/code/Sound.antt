@@ -37,7 +37,7 @@ pub record Receives (p : Loaded) (objects : List Object) (o m : ℕ) (kinds : Li
   pub created : o < length objects
   pub living : (x : Object) (life : Life) → Lives objects o x life → IsDeclared p life.class m kinds
 
--- .. its signal g does so; those of `destroyed(QObject*)` are known when it is dead, too
+-- an object has this number, and its signal g declares these types; those of `destroyed(QObject*)` also when it is dead
 pub record Sends (p : Loaded) (objects : List Object) (o g : ℕ) (kinds : List ValueType) : Type 0 where
   pub takes : Receives p objects o g kinds
   pub last : g ≡ DESTROYED → kinds ≡ destroyed_kinds
@@ -48,7 +48,7 @@ pub record ReceivesThese (p : Loaded) (objects : List Object) (o m : ℕ) (argum
   pub takes : Receives p objects o m kinds
   pub typed : ReadAs p objects arguments kinds
 
--- .. and a signal, which is emitted with them
+-- a signal of an object is emitted with these arguments, as they read
 pub record SendsThese (p : Loaded) (objects : List Object) (o g : ℕ) (arguments : List Value) : Type 0 where
   pub kinds : List ValueType
   pub sends : Sends p objects o g kinds
@@ -64,7 +64,7 @@ IsUnheard o connections = AllByRecursion (λ (c : Connection). c.sender ≢ o) c
 abbrev pub MayBeHeard : List Object → List Connection → ℕ → ℕ → Type 0
 MayBeHeard objects connections o g = (g ≡ DESTROYED) ⊎ (IsDead objects o → IsUnheard o connections)
 
--- .. in a world
+-- in a world, the signal is `destroyed`, or no connection leads from the object any more once it is dead
 abbrev pub MayBeHeardIn : World → ℕ → ℕ → Type 0
 MayBeHeardIn w o g = MayBeHeard w.store.tree w.store.connections.connections o g
 
@@ -96,7 +96,7 @@ abbrev pub Waits : Loaded → List Object → Item → Type 0
 Waits p objects (Call o m arguments) = ReceivesThese p objects o m arguments
 Waits p objects (Deletion o) = o < length objects
 
--- .. so of all items of all loops
+-- what waits in any of these loops is such a call or such a deletion
 abbrev pub AllWait : Loaded → List Object → List Loop → Type 0
 AllWait p objects loops = AllByRecursion (λ (l : Loop). AllByRecursion (λ q. Waits p objects q.item) l.items) loops
 
@@ -111,7 +111,7 @@ pub record Sound (p : Loaded) (objects : List Object) (bindings : List Binding) 
 abbrev pub AgreeIn : Loaded → World → Type 0
 AgreeIn p w = Agree p w.store.tree w.store.bindings
 
--- .. in a world, where the program is sound, and with each rule that is left a connection and an item may still be numbered
+-- a world is sound where the program is, and with each rule that is left a connection and an item may still be numbered
 pub record IsSoundWorld (p : Loaded) (w : World) : Type 0 where
   pub program : IsSound p
   pub is : Sound p w.store.tree w.store.bindings w.store.connections.connections w.store.loops.loops

@@ -52,13 +52,13 @@ pub record WillWrite (p : Loaded) (objects : List Object) (bs : List Binding) (a
   pub writes : IsWritten bs (without_all (places_in assigned) bs) objects (after plan objects) assigned plan.changed
   pub agree : Agree p (after plan objects) (without_all (places_in assigned) bs)
 
--- .. by a plan of one write
+-- once a plan of one write is carried out, this is written
 pub record WillWriteOne (p : Loaded) (objects : List Object) (bs : List Binding) (at : Place) (value : Value) (plan : PlannedWrite)
     : Type 0 where
   pub target : plan.target ≡ at
   pub will : WillWrite p objects bs (one at value) plan.planned
 
--- .. by a plan of several
+-- once a plan of several writes is carried out, these are written
 pub record WillWriteAll (p : Loaded) (objects : List Object) (bs : List Binding) (writes : List Assignment) (plan : PlannedGroup)
     : Type 0 where
   pub targets : plan.targets ≡ once (places_in writes)
@@ -72,14 +72,14 @@ pub record AddsSets (p : Loaded) (objects : List Object) (depth : ℕ) (sets : L
   pub told : AllZip (IsSetTold p objects depth) sets lines
   pub are : new ≡ old ++ lines
 
--- .. those of properties that follow
+-- the lines of properties that follow were added
 pub record AddsFollowers (p : Loaded) (objects : List Object) (depth : ℕ) (followers : List Place) (old new : List Entry)
     : Type 0 where
   pub lines : List Entry
   pub told : AllZip (IsTold p objects depth Follow) followers lines
   pub are : new ≡ old ++ lines
 
--- .. those of a property that is written or bound, and of each other one that changes
+-- the lines of a property that is written or bound, and of each other one that changes, were added
 pub record AddsTold (p : Loaded) (objects : List Object) (depth : ℕ) (cause : Cause) (first : Place) (changed : List Place)
     (old new : List Entry) : Type 0 where
   pub lines : List Entry

@@ -10,7 +10,7 @@ use Rattle.meta_model.specs.Conditions.{AreOneCall, HasTwoMembers}
 use Rattle.meta_model.specs.Outlines.{Outlines}
 use Rattle.meta_model.specs.code.Twins.{AreTwins}
 
--- the outline is the program's next one behind these, in which each member stands once
+-- the outline is the program's next one behind these, in which each member appears once
 pub record IsNext (program : Program) (done : List Outline) (outline : Outline) : Type 0 where
   pub all : List Outline
   pub outlined : Outlines program.classes all

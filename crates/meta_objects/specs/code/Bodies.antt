@@ -66,7 +66,7 @@ pub record PointsTo (outlines : List Outline) (T : QType) (c : ℕ) : Type 0 whe
   pub pointer : T.pointer ≡ true
   pub class : IsOutlineNamed outlines T.name c
 
--- .. which is this one
+-- a declared type is a pointer to this class
 pub record PointsToThis (outlines : List Outline) (T : QType) (c : ℕ) (o : Outline) : Type 0 where
   pub points : PointsTo outlines T c
   pub is : points.class.at.item ≡ o
@@ -78,7 +78,7 @@ pub record HasMember (outlines : List Outline) (T : QType) (name : List ℕ) (q 
   pub place : StandsFirst (λ (p : Property). p.name ≡ name) points.class.at.item.properties q
   pub is : place.at.item ≡ property
 
--- .. which a step leads on by
+-- a step leads on by the property of this name
 pub record IsStep (outlines : List Outline) (T : QType) (name : List ℕ) (step : Step) (property : Property) : Type 0 where
   pub member : HasMember outlines T name step.property property
   pub kind : IsReadAs outlines property.kind step.kind
@@ -120,8 +120,8 @@ pub record IsObjectPath (s : Scope) (path : Path) (found : MetaPath) (class : Ou
   pub number : ℕ
   pub points : PointsToThis s.outlines kind number class
 
--- .. and one of which no member is named: it is declared to lead to a reference; that its class is there is asked of the
--- declared types
+-- a path in the place of an object of which no member is named: it is declared to lead to a reference; that its class
+-- is there is asked of the declared types
 pub record IsReferencePath (s : Scope) (path : Path) (found : MetaPath) : Type 0 where
   pub kind : QType
   pub leads : IsPath s path found kind

@@ -36,12 +36,12 @@ scope given = record { outlines = given.outlines.now; me = given.me.now; paramet
 abbrev pub Resolves : {Y : Type 0} → (Y → Type 0) → Result Y PartFault → Type 0
 Resolves {Y} IsForm result = LoadsPart fault.NoMember ((y : Y) → ¬ IsForm y) IsForm result
 
--- .. of each of these parts
+-- a resolved form of each of these parts, or `NoMember`, where one has none
 abbrev pub ResolvesEach : {X Y : Type 0} → (X → Y → Type 0) → List X → Result (List Y) PartFault → Type 0
 ResolvesEach {X} {Y} IsForm xs result =
     LoadsPart fault.NoMember (Any (λ (x : X). (y : Y) → ¬ IsForm x y) xs) (AllZip IsForm xs) result
 
--- .. of each of these declarations of the program
+-- a resolved form of each of these declarations of the program, or `NoMember`, where one has none
 abbrev pub ResolvesAll : {X Y : Type 0} → Program → (X → Y → Type 0) → List X → Result (List Y) LoadFault → Type 0
 ResolvesAll {X} {Y} program IsForm xs result =
     LoadsOf program fault.NoMember (Any (λ (x : X). (y : Y) → ¬ IsForm x y) xs) (AllZip IsForm xs) result
@@ -88,7 +88,7 @@ abbrev pub ResolvesClassWorks : List Outline → ℕ → Class → Result (List 
 ResolvesClassWorks outlines number class result =
     LoadsIn number class fault.NoMember (LacksInClass outlines class) (AreWorks outlines class) result
 
--- .. and those of all classes
+-- what the slots and natives of all classes do
 abbrev pub ResolvesWorks : Program → List Outline → Result (List (List ResolvedWork)) LoadFault → Type 0
 ResolvesWorks program outlines result =
     LoadsOf program fault.NoMember (Any (LacksInClass outlines) program.classes) (AllWorks outlines program.classes) result

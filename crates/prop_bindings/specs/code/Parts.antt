@@ -88,7 +88,7 @@ pub record PlansThem (p : Loaded) (objects : List Object) (bs : List Binding) (w
   pub agree : Agree p (after plan objects) (without_all (places_in writes) bs)
   pub counted : CountsReached (binding_at (without_all (places_in writes) bs)) (places_in writes) plan.changed plan.evaluated
 
--- .. of whichever writes give these
+-- the plan is of whichever writes give these properties these values
 abbrev pub PlansGiven : {S : Type 0} → List Object → List Binding → List Place → IndexMap (ℕ × ℕ) Value S → Planned → Type 0
 PlansGiven objects bs targets values plan =
     (p : Loaded) (writes : List Assignment) → MayGive p objects bs writes targets values → PlansThem p objects bs writes plan
@@ -97,17 +97,17 @@ PlansGiven objects bs targets values plan =
 abbrev pub MayWriteOne : List Object → List Binding → Place → Value → Type 0
 MayWriteOne objects bs at v = (p : Loaded) × Agree p objects bs × FitsAt p objects at v
 
--- .. and by each such program the plan is of this write
+-- by each such program the plan is of this write
 abbrev pub PlansOne : List Object → List Binding → Place → Value → Planned → Type 0
 PlansOne objects bs at v plan = (p : Loaded) → Agree p objects bs → FitsAt p objects at v → PlansThem p objects bs (one at v) plan
 
--- ---- what stands before a bind and after it
+-- ---- what holds before a bind and after it
 -- where a binding is to be installed whose expression has this value
 abbrev pub AgreesWith : List Object → List Binding → Binding → Value → Type 0
 AgreesWith objects bs b v =
     (p : Loaded) × Agree p objects bs × IsFit p objects b × IsInOneLoop objects b × (value_of b (values_in objects) ≡ Some v)
 
--- .. and after it
+-- after a bind, bindings and objects agree by each program by which it may be installed
 abbrev pub StayAgreeing : List Object → List Object → List Binding → List Binding → Binding → Type 0
 StayAgreeing old new bs cs b = (p : Loaded) → Agree p old bs → IsFit p old b → IsInOneLoop old b → Agree p new cs
 

@@ -67,7 +67,7 @@ RunsCall p natives depth active call w v result =
     (from to : List Activation) (shown : List (Option ℕ)) → active ≡ shows to ++ shown →
     Calls p natives w from to call.object call.method call.arguments.now → RunsTo p natives depth shown w from v to result
 
--- .. from every top of the stack from which nothing else may
+-- a method begins and is carried out, from every top of the stack from which nothing else may
 abbrev pub RunsOnlyCall : Loaded → NativeAnswers → ℕ → List (Option ℕ) → MethodCall → World → World → Result (Unit {0}) Fault → Type 0
 RunsOnlyCall p natives depth active call w v result =
     (from to : List Activation) (shown : List (Option ℕ)) → active ≡ shows to ++ shown →

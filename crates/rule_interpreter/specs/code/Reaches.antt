@@ -85,11 +85,11 @@ pub record CallsIn (p : Loaded) (natives : NativeAnswers) (w u : World) (from to
       (below : List Activation) (t : State) →
       Begins p (at u (from ++ below)) (to ++ below) o m arguments t → Rule p natives (at w (from ++ below)) t
 
--- .. in the world as it is
+-- by the next rule of a world a method of an object may begin, in the world as it is
 abbrev pub Calls : Loaded → NativeAnswers → World → List Activation → List Activation → ℕ → ℕ → List Value → Type 0
 Calls p natives w from to o m arguments = CallsIn p natives w w from to o m arguments
 
--- .. and nothing else may
+-- by the next rule of a world nothing else than this method of this object may begin
 pub record OnlyCalls (p : Loaded) (natives : NativeAnswers) (w : World) (from to : List Activation) (o m : ℕ) (arguments : List Value) : Type 0 where
   pub next : (below : List Activation) (what : Operation) → DoesNext (at w (from ++ below)) what → what ≡ Begin o m arguments
   pub begins :
@@ -126,11 +126,11 @@ CallFits p objects call = ArgumentsFit p objects call.object call.method call.ar
 abbrev pub entry_of_call : World → ℕ → Object → ℕ → MetaMethod → List Value → Entry
 entry_of_call w depth x m method arguments = begin_entry depth x m method.sig.name (all_shown w.store.tree arguments) method.work
 
--- .. of the signal `destroyed` of an object of this name
+-- the entry of the signal `destroyed` of an object of this name
 abbrev pub entry_of_destroyed : ℕ → List ℕ → Entry
 entry_of_destroyed depth name = At depth (entry_kind.Emitted name destroyed.name (show.Null ∷ []) false)
 
--- .. of a call of a method of an object that is posted to the event loop of this name
+-- the entry of a call of a method of an object that is posted to the event loop of this name
 abbrev pub entry_of_post : World → ℕ → List ℕ → Object → MetaMethod → List Value → Entry
 entry_of_post w depth name x method arguments = At depth (entry_kind.Posted name x.name method.sig.name (all_shown w.store.tree arguments))
 
@@ -198,7 +198,7 @@ pub record Went (What : State → List Activation → State → Type 0) (w : Wor
   pub spared : NoneDied w.store.tree v.store.tree
   pub left : v.left ≡ w.left - 1
 
--- .. or there is none of which it tells, or memory was refused; then nothing changed
+-- there is no rule of which this relation tells, or memory was refused; then nothing changed
 pub record Stalls (What : State → List Activation → State → Type 0) (w : World) (v : World) (fault : Fault) : Type 0 where
   pub same : v ≡ w
   pub why : ((old stack : List Activation) (t : State) → ¬ What (at w old) stack t) × (fault ≡ IllTyped) ⊎ (fault ≡ Memory)
@@ -218,7 +218,7 @@ SchedulesIn w depth x v result =
     let What : State → List Activation → State → Type 0 = λ s stack t. Schedules s stack x t (life_of s.objects x) in
     MatchResult result (λ _. Went What w depth v) (Stalls What w v)
 
--- .. an object was forgotten, which comes last among those that are torn down then; or no rule was left, or memory was
+-- an object was forgotten, which comes last among those that are torn down then; or no rule was left, or memory was
 -- refused
 abbrev pub Forgets : World → List ℕ → ℕ → World → List ℕ → Result (Unit {0}) Fault → Type 0
 Forgets w torn x v after (Ok went) = (0 < w.left) × (v ≡ ending w x) × (after ≡ torn ++ x ∷ [])

@@ -53,7 +53,7 @@ pub record NotifiesBy (p : Loaded) (class q signal : ℕ) : Type 0 where
   pub is_signal : property.notify ≡ Some signal
   pub sound : IsNotifier object property signal
 
--- .. some one
+-- the property of a class has some notify signal
 pub record HasNotifier (p : Loaded) (class q : ℕ) : Type 0 where
   pub signal : ℕ
   pub is : NotifiesBy p class q signal

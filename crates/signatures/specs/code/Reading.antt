@@ -27,12 +27,12 @@ TakesName before (Some name) after = (before ≡ word name.now ∷ after) × IsF
 abbrev pub const_word : Token
 const_word = word (codes "const")
 
--- what stands behind a type: `)` behind the last one, and `,` behind the others
+-- what follows a type: `)` behind the last one, and `,` behind the others
 abbrev pub separator : Bool → Token
 separator true = mark Close
 separator false = mark Comma
 
--- what stands behind a type is taken, or nothing of that comes next
+-- what follows a type is taken, or nothing of that comes next
 abbrev pub TakesSeparator : List Token → Option Bool → List Token → Type 0
 TakesSeparator before None after = (is_last : Bool) → NotAt (separator is_last) before
 TakesSeparator before (Some is_last) after = before ≡ separator is_last ∷ after
@@ -56,7 +56,7 @@ pub record EndingAt (before : List Token) (ending : TypeEnding) (after : List To
   pub spelled : before ≡ spell_ending ending after
   pub only : (e : TypeEnding) (is_last : Bool) (rest : List Token) → before ≡ spell_ending e (separator is_last ∷ rest) → (e ≡ ending) × (after ≡ separator is_last ∷ rest)
 
--- a type and what stands behind it
+-- a type and what follows it
 pub record TypeAt (before : List Token) (type : QType) (is_last : Bool) (after : List Token) : Type 0 where
   pub reading : TypeReading
   pub spelled : before ≡ spell_type reading (separator is_last ∷ after)

@@ -6,7 +6,7 @@ use Rattle.texts.specs.declared.placed.PlacedToken.{PlacedToken}
 use Rattle.texts.specs.declared.placed.PlaceFault.{PlaceFault}
 use Rattle.texts.specs.declared.placed.PlaceFault.TheVariants.{BadByte, Memory}
 
--- the pieces stand at the front of the text, one after another, and `rest` follows them
+-- the pieces are at the front of the text, one after another, and `rest` follows them
 abbrev pub AreFrontPieces : List ℕ → List Piece → List ℕ → Type 0
 AreFrontPieces text [] rest = text ≡ rest
 AreFrontPieces text (piece ∷ pieces) rest = (after : List ℕ) × IsFront piece text after × AreFrontPieces after pieces rest

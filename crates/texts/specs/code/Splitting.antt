@@ -17,7 +17,7 @@ abbrev pub SplitsLine : List ℕ → Option (Bor (List ℕ) × Bor (List ℕ)) �
 SplitsLine text None = text ≡ []
 SplitsLine text (Some parts) = IsFrontLine text parts.0.now parts.1.now
 
--- what stands in front of the first line that is this one, and what follows it, or none where no line is
+-- what comes before the first line that is this one, and what follows it, or none where no line is
 abbrev pub SplitsAtLine : List ℕ → List ℕ → Option (Bor (List ℕ) × Bor (List ℕ)) → Type 0
 SplitsAtLine line text None = LacksLine line text
 SplitsAtLine line text (Some parts) = IsPartedAt line text parts.0.now parts.1.now
@@ -28,7 +28,7 @@ pub record Cuts (bytes : List ℕ) (found : Option Token) (rest : List ℕ) : Ty
   pub front : IsFront piece bytes rest
   pub token_is : token_of piece ≡ found
 
--- no piece stands at the front
+-- no piece is at the front
 abbrev pub HasNoFront : List ℕ → Type 0
 HasNoFront bytes = (piece : Piece) → (rest : List ℕ) → IsFront piece bytes rest → ⊥
 

@@ -39,7 +39,7 @@ single byte =
     if nat_eq byte 126 then Some Tilde else (
     None)))))))))))))))))
 
--- no symbol of two bytes stands at the front
+-- no symbol of two bytes is at the front
 abbrev pub LacksDouble : List ℕ → Type 0
 LacksDouble bytes = (first second : ℕ) (rest : List ℕ) → bytes ≡ first ∷ second ∷ rest → double first second ≡ None
 
@@ -48,7 +48,7 @@ abbrev pub SplitsDouble : List ℕ → Option (Symbol × Bor (List ℕ)) → Typ
 SplitsDouble bytes None = LacksDouble bytes
 SplitsDouble bytes (Some parts) = IsSymbolAt parts.0 bytes parts.1.now
 
--- no symbol of one byte stands at the front
+-- no symbol of one byte is at the front
 abbrev pub LacksSingle : List ℕ → Type 0
 LacksSingle bytes = (first : ℕ) (rest : List ℕ) → bytes ≡ first ∷ rest → single first ≡ None
 

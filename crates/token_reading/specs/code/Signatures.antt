@@ -17,7 +17,7 @@ Named = ConstPlace × List ℕ
 abbrev pub spell_place : Named → List Token → List Token
 spell_place named after = spell_named named.0 named.1 after
 
--- no `const` comes next, which may stand behind the name
+-- no `const` comes next, which may follow the name
 abbrev pub EndsNamed : List Token → Type 0
 EndsNamed after = NotAtWord word.Const after
 

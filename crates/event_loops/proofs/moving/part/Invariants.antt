@@ -5,7 +5,7 @@ use Rattle.event_loops.specs.Rings.{those_going}
 use Rattle.event_loops.proofs.Gathering.{turned}
 use Rattle.event_loops.proofs.moving.part.Given as goal
 
--- so many items were looked at: those that go are in the other ring, and those that stay stand behind the rest
+-- so many items were looked at: those that go are in the other ring, and those that stay come after the rest
 abbrev pub invariant-loop-turn : goal.invariant-loop-turn
 invariant-loop-turn l = record {
   left : l.items.items ≡ turned (contains eqb l.going) l.fn.items.items l.turn;
