@@ -4,7 +4,7 @@ use Rattle.binding_graph.specs.declared.place.Place.{Place}
 use Rattle.binding_graph.specs.declared.binding.Binding.{Binding}
 use Rattle.binding_graph.specs.Places.{In}
 use Rattle.binding_graph.specs.Bindings.{Reads, Chain, ChainFrom, direct, further, Loop}
-use Rattle.binding_graph.specs.code.Orders.{Free, Ordered, Covers, IsLater}
+use Rattle.binding_graph.specs.code.Orders.{Free, Ordered, ListsBound, IsLater}
 use Rattle.binding_graph.proofs.Places.{decide_in}
 
 -- a reader of a member is a member
@@ -44,7 +44,7 @@ chain-of-one F p q some = elim some.1 [
   | inr out ↦ absurd out
 ]
 
-pub no_loop : (F : Place → Option Binding) (xs : List Place) → Ordered F xs → Covers F xs → Loop F → ⊥
+pub no_loop : (F : Place → Option Binding) (xs : List Place) → Ordered F xs → ListsBound F xs → Loop F → ⊥
 no_loop F xs o c loop = no_loop_along F xs o (λ q m b f r i. c q b f) loop.0 loop.1 (let e = chain-ends F loop.1 in c loop.0 e.0 e.1)
 
 -- where what a binding moves has an order, and no other reads of it, no new loop comes

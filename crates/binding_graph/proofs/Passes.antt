@@ -8,7 +8,7 @@ use Rattle.binding_graph.specs.declared.binding.Binding.{Binding}
 use Rattle.binding_graph.specs.Places.{same_place, In}
 use Rattle.binding_graph.specs.Bindings.{value_of, Settled}
 use Rattle.binding_graph.specs.Laws.{Determines}
-use Rattle.binding_graph.specs.code.Orders.{Free, Ordered, Covers, IsOrder, given, evaluated, pass, IsAffected, IsLater}
+use Rattle.binding_graph.specs.code.Orders.{Free, Ordered, ListsBound, IsOrder, given, evaluated, pass, IsAffected, IsLater}
 use Rattle.binding_graph.proofs.Naming.{value-agree}
 use Rattle.binding_graph.proofs.Places.{decide_place, decide_in, same_place-refl, update-same, update-other}
 
@@ -54,7 +54,7 @@ pass-settles F (x ∷ xs) e o p b f i = elim (decide_in p xs) [
 ]
 
 -- in an order that covers all bindings, what a pass leaves is settled
-pub settled_by_pass : (F : Place → Option Binding) (xs : List Place) (e : Place → Option Value) → Ordered F xs → Covers F xs → Settled F (pass F xs e)
+pub settled_by_pass : (F : Place → Option Binding) (xs : List Place) (e : Place → Option Value) → Ordered F xs → ListsBound F xs → Settled F (pass F xs e)
 settled_by_pass F xs e o c p b f = pass-settles F xs e o p b f (c p b f)
 
 head-agrees : (F : Place → Option Binding) (x : Place) (xs : List Place) (e f : Place → Option Value) → Free F x (x ∷ xs) → Settled F e → Settled F f → (F x ≡ None → e x ≡ f x) → ((p : Place) → (In p (x ∷ xs) → ⊥) → e p ≡ f p) → (o : Option Binding) → F x ≡ o → e x ≡ f x
@@ -76,7 +76,7 @@ pub none_or_some : (o : Option Binding) → (o ≡ None) ⊎ ((b : Binding) × (
 none_or_some None = inl refl
 none_or_some (Some b) = inr (b, refl)
 
-pub settled_once : (F : Place → Option Binding) (xs : List Place) (e f : Place → Option Value) → Ordered F xs → Covers F xs → Settled F e → Settled F f → ((p : Place) → F p ≡ None → e p ≡ f p) → (p : Place) → e p ≡ f p
+pub settled_once : (F : Place → Option Binding) (xs : List Place) (e f : Place → Option Value) → Ordered F xs → ListsBound F xs → Settled F e → Settled F f → ((p : Place) → F p ≡ None → e p ≡ f p) → (p : Place) → e p ≡ f p
 settled_once F xs e f o c se sf unbound = agree_along F xs e f o se sf unbound (λ p out. elim (none_or_some (F p)) [ inl g ↦ unbound p g | inr s ↦ absurd (out (c p s.0 s.1)) ])
 
 -- what reads neither a written place nor an affected one keeps its value

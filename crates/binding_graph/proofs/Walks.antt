@@ -6,7 +6,7 @@ use Rattle.binding_graph.specs.declared.place.Place.{Place}
 use Rattle.binding_graph.specs.declared.binding.Binding.{Binding}
 use Rattle.binding_graph.specs.Places.{same_place, In}
 use Rattle.binding_graph.specs.Bindings.{Reads, reads_any, Chain, direct, further, Loop}
-use Rattle.binding_graph.specs.code.Orders.{Free, Ordered, Covers, bound}
+use Rattle.binding_graph.specs.code.Orders.{Free, Ordered, ListsBound, bound}
 use Rattle.binding_graph.proofs.Naming.{reads_any-true, reads_any-false}
 use Rattle.binding_graph.proofs.Places.{decide_place, same_place-refl, In-left, In-right, In-cases}
 
@@ -156,7 +156,7 @@ halved-loop F G t order reached sooner rest b h g found = let r = reads_any-true
 pub halved-ordered : (F G : Place → Option Binding) (t : Place) (order reached sooner rest : List Place) (b : Binding) → Halved F G t order reached sooner rest → G t ≡ Some b → reads_any b (t ∷ reached) ≡ false → Ordered G (sooner ++ t ∷ reached)
 halved-ordered F G t order reached sooner rest b h g found = ordered-append G sooner (t ∷ reached) h.sooner_ordered (not-reached G t (t ∷ reached) (Some b) g found, h.reached_ordered) h.sooner_later
 
-pub halved-covers : (F : Place → Option Binding) (t : Place) (z : Binding) (order reached sooner : List Place) → Halved F (bound F t z) t order reached sooner [] → Covers F order → Covers (bound F t z) (sooner ++ t ∷ reached)
+pub halved-covers : (F : Place → Option Binding) (t : Place) (z : Binding) (order reached sooner : List Place) → Halved F (bound F t z) t order reached sooner [] → ListsBound F order → ListsBound (bound F t z) (sooner ++ t ∷ reached)
 halved-covers F t z order reached sooner h c p us g = elim (decide_place t p) [
   | inl e ↦ In-right p sooner (t ∷ reached) (inl e)
   | inr f ↦ elim (h.total p us (sym (bound-other F t z p f) ∙ g) (c p us (sym (bound-other F t z p f) ∙ g))) [

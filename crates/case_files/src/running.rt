@@ -9,7 +9,7 @@ use std::alloc::{AllocError, Global};
 
 /// What a command line answers.
 #[derive(Drop)]
-pub struct Answer {
+pub struct CaseAnswer {
     /// What it writes on standard output.
     pub output: Vec<u8>,
     /// What it writes on standard error.
@@ -20,7 +20,11 @@ pub struct Answer {
 
 /// What a case's command line answers; `None` where it needs a certificate, the case has none, and `certify` gives none for
 /// its program.
-pub fn run_answer(alloc: Global, case: &Case<'_>, line: &str) -> Result<Option<Answer>, CaseFault> {
+pub fn run_answer(
+    alloc: Global,
+    case: &Case<'_>,
+    line: &str,
+) -> Result<Option<CaseAnswer>, CaseFault> {
     let words = words_of(alloc, line)?;
     if !wants_certificate(case, words.as_slice()) {
         let input = input_of(alloc, case, words.as_slice(), None)?;
@@ -44,7 +48,7 @@ fn answer_on(
     case: &Case<'_>,
     words: &[&str],
     input: &[u8],
-) -> Result<Answer, CaseFault> {
+) -> Result<CaseAnswer, CaseFault> {
     let mut output = Vec::new(alloc);
     let mut errors = Vec::new(alloc);
     let tells_refusals = case.has(Part::Explained);
@@ -56,7 +60,7 @@ fn answer_on(
         &mut output,
         &mut errors,
     )?;
-    Ok(Answer {
+    Ok(CaseAnswer {
         output,
         errors,
         status,

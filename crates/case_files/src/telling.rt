@@ -2,7 +2,7 @@
 
 use crate::case::{Case, cases};
 use crate::fault::CaseFault;
-use crate::running::{Answer, run_answer};
+use crate::running::{CaseAnswer, run_answer};
 use crate::section::Part;
 use crate::sections::read_sections;
 use script_tests::first_difference;
@@ -144,7 +144,7 @@ fn tell_status<R: Print + AllocGlobal>(
     name: &str,
     case: &Case<'_>,
     line: &str,
-    found: &Answer,
+    found: &CaseAnswer,
 ) -> Result<bool, CaseFault> {
     let wanted = case.status()?;
     let status = found.status;

@@ -5,7 +5,7 @@ use crate::rows::{cause_place, line_place};
 use effect_scan::{Node, Numbering};
 use program_flaws::{Source, class_text, node_text, push_edge, text_of, unfit_text, untyped_text};
 use rank_check::{
-    Cause, Certificate, Extra, Line, Loose, MemberName, Mistake, NodeName, Place, Rise, SetItem,
+    Cause, Certificate, Extra, Line, Loose, MemberName, Mistake, NodeLine, NodeName, Rise, SetItem,
 };
 use std::alloc::AllocError;
 
@@ -37,12 +37,12 @@ pub fn cause_text(
         text,
         certificate,
     };
-    compared.told(cause)
+    compared.sentence_of(cause)
 }
 
 impl<'s> Compared<'s> {
     /// What breaks the condition.
-    fn told(&self, cause: Cause) -> Result<String, AllocError> {
+    fn sentence_of(&self, cause: Cause) -> Result<String, AllocError> {
         match cause {
             Cause::Wire(place) => unfit_text(self.source, place),
             Cause::BodyType(spot) => untyped_text(self.source, spot),
@@ -177,7 +177,7 @@ impl<'s> Compared<'s> {
     }
 
     /// Adds the rank that the node's line gives to it.
-    fn push_rank(&self, text: &mut String, at: Place, gives: &str) -> Result<(), AllocError> {
+    fn push_rank(&self, text: &mut String, at: NodeLine, gives: &str) -> Result<(), AllocError> {
         let row = self.row(at.line)?;
         let node = self.node(at.node)?;
         let rank = self.rank(at.line);
@@ -205,7 +205,7 @@ impl<'s> Compared<'s> {
     }
 
     /// The set of a destruction lacks a class.
-    fn unclosed(&self, at: Place, class: usize) -> Result<String, AllocError> {
+    fn unclosed(&self, at: NodeLine, class: usize) -> Result<String, AllocError> {
         let row = self.row(at.line)?;
         let node = self.node(at.node)?;
         let class = class_text(self.source.alloc, self.source.meta, class)?;
@@ -215,7 +215,7 @@ impl<'s> Compared<'s> {
     }
 
     /// The set of a slot or native holds its own class.
-    fn own(&self, at: Place) -> Result<String, AllocError> {
+    fn own(&self, at: NodeLine) -> Result<String, AllocError> {
         let row = self.row(at.line)?;
         let node = self.node(at.node)?;
         format!(in self.source.alloc;
@@ -224,7 +224,7 @@ impl<'s> Compared<'s> {
     }
 
     /// A set lacks a class of the set of another node.
-    fn lost(&self, from: Place, to: Place, class: usize) -> Result<String, AllocError> {
+    fn lost(&self, from: NodeLine, to: NodeLine, class: usize) -> Result<String, AllocError> {
         let row = self.row(from.line)?;
         let node = self.node(from.node)?;
         let class = class_text(self.source.alloc, self.source.meta, class)?;

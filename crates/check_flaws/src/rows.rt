@@ -1,6 +1,6 @@
 //! Where the rows of a certificate's text begin: its lines that have tokens.
 
-use diagnostics::Place;
+use diagnostics::TextPlace;
 use rank_check::{Cause, Extra, Loose, Mistake};
 use std::alloc::{AllocError, Global};
 use texts::{PlaceFault, placed_tokens};
@@ -12,7 +12,7 @@ const SETTINGS: usize = 2;
 const BOUND_ROW: usize = 1;
 
 /// Where the row of the certificate begins that breaks a condition; its first one where none does.
-pub fn cause_place(alloc: Global, text: &[u8], cause: Cause) -> Result<Place, AllocError> {
+pub fn cause_place(alloc: Global, text: &[u8], cause: Cause) -> Result<TextPlace, AllocError> {
     let line = match cause {
         Cause::Extra(Extra::Unknown(line) | Extra::Class(line, _) | Extra::Twice(_, line)) => line,
         Cause::Edge(rise) => rise.from.line,
@@ -28,15 +28,15 @@ pub fn cause_place(alloc: Global, text: &[u8], cause: Cause) -> Result<Place, Al
 }
 
 /// Where the node's line of this place begins.
-pub fn line_place(alloc: Global, text: &[u8], line: usize) -> Result<Place, AllocError> {
+pub fn line_place(alloc: Global, text: &[u8], line: usize) -> Result<TextPlace, AllocError> {
     row_place(alloc, text, line.saturating_add(SETTINGS))
 }
 
 /// Where the row of this number begins, from 0.
-fn row_place(alloc: Global, text: &[u8], row: usize) -> Result<Place, AllocError> {
+fn row_place(alloc: Global, text: &[u8], row: usize) -> Result<TextPlace, AllocError> {
     let placed = match placed_tokens(alloc, text) {
         Ok(placed) => placed,
-        Err(PlaceFault::BadByte(_)) => return Ok(Place { line: 1, column: 1 }),
+        Err(PlaceFault::BadByte(_)) => return Ok(TextPlace { line: 1, column: 1 }),
         Err(PlaceFault::Memory) => return Err(AllocError),
     };
     let mut rows = 0usize;
@@ -45,11 +45,11 @@ fn row_place(alloc: Global, text: &[u8], row: usize) -> Result<Place, AllocError
         let is_first = end == 0 || text.get(end..token.at).unwrap_or(&[]).contains(&b'\n');
         if is_first {
             if rows == row {
-                return Ok(Place::of(text, token.at.min(text.len())));
+                return Ok(TextPlace::of(text, token.at.min(text.len())));
             }
             rows = rows.saturating_add(1);
         }
         end = token.end;
     }
-    Ok(Place { line: 1, column: 1 })
+    Ok(TextPlace { line: 1, column: 1 })
 }

@@ -4,7 +4,7 @@ use Rattle.std.specs.Global.{Vec}
 use Rattle.slab.specs.Slab.{Slab}
 use Rattle.connections.specs.declared.connection.Connection.{Connection}
 use Rattle.connections.specs.declared.cell.Cell.{Cell}
-use Rattle.connections.specs.declared.place.Place.{Place}
+use Rattle.connections.specs.declared.place.CellPlace.{CellPlace}
 use Rattle.connections.specs.declared.groups.Lists.{Lists}
 use Rattle.connections.specs.Connected.{is_of, joins, touches}
 use Rattle.connections.specs.Cells.{counted}
@@ -16,7 +16,7 @@ use Rattle.connections.proofs.Indexed.{Indexes-pushed, Indexes-added, live-pushe
 use Rattle.connections.proofs.Counts.{Marked-kept}
 
 -- a list of the connections that pass the test, with the new one or without it
-Indexes-put : (old new : Slab Cell) (key : ℕ) (c : Connection) (whole : List Connection) (last : ℕ) (test : Connection → Bool) (places : List Place) (b : Bool) → test c ≡ b → Adds old new key c → last < c.number → Indexes old whole last test places → Indexes new (whole ++ c ∷ []) c.number test (cond b (places ++ placed_at c key ∷ []) places)
+Indexes-put : (old new : Slab Cell) (key : ℕ) (c : Connection) (whole : List Connection) (last : ℕ) (test : Connection → Bool) (places : List CellPlace) (b : Bool) → test c ≡ b → Adds old new key c → last < c.number → Indexes old whole last test places → Indexes new (whole ++ c ∷ []) c.number test (cond b (places ++ placed_at c key ∷ []) places)
 Indexes-put old new key c whole last test places true t a h i = Indexes-pushed old new key c whole last test places a h t i
 Indexes-put old new key c whole last test places false t a h i = Indexes-added old new key c whole last test places a h t i
 
@@ -43,7 +43,7 @@ module _ (old new : Slab Cell) (lists lists' : Lists) (marked marked' : Vec ℕ)
   pub shown-kept : IsKept old lists marked new lists' marked' → shown_in new lists' ≡ shown_in old lists
   shown-kept k = ap (live new) k.in_lists.all ∙ live-same old new (λ p. ap (λ xs. connection_in p.number (get_or xs p.key None)) k.in_cells) (all_of lists)
 
-  Indexes-kept : (test : Connection → Bool) (places places' : List Place) → IsKept old lists marked new lists' marked' → places' ≡ places → Indexes old (shown_in old lists) last test places → Indexes new (shown_in new lists') last test places'
+  Indexes-kept : (test : Connection → Bool) (places places' : List CellPlace) → IsKept old lists marked new lists' marked' → places' ≡ places → Indexes old (shown_in old lists) last test places → Indexes new (shown_in new lists') last test places'
   Indexes-kept test places places' k e i = rw (e, shown-kept k) (record {
     rising = i.rising;
     exact = live-same old new (λ p. ap (λ xs. connection_in p.number (get_or xs p.key None)) k.in_cells) places ∙ i.exact;

@@ -7,7 +7,7 @@ use Rattle.std.proofs.lemmas.Option.{same_Some}
 use Rattle.slab.specs.Slab.{Slab, get}
 use Rattle.connections.specs.declared.connection.Connection.{Connection}
 use Rattle.connections.specs.declared.cell.Cell.{Cell}
-use Rattle.connections.specs.declared.place.Place.{Place}
+use Rattle.connections.specs.declared.place.CellPlace.{CellPlace}
 use Rattle.connections.specs.declared.removing.Removal.{Removal}
 use Rattle.connections.specs.Connected.{without}
 use Rattle.connections.specs.Cells.{fits, retired}
@@ -28,7 +28,7 @@ kept-cons test (Some c) cs = by_test (test c)
     by_test false = refl
 
 -- what is connection_in item by item is what is left of the list
-pub live-kept : (old new : Slab Cell) (test : Connection → Bool) → ((p : Place) → live_at new p ≡ kept test (live_at old p)) → (places : List Place) → live new places ≡ without test (live old places)
+pub live-kept : (old new : Slab Cell) (test : Connection → Bool) → ((p : CellPlace) → live_at new p ≡ kept test (live_at old p)) → (places : List CellPlace) → live new places ≡ without test (live old places)
 live-kept old new test h [] = refl
 live-kept old new test h (p ∷ places) =
     ap (λ c. cons_option c (live new places)) (h p)
@@ -75,7 +75,7 @@ retired-was removal (Some old) cell e h = by_live old.live (fits removal old.con
     by_live false f i j = grind (arith, retired)
 
 -- a list after a removal
-pub Indexes-retired : (old new : Slab Cell) (removal : Removal) (whole : List Connection) (last : ℕ) (test : Connection → Bool) (places : List Place) → ((k : ℕ) → get new k ≡ option_map (retired removal) (get old k)) → Indexes old whole last test places → Indexes new (without (fits removal) whole) last test places
+pub Indexes-retired : (old new : Slab Cell) (removal : Removal) (whole : List Connection) (last : ℕ) (test : Connection → Bool) (places : List CellPlace) → ((k : ℕ) → get new k ≡ option_map (retired removal) (get old k)) → Indexes old whole last test places → Indexes new (without (fits removal) whole) last test places
 Indexes-retired old new removal whole last test places e i = record {
   rising = i.rising;
   exact = live-kept old new (fits removal) (λ p. ap (connection_in p.number) (e p.key) ∙ shown-retired removal p.number (get old p.key)) places
@@ -85,10 +85,10 @@ Indexes-retired old new removal whole last test places e i = record {
 }
 
 -- what is there after a removal
-pub live-retired : (old new : Slab Cell) (removal : Removal) (places : List Place) → ((k : ℕ) → get new k ≡ option_map (retired removal) (get old k)) → live new places ≡ without (fits removal) (live old places)
+pub live-retired : (old new : Slab Cell) (removal : Removal) (places : List CellPlace) → ((k : ℕ) → get new k ≡ option_map (retired removal) (get old k)) → live new places ≡ without (fits removal) (live old places)
 live-retired old new removal places e = live-kept old new (fits removal) (λ p. ap (connection_in p.number) (e p.key) ∙ shown-retired removal p.number (get old p.key)) places
 
-pub live-same : (old new : Slab Cell) → ((p : Place) → live_at new p ≡ live_at old p) → (places : List Place) → live new places ≡ live old places
+pub live-same : (old new : Slab Cell) → ((p : CellPlace) → live_at new p ≡ live_at old p) → (places : List CellPlace) → live new places ≡ live old places
 live-same old new h [] = refl
 live-same old new h (p ∷ places) =
     ap (λ c. cons_option c (live new places)) (h p) ∙ ap (cons_option (live_at old p)) (live-same old new h places)
@@ -102,7 +102,7 @@ shown-other number cell h = by_same (eqb cell.connection.number number) cell.liv
     by_same false false e = refl
 
 -- places of lower numbers show what they showed
-pub live_at-added : (old new : Slab Cell) (key : ℕ) (c : Connection) (p : Place) → Adds old new key c → p.number < c.number → live_at new p ≡ live_at old p
+pub live_at-added : (old new : Slab Cell) (key : ℕ) (c : Connection) (p : CellPlace) → Adds old new key c → p.number < c.number → live_at new p ≡ live_at old p
 live_at-added old new key c p a h = ⊎_elim
     (λ (same : p.key ≡ key).
     let there : get new p.key ≡ Some (record { connection = c; live = true }) = rw same a.updates.changed in
@@ -114,33 +114,33 @@ live_at-added old new key c p a h = ⊎_elim
 pub live_at-place : (old new : Slab Cell) (key : ℕ) (c : Connection) → Adds old new key c → live_at new (placed_at c key) ≡ Some c
 live_at-place old new key c a = ap (connection_in c.number) a.updates.changed ∙ ap (λ b. cond b (Some c) None) (eq-eqb c.number c.number refl)
 
-pub Rising-below : (low : ℕ) (places : List Place) (last : ℕ) → Rising low places last → low ≤ last
+pub Rising-below : (low : ℕ) (places : List CellPlace) (last : ℕ) → Rising low places last → low ≤ last
 Rising-below low [] last r = r
 Rising-below low (p ∷ places) last r = omega (arith, r.0, Rising-below p.number places last r.1)
 
-pub live-added : (old new : Slab Cell) (key : ℕ) (c : Connection) (low last : ℕ) (places : List Place) → Adds old new key c → last < c.number → Rising low places last → live new places ≡ live old places
+pub live-added : (old new : Slab Cell) (key : ℕ) (c : Connection) (low last : ℕ) (places : List CellPlace) → Adds old new key c → last < c.number → Rising low places last → live new places ≡ live old places
 live-added old new key c low last [] a h r = refl
 live-added old new key c low last (p ∷ places) a h r =
     ap (λ x. cons_option x (live new places)) (live_at-added old new key c p a (omega (arith, h, Rising-below p.number places last r.1)))
     ∙ ap (cons_option (live_at old p)) (live-added old new key c p.number last places a h r.1)
 
-pub Rising-push : (low last : ℕ) (places : List Place) (p : Place) → Rising low places last → last < p.number → Rising low (places ++ p ∷ []) p.number
+pub Rising-push : (low last : ℕ) (places : List CellPlace) (p : CellPlace) → Rising low places last → last < p.number → Rising low (places ++ p ∷ []) p.number
 Rising-push low last [] p r h = (omega arith, omega arith)
 Rising-push low last (q ∷ places) p r h = (r.0, Rising-push q.number last places p r.1 h)
 
-pub Rising-later : (low last more : ℕ) (places : List Place) → Rising low places last → last ≤ more → Rising low places more
+pub Rising-later : (low last more : ℕ) (places : List CellPlace) → Rising low places last → last ≤ more → Rising low places more
 Rising-later low last more [] r h = omega (arith, r)
 Rising-later low last more (q ∷ places) r h = (r.0, Rising-later q.number last more places r.1 h)
 
 -- one more place leads to the new connection
-pub live-pushed : (old new : Slab Cell) (key : ℕ) (c : Connection) (last : ℕ) (places : List Place) → Adds old new key c → last < c.number → Rising 0 places last → live new (places ++ placed_at c key ∷ []) ≡ live old places ++ c ∷ []
+pub live-pushed : (old new : Slab Cell) (key : ℕ) (c : Connection) (last : ℕ) (places : List CellPlace) → Adds old new key c → last < c.number → Rising 0 places last → live new (places ++ placed_at c key ∷ []) ≡ live old places ++ c ∷ []
 live-pushed old new key c last places a h r =
     filter_map-append (live_at new) places (placed_at c key ∷ [])
     ∙ ap (λ cs. cs ++ live new (placed_at c key ∷ [])) (live-added old new key c 0 last places a h r)
     ∙ ap (λ x. live old places ++ cons_option x []) (live_at-place old new key c a)
 
 -- a list of the new connection, with its place
-pub Indexes-pushed : (old new : Slab Cell) (key : ℕ) (c : Connection) (whole : List Connection) (last : ℕ) (test : Connection → Bool) (places : List Place) → Adds old new key c → last < c.number → test c ≡ true → Indexes old whole last test places → Indexes new (whole ++ c ∷ []) c.number test (places ++ placed_at c key ∷ [])
+pub Indexes-pushed : (old new : Slab Cell) (key : ℕ) (c : Connection) (whole : List Connection) (last : ℕ) (test : Connection → Bool) (places : List CellPlace) → Adds old new key c → last < c.number → test c ≡ true → Indexes old whole last test places → Indexes new (whole ++ c ∷ []) c.number test (places ++ placed_at c key ∷ [])
 Indexes-pushed old new key c whole last test places a h t i = record {
   rising = Rising-push 0 last places (placed_at c key) i.rising h;
   exact = live-pushed old new key c last places a h i.rising ∙ ap (λ cs. cs ++ c ∷ []) i.exact ∙ sym (filter-append test whole (c ∷ []) ∙ ap (λ b. filter test whole ++ cond b (c ∷ []) []) t);
@@ -156,7 +156,7 @@ Indexes-pushed old new key c whole last test places a h t i = record {
 }
 
 -- a list of others stays as it is
-pub Indexes-added : (old new : Slab Cell) (key : ℕ) (c : Connection) (whole : List Connection) (last : ℕ) (test : Connection → Bool) (places : List Place) → Adds old new key c → last < c.number → test c ≡ false → Indexes old whole last test places → Indexes new (whole ++ c ∷ []) c.number test places
+pub Indexes-added : (old new : Slab Cell) (key : ℕ) (c : Connection) (whole : List Connection) (last : ℕ) (test : Connection → Bool) (places : List CellPlace) → Adds old new key c → last < c.number → test c ≡ false → Indexes old whole last test places → Indexes new (whole ++ c ∷ []) c.number test places
 Indexes-added old new key c whole last test places a h t i = record {
   rising = Rising-later 0 last c.number places i.rising (omega (arith, h));
   exact = live-added old new key c 0 last places a h i.rising ∙ i.exact ∙ sym (filter-append test whole (c ∷ []) ∙ ap (λ b. filter test whole ++ cond b (c ∷ []) []) t ∙ append-nil (filter test whole));

@@ -5,7 +5,7 @@ use Rattle.std.proofs.lemmas.Bool.{eqb-true, leb-false}
 use Rattle.slab.specs.Slab.{Slab, get}
 use Rattle.connections.specs.declared.connection.Connection.{Connection}
 use Rattle.connections.specs.declared.cell.Cell.{Cell}
-use Rattle.connections.specs.declared.place.Place.{Place}
+use Rattle.connections.specs.declared.place.CellPlace.{CellPlace}
 use Rattle.connections.specs.Connected.{Rises, not_above}
 use Rattle.connections.specs.Places.{connection_in, live, Rising}
 
@@ -23,7 +23,7 @@ Rises-cons low number last (Some cell) cs h r = by_tests cell.live (eqb cell.con
     by_tests false b e = Rises-lower number low last cs (omega (arith, h)) r
 
 -- what rising places lead to rises
-pub Rises-live : (cells : Slab Cell) (low last : ℕ) (places : List Place) → Rising low places last → Rises low (live cells places) last
+pub Rises-live : (cells : Slab Cell) (low last : ℕ) (places : List CellPlace) → Rising low places last → Rises low (live cells places) last
 Rises-live cells low last [] r = r
 Rises-live cells low last (p ∷ places) r = Rises-cons low p.number last (get cells p.key) (live cells places) r.0 (Rises-live cells p.number last places r.1)
 

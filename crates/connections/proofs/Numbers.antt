@@ -5,38 +5,38 @@ use Rattle.std.specs.List.Sorted.{IsNonDecreasingBy}
 use Rattle.std.proofs.lemmas.Bool.{cases_lt, le-ltb, eqb-true}
 use Rattle.connections.specs.declared.connection.Connection.{Connection}
 use Rattle.connections.specs.declared.cell.Cell.{Cell}
-use Rattle.connections.specs.declared.place.Place.{Place}
+use Rattle.connections.specs.declared.place.CellPlace.{CellPlace}
 use Rattle.slab.specs.Slab.{Slab, get}
 use Rattle.connections.specs.Places.{live, connection_in, Rising, SplitsAt}
 
-pub Rising-at : (low last : ℕ) (places : List Place) (k : ℕ) (d : Place) → Rising low places last → k < length places → low < (get_or places k d).number
+pub Rising-at : (low last : ℕ) (places : List CellPlace) (k : ℕ) (d : CellPlace) → Rising low places last → k < length places → low < (get_or places k d).number
 Rising-at low last [] k d r h = omega arith
 Rising-at low last (p ∷ places) zero d r h = r.0
 Rising-at low last (p ∷ places) (suc k) d r h = omega (arith, r.0, Rising-at p.number last places k d r.1 (omega arith))
 
-pub Rising-order : (low last : ℕ) (places : List Place) (i j : ℕ) (d : Place) → Rising low places last → i < j → j < length places → (get_or places i d).number < (get_or places j d).number
+pub Rising-order : (low last : ℕ) (places : List CellPlace) (i j : ℕ) (d : CellPlace) → Rising low places last → i < j → j < length places → (get_or places i d).number < (get_or places j d).number
 Rising-order low last [] i j d r h k = omega arith
 Rising-order low last (p ∷ places) zero zero d r h k = omega arith
 Rising-order low last (p ∷ places) zero (suc j) d r h k = Rising-at p.number last places j d r.1 (omega arith)
 Rising-order low last (p ∷ places) (suc i) zero d r h k = omega arith
 Rising-order low last (p ∷ places) (suc i) (suc j) d r h k = Rising-order p.number last places i j d r.1 (omega arith) (omega arith)
 
-pub Rising-sorted : (last : ℕ) (places : List Place) → Rising 0 places last → IsNonDecreasingBy (λ p. p.number) places
+pub Rising-sorted : (last : ℕ) (places : List CellPlace) → Rising 0 places last → IsNonDecreasingBy (λ p. p.number) places
 Rising-sorted last places r = λ i j d h k. ⊎_elim
     (λ (less : i < j). omega (arith, Rising-order 0 last places i j d r less k))
     (λ (same : j ≤ i). let e : i ≡ j = omega arith in rw e (omega arith))
     (cases_lt i j)
 
 -- an element is among the one at its place
-pub found_at : (places : List Place) (i : ℕ) (p : Place) → i < length places → get_or places i p ≡ p → Contains (take 1 (drop i places)) p
+pub found_at : (places : List CellPlace) (i : ℕ) (p : CellPlace) → i < length places → get_or places i p ≡ p → Contains (take 1 (drop i places)) p
 found_at [] i p h e = absurd (omega (arith, h))
 found_at (q ∷ places) zero p h e = (0, omega arith, e)
 found_at (q ∷ places) (suc i) p h e = found_at places i p (omega arith) e
 
 -- the place of a number is the first whose number is at least that
-pub found_first : (last : ℕ) (places : List Place) (number i : ℕ) (p : Place) → Rising 0 places last → SplitsAt places number i → Contains places p → p.number ≡ number → Contains (take 1 (drop i places)) p
+pub found_first : (last : ℕ) (places : List CellPlace) (number i : ℕ) (p : CellPlace) → Rising 0 places last → SplitsAt places number i → Contains places p → p.number ≡ number → Contains (take 1 (drop i places)) p
 found_first last places number i p r s (k, within, at) same =
-    let here : (get_or places k p).number ≡ number = ap (λ (q : Place). q.number) at ∙ same in
+    let here : (get_or places k p).number ≡ number = ap (λ (q : CellPlace). q.number) at ∙ same in
     ⊎_elim
     (λ (less : k < i). absurd (omega (arith, here, s.below k p less)))
     (λ (more : i ≤ k). ⊎_elim
@@ -55,7 +55,7 @@ find-cons above number (Some cell) cs h = by_tests cell.live (eqb cell.connectio
     by_tests false b e = refl
 
 -- places of lower numbers show nothing that is numbered above
-pub find-skip : (cells : Slab Cell) (places : List Place) (i above : ℕ) → ((k : ℕ) (d : Place) → k < i → (get_or places k d).number < above) → find (λ c. nat_lt above c.number) (live cells (drop i places)) ≡ find (λ c. nat_lt above c.number) (live cells places)
+pub find-skip : (cells : Slab Cell) (places : List CellPlace) (i above : ℕ) → ((k : ℕ) (d : CellPlace) → k < i → (get_or places k d).number < above) → find (λ c. nat_lt above c.number) (live cells (drop i places)) ≡ find (λ c. nat_lt above c.number) (live cells places)
 find-skip cells [] zero above h = refl
 find-skip cells [] (suc i) above h = refl
 find-skip cells (p ∷ places) zero above h = refl
@@ -63,21 +63,21 @@ find-skip cells (p ∷ places) (suc i) above h =
     find-skip cells places i above (λ k d less. h (suc k) d (omega (arith, less)))
     ∙ sym (find-cons above p.number (get cells p.key) (live cells places) (h zero p (omega arith)))
 
-pub take_one : (places : List Place) (n : ℕ) → n ≡ min (length places) 1 → take n places ≡ take 1 places
+pub take_one : (places : List CellPlace) (n : ℕ) → n ≡ min (length places) 1 → take n places ≡ take 1 places
 take_one [] zero e = refl
 take_one [] (suc n) e = refl
 take_one (p ∷ places) n e = let one : n ≡ 1 = omega arith in rw one refl
 
 -- what is at a place doesn't depend on what would be past the end
-any_default : (places : List Place) (i : ℕ) (d e : Place) → i < length places → get_or places i d ≡ get_or places i e
+any_default : (places : List CellPlace) (i : ℕ) (d e : CellPlace) → i < length places → get_or places i d ≡ get_or places i e
 any_default [] i d e h = absurd (omega (arith, h))
 any_default (q ∷ places) zero d e h = refl
 any_default (q ∷ places) (suc i) d e h = any_default places i d e (omega arith)
 
 -- the numbers before a place are below its number, and those from it on aren't
-pub splits_at : (last : ℕ) (places : List Place) (number i : ℕ) (e : Place) → Rising 0 places last → i < length places → (get_or places i e).number ≡ number → SplitsAt places number i
+pub splits_at : (last : ℕ) (places : List CellPlace) (number i : ℕ) (e : CellPlace) → Rising 0 places last → i < length places → (get_or places i e).number ≡ number → SplitsAt places number i
 splits_at last places number i e r h same =
-    let here : (d : Place) → (get_or places i d).number ≡ number = λ d. ap (λ (q : Place). q.number) (any_default places i d e h) ∙ same in
+    let here : (d : CellPlace) → (get_or places i d).number ≡ number = λ d. ap (λ (q : CellPlace). q.number) (any_default places i d e h) ∙ same in
     record {
       below = λ k d w. omega (arith, here d, Rising-order 0 last places k i d r w h);
       above = λ k d w g. omega (arith, here d, Rising-sorted last places r i k d w g);

@@ -5,7 +5,7 @@ use Rattle.std.proofs.lemmas.Bool.{eqb-true}
 use Rattle.slab.specs.Slab.{Slab, get}
 use Rattle.connections.specs.declared.connection.Connection.{Connection}
 use Rattle.connections.specs.declared.cell.Cell.{Cell}
-use Rattle.connections.specs.declared.place.Place.{Place}
+use Rattle.connections.specs.declared.place.CellPlace.{CellPlace}
 use Rattle.connections.specs.declared.groups.Lists.{Lists}
 use Rattle.connections.specs.declared.removing.Removal.{Removal}
 use Rattle.connections.specs.Connected.{without, is_of, is_later, is_numbered, joins, touches}
@@ -51,7 +51,7 @@ any_filtered p (c ∷ cs) = by_test (p c) refl (any_filtered p cs)
 
 module _ (cells : Slab Cell) (lists : Lists) (last : ℕ) where
   -- the place of a number, where places of that number are found, leads to the connection of that number
-  pub LeadToEach-numbered : (number : ℕ) (places : List Place) → ((p : Place) → Contains (all_of lists) p → p.number ≡ number → Contains places p) → ListsLead cells lists last → LeadToEach cells (is_numbered number) places
+  pub LeadToEach-numbered : (number : ℕ) (places : List CellPlace) → ((p : CellPlace) → Contains (all_of lists) p → p.number ≡ number → Contains places p) → ListsLead cells lists last → LeadToEach cells (is_numbered number) places
   LeadToEach-numbered number places h l = record {
     place = λ k cell at alive passes. h (record { number = cell.connection.number; key = k }) (l.all.covers.place k cell at alive refl) (eqb-true _ _ passes);
   }

@@ -3,7 +3,7 @@ use Rattle.std.proofs.Common.{◌≡◌, ◌⊎◌, ⊎_elim, inl, length, zero,
 use Rattle.slab.specs.Slab.{Slab, get}
 use Rattle.connections.specs.declared.connection.Connection.{Connection}
 use Rattle.connections.specs.declared.cell.Cell.{Cell}
-use Rattle.connections.specs.declared.place.Place.{Place}
+use Rattle.connections.specs.declared.place.CellPlace.{CellPlace}
 use Rattle.connections.specs.declared.groups.Lists.{Lists}
 use Rattle.connections.specs.Connected.{is_of, joins, touches}
 use Rattle.connections.specs.Cells.{swept}
@@ -39,20 +39,20 @@ pub swept_if-was : (b : Bool) (x : Option Cell) (cell : Cell) → cond b (swept 
 swept_if-was true x cell e = swept-was x cell e
 swept_if-was false x cell e = e
 
-pub live-tidied : (cells : Slab Cell) (old new : List Place) → Tidies cells old new → live cells new ≡ live cells old
+pub live-tidied : (cells : Slab Cell) (old new : List CellPlace) → Tidies cells old new → live cells new ≡ live cells old
 live-tidied cells old new t = ⊎_elim
     (λ (same : new ≡ old). ap (live cells) same)
     (λ (held : new ≡ _). ap (live cells) held ∙ live-held cells old)
     t
 
-Indexes-tidied : (cells : Slab Cell) (whole : List Connection) (last : ℕ) (test : Connection → Bool) (old new : List Place) → Tidies cells old new → Indexes cells whole last test old → Indexes cells whole last test new
+Indexes-tidied : (cells : Slab Cell) (whole : List Connection) (last : ℕ) (test : Connection → Bool) (old new : List CellPlace) → Tidies cells old new → Indexes cells whole last test old → Indexes cells whole last test new
 Indexes-tidied cells whole last test old new t i = ⊎_elim
     (λ (same : new ≡ old). rw same i)
     (λ (held : new ≡ _). rw held (Indexes-held cells whole last test old i))
     t
 
 module _ (old new : Slab Cell) (key : ℕ) where
-  Indexes-swept : (whole : List Connection) (last : ℕ) (test : Connection → Bool) (places : List Place) → ((k : ℕ) → get new k ≡ cond (eqb k key) (swept (get old k)) (get old k)) → Indexes old whole last test places → Indexes new whole last test places
+  Indexes-swept : (whole : List Connection) (last : ℕ) (test : Connection → Bool) (places : List CellPlace) → ((k : ℕ) → get new k ≡ cond (eqb k key) (swept (get old k)) (get old k)) → Indexes old whole last test places → Indexes new whole last test places
   Indexes-swept whole last test places e i = record {
     rising = i.rising;
     exact = live-same old new (λ p. ap (connection_in p.number) (e p.key) ∙ shown-swept_if p.number (eqb p.key key) (get old p.key)) places ∙ i.exact;
@@ -84,7 +84,7 @@ filter_again test (x ∷ xs) = by_test (test x) refl (filter_again test xs)
     by_test false e h = h
 
 -- dropping such places twice
-pub Tidies-again : (cells : Slab Cell) (a b c : List Place) → Tidies cells a b → Tidies cells b c → Tidies cells a c
+pub Tidies-again : (cells : Slab Cell) (a b c : List CellPlace) → Tidies cells a b → Tidies cells b c → Tidies cells a c
 Tidies-again cells a b c s t = ⊎_elim
     (λ (first : b ≡ a). rw (sym first) t)
     (λ (first : b ≡ filter (is_held cells) a). ⊎_elim
@@ -94,14 +94,14 @@ Tidies-again cells a b c s t = ⊎_elim
     s
 
 -- what is tidied under a key that is the same is tidied under the key
-pub Tidies-pair : (cells : Slab Cell) (f : ℕ × ℕ → List Place) (new : List Place) (p q : ℕ × ℕ) → Tidies cells (cond (same_pair p q) (f p) (f q)) new → Tidies cells (f q) new
-Tidies-pair cells f new p q t = let P : List Place → Type 0 = λ old. Tidies cells old new in subst P (at_pair f p q) t
+pub Tidies-pair : (cells : Slab Cell) (f : ℕ × ℕ → List CellPlace) (new : List CellPlace) (p q : ℕ × ℕ) → Tidies cells (cond (same_pair p q) (f p) (f q)) new → Tidies cells (f q) new
+Tidies-pair cells f new p q t = let P : List CellPlace → Type 0 = λ old. Tidies cells old new in subst P (at_pair f p q) t
 
-pub Tidies-ends : (cells : Slab Cell) (f : Ends → List Place) (new : List Place) (p q : Ends) → Tidies cells (cond (same_ends p q) (f p) (f q)) new → Tidies cells (f q) new
-Tidies-ends cells f new p q t = let P : List Place → Type 0 = λ old. Tidies cells old new in subst P (at_ends f p q) t
+pub Tidies-ends : (cells : Slab Cell) (f : Ends → List CellPlace) (new : List CellPlace) (p q : Ends) → Tidies cells (cond (same_ends p q) (f p) (f q)) new → Tidies cells (f q) new
+Tidies-ends cells f new p q t = let P : List CellPlace → Type 0 = λ old. Tidies cells old new in subst P (at_ends f p q) t
 
-pub Tidies-number : (cells : Slab Cell) (f : ℕ → List Place) (new : List Place) (p q : ℕ) → Tidies cells (cond (eqb p q) (f p) (f q)) new → Tidies cells (f q) new
-Tidies-number cells f new p q t = let P : List Place → Type 0 = λ old. Tidies cells old new in subst P (at_number f p q) t
+pub Tidies-number : (cells : Slab Cell) (f : ℕ → List CellPlace) (new : List CellPlace) (p q : ℕ) → Tidies cells (cond (eqb p q) (f p) (f q)) new → Tidies cells (f q) new
+Tidies-number cells f new p q t = let P : List CellPlace → Type 0 = λ old. Tidies cells old new in subst P (at_number f p q) t
 
 -- ---- one key after another
 

@@ -7,7 +7,7 @@ use Rattle.std.specs.Vec.{vec_len, vec_capacity}
 use Rattle.slab.specs.Slab.{Slab, get, slab_len}
 use Rattle.connections.specs.declared.connection.Connection.{Connection}
 use Rattle.connections.specs.declared.cell.Cell.{Cell}
-use Rattle.connections.specs.declared.place.Place.{Place}
+use Rattle.connections.specs.declared.place.CellPlace.{CellPlace}
 use Rattle.connections.specs.declared.removing.Removal.{Removal}
 use Rattle.connections.specs.declared.removing.Removal.TheVariants.{Between, Touching, Numbered}
 use Rattle.connections.specs.Connected.{joins, touches, is_numbered}
@@ -66,5 +66,5 @@ pub record Marked (cells : Slab Cell) (marked : Vec ℕ) : Type 0 where
   pub covers : HoldDead cells marked.items
 
 -- the places lead to each connection that is there and passes the test
-pub record LeadToEach (cells : Slab Cell) (test : Connection → Bool) (places : List Place) : Type 0 where
+pub record LeadToEach (cells : Slab Cell) (test : Connection → Bool) (places : List CellPlace) : Type 0 where
   pub place : (k : ℕ) (cell : Cell) → get cells k ≡ Some cell → cell.live ≡ true → test cell.connection ≡ true → Contains places (record { number = cell.connection.number; key = k })

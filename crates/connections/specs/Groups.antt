@@ -4,16 +4,16 @@ use Rattle.std.specs.Vec.{vec_len, vec_capacity}
 use Rattle.indexmap.specs.IndexMap.{IndexMap, get}
 use Rattle.slab.specs.Slab.{Slab}
 use Rattle.connections.specs.declared.cell.Cell.{Cell}
-use Rattle.connections.specs.declared.place.Place.{Place}
+use Rattle.connections.specs.declared.place.CellPlace.{CellPlace}
 use Rattle.connections.specs.declared.place.Places.{Places}
 use Rattle.connections.specs.Places.{Tidies}
 
-abbrev pub items_of : Option Places → List Place
+abbrev pub items_of : Option Places → List CellPlace
 items_of None = []
 items_of (Some places) = places.items.items
 
 module _ {K S : Type 0} (eq : K → K → Bool) where
-  abbrev pub list_of : IndexMap K Places S → K → List Place
+  abbrev pub list_of : IndexMap K Places S → K → List CellPlace
   list_of groups q = items_of (get eq groups q)
 
   -- one more place fits under the key with no allocation
@@ -35,7 +35,7 @@ module _ {K S : Type 0} (eq : K → K → Bool) where
   Keeps old new group = (q : K) → list_of new q ≡ (if eq group q then list_of old group else list_of old q)
 
   -- the group has a place more
-  abbrev pub Pushes : IndexMap K Places S → IndexMap K Places S → K → Place → Type 0
+  abbrev pub Pushes : IndexMap K Places S → IndexMap K Places S → K → CellPlace → Type 0
   Pushes old new group place = (q : K) → list_of new q ≡ (if eq group q then list_of old group ++ place ∷ [] else list_of old q)
 
   -- places that no longer lead to a cell may have been dropped from the group

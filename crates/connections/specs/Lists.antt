@@ -4,7 +4,7 @@ use Rattle.std.specs.Global.{Vec}
 use Rattle.slab.specs.Slab.{Slab}
 use Rattle.connections.specs.declared.connection.Connection.{Connection}
 use Rattle.connections.specs.declared.cell.Cell.{Cell}
-use Rattle.connections.specs.declared.place.Place.{Place}
+use Rattle.connections.specs.declared.place.CellPlace.{CellPlace}
 use Rattle.connections.specs.declared.groups.Lists.{Lists}
 use Rattle.connections.specs.Connected.{is_of, joins, touches}
 use Rattle.connections.specs.Cells.{Marked, LeadToEach, counted}
@@ -21,16 +21,16 @@ Ends = ℕ × ℕ × ℕ × ℕ
 abbrev pub same_ends : Ends → Ends → Bool
 same_ends a b = ((eqb a.0 b.0 && eqb a.1 b.1) && eqb a.2 b.2) && eqb a.3 b.3
 
-abbrev pub all_of : Lists → List Place
+abbrev pub all_of : Lists → List CellPlace
 all_of lists = lists.all.items.items
 
-abbrev pub of_signal : Lists → ℕ → ℕ → List Place
+abbrev pub of_signal : Lists → ℕ → ℕ → List CellPlace
 of_signal lists sender signal = list_of same_pair lists.by_signal (sender, signal)
 
-abbrev pub of_ends : Lists → ℕ → ℕ → ℕ → ℕ → List Place
+abbrev pub of_ends : Lists → ℕ → ℕ → ℕ → ℕ → List CellPlace
 of_ends lists sender signal receiver method = list_of same_ends lists.by_ends (sender, signal, receiver, method)
 
-abbrev pub of_object : Lists → ℕ → List Place
+abbrev pub of_object : Lists → ℕ → List CellPlace
 of_object lists object = list_of eqb lists.by_object object
 
 abbrev pub any_connection : Connection → Bool
@@ -62,7 +62,7 @@ abbrev pub StayShown : Slab Cell → Lists → Slab Cell → Lists → Type 0
 StayShown cells lists cells' lists' = (last : ℕ) → ListsLead cells lists last → shown_in cells' lists' ≡ shown_in cells lists
 
 -- the places lead to each connection that passes the test
-abbrev pub LeadTo : Lists → (Connection → Bool) → List Place → Type 0
+abbrev pub LeadTo : Lists → (Connection → Bool) → List CellPlace → Type 0
 LeadTo lists test places = (cells : Slab Cell) (last : ℕ) → ListsLead cells lists last → LeadToEach cells test places
 
 -- and removed connections are marked; whatever is counted, the cells of the others have as many as the lists show

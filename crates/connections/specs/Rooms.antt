@@ -5,7 +5,7 @@ use Rattle.std.specs.Vec.{vec_len, vec_capacity}
 use Rattle.slab.specs.Slab.{Slab, get, Updates, HasRoomFor}
 use Rattle.connections.specs.declared.connection.Connection.{Connection}
 use Rattle.connections.specs.declared.cell.Cell.{Cell}
-use Rattle.connections.specs.declared.place.Place.{Place}
+use Rattle.connections.specs.declared.place.CellPlace.{CellPlace}
 use Rattle.connections.specs.declared.groups.Lists.{Lists}
 use Rattle.connections.specs.Connected.{touches}
 use Rattle.connections.specs.Groups.{list_of, HasRoom}
@@ -19,17 +19,17 @@ pub record Adds (old new : Slab Cell) (key : ℕ) (c : Connection) : Type 0 wher
 abbrev pub ends_of : Connection → Ends
 ends_of c = (c.sender, c.signal, c.receiver, c.method)
 
-abbrev pub placed_at : Connection → ℕ → Place
+abbrev pub placed_at : Connection → ℕ → CellPlace
 placed_at c key = record { number = c.number; key = key }
 
 -- the lists of each sender and signal, of each pair of ends, and of each object have the place of this connection more
-abbrev pub PushesBySignal : Lists → Lists → Connection → Place → Type 0
+abbrev pub PushesBySignal : Lists → Lists → Connection → CellPlace → Type 0
 PushesBySignal old new c p = (q : ℕ × ℕ) → list_of same_pair new.by_signal q ≡ (if same_pair (c.sender, c.signal) q then list_of same_pair old.by_signal q ++ p ∷ [] else list_of same_pair old.by_signal q)
 
-abbrev pub PushesByEnds : Lists → Lists → Connection → Place → Type 0
+abbrev pub PushesByEnds : Lists → Lists → Connection → CellPlace → Type 0
 PushesByEnds old new c p = (q : Ends) → list_of same_ends new.by_ends q ≡ (if same_ends (ends_of c) q then list_of same_ends old.by_ends q ++ p ∷ [] else list_of same_ends old.by_ends q)
 
-abbrev pub PushesByObject : Lists → Lists → Connection → Place → Type 0
+abbrev pub PushesByObject : Lists → Lists → Connection → CellPlace → Type 0
 PushesByObject old new c p = (q : ℕ) → list_of eqb new.by_object q ≡ (if touches q c then list_of eqb old.by_object q ++ p ∷ [] else list_of eqb old.by_object q)
 
 -- the room that cells and lists have

@@ -11,7 +11,7 @@ ghost use Rattle.connections.specs.Rooms.{Rooms, IsKept, Adds, placed_at, Pushes
 use crate::cell::Cell;
 use crate::connection::Connection;
 use crate::groups::{Lists, ends_of, make_room, push_place};
-use crate::place::Place;
+use crate::place::CellPlace;
 use slab::Slab;
 use std::alloc::{AllocError, Global};
 
@@ -51,7 +51,7 @@ pub fn put(cells: &mut Slab<Cell>, lists: &mut Lists, c: Connection) -> usize
         connection: c,
         live: true,
     });
-    let place = Place {
+    let place = CellPlace {
         number: c.number,
         key,
     };

@@ -5,7 +5,7 @@ ghost use Rattle.connections.specs.Cells.{is_dead};
 ghost use Rattle.connections.specs.Places.{live_at, is_held};
 
 use crate::connection::Connection;
-use crate::place::Place;
+use crate::place::CellPlace;
 use slab::Slab;
 
 /// A connection, and whether it is still there.
@@ -16,7 +16,7 @@ pub struct Cell {
 }
 
 /// The connection at a place, if it is still there.
-pub fn live_at(cells: &Slab<Cell>, place: &Place) -> Option<Connection>
+pub fn live_at(cells: &Slab<Cell>, place: &CellPlace) -> Option<Connection>
     ensures { result ≡ live_at cells.now place.now }
 {
     match cells.get(place.key) {
@@ -32,7 +32,7 @@ pub fn live_at(cells: &Slab<Cell>, place: &Place) -> Option<Connection>
 }
 
 /// Whether the cell at a place still has the connection of its number.
-pub fn is_held(cells: &Slab<Cell>, place: &Place) -> bool
+pub fn is_held(cells: &Slab<Cell>, place: &CellPlace) -> bool
     ensures { result ≡ is_held cells.now place.now }
 {
     match cells.get(place.key) {

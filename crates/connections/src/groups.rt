@@ -9,7 +9,7 @@ ghost use Rattle.connections.specs.Rooms.{ends_of};
 
 use crate::cell::Cell;
 use crate::connection::Connection;
-use crate::place::{Place, Places};
+use crate::place::{CellPlace, Places};
 use indexmap::IndexMap;
 use signatures::ObjectId;
 use slab::Slab;
@@ -40,7 +40,7 @@ impl Lists {
     }
 
     /// The places of the connections of this sender and signal.
-    pub fn of_signal(&self, sender: ObjectId, signal: usize) -> &[Place]
+    pub fn of_signal(&self, sender: ObjectId, signal: usize) -> &[CellPlace]
         ensures { result.now ≡ of_signal self.now sender signal }
     {
         places_of(&self.by_signal, (sender.number(), signal))
@@ -53,7 +53,7 @@ impl Lists {
         signal: usize,
         receiver: ObjectId,
         method: usize,
-    ) -> &[Place]
+    ) -> &[CellPlace]
         ensures { result.now ≡ of_ends self.now sender signal receiver method }
     {
         let ends = (sender.number(), signal, receiver.number(), method);
@@ -61,7 +61,7 @@ impl Lists {
     }
 
     /// The places of the connections from and to an object.
-    pub fn of_object(&self, object: ObjectId) -> &[Place]
+    pub fn of_object(&self, object: ObjectId) -> &[CellPlace]
         ensures { result.now ≡ of_object self.now object }
     {
         places_of(&self.by_object, object.number())
@@ -76,7 +76,7 @@ pub fn ends_of(c: &Connection) -> (usize, usize, usize, usize)
 }
 
 /// The places under a key.
-fn places_of<K: Eq + Hash>(groups: &IndexMap<K, Places>, group: K) -> &[Place]
+fn places_of<K: Eq + Hash>(groups: &IndexMap<K, Places>, group: K) -> &[CellPlace]
 where
     K: Drop,
     ensures { result.now ≡ list_of K.eq groups.now group }
@@ -109,7 +109,7 @@ where
 }
 
 /// One more place under a key, which has room for it.
-pub fn push_place<K: Eq + Hash>(groups: &mut IndexMap<K, Places>, group: K, place: Place)
+pub fn push_place<K: Eq + Hash>(groups: &mut IndexMap<K, Places>, group: K, place: CellPlace)
 where
     K: Drop,
     requires { HasRoom K.eq groups.old group }

@@ -11,7 +11,7 @@ use std::alloc::{AllocError, Global};
 /// The cell into which the connection of a number was put. Once the connection has left it, the place leads nowhere, even
 /// if the cell is used again.
 #[derive(Clone, Copy)]
-pub struct Place {
+pub struct CellPlace {
     pub number: u64,
     pub key: usize,
 }
@@ -19,7 +19,7 @@ pub struct Place {
 /// Places in the order of their numbers, and how many of them lead nowhere.
 #[derive(Drop)]
 pub struct Places {
-    pub items: Vec<Place>,
+    pub items: Vec<CellPlace>,
     stale: usize,
 }
 
@@ -44,7 +44,7 @@ impl Places {
     }
 
     /// One more place at the end, for which there is room.
-    pub fn push(&mut self, place: Place)
+    pub fn push(&mut self, place: CellPlace)
         requires { vec_len self.old.items < vec_capacity self.old.items }
         ensures { self.new.items.items ≡ self.old.items.items ++ place ∷ [] }
     {
@@ -64,7 +64,7 @@ impl Places {
 }
 
 /// Keeps the places whose connections still have a cell.
-fn drop_stale(cells: &Slab<Cell>, places: &mut Vec<Place>)
+fn drop_stale(cells: &Slab<Cell>, places: &mut Vec<CellPlace>)
     ensures { places.new.items ≡ filter (is_held cells.now) places.old.items }
 {
     places.retain(|place| is_held(cells, place));

@@ -11,7 +11,7 @@ ghost use Rattle.connections.specs.Lists.{all_of, ListsLead, LeadTo};
 use crate::cell::Cell;
 use crate::connection::Connection;
 use crate::groups::Lists;
-use crate::place::Place;
+use crate::place::CellPlace;
 use crate::search::place_of_number;
 use signatures::ObjectId;
 use slab::Slab;
@@ -54,7 +54,7 @@ pub fn remove(cells: &mut Slab<Cell>, lists: &Lists, marked: &mut Vec<usize>, re
 }
 
 /// Places that lead to each connection that is to be removed.
-fn places_for<'a>(lists: &'a Lists, removal: &Removal) -> &'a [Place]
+fn places_for<'a>(lists: &'a Lists, removal: &Removal) -> &'a [CellPlace]
     requires { AreRising (all_of lists.now) }
     ensures { LeadTo lists.now (fits removal.now) result.now }
 {
@@ -68,7 +68,12 @@ fn places_for<'a>(lists: &'a Lists, removal: &Removal) -> &'a [Place]
 }
 
 /// Marks the cells of the connections that are to be removed, where these places lead to all of them.
-fn mark_all(cells: &mut Slab<Cell>, marked: &mut Vec<usize>, places: &[Place], removal: &Removal)
+fn mark_all(
+    cells: &mut Slab<Cell>,
+    marked: &mut Vec<usize>,
+    places: &[CellPlace],
+    removal: &Removal,
+)
     requires marked { Marked cells.old marked.old }
     requires covers { LeadToEach cells.old (fits removal.now) places.now }
     ensures cells { Retires removal.now cells.old cells.new }

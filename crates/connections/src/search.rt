@@ -4,16 +4,16 @@ ghost use Rattle.std.specs.Prelude.{◌≡◌, ℕ, ◌<◌, ◌≤◌, length, 
 ghost use Rattle.std.specs.List.{Contains, find, list_any};
 ghost use Rattle.connections.specs.Cells.{fits};
 ghost use Rattle.connections.specs.Places.{live, first_above, AreRising, SplitsAt, IsRestFrom, HoldNumbered};
-ghost use Rattle.connections.specs.declared.place.Place.{Place as APlace};
+ghost use Rattle.connections.specs.declared.place.CellPlace.{CellPlace as ACellPlace};
 
 use crate::cell::{Cell, live_at};
 use crate::connection::Connection;
-use crate::place::Place;
+use crate::place::CellPlace;
 use crate::removing::Removal;
 use slab::Slab;
 
 /// How many places have lower numbers.
-fn from_number(places: &[Place], number: u64) -> usize
+fn from_number(places: &[CellPlace], number: u64) -> usize
     requires { AreRising places.now }
     ensures within { result ≤ length places.now }
     ensures split { SplitsAt places.now number result }
@@ -26,7 +26,7 @@ fn from_number(places: &[Place], number: u64) -> usize
 
 /// Where the place of this number stands, if it stands where it does among places whose numbers follow one another, as
 /// those of connections that were made one after the other do.
-fn guess(places: &[Place], number: u64) -> Option<usize>
+fn guess(places: &[CellPlace], number: u64) -> Option<usize>
     requires { AreRising places.now }
     ensures { IfSome result (λ at. (at < length places.now) × SplitsAt places.now number at) }
 {
@@ -47,7 +47,7 @@ fn guess(places: &[Place], number: u64) -> Option<usize>
 }
 
 /// The places of at least this number.
-fn places_from(places: &[Place], number: u64) -> &[Place]
+fn places_from(places: &[CellPlace], number: u64) -> &[CellPlace]
     requires { AreRising places.now }
     ensures { IsRestFrom number places.now result.now }
 {
@@ -55,7 +55,7 @@ fn places_from(places: &[Place], number: u64) -> &[Place]
 }
 
 /// The place of this number, if there is one.
-pub fn place_of_number(places: &[Place], number: u64) -> &[Place]
+pub fn place_of_number(places: &[CellPlace], number: u64) -> &[CellPlace]
     requires { AreRising places.now }
     ensures held { HoldNumbered number places.now result.now }
     ensures one { length result.now ≤ 1 }
@@ -65,7 +65,7 @@ pub fn place_of_number(places: &[Place], number: u64) -> &[Place]
 }
 
 /// The first connection of the places that is numbered above `number`.
-pub fn next_above(cells: &Slab<Cell>, places: &[Place], number: u64) -> Option<Connection>
+pub fn next_above(cells: &Slab<Cell>, places: &[CellPlace], number: u64) -> Option<Connection>
     requires { AreRising places.now }
     ensures { result ≡ first_above number (live cells.now places.now) }
 {
@@ -73,7 +73,7 @@ pub fn next_above(cells: &Slab<Cell>, places: &[Place], number: u64) -> Option<C
 }
 
 /// The same in any order of the places.
-fn first_above(cells: &Slab<Cell>, places: &[Place], number: u64) -> Option<Connection>
+fn first_above(cells: &Slab<Cell>, places: &[CellPlace], number: u64) -> Option<Connection>
     ensures { result ≡ first_above number (live cells.now places.now) }
 {
     for place in places {
@@ -87,7 +87,7 @@ fn first_above(cells: &Slab<Cell>, places: &[Place], number: u64) -> Option<Conn
 }
 
 /// Whether one of the places leads to a connection that would be removed.
-pub fn lead_to_any(cells: &Slab<Cell>, places: &[Place], removal: &Removal) -> bool
+pub fn lead_to_any(cells: &Slab<Cell>, places: &[CellPlace], removal: &Removal) -> bool
     ensures { result ≡ list_any (fits removal.now) (live cells.now places.now) }
 {
     for place in places {

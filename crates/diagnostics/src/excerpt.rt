@@ -2,7 +2,7 @@
 
 ghost use Rattle.std.specs.Prelude.{◌≤◌, length};
 
-use crate::place::{Place, line_around};
+use crate::place::{TextPlace, line_around};
 use crate::printed::push_printed;
 use std::alloc::AllocError;
 
@@ -29,7 +29,7 @@ pub fn push_excerpt(text: &mut String, input: &[u8], at: usize) -> Result<(), Al
 pub fn push_place(text: &mut String, input: &[u8], at: usize) -> Result<(), AllocError>
     requires { at ≤ length input.now }
 {
-    let place = Place::of(input, at);
+    let place = TextPlace::of(input, at);
     let line = place.line;
     let column = place.column;
     write!(text, "line {line}, column {column}")

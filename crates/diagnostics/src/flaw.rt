@@ -17,7 +17,7 @@ pub struct Flaw {
 
 impl Flaw {
     /// This sentence, with what to write instead.
-    pub fn told(
+    pub fn with_advice(
         alloc: Global,
         at: usize,
         sentence: String,

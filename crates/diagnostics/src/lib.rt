@@ -16,6 +16,6 @@ pub use excerpt::{push_excerpt, push_place};
 pub use flaw::Flaw;
 pub use meanings::meaning;
 pub use message::{Severity, TextKind, push_flaw};
-pub use place::Place;
+pub use place::TextPlace;
 pub use printed::{Printed, push_printed};
 pub use spans::{Span, text_spans};

@@ -2,7 +2,7 @@
 
 use crate::excerpt::{push_excerpt, push_place};
 use crate::flaw::Flaw;
-use crate::place::Place;
+use crate::place::TextPlace;
 use crate::spans::Span;
 use std::alloc::AllocError;
 
@@ -66,7 +66,7 @@ pub fn push_flaw(
 ) -> Result<(), AllocError> {
     let source = input.get(span.begin..span.end).unwrap_or(&[]);
     let at = span.begin.saturating_add(flaw.at).min(input.len());
-    let place = Place::of(input, at);
+    let place = TextPlace::of(input, at);
     let (line, column) = (place.line, place.column);
     let (grave, name) = (severity.name(), kind.name());
     let sentence = flaw.sentence.as_str();

@@ -7,20 +7,20 @@ const NEWLINE: u8 = 10;
 
 /// A place in a text, as a person counts: lines and columns begin at 1, and a column is a byte.
 #[derive(Clone, Copy, Debug, PartialEq, Eq)]
-pub struct Place {
+pub struct TextPlace {
     pub line: usize,
     pub column: usize,
 }
 
-impl Place {
+impl TextPlace {
     /// The place of this byte, or of the text's end.
-    pub fn of(text: &[u8], at: usize) -> Place
+    pub fn of(text: &[u8], at: usize) -> TextPlace
         requires { at ≤ length text.now }
         ensures { IsPlace text.now at result.line result.column }
     {
         let (begin, _) = line_around(text, at);
         let line = text[..at].iter().filter(|byte| **byte == NEWLINE).count() + 1;
-        Place {
+        TextPlace {
             line,
             column: at - begin + 1,
         }

@@ -4,5 +4,5 @@
 mod explain;
 mod usage;
 
-pub use diagnostics::{Place, meaning};
+pub use diagnostics::{TextPlace, meaning};
 pub use explain::explanation;

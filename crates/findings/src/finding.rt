@@ -1,7 +1,7 @@
 //! What is found.
 
 use crate::rule::Rule;
-use diagnostics::Place;
+use diagnostics::TextPlace;
 use effect_scan::Reason;
 
 /// The text that something is in.
@@ -23,7 +23,7 @@ pub struct Finding {
     /// The text that it is in.
     pub text: TextKind,
     /// Where it is there; `None` for what is in no line, as the objects' class `QObject`.
-    pub place: Option<Place>,
+    pub place: Option<TextPlace>,
     /// The steps that lead to it, one after another; there may be none.
     pub chain: Vec<Step>,
 }
@@ -83,5 +83,5 @@ pub struct Step {
     /// The same in a sentence.
     pub message: String,
     /// Where in the program it is by which it does; `None` for what is in no line.
-    pub place: Option<Place>,
+    pub place: Option<TextPlace>,
 }

@@ -7,7 +7,7 @@ mod rule;
 mod verdict;
 
 pub use cycle_set::{CycleSet, ListFault, cycle_list, read_cycles};
-pub use diagnostics::Place;
+pub use diagnostics::TextPlace;
 pub use finding::{Finding, Link, Step, TextKind};
 pub use rule::Rule;
 pub use verdict::Verdict;

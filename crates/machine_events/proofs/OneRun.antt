@@ -46,15 +46,15 @@ nothing-more [] more e = sym e
 nothing-more (x ∷ es) more e = let rest : es ≡ es ++ more = cc e in nothing-more es more rest
 
 -- one run goes on where another ends
-record Leads (p : Loaded) (natives : NativeAnswers) (d : ℕ) (first : List Event) (said : List Answer) (t : State) (j : ℕ) (second : List Event) (answered : List Answer) (u : State) (k : ℕ) : Type 0 where
+record GoesOn (p : Loaded) (natives : NativeAnswers) (d : ℕ) (first : List Event) (said : List Answer) (t : State) (j : ℕ) (second : List Event) (answered : List Answer) (u : State) (k : ℕ) : Type 0 where
   pub more : List Event
   pub taken : second ≡ first ++ more
   pub added : List Answer
   pub answers : answered ≡ said ++ added
   pub runs : GoodRun p natives d t j more added u k
 
-leads-by : {p : Loaded} {natives : NativeAnswers} {d : ℕ} {first second : List Event} {said answered : List Answer} {t u : State} {j k : ℕ} {e f : Event} {a b : Answer} → e ≡ f → a ≡ b → Leads p natives d first said t j second answered u k → Leads p natives d (e ∷ first) (a ∷ said) t j (f ∷ second) (b ∷ answered) u k
-leads-by {first = first} {said = said} {f = f} {b = b} same one x = record {
+goes-on-by : {p : Loaded} {natives : NativeAnswers} {d : ℕ} {first second : List Event} {said answered : List Answer} {t u : State} {j k : ℕ} {e f : Event} {a b : Answer} → e ≡ f → a ≡ b → GoesOn p natives d first said t j second answered u k → GoesOn p natives d (e ∷ first) (a ∷ said) t j (f ∷ second) (b ∷ answered) u k
+goes-on-by {first = first} {said = said} {f = f} {b = b} same one x = record {
   more = x.more;
   taken = ap (λ (l : List Event). f ∷ l) x.taken ∙ ap (λ (y : Event). y ∷ first ++ x.more) (sym same);
   added = x.added;
@@ -67,13 +67,13 @@ abbrev IsOnce : Loaded → (ℕ → State → State → Type 0) → Type 0
 IsOnce p Once = (n : ℕ) (s t u : State) → Agree p s.objects s.bindings → Once n s t → Once n s u → t ≡ u
 
 fronts : {p : Loaded} {natives : NativeAnswers} {d : ℕ} {s t u : State} {n j k : ℕ} {a b : List Event} {v w : List Answer} (Once : ℕ → State → State → Type 0) (x y : List Event) → IsOnce p Once → IsSound p → Agree p s.objects s.bindings → a ++ x ≡ b ++ y → (f : Run p natives s n a v t j) (g : Run p natives s n b w u k) → Each (IsGood p d) f → Each (IsGood p d) g → EachRule Once f → EachRule Once g →
-    Leads p natives d a v t j b w u k ⊎ Leads p natives d b w u k a v t j
+    GoesOn p natives d a v t j b w u k ⊎ GoesOn p natives d b w u k a v t j
 fronts {b = b} {w = w} Once x y once sound agree same done g ok fine of also = inl (record { more = b; taken = refl; added = w; answers = refl; runs = record { run = g; good = fine } })
 fronts {a = a} {v = v} Once x y once sound agree same (goes r f) done ok fine of also = inr (record { more = a; taken = refl; added = v; answers = refl; runs = record { run = goes r f; good = ok } })
 fronts {a = a} {v = v} Once x y once sound agree same (takes r f) done ok fine of also = inr (record { more = a; taken = refl; added = v; answers = refl; runs = record { run = takes r f; good = ok } })
 fronts {p} {natives} {d} {s} {t} {u} {j = j} {k = k} {a = a} {b = b} {v = v} {w = w} Once x y once sound agree same (goes {m = l} {n = n} r f) (goes {m = m} q g) ok fine of also =
     let one : l ≡ m = once n s l m agree of.0 also.0 in
-    let After : State → Type 0 = λ z. (h : Run p natives z n b w u k) → Each (IsGood p d) h → EachRule Once h → Leads p natives d a v t j b w u k ⊎ Leads p natives d b w u k a v t j in
+    let After : State → Type 0 = λ z. (h : Run p natives z n b w u k) → Each (IsGood p d) h → EachRule Once h → GoesOn p natives d a v t j b w u k ⊎ GoesOn p natives d b w u k a v t j in
     let after : After l = λ h good all. fronts Once x y once sound (rule-agrees agree ok.0.well natives s.stack r) same f h ok.1 good of.1 all in
     subst After one after g fine.1 also.1
 fronts {p} {natives} {d} {s} Once x y once sound agree same (goes {m = l} r f) (takes q g) ok fine of also = absurd (no-rule p natives s l (taken-idle q) r)
@@ -83,11 +83,11 @@ fronts {p} {natives} {d} {s} {t} {u} {j = j} {k = k} Once x y once sound agree s
     let others : es ++ x ≡ is ++ y = cc same in
     let At : Event → Type 0 = λ z. Takes p z b s m in
     let one = one_taking p e a b s l m sound agree r (subst At (sym first) q) ok.0.acyclic in
-    let After : State → Type 0 = λ z. (h : Run p natives z n is ws u k) → Each (IsGood p d) h → EachRule Once h → Leads p natives d es vs t j is ws u k ⊎ Leads p natives d is ws u k es vs t j in
+    let After : State → Type 0 = λ z. (h : Run p natives z n is ws u k) → Each (IsGood p d) h → EachRule Once h → GoesOn p natives d es vs t j is ws u k ⊎ GoesOn p natives d is ws u k es vs t j in
     let after : After l = λ h good all. fronts Once x y once sound (takes-agree sound agree r ok.0.well ok.0.acyclic) others f h ok.1 good of all in
     elim (subst After one.1 after g fine.1 also) [
-      | inl leads ↦ inl (leads-by first one.0 leads)
-      | inr leads ↦ inr (leads-by (sym first) (sym one.0) leads)
+      | inl leads ↦ inl (goes-on-by first one.0 leads)
+      | inr leads ↦ inr (goes-on-by (sym first) (sym one.0) leads)
     ]
 
 -- ---- by natives that have one answer
@@ -127,7 +127,7 @@ stays none idle (takes r rest) = absurd (cc none)
 append-none : {X : Type 0} (xs more : List X) → more ≡ [] → xs ++ more ≡ xs
 append-none {X} xs more none = ap (λ (l : List X). xs ++ l) none ∙ append-nil xs
 
-one-end : {p : Loaded} {natives : NativeAnswers} {d : ℕ} {t u : State} {j k : ℕ} {es : List Event} {xs ys : List Answer} → Leads p natives d es xs t j es ys u k → IsIdle t → (xs ≡ ys) × (t ≡ u) × (j ≡ k)
+one-end : {p : Loaded} {natives : NativeAnswers} {d : ℕ} {t u : State} {j k : ℕ} {es : List Event} {xs ys : List Answer} → GoesOn p natives d es xs t j es ys u k → IsIdle t → (xs ≡ ys) × (t ≡ u) × (j ≡ k)
 one-end {es = es} {xs = xs} x idle =
     let ends = stays (nothing-more es x.more x.taken) idle x.runs.run in
     (sym (append-none xs x.added ends.0) ∙ sym x.answers, ends.1, ends.2)

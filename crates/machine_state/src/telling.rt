@@ -118,7 +118,7 @@ impl<'w> Telling<'w> {
     {
         for set in sets {
             let line = match set {
-                Some(set) => self.told(Cause::Write, &set.place, &set.value)?,
+                Some(set) => self.line_with(Cause::Write, &set.place, &set.value)?,
                 None => Entry::At(self.depth, EntryKind::OnNull),
             };
             lines.push(line)?;
@@ -169,11 +169,11 @@ impl<'w> Telling<'w> {
         let Some(value) = self.value(place) else {
             unreachable!()
         };
-        self.told(cause, place, value)
+        self.line_with(cause, place, value)
     }
 
     /// The line of a property with this value.
-    fn told(&self, cause: Cause, place: &Place, value: &Value) -> Result<Entry, AllocError>
+    fn line_with(&self, cause: Cause, place: &Place, value: &Value) -> Result<Entry, AllocError>
         requires has { HasValue self.now.meta.now self.now.tree.now place.now }
         requires will_have { HasValue self.now.meta.now
             (after self.now.planned.now self.now.tree.now) place.now }

@@ -6,7 +6,7 @@ ghost use Rattle.prop_bindings.specs.Fits.{Agree};
 use crate::holding::Bound;
 use crate::holds::{Holds, is_as_told, told_of};
 use crate::stores::put;
-use memory_trials::{Answer, Told, loaded, once_or_twice};
+use memory_trials::{Told, TrialAnswer, loaded, once_or_twice};
 use meta_objects::Meta;
 use object_tree::Tree;
 use prop_bindings::{Assignment, BindFault, Bindings, Place, WriteFault};
@@ -111,7 +111,7 @@ const FIRST: usize = 1;
 const SECOND: usize = 2;
 
 /// The step at this place, which is a call of `bind`, of `write` or of `write_group`, after those before it.
-pub fn step_of(alloc: Global, row: &Row, place: usize, told: &mut Told) -> Option<Answer> {
+pub fn step_of(alloc: Global, row: &Row, place: usize, told: &mut Told) -> Option<TrialAnswer> {
     let meta = loaded(alloc, row.program)?;
     let mut tree = Tree::new(alloc);
     let mut bindings = Bindings::new(alloc);
@@ -145,7 +145,7 @@ fn last_step(
     bindings: &mut Bindings,
     steps: &[Step],
     told: &mut Told,
-) -> Option<Answer>
+) -> Option<TrialAnswer>
     requires { Agree meta.now tree.old bindings.old.installed }
 {
     let (last, first) = steps.split_last()?;
@@ -164,7 +164,7 @@ fn take_each(meta: &Meta, tree: &mut Tree, bindings: &mut Bindings, steps: &[Ste
 {
     for step in steps {
         match take(meta, tree, bindings, step) {
-            Answer::Ample => {}
+            TrialAnswer::Ample => {}
             _ => return None,
         }
     }
@@ -177,18 +177,18 @@ fn tell_step(
     bindings: &mut Bindings,
     step: &Step,
     told: &mut Told,
-) -> Answer
+) -> TrialAnswer
     requires { Agree meta.now tree.old bindings.old.installed }
     ensures { Agree meta.now tree.new bindings.new.installed }
 {
     let answer = take(meta, tree, bindings, step);
-    if let Answer::Ample = answer {
+    if let TrialAnswer::Ample = answer {
         Bound { tree, bindings }.tell(told);
     }
     answer
 }
 
-fn take(meta: &Meta, tree: &mut Tree, bindings: &mut Bindings, step: &Step) -> Answer
+fn take(meta: &Meta, tree: &mut Tree, bindings: &mut Bindings, step: &Step) -> TrialAnswer
     requires { Agree meta.now tree.old bindings.old.installed }
     ensures { Agree meta.now tree.new bindings.new.installed }
 {
@@ -210,7 +210,7 @@ fn bind(
     site: usize,
     target: usize,
     sources: (usize, Option<usize>),
-) -> Answer
+) -> TrialAnswer
     requires { Agree meta.now tree.old bindings.old.installed }
     ensures { Agree meta.now tree.new bindings.new.installed }
 {
@@ -222,9 +222,9 @@ fn bind(
         &both[..1]
     };
     match bindings.bind(meta, tree, site, ObjectId::new(target), sources) {
-        Ok(_) => Answer::Ample,
-        Err(BindFault::Memory) => Answer::Memory,
-        Err(_) => Answer::Other,
+        Ok(_) => TrialAnswer::Ample,
+        Err(BindFault::Memory) => TrialAnswer::Memory,
+        Err(_) => TrialAnswer::Other,
     }
 }
 
@@ -234,15 +234,15 @@ fn write(
     bindings: &mut Bindings,
     object: usize,
     number: i32,
-) -> Answer
+) -> TrialAnswer
     requires { Agree meta.now tree.old bindings.old.installed }
     ensures { Agree meta.now tree.new bindings.new.installed }
 {
     let place = place_of(object, FIRST);
     match bindings.write(meta, tree, &place, Value::Int(number)) {
-        Ok(_) => Answer::Ample,
-        Err(WriteFault::Memory) => Answer::Memory,
-        Err(WriteFault::BadType) => Answer::Other,
+        Ok(_) => TrialAnswer::Ample,
+        Err(WriteFault::Memory) => TrialAnswer::Memory,
+        Err(WriteFault::BadType) => TrialAnswer::Other,
     }
 }
 
@@ -252,7 +252,7 @@ fn write_group(
     bindings: &mut Bindings,
     object: usize,
     numbers: (i32, i32),
-) -> Answer
+) -> TrialAnswer
     requires { Agree meta.now tree.old bindings.old.installed }
     ensures { Agree meta.now tree.new bindings.new.installed }
 {
@@ -261,9 +261,9 @@ fn write_group(
         assignment(object, SECOND, numbers.1),
     ];
     match bindings.write_group(meta, tree, &writes) {
-        Ok(_) => Answer::Ample,
-        Err(WriteFault::Memory) => Answer::Memory,
-        Err(WriteFault::BadType) => Answer::Other,
+        Ok(_) => TrialAnswer::Ample,
+        Err(WriteFault::Memory) => TrialAnswer::Memory,
+        Err(WriteFault::BadType) => TrialAnswer::Other,
     }
 }
 

@@ -1,7 +1,7 @@
 //! The calls that check programs.
 
 use effect_scan::{Member, Node, Scan};
-use memory_trials::{Answer, SOURCE, Told, certificate, loaded, once_or_twice};
+use memory_trials::{SOURCE, Told, TrialAnswer, certificate, loaded, once_or_twice};
 use meta_objects::Meta;
 use rank_check::{No, Spot, check, unfit_wire, untyped};
 use rank_make::{Why, make};
@@ -16,28 +16,28 @@ const UNFIT: &str =
 const UNTYPED: &str = "class A { property int p = \"x\"; }";
 
 /// `unfit_wire`.
-pub fn unfit(alloc: Global, told: &mut Told) -> Option<Answer> {
+pub fn unfit(alloc: Global, told: &mut Told) -> Option<TrialAnswer> {
     let meta = loaded(alloc, UNFIT)?;
     match unfit_wire(&meta) {
         Some(place) => told.count("wire ", place),
         None => told.bytes(b"each wire fits"),
     }
-    Some(Answer::Ample)
+    Some(TrialAnswer::Ample)
 }
 
 /// `untyped`.
-pub fn untyped_part(alloc: Global, told: &mut Told) -> Option<Answer> {
+pub fn untyped_part(alloc: Global, told: &mut Told) -> Option<TrialAnswer> {
     let meta = loaded(alloc, UNTYPED)?;
     Some(once_or_twice!(tell_untyped(alloc, &meta, told), true))
 }
 
-fn tell_untyped(alloc: Global, meta: &Meta, told: &mut Told) -> Answer {
+fn tell_untyped(alloc: Global, meta: &Meta, told: &mut Told) -> TrialAnswer {
     match untyped(alloc, meta) {
         Ok(Some(Spot::Node(node))) => tell_node(&node, told),
-        Ok(_) => return Answer::Other,
-        Err(AllocError) => return Answer::Memory,
+        Ok(_) => return TrialAnswer::Other,
+        Err(AllocError) => return TrialAnswer::Memory,
     }
-    Answer::Ample
+    TrialAnswer::Ample
 }
 
 fn tell_node(node: &Node, told: &mut Told) {
@@ -50,18 +50,18 @@ fn tell_node(node: &Node, told: &mut Told) {
 }
 
 /// `Scan::of`.
-pub fn scan(alloc: Global, told: &mut Told) -> Option<Answer> {
+pub fn scan(alloc: Global, told: &mut Told) -> Option<TrialAnswer> {
     let meta = loaded(alloc, SOURCE)?;
     Some(once_or_twice!(tell_scan(alloc, &meta, told), true))
 }
 
-fn tell_scan(alloc: Global, meta: &Meta, told: &mut Told) -> Answer {
+fn tell_scan(alloc: Global, meta: &Meta, told: &mut Told) -> TrialAnswer {
     match Scan::of(alloc, meta) {
         Ok(scan) => {
             told.count("nodes ", scan.nodes().len());
-            Answer::Ample
+            TrialAnswer::Ample
         }
-        Err(AllocError) => Answer::Memory,
+        Err(AllocError) => TrialAnswer::Memory,
     }
 }
 
@@ -71,28 +71,28 @@ fn scanned(alloc: Global) -> Option<Scan> {
 }
 
 /// `nodes`.
-pub fn nodes(alloc: Global, told: &mut Told) -> Option<Answer> {
+pub fn nodes(alloc: Global, told: &mut Told) -> Option<TrialAnswer> {
     let scan = scanned(alloc)?;
     for node in scan.nodes() {
         tell_node(node, told);
         told.end();
     }
-    Some(Answer::Ample)
+    Some(TrialAnswer::Ample)
 }
 
 /// `edges`.
-pub fn edges(alloc: Global, told: &mut Told) -> Option<Answer> {
+pub fn edges(alloc: Global, told: &mut Told) -> Option<TrialAnswer> {
     let scan = scanned(alloc)?;
     Some(once_or_twice!(tell_edges(alloc, &scan, told), true))
 }
 
-fn tell_edges(alloc: Global, scan: &Scan, told: &mut Told) -> Answer {
+fn tell_edges(alloc: Global, scan: &Scan, told: &mut Told) -> TrialAnswer {
     match scan.edges(alloc) {
         Ok(edges) => {
             tell_pairs(edges.as_slice(), told);
-            Answer::Ample
+            TrialAnswer::Ample
         }
-        Err(AllocError) => Answer::Memory,
+        Err(AllocError) => TrialAnswer::Memory,
     }
 }
 
@@ -105,10 +105,10 @@ fn tell_pairs(edges: &[(usize, usize)], told: &mut Told) {
 }
 
 /// `destroys`.
-pub fn destroys(alloc: Global, told: &mut Told) -> Option<Answer> {
+pub fn destroys(alloc: Global, told: &mut Told) -> Option<TrialAnswer> {
     let scan = scanned(alloc)?;
     tell_sets(scan.destroys(), told);
-    Some(Answer::Ample)
+    Some(TrialAnswer::Ample)
 }
 
 fn tell_sets(sets: &[Items<usize>], told: &mut Told) {
@@ -121,31 +121,31 @@ fn tell_sets(sets: &[Items<usize>], told: &mut Told) {
 }
 
 /// `make`.
-pub fn made(alloc: Global, told: &mut Told) -> Option<Answer> {
+pub fn made(alloc: Global, told: &mut Told) -> Option<TrialAnswer> {
     let meta = loaded(alloc, SOURCE)?;
     Some(once_or_twice!(tell_made(alloc, &meta, told), true))
 }
 
-fn tell_made(alloc: Global, meta: &Meta, told: &mut Told) -> Answer {
+fn tell_made(alloc: Global, meta: &Meta, told: &mut Told) -> TrialAnswer {
     match make(alloc, meta) {
         Ok(certificate) => {
             told.number("bound ", certificate.bound as u64);
             told.count(", lines ", certificate.lines.len());
-            Answer::Ample
+            TrialAnswer::Ample
         }
-        Err(Why::Memory) => Answer::Memory,
-        Err(_) => Answer::Other,
+        Err(Why::Memory) => TrialAnswer::Memory,
+        Err(_) => TrialAnswer::Other,
     }
 }
 
 /// `check`, which takes over the program and the certificate.
-pub fn checked(alloc: Global, told: &mut Told) -> Option<Answer> {
+pub fn checked(alloc: Global, told: &mut Told) -> Option<TrialAnswer> {
     let meta = loaded(alloc, SOURCE)?;
     let certificate = certificate(alloc)?;
     match check(alloc, meta, certificate) {
         Ok(checked) => told.count("bound ", checked.bound()),
-        Err(No::Memory) => return Some(Answer::Memory),
-        Err(_) => return Some(Answer::Other),
+        Err(No::Memory) => return Some(TrialAnswer::Memory),
+        Err(_) => return Some(TrialAnswer::Other),
     }
-    Some(Answer::Ample)
+    Some(TrialAnswer::Ample)
 }

@@ -14,7 +14,7 @@ mod stores;
 mod words;
 
 use bindings::{DIAMOND, GROUP, SUM, step_of};
-use memory_trials::{Answer, Calls, Told, tell_calls};
+use memory_trials::{Calls, Told, TrialAnswer, tell_calls};
 use std::alloc::Global;
 use std::io;
 
@@ -29,7 +29,7 @@ impl Calls for Below {
     const WORDS: &'static str =
         "normalise sig_text text_of value_copy type_of eval_sum eval_joined tokens nesting parse_body parse_expr read_program build read_script read_certificate unfit_wire untyped scan nodes edges destroys make check new_tree new_connections new_loops new_bindings new_store create adopt connect add post schedule below rehome move_tree bind_sum write_sum bind write write_group natives native_call";
 
-    fn make(alloc: Global, word: &str, told: &mut Told) -> Option<Answer> {
+    fn make(alloc: Global, word: &str, told: &mut Told) -> Option<TrialAnswer> {
         match word {
             "normalise" => Some(words::normal_form(alloc, told)),
             "sig_text" => words::signature_text(alloc, told),
@@ -52,7 +52,7 @@ impl Calls for Below {
 }
 
 /// The calls that check programs.
-fn make_check(alloc: Global, word: &str, told: &mut Told) -> Option<Answer> {
+fn make_check(alloc: Global, word: &str, told: &mut Told) -> Option<TrialAnswer> {
     match word {
         "unfit_wire" => checking::unfit(alloc, told),
         "untyped" => checking::untyped_part(alloc, told),
@@ -67,7 +67,7 @@ fn make_check(alloc: Global, word: &str, told: &mut Told) -> Option<Answer> {
 }
 
 /// The calls of the stores and of natives.
-fn make_change(alloc: Global, word: &str, told: &mut Told) -> Option<Answer> {
+fn make_change(alloc: Global, word: &str, told: &mut Told) -> Option<TrialAnswer> {
     match word {
         "new_tree" => Some(stores::empty_tree(alloc, told)),
         "new_connections" => Some(stores::no_connections(alloc, told)),

@@ -4,7 +4,7 @@ use crate::holds::{Holds, is_as_told, told_of};
 use crate::stores::{IO, MAIN, call_of, post_to, put};
 use delete_later::{MoveFault, Store};
 use event_loops::{Item, Loops, PostFault};
-use memory_trials::{Answer, Told, loaded, once_or_twice};
+use memory_trials::{Told, TrialAnswer, loaded, once_or_twice};
 use object_tree::Tree;
 use signatures::{LoopId, Name, ObjectId};
 use std::alloc::{AllocError, Global};
@@ -28,7 +28,7 @@ fn filled(alloc: Global) -> Option<Store> {
 }
 
 /// `Tree::below`.
-pub fn below(alloc: Global, told: &mut Told) -> Option<Answer> {
+pub fn below(alloc: Global, told: &mut Told) -> Option<TrialAnswer> {
     let store = filled(alloc)?;
     let before = told_of(alloc, &store)?;
     Some(once_or_twice!(
@@ -37,24 +37,24 @@ pub fn below(alloc: Global, told: &mut Told) -> Option<Answer> {
     ))
 }
 
-fn tell_below(tree: &Tree, told: &mut Told) -> Answer {
+fn tell_below(tree: &Tree, told: &mut Told) -> TrialAnswer {
     let object = ObjectId::new(0);
     if tree.life(object).is_none() {
-        return Answer::Other;
+        return TrialAnswer::Other;
     }
     match tree.below(object) {
         Ok(found) => {
             for each in found.as_slice() {
                 told.count(" #", each.number());
             }
-            Answer::Ample
+            TrialAnswer::Ample
         }
-        Err(AllocError) => Answer::Memory,
+        Err(AllocError) => TrialAnswer::Memory,
     }
 }
 
 /// `Loops::rehome`.
-pub fn rehome(alloc: Global, told: &mut Told) -> Option<Answer> {
+pub fn rehome(alloc: Global, told: &mut Told) -> Option<TrialAnswer> {
     let mut store = filled(alloc)?;
     let before = told_of(alloc, &store)?;
     Some(once_or_twice!(
@@ -63,19 +63,19 @@ pub fn rehome(alloc: Global, told: &mut Told) -> Option<Answer> {
     ))
 }
 
-fn tell_rehome(loops: &mut Loops, told: &mut Told) -> Answer {
+fn tell_rehome(loops: &mut Loops, told: &mut Told) -> TrialAnswer {
     match loops.rehome(&[ObjectId::new(0), ObjectId::new(1)], LoopId::new(IO)) {
         Ok(()) => {
             loops.tell(told);
-            Answer::Ample
+            TrialAnswer::Ample
         }
-        Err(PostFault::Memory) => Answer::Memory,
-        Err(PostFault::NoLoop) => Answer::Other,
+        Err(PostFault::Memory) => TrialAnswer::Memory,
+        Err(PostFault::NoLoop) => TrialAnswer::Other,
     }
 }
 
 /// `Store::move_tree`.
-pub fn move_tree(alloc: Global, told: &mut Told) -> Option<Answer> {
+pub fn move_tree(alloc: Global, told: &mut Told) -> Option<TrialAnswer> {
     let mut store = filled(alloc)?;
     let before = told_of(alloc, &store)?;
     Some(once_or_twice!(
@@ -84,17 +84,17 @@ pub fn move_tree(alloc: Global, told: &mut Told) -> Option<Answer> {
     ))
 }
 
-fn tell_move(store: &mut Store, told: &mut Told) -> Answer {
+fn tell_move(store: &mut Store, told: &mut Told) -> TrialAnswer {
     let object = ObjectId::new(0);
     if store.tree.life(object).is_none() {
-        return Answer::Other;
+        return TrialAnswer::Other;
     }
     match store.move_tree(object, LoopId::new(IO)) {
         Ok(()) => {
             store.tell(told);
-            Answer::Ample
+            TrialAnswer::Ample
         }
-        Err(MoveFault::Memory) => Answer::Memory,
-        Err(_) => Answer::Other,
+        Err(MoveFault::Memory) => TrialAnswer::Memory,
+        Err(_) => TrialAnswer::Other,
     }
 }

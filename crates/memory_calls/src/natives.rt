@@ -4,7 +4,7 @@ ghost use Rattle.std.specs.Prelude.{◌≡◌, ◌<◌, IfOk, Some, length, slic
 ghost use Rattle.built_in_native.specs.Doubling.{doubling};
 
 use built_in_native::{class, doubled, effects, twice};
-use memory_trials::{Answer, Told, loaded, once_or_twice};
+use memory_trials::{Told, TrialAnswer, loaded, once_or_twice};
 use meta_objects::Meta;
 use native_slots::{Action, Effects, NativeSlot, Natives};
 use signatures::{Name, Sig, Value};
@@ -15,13 +15,13 @@ const DOUBLER: &str =
     "class Doubler { property int out; signal done(int); native twice(int v) emits done(int) sets out; }";
 
 /// `NativeSlot::new`, `Natives::of`, `fits` and `find`, none of which takes memory.
-pub fn doubler_fits(alloc: Global, told: &mut Told) -> Option<Answer> {
+pub fn doubler_fits(alloc: Global, told: &mut Told) -> Option<TrialAnswer> {
     let meta = loaded(alloc, DOUBLER)?;
     with_doubler(alloc, Some(&meta), told).ok()
 }
 
 /// `Natives::call`.
-pub fn doubler_call(alloc: Global, told: &mut Told) -> Option<Answer> {
+pub fn doubler_call(alloc: Global, told: &mut Told) -> Option<TrialAnswer> {
     with_doubler(alloc, None, told).ok()
 }
 
@@ -40,7 +40,7 @@ fn with_doubler(
     alloc: Global,
     program: Option<&Meta>,
     told: &mut Told,
-) -> Result<Answer, AllocError> {
+) -> Result<TrialAnswer, AllocError> {
     let (class, sig, effects) = parts(alloc)?;
     let work = Box::new(alloc, move |arguments: &[Value], _: &[Value]| {
         match arguments {
@@ -57,17 +57,17 @@ fn with_doubler(
     }
 }
 
-fn tell_fitting(natives: &Natives, meta: &Meta, told: &mut Told) -> Answer {
+fn tell_fitting(natives: &Natives, meta: &Meta, told: &mut Told) -> TrialAnswer {
     told.flag("fits ", natives.fits(meta).is_ok());
     for slot in natives.slots.as_slice() {
         if let Some(place) = natives.find(&slot.head.class, &slot.head.sig) {
             told.count(", found at ", place);
         }
     }
-    Answer::Ample
+    TrialAnswer::Ample
 }
 
-fn tell_actions(natives: &Natives, told: &mut Told) -> Answer
+fn tell_actions(natives: &Natives, told: &mut Told) -> TrialAnswer
     requires there { 0 < length natives.now.slots.items }
     requires doubling { (slot : _) → slice_get natives.now.slots.items 0 ≡ Some slot
         → slot.head.effects ≡ doubling }
@@ -77,9 +77,9 @@ fn tell_actions(natives: &Natives, told: &mut Told) -> Answer
             for action in actions.as_slice() {
                 tell_action(action, told);
             }
-            Answer::Ample
+            TrialAnswer::Ample
         }
-        Err(AllocError) => Answer::Memory,
+        Err(AllocError) => TrialAnswer::Memory,
     }
 }
 

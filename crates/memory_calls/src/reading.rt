@@ -2,7 +2,7 @@
 
 use certificate_lang::{CertificateFault, read_certificate};
 use class_lang::{TextFault, read_program};
-use memory_trials::{Answer, CERTIFICATE, SCRIPT, SOURCE, Told, once_or_twice};
+use memory_trials::{CERTIFICATE, SCRIPT, SOURCE, Told, TrialAnswer, once_or_twice};
 use meta_objects::{Meta, MetaFault};
 use script_lang::{ScriptFault, read_script};
 use slot_lang::{BodyFault, LexFault, ParseFault, Token, nesting, parse_body, parse_expr, tokens};
@@ -16,14 +16,14 @@ const BODY: &str = "{ set this.value = v; }";
 const EXPRESSION: &str = "v + 1";
 
 /// `tokens`.
-pub fn program_tokens(alloc: Global, told: &mut Told) -> Answer {
+pub fn program_tokens(alloc: Global, told: &mut Told) -> TrialAnswer {
     match tokens(alloc, SOURCE.as_bytes()) {
         Ok(tokens) => {
             told.count("tokens ", tokens.len());
-            Answer::Ample
+            TrialAnswer::Ample
         }
-        Err(LexFault::Memory) => Answer::Memory,
-        Err(LexFault::BadByte) => Answer::Other,
+        Err(LexFault::Memory) => TrialAnswer::Memory,
+        Err(LexFault::BadByte) => TrialAnswer::Other,
     }
 }
 
@@ -32,73 +32,73 @@ fn tokens_of(alloc: Global, text: &str) -> Option<Items<Token>> {
 }
 
 /// `nesting`.
-pub fn program_nesting(alloc: Global, told: &mut Told) -> Option<Answer> {
+pub fn program_nesting(alloc: Global, told: &mut Told) -> Option<TrialAnswer> {
     let tokens = tokens_of(alloc, SOURCE)?;
     told.flag("too deep ", nesting(tokens.as_slice()));
-    Some(Answer::Ample)
+    Some(TrialAnswer::Ample)
 }
 
 /// `parse_body`.
-pub fn body(alloc: Global, told: &mut Told) -> Option<Answer> {
+pub fn body(alloc: Global, told: &mut Told) -> Option<TrialAnswer> {
     let tokens = tokens_of(alloc, BODY)?;
     Some(once_or_twice!(tell_body(alloc, tokens.as_slice(), told), true))
 }
 
-fn tell_body(alloc: Global, tokens: &[Token], told: &mut Told) -> Answer {
+fn tell_body(alloc: Global, tokens: &[Token], told: &mut Told) -> TrialAnswer {
     match parse_body(alloc, tokens) {
         Ok(body) => {
             told.count("statements ", body.len());
-            Answer::Ample
+            TrialAnswer::Ample
         }
-        Err(BodyFault::Memory) => Answer::Memory,
-        Err(_) => Answer::Other,
+        Err(BodyFault::Memory) => TrialAnswer::Memory,
+        Err(_) => TrialAnswer::Other,
     }
 }
 
 /// `parse_expr`.
-pub fn expression(alloc: Global, told: &mut Told) -> Option<Answer> {
+pub fn expression(alloc: Global, told: &mut Told) -> Option<TrialAnswer> {
     let tokens = tokens_of(alloc, EXPRESSION)?;
     Some(once_or_twice!(tell_expression(alloc, tokens.as_slice(), told), true))
 }
 
-fn tell_expression(alloc: Global, tokens: &[Token], told: &mut Told) -> Answer {
+fn tell_expression(alloc: Global, tokens: &[Token], told: &mut Told) -> TrialAnswer {
     match parse_expr(alloc, tokens) {
         Ok(_) => {
             told.bytes(b"an expression");
-            Answer::Ample
+            TrialAnswer::Ample
         }
-        Err(ParseFault::Memory) => Answer::Memory,
-        Err(ParseFault::Syntax) => Answer::Other,
+        Err(ParseFault::Memory) => TrialAnswer::Memory,
+        Err(ParseFault::Syntax) => TrialAnswer::Other,
     }
 }
 
 /// `read_program`.
-pub fn program(alloc: Global, told: &mut Told) -> Answer {
+pub fn program(alloc: Global, told: &mut Told) -> TrialAnswer {
     match read_program(alloc, SOURCE.as_bytes()) {
         Ok(program) => {
             told.count("classes ", program.classes.len());
             told.count(", wires ", program.wires.len());
-            Answer::Ample
+            TrialAnswer::Ample
         }
-        Err(TextFault::Memory) => Answer::Memory,
-        Err(_) => Answer::Other,
+        Err(TextFault::Memory) => TrialAnswer::Memory,
+        Err(_) => TrialAnswer::Other,
     }
 }
 
 /// `Meta::build`.
-pub fn meta_objects(alloc: Global, told: &mut Told) -> Option<Answer> {
+pub fn meta_objects(alloc: Global, told: &mut Told) -> Option<TrialAnswer> {
     let program = read_program(alloc, SOURCE.as_bytes()).ok()?;
     Some(once_or_twice!(tell_meta(alloc, &program, told), true))
 }
 
-fn tell_meta(alloc: Global, program: &Program, told: &mut Told) -> Answer {
+fn tell_meta(alloc: Global, program: &Program, told: &mut Told) -> TrialAnswer {
     match Meta::build(alloc, program) {
         Ok(meta) => {
             tell_classes(&meta, told);
-            Answer::Ample
+            TrialAnswer::Ample
         }
-        Err(MetaFault::Memory) => Answer::Memory,
-        Err(_) => Answer::Other,
+        Err(MetaFault::Memory) => TrialAnswer::Memory,
+        Err(_) => TrialAnswer::Other,
     }
 }
 
@@ -114,26 +114,26 @@ fn tell_classes(meta: &Meta, told: &mut Told) {
 }
 
 /// `read_script`.
-pub fn script(alloc: Global, told: &mut Told) -> Answer {
+pub fn script(alloc: Global, told: &mut Told) -> TrialAnswer {
     match read_script(alloc, SCRIPT.as_bytes()) {
         Ok(events) => {
             told.count("events ", events.len());
-            Answer::Ample
+            TrialAnswer::Ample
         }
-        Err(ScriptFault::Memory) => Answer::Memory,
-        Err(_) => Answer::Other,
+        Err(ScriptFault::Memory) => TrialAnswer::Memory,
+        Err(_) => TrialAnswer::Other,
     }
 }
 
 /// `read_certificate`.
-pub fn certificate(alloc: Global, told: &mut Told) -> Answer {
+pub fn certificate(alloc: Global, told: &mut Told) -> TrialAnswer {
     match read_certificate(alloc, CERTIFICATE.as_bytes()) {
         Ok(certificate) => {
             told.number("bound ", certificate.bound as u64);
             told.count(", lines ", certificate.lines.len());
-            Answer::Ample
+            TrialAnswer::Ample
         }
-        Err(CertificateFault::Memory) => Answer::Memory,
-        Err(CertificateFault::Format) => Answer::Other,
+        Err(CertificateFault::Memory) => TrialAnswer::Memory,
+        Err(CertificateFault::Format) => TrialAnswer::Other,
     }
 }

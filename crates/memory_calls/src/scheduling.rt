@@ -4,7 +4,7 @@ use crate::holds::{Holds, is_as_told, told_of};
 use crate::stores::put;
 use delete_later::Store;
 use event_loops::Item;
-use memory_trials::{Answer, Told, loaded, once_or_twice};
+use memory_trials::{Told, TrialAnswer, loaded, once_or_twice};
 use signatures::{Arguments, Kind, LoopId, ObjectId, Value};
 use std::alloc::{AllocError, Global};
 
@@ -16,7 +16,7 @@ const TARGETS: &str =
 const LAST_NUMBER: u64 = 1000;
 
 /// `schedule` of an object that is connected, and for which something waits.
-pub fn schedule(alloc: Global, told: &mut Told) -> Option<Answer> {
+pub fn schedule(alloc: Global, told: &mut Told) -> Option<TrialAnswer> {
     let mut store = Store::new(alloc).ok()?;
     fill(alloc, &mut store)?;
     let before = told_of(alloc, &store)?;
@@ -53,20 +53,20 @@ fn connect_and_post(alloc: Global, store: &mut Store) -> Option<()> {
     store.loops.post(LoopId::new(0), item).ok()
 }
 
-fn tell_schedule(store: &mut Store, told: &mut Told) -> Answer {
+fn tell_schedule(store: &mut Store, told: &mut Told) -> TrialAnswer {
     let object = ObjectId::new(1);
     match store.tree.home(object) {
         Some(home) if store.loops.name(home).is_some() => {}
-        _ => return Answer::Other,
+        _ => return TrialAnswer::Other,
     }
     if store.loops.next_number() > LAST_NUMBER {
-        return Answer::Other;
+        return TrialAnswer::Other;
     }
     match store.schedule(object) {
         Ok(()) => {
             store.tell(told);
-            Answer::Ample
+            TrialAnswer::Ample
         }
-        Err(AllocError) => Answer::Memory,
+        Err(AllocError) => TrialAnswer::Memory,
     }
 }

@@ -6,7 +6,7 @@ use crate::holds::{Holds, is_as_told, told_of};
 use connections::{ConnectFault, Connections};
 use delete_later::Store;
 use event_loops::{AddFault, Item, Loops, PostFault};
-use memory_trials::{Answer, Told, loaded, once_or_twice};
+use memory_trials::{Told, TrialAnswer, loaded, once_or_twice};
 use meta_objects::Meta;
 use object_tree::{AdoptFault, CreateFault, Tree};
 use prop_bindings::Bindings;
@@ -24,40 +24,40 @@ pub const MAIN: usize = 0;
 pub const IO: usize = 1;
 
 /// `Tree::new`, `Connections::new` and `Bindings::new`, which take no memory.
-pub fn empty_tree(alloc: Global, told: &mut Told) -> Answer {
+pub fn empty_tree(alloc: Global, told: &mut Told) -> TrialAnswer {
     Tree::new(alloc).tell(told);
-    Answer::Ample
+    TrialAnswer::Ample
 }
 
-pub fn no_connections(alloc: Global, told: &mut Told) -> Answer {
+pub fn no_connections(alloc: Global, told: &mut Told) -> TrialAnswer {
     Connections::new(alloc).tell(told);
-    Answer::Ample
+    TrialAnswer::Ample
 }
 
-pub fn no_bindings(alloc: Global, told: &mut Told) -> Answer {
+pub fn no_bindings(alloc: Global, told: &mut Told) -> TrialAnswer {
     Bindings::new(alloc).tell(told);
-    Answer::Ample
+    TrialAnswer::Ample
 }
 
 /// `Loops::new`.
-pub fn first_loops(alloc: Global, told: &mut Told) -> Answer {
+pub fn first_loops(alloc: Global, told: &mut Told) -> TrialAnswer {
     match Loops::new(alloc) {
         Ok(loops) => {
             loops.tell(told);
-            Answer::Ample
+            TrialAnswer::Ample
         }
-        Err(AllocError) => Answer::Memory,
+        Err(AllocError) => TrialAnswer::Memory,
     }
 }
 
 /// `Store::new`.
-pub fn first_store(alloc: Global, told: &mut Told) -> Answer {
+pub fn first_store(alloc: Global, told: &mut Told) -> TrialAnswer {
     match Store::new(alloc) {
         Ok(store) => {
             store.tell(told);
-            Answer::Ample
+            TrialAnswer::Ample
         }
-        Err(AllocError) => Answer::Memory,
+        Err(AllocError) => TrialAnswer::Memory,
     }
 }
 
@@ -81,7 +81,7 @@ pub fn put(
 }
 
 /// `create`, where an object is there.
-pub fn create(alloc: Global, told: &mut Told) -> Option<Answer> {
+pub fn create(alloc: Global, told: &mut Told) -> Option<TrialAnswer> {
     let meta = loaded(alloc, NODES)?;
     let mut tree = Tree::new(alloc);
     put(alloc, &meta, &mut tree, b"a", b"Node", MAIN)?;
@@ -95,7 +95,7 @@ fn create_in(
     tree: &mut Tree,
     before: &Told,
     told: &mut Told,
-) -> Option<Answer> {
+) -> Option<TrialAnswer> {
     let name = Name::new(alloc, b"b").ok()?;
     let class = Name::new(alloc, b"Node").ok()?;
     Some(once_or_twice!(
@@ -104,19 +104,25 @@ fn create_in(
     ))
 }
 
-fn tell_create(meta: &Meta, tree: &mut Tree, name: &Name, class: &Name, told: &mut Told) -> Answer {
+fn tell_create(
+    meta: &Meta,
+    tree: &mut Tree,
+    name: &Name,
+    class: &Name,
+    told: &mut Told,
+) -> TrialAnswer {
     match tree.create(meta, name, class, LoopId::new(IO)) {
         Ok(_) => {
             tree.tell(told);
-            Answer::Ample
+            TrialAnswer::Ample
         }
-        Err(CreateFault::Memory) => Answer::Memory,
-        Err(_) => Answer::Other,
+        Err(CreateFault::Memory) => TrialAnswer::Memory,
+        Err(_) => TrialAnswer::Other,
     }
 }
 
 /// `adopt`, where the parent and the child have each another parent already or none.
-pub fn adopt(alloc: Global, told: &mut Told) -> Option<Answer> {
+pub fn adopt(alloc: Global, told: &mut Told) -> Option<TrialAnswer> {
     let meta = loaded(alloc, NODES)?;
     let mut tree = Tree::new(alloc);
     put_family(alloc, &meta, &mut tree)?;
@@ -137,19 +143,19 @@ fn put_family(alloc: Global, meta: &Meta, tree: &mut Tree) -> Option<()> {
     Some(())
 }
 
-fn tell_adopt(meta: &Meta, tree: &mut Tree, told: &mut Told) -> Answer {
+fn tell_adopt(meta: &Meta, tree: &mut Tree, told: &mut Told) -> TrialAnswer {
     match tree.adopt(meta, ObjectId::new(1), ObjectId::new(3)) {
         Ok(()) => {
             tree.tell(told);
-            Answer::Ample
+            TrialAnswer::Ample
         }
-        Err(AdoptFault::Memory) => Answer::Memory,
-        Err(_) => Answer::Other,
+        Err(AdoptFault::Memory) => TrialAnswer::Memory,
+        Err(_) => TrialAnswer::Other,
     }
 }
 
 /// `connect` of two objects, where two others are connected and were connected before.
-pub fn connect(alloc: Global, told: &mut Told) -> Option<Answer> {
+pub fn connect(alloc: Global, told: &mut Told) -> Option<TrialAnswer> {
     let mut store = Connections::new(alloc);
     join(&mut store, 2, 3).ok()?;
     let (sender, receiver) = (ObjectId::new(2), ObjectId::new(3));
@@ -171,19 +177,19 @@ fn join(store: &mut Connections, sender: usize, receiver: usize) -> Result<(), C
     store.connect(sender, 4, receiver, 4, Kind::Direct, true, false)
 }
 
-fn tell_connect(store: &mut Connections, told: &mut Told) -> Answer {
+fn tell_connect(store: &mut Connections, told: &mut Told) -> TrialAnswer {
     match join(store, 0, 1) {
         Ok(()) => {
             store.tell(told);
-            Answer::Ample
+            TrialAnswer::Ample
         }
-        Err(ConnectFault::Memory) => Answer::Memory,
-        Err(ConnectFault::Exists) => Answer::Other,
+        Err(ConnectFault::Memory) => TrialAnswer::Memory,
+        Err(ConnectFault::Exists) => TrialAnswer::Other,
     }
 }
 
 /// `add`.
-pub fn add(alloc: Global, told: &mut Told) -> Option<Answer> {
+pub fn add(alloc: Global, told: &mut Told) -> Option<TrialAnswer> {
     let mut loops = Loops::new(alloc).ok()?;
     let name = Name::new(alloc, b"io").ok()?;
     let before = told_of(alloc, &loops)?;
@@ -193,19 +199,19 @@ pub fn add(alloc: Global, told: &mut Told) -> Option<Answer> {
     ))
 }
 
-fn tell_add(loops: &mut Loops, name: &Name, told: &mut Told) -> Answer {
+fn tell_add(loops: &mut Loops, name: &Name, told: &mut Told) -> TrialAnswer {
     match loops.add(name) {
         Ok(()) => {
             loops.tell(told);
-            Answer::Ample
+            TrialAnswer::Ample
         }
-        Err(AddFault::Memory) => Answer::Memory,
-        Err(AddFault::Exists) => Answer::Other,
+        Err(AddFault::Memory) => TrialAnswer::Memory,
+        Err(AddFault::Exists) => TrialAnswer::Other,
     }
 }
 
 /// `post` to a loop in which nothing waits, where something waits in another one.
-pub fn post(alloc: Global, told: &mut Told) -> Option<Answer> {
+pub fn post(alloc: Global, told: &mut Told) -> Option<TrialAnswer> {
     let mut loops = Loops::new(alloc).ok()?;
     let name = Name::new(alloc, b"io").ok()?;
     loops.add(&name).ok()?;
@@ -223,10 +229,15 @@ pub fn post_to(loops: &mut Loops, home: usize, item: Item) -> Result<(), PostFau
     loops.post(LoopId::new(home), item)
 }
 
-fn post_in(alloc: Global, loops: &mut Loops, before: &Told, told: &mut Told) -> Option<Answer> {
+fn post_in(
+    alloc: Global,
+    loops: &mut Loops,
+    before: &Told,
+    told: &mut Told,
+) -> Option<TrialAnswer> {
     let first = call_of(alloc, ObjectId::new(1))?;
     match tell_post(loops, first, told) {
-        Answer::Memory => {
+        TrialAnswer::Memory => {
             let is_as_before = is_as_told(alloc, loops, before);
             let second = call_of(alloc, ObjectId::new(1))?;
             Some(tell_post(loops, second, told).again(is_as_before))
@@ -246,13 +257,13 @@ pub fn call_of(alloc: Global, object: ObjectId) -> Option<Item> {
     })
 }
 
-fn tell_post(loops: &mut Loops, item: Item, told: &mut Told) -> Answer {
+fn tell_post(loops: &mut Loops, item: Item, told: &mut Told) -> TrialAnswer {
     match post_to(loops, IO, item) {
         Ok(()) => {
             loops.tell(told);
-            Answer::Ample
+            TrialAnswer::Ample
         }
-        Err(PostFault::Memory) => Answer::Memory,
-        Err(PostFault::NoLoop) => Answer::Other,
+        Err(PostFault::Memory) => TrialAnswer::Memory,
+        Err(PostFault::NoLoop) => TrialAnswer::Other,
     }
 }

@@ -1,6 +1,6 @@
 //! The calls for signatures, texts and values, and for expressions.
 
-use memory_trials::{Answer, Told, once_or_twice};
+use memory_trials::{Told, TrialAnswer, once_or_twice};
 use signatures::{LONGEST_TEXT, Name, QType, Sig, SigFault, Text, Value, normalise};
 use slot_lang::{EvalFault, Expr, ExprType, Names, Path, World, eval, parse_expr, tokens, type_of};
 use std::alloc::{AllocError, Global};
@@ -9,48 +9,48 @@ use std::alloc::{AllocError, Global};
 const SIGNATURE: &str = "f(Cell const *, int const)";
 
 /// `normalise`.
-pub fn normal_form(alloc: Global, told: &mut Told) -> Answer {
+pub fn normal_form(alloc: Global, told: &mut Told) -> TrialAnswer {
     match normalise(alloc, SIGNATURE) {
         Ok(sig) => {
             told.signature(&sig);
-            Answer::Ample
+            TrialAnswer::Ample
         }
-        Err(SigFault::Memory) => Answer::Memory,
-        Err(_) => Answer::Other,
+        Err(SigFault::Memory) => TrialAnswer::Memory,
+        Err(_) => TrialAnswer::Other,
     }
 }
 
 /// `Sig::text`.
-pub fn signature_text(alloc: Global, told: &mut Told) -> Option<Answer> {
+pub fn signature_text(alloc: Global, told: &mut Told) -> Option<TrialAnswer> {
     let sig = normalise(alloc, SIGNATURE).ok()?;
     let twin = normalise(alloc, SIGNATURE).ok()?;
     Some(once_or_twice!(tell_signature(alloc, &sig, told), sig.is_same(&twin)))
 }
 
-fn tell_signature(alloc: Global, sig: &Sig, told: &mut Told) -> Answer {
+fn tell_signature(alloc: Global, sig: &Sig, told: &mut Told) -> TrialAnswer {
     match sig.text(alloc) {
         Ok(text) => {
             told.bytes(text.as_slice());
-            Answer::Ample
+            TrialAnswer::Ample
         }
-        Err(AllocError) => Answer::Memory,
+        Err(AllocError) => TrialAnswer::Memory,
     }
 }
 
 /// `Text::of`.
-pub fn text_of(alloc: Global, told: &mut Told) -> Answer {
+pub fn text_of(alloc: Global, told: &mut Told) -> TrialAnswer {
     match Text::of(alloc, b"hi") {
         Ok(Some(text)) => {
             told.value(&Value::Text(text));
-            Answer::Ample
+            TrialAnswer::Ample
         }
-        Ok(None) => Answer::Other,
-        Err(AllocError) => Answer::Memory,
+        Ok(None) => TrialAnswer::Other,
+        Err(AllocError) => TrialAnswer::Memory,
     }
 }
 
 /// `Value::copy`.
-pub fn value_copy(alloc: Global, told: &mut Told) -> Option<Answer> {
+pub fn value_copy(alloc: Global, told: &mut Told) -> Option<TrialAnswer> {
     let value = text_value(alloc, b"hi")?;
     let twin = text_value(alloc, b"hi")?;
     Some(once_or_twice!(tell_copy(&value, told), value.is_same(&twin)))
@@ -60,13 +60,13 @@ fn text_value(alloc: Global, bytes: &[u8]) -> Option<Value> {
     Some(Value::Text(Text::of(alloc, bytes).ok()??))
 }
 
-fn tell_copy(value: &Value, told: &mut Told) -> Answer {
+fn tell_copy(value: &Value, told: &mut Told) -> TrialAnswer {
     match value.copy() {
         Ok(copy) => {
             told.value(&copy);
-            Answer::Ample
+            TrialAnswer::Ample
         }
-        Err(AllocError) => Answer::Memory,
+        Err(AllocError) => TrialAnswer::Memory,
     }
 }
 
@@ -121,7 +121,7 @@ fn expression(alloc: Global, text: &str) -> Option<Expr<Path>> {
 }
 
 /// `type_of`.
-pub fn expression_type(alloc: Global, told: &mut Told) -> Option<Answer> {
+pub fn expression_type(alloc: Global, told: &mut Told) -> Option<TrialAnswer> {
     let paths = int_paths(alloc, 0)?;
     let expression = expression(alloc, "v + 1")?;
     Some(once_or_twice!(tell_type(alloc, &expression, &paths, told), true))
@@ -132,26 +132,26 @@ fn tell_type(
     expression: &Expr<Path>,
     paths: &Everywhere,
     told: &mut Told,
-) -> Answer {
+) -> TrialAnswer {
     match type_of(alloc, expression, paths) {
         Ok(Some(ExprType::Of(kind))) => {
             told.kind(&kind);
-            Answer::Ample
+            TrialAnswer::Ample
         }
-        Ok(_) => Answer::Other,
-        Err(AllocError) => Answer::Memory,
+        Ok(_) => TrialAnswer::Other,
+        Err(AllocError) => TrialAnswer::Memory,
     }
 }
 
 /// `eval` of a sum.
-pub fn sum(alloc: Global, told: &mut Told) -> Option<Answer> {
+pub fn sum(alloc: Global, told: &mut Told) -> Option<TrialAnswer> {
     let paths = int_paths(alloc, 2147483646)?;
     let expression = expression(alloc, "c.x + 1")?;
     Some(once_or_twice!(tell_eval(alloc, &expression, &paths, told), true))
 }
 
 /// `eval` of two texts that are joined.
-pub fn joined(alloc: Global, told: &mut Told) -> Option<Answer> {
+pub fn joined(alloc: Global, told: &mut Told) -> Option<TrialAnswer> {
     let paths = text_paths(alloc)?;
     let expression = expression(alloc, "this.t + s")?;
     Some(once_or_twice!(tell_eval(alloc, &expression, &paths, told), true))
@@ -162,13 +162,13 @@ fn tell_eval(
     expression: &Expr<Path>,
     paths: &Everywhere,
     told: &mut Told,
-) -> Answer {
+) -> TrialAnswer {
     match eval(alloc, expression, paths) {
         Ok(value) => {
             told.value(&value);
-            Answer::Ample
+            TrialAnswer::Ample
         }
-        Err(EvalFault::Memory) => Answer::Memory,
-        Err(EvalFault::BadType) => Answer::Other,
+        Err(EvalFault::Memory) => TrialAnswer::Memory,
+        Err(EvalFault::BadType) => TrialAnswer::Other,
     }
 }

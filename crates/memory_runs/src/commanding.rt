@@ -1,6 +1,6 @@
 //! The commands.
 
-use memory_trials::{Answer, CERTIFICATE, SCRIPT, SOURCE, Told};
+use memory_trials::{CERTIFICATE, SCRIPT, SOURCE, Told, TrialAnswer};
 use native_slots::Natives;
 use std::alloc::Global;
 use trace_tool::{WriteFault, certify, check, command, meta, run, run_unchecked};
@@ -17,25 +17,25 @@ const COUNTING: &str =
 const STEPS: u64 = 1_000_000;
 
 /// How a command ended.
-fn ended(status: Result<u8, WriteFault>) -> Answer {
+fn ended(status: Result<u8, WriteFault>) -> TrialAnswer {
     match status {
-        Ok(status) => Answer::Ended(status),
-        Err(_) => Answer::Other,
+        Ok(status) => TrialAnswer::Ended(status),
+        Err(_) => TrialAnswer::Other,
     }
 }
 
 /// `meta`.
-pub fn described(alloc: Global, told: &mut Told) -> Answer {
+pub fn described(alloc: Global, told: &mut Told) -> TrialAnswer {
     ended(meta(alloc, SOURCE.as_bytes(), &mut told.text))
 }
 
 /// `certify` of no program at all.
-pub fn certified(alloc: Global, told: &mut Told) -> Answer {
+pub fn certified(alloc: Global, told: &mut Told) -> TrialAnswer {
     ended(certify(alloc, b"", &mut told.text))
 }
 
 /// `check`, the command.
-pub fn judged(alloc: Global, told: &mut Told) -> Answer {
+pub fn judged(alloc: Global, told: &mut Told) -> TrialAnswer {
     ended(check(
         alloc,
         SOURCE.as_bytes(),
@@ -45,7 +45,7 @@ pub fn judged(alloc: Global, told: &mut Told) -> Answer {
 }
 
 /// `run`.
-pub fn checked_run(alloc: Global, told: &mut Told) -> Answer {
+pub fn checked_run(alloc: Global, told: &mut Told) -> TrialAnswer {
     ended(run(
         alloc,
         SOURCE.as_bytes(),
@@ -58,7 +58,7 @@ pub fn checked_run(alloc: Global, told: &mut Told) -> Answer {
 }
 
 /// `run_unchecked`.
-pub fn unchecked_run(alloc: Global, told: &mut Told) -> Answer {
+pub fn unchecked_run(alloc: Global, told: &mut Told) -> TrialAnswer {
     ended(run_unchecked(
         alloc,
         COUNTER.as_bytes(),
@@ -71,7 +71,7 @@ pub fn unchecked_run(alloc: Global, told: &mut Told) -> Answer {
 }
 
 /// `command`.
-pub fn command_line(alloc: Global, told: &mut Told) -> Option<Answer> {
+pub fn command_line(alloc: Global, told: &mut Told) -> Option<TrialAnswer> {
     let input = format!(in alloc; "{SOURCE}%%\n{CERTIFICATE}%%\n{SCRIPT}").ok()?;
     let mut reader = input.as_bytes();
     let natives = Natives::of(Vec::new(alloc));

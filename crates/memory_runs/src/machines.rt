@@ -5,9 +5,9 @@ ghost use Rattle.qt_runtime.specs.Seen.{AreKept};
 
 use crate::commanding::COUNTER;
 use command_output::Output;
-use memory_trials::{Answer, SCRIPT, SOURCE, Told, certificate, loaded};
+use memory_trials::{SCRIPT, SOURCE, Told, TrialAnswer, certificate, loaded};
 use native_slots::{Answering, Natives};
-use qt_runtime::{Answer as Applied, Checked, Entry, Event, Fault, Machine, read_script};
+use qt_runtime::{Answer, Checked, Entry, Event, Fault, Machine, read_script};
 use rank_check::check;
 use std::alloc::{AllocError, Global};
 
@@ -22,17 +22,17 @@ fn checked_program(alloc: Global) -> Option<Checked> {
 }
 
 /// `Machine::checked`, which takes over the program.
-pub fn checked_machine(alloc: Global, told: &mut Told) -> Option<Answer> {
+pub fn checked_machine(alloc: Global, told: &mut Told) -> Option<TrialAnswer> {
     let program = checked_program(alloc)?;
     match started(alloc, program, Natives::of(Vec::new(alloc))) {
         Ok(machine) => told.count("entries ", machine.trace().len()),
-        Err(AllocError) => return Some(Answer::Memory),
+        Err(AllocError) => return Some(TrialAnswer::Memory),
     }
-    Some(Answer::Ample)
+    Some(TrialAnswer::Ample)
 }
 
 /// `Machine::unchecked`, which takes over the program.
-pub fn unchecked_machine(alloc: Global, told: &mut Told) -> Option<Answer> {
+pub fn unchecked_machine(alloc: Global, told: &mut Told) -> Option<TrialAnswer> {
     let meta = loaded(alloc, COUNTER)?;
     let natives = Natives::of(Vec::new(alloc));
     let Ok(()) = natives.fits(&meta) else {
@@ -40,13 +40,13 @@ pub fn unchecked_machine(alloc: Global, told: &mut Told) -> Option<Answer> {
     };
     match Machine::unchecked(alloc, meta, natives, 7, STEPS) {
         Ok(machine) => told.count("entries ", machine.trace().len()),
-        Err(AllocError) => return Some(Answer::Memory),
+        Err(AllocError) => return Some(TrialAnswer::Memory),
     }
-    Some(Answer::Ample)
+    Some(TrialAnswer::Ample)
 }
 
 /// `apply` of each event of a script.
-pub fn events(alloc: Global, told: &mut Told) -> Option<Answer> {
+pub fn events(alloc: Global, told: &mut Told) -> Option<TrialAnswer> {
     let events = read_script(alloc, SCRIPT.as_bytes()).ok()?;
     let program = checked_program(alloc)?;
     let Ok(mut machine) = started(alloc, program, Natives::of(Vec::new(alloc))) else {
@@ -76,14 +76,14 @@ fn apply_each<N: Answering + Drop>(
     machine: &mut Machine<N>,
     events: &[Event],
     told: &mut Told,
-) -> Answer
+) -> TrialAnswer
     requires { AreKept N.takes N.gives machine.old }
 {
     for event in events {
         match machine.apply(event) {
-            Ok(Applied::Done) => {}
+            Ok(Answer::Done) => {}
             Err(Fault::Memory) => return stopped(alloc, machine, event, told),
-            _ => return Answer::Other,
+            _ => return TrialAnswer::Other,
         }
     }
     tell_trace(alloc, machine.trace(), told)
@@ -95,24 +95,24 @@ fn stopped<N: Answering + Drop>(
     machine: &mut Machine<N>,
     event: &Event,
     told: &mut Told,
-) -> Answer
+) -> TrialAnswer
     requires { AreKept N.takes N.gives machine.old }
 {
     let entries = machine.trace().len();
     let answer = machine.apply(event);
     let stays = answer == Err(Fault::Stopped) && machine.trace().len() == entries;
     match tell_trace(alloc, machine.trace(), told) {
-        Answer::Ample => Answer::Stopped { stays },
+        TrialAnswer::Ample => TrialAnswer::Stopped { stays },
         answer => answer,
     }
 }
 
 /// Tells the lines of a trace.
-fn tell_trace(alloc: Global, trace: &[Entry], told: &mut Told) -> Answer {
+fn tell_trace(alloc: Global, trace: &[Entry], told: &mut Told) -> TrialAnswer {
     let mut output = Output::new(alloc, &mut told.text);
     output.entries(trace);
     match output.finish(0) {
-        Ok(_) => Answer::Ample,
-        Err(_) => Answer::Untold,
+        Ok(_) => TrialAnswer::Ample,
+        Err(_) => TrialAnswer::Untold,
     }
 }

@@ -4,7 +4,7 @@
 mod commanding;
 mod machines;
 
-use memory_trials::{Answer, Calls, Told, tell_calls};
+use memory_trials::{Calls, Told, TrialAnswer, tell_calls};
 use std::alloc::Global;
 use std::io;
 
@@ -19,7 +19,7 @@ impl Calls for Runs {
     const WORDS: &'static str =
         "checked unchecked apply meta certify check run run_unchecked command";
 
-    fn make(alloc: Global, word: &str, told: &mut Told) -> Option<Answer> {
+    fn make(alloc: Global, word: &str, told: &mut Told) -> Option<TrialAnswer> {
         match word {
             "checked" => machines::checked_machine(alloc, told),
             "unchecked" => machines::unchecked_machine(alloc, told),

@@ -1,6 +1,6 @@
 /// How a call was answered.
 #[derive(Clone, Copy)]
-pub enum Answer {
+pub enum TrialAnswer {
     /// It did what it is for, and what it answered is reported.
     Ample,
     /// A command ended with this exit status, and what it wrote is reported.
@@ -18,12 +18,12 @@ pub enum Answer {
     Other,
 }
 
-impl Answer {
+impl TrialAnswer {
     /// What a call comes to that had no memory, where it was made again with this answer.
-    pub fn again(self, is_as_before: bool) -> Answer {
+    pub fn again(self, is_as_before: bool) -> TrialAnswer {
         match self {
-            Answer::Ample => Answer::Again { is_as_before },
-            _ => Answer::Other,
+            TrialAnswer::Ample => TrialAnswer::Again { is_as_before },
+            _ => TrialAnswer::Other,
         }
     }
 }
@@ -33,7 +33,7 @@ impl Answer {
 macro_rules! once_or_twice {
     ($call:expr, $is_as_before:expr) => {
         match $call {
-            Answer::Memory => {
+            TrialAnswer::Memory => {
                 let is_as_before = $is_as_before;
                 $call.again(is_as_before)
             }

@@ -1,6 +1,6 @@
 //! Calls by their words, and what is written of them.
 
-use crate::answer::Answer;
+use crate::answer::TrialAnswer;
 use crate::told::Told;
 use std::alloc::Global;
 use std::rt::Env;
@@ -13,7 +13,7 @@ pub trait Calls {
 
     /// Makes what the call of this word is made on, makes the call, and tells what it answers. `None` where no call has
     /// the word, and where there is no memory for what the call is made on.
-    fn make(alloc: Global, word: &str, told: &mut Told) -> Option<Answer>;
+    fn make(alloc: Global, word: &str, told: &mut Told) -> Option<TrialAnswer>;
 }
 
 /// Makes the calls of the process's words, or all where there is none, and writes how each was answered and what it told.
@@ -62,16 +62,16 @@ fn tell_unmade(rt: &impl Print) -> io::Result<()> {
 }
 
 /// Writes how a call was answered.
-fn tell_answer(rt: &impl Print, answer: Answer) -> io::Result<()> {
+fn tell_answer(rt: &impl Print, answer: TrialAnswer) -> io::Result<()> {
     match answer {
-        Answer::Ample => println!(rt; "ample"),
-        Answer::Ended(status) => println!(rt; "status {status}"),
-        Answer::Memory => println!(rt; "memory"),
-        Answer::Again { is_as_before } => println!(rt;
+        TrialAnswer::Ample => println!(rt; "ample"),
+        TrialAnswer::Ended(status) => println!(rt; "status {status}"),
+        TrialAnswer::Memory => println!(rt; "memory"),
+        TrialAnswer::Again { is_as_before } => println!(rt;
             "memory, as before {is_as_before}, then ample"
         ),
-        Answer::Stopped { stays } => println!(rt; "fault 65, then fault 66 {stays}"),
-        Answer::Untold => println!(rt; "untold"),
-        Answer::Other => println!(rt; "another answer"),
+        TrialAnswer::Stopped { stays } => println!(rt; "fault 65, then fault 66 {stays}"),
+        TrialAnswer::Untold => println!(rt; "untold"),
+        TrialAnswer::Other => println!(rt; "another answer"),
     }
 }

@@ -7,7 +7,7 @@ mod calls;
 mod programs;
 mod told;
 
-pub use answer::Answer;
+pub use answer::TrialAnswer;
 pub use calls::{Calls, tell_calls};
 pub use programs::{CERTIFICATE, SCRIPT, SOURCE, certificate, loaded};
 pub use told::Told;

@@ -3,7 +3,7 @@
 use crate::ranked::Ranked;
 use crate::spot::Spot;
 use crate::warning::Warning;
-use diagnostics::Place;
+use diagnostics::TextPlace;
 use effect_scan::{Member, Node};
 use meta_objects::MetaWire;
 use program_flaws::{Source, node_text, property_text, wire_text};
@@ -43,7 +43,7 @@ impl Subject<'_> {
     fn push_warning(&self, told: &mut String, warning: &Warning) -> Result<(), AllocError> {
         told.push_str("<stdin>:")?;
         if let Some(at) = Spot::of(self.source, warning).find(self.tokens) {
-            let Place { line, column } = Place::of(self.text, at.min(self.text.len()));
+            let TextPlace { line, column } = TextPlace::of(self.text, at.min(self.text.len()));
             write!(told, "{line}:{column}:")?;
         }
         told.push_str(" warning: ")?;

@@ -10,7 +10,7 @@ use Rattle.certificate_lang.specs.declared.certificate.Line.{Line}
 use Rattle.certificate_lang.specs.declared.certificate.Certificate.{Certificate}
 use Rattle.rank_check.specs.declared.entries.Entry.{Entry}
 use Rattle.rank_check.specs.Names.{IsNodeNamed}
-use Rattle.rank_check.specs.declared.causes.Place.{Place}
+use Rattle.rank_check.specs.declared.causes.NodeLine.{NodeLine}
 use Rattle.rank_check.specs.declared.causes.Extra.{Extra}
 use Rattle.rank_check.specs.declared.causes.Extra.TheVariants.{Unknown, Twice, Class}
 use Rattle.rank_check.specs.Valid.{AreClassesThere, HasEachNode, HasNothingElse}
@@ -119,7 +119,7 @@ module _ (p : Loaded) (certificate : Certificate) (numbers : List (Option ℕ)) 
           subst (λ (m : ℕ). slice_get places m ≡ Some k) same at.placed
 
       module _ (entries : List Entry) (zip : AllZip (IsEntryAt p certificate.lines) places entries) where
-        entry_of : (place : Place) (e : Entry) → IsPlaceOf entries place e → IsEntryOf p certificate place e
+        entry_of : (place : NodeLine) (e : Entry) → IsPlaceOf entries place e → IsEntryOf p certificate place e
         entry_of place e h =
             let w = zip_right (IsEntryAt p certificate.lines) places entries zip place.node e h.stands in
             let l = line_for w.0 place.node (placed.is_for place.node w.0 w.1) in

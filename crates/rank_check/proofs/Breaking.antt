@@ -4,7 +4,7 @@ use Rattle.meta_model.specs.Loaded.{Loaded}
 use Rattle.effect_scan.specs.declared.node.Node.{Node}
 use Rattle.certificate_lang.specs.declared.certificate.Line.{Line}
 use Rattle.certificate_lang.specs.declared.certificate.Certificate.{Certificate}
-use Rattle.rank_check.specs.declared.causes.Place.{Place}
+use Rattle.rank_check.specs.declared.causes.NodeLine.{NodeLine}
 use Rattle.rank_check.specs.declared.causes.Extra.{Extra}
 use Rattle.rank_check.specs.declared.causes.Extra.TheVariants.{Unknown, Twice, Class}
 use Rattle.rank_check.specs.declared.causes.Rise.{Rise}
@@ -26,7 +26,7 @@ module _ (p : Loaded) (certificate : Certificate) where
   extra_breaks (Twice j k) h all = h.apart (all.once j k h.first h.second h.node h.first_stands h.second_stands h.first_named h.second_named)
   extra_breaks (Class k item) h all = none_there p h.line.destroys item h.none (all.classes h.line (element_at certificate.lines k h.line h.stands))
 
-  line_at : (place : Place) (x : Node) (line : Line) → IsAtPlace p certificate place x line → IsLineOf p certificate x line
+  line_at : (place : NodeLine) (x : Node) (line : Line) → IsAtPlace p certificate place x line → IsLineOf p certificate x line
   line_at place x line h = record { stands = element_at certificate.lines place.line line h.stands; named = h.named }
 
   pub rise_breaks : (rise : Rise) → IsRise p certificate rise → ¬ RanksFall p certificate

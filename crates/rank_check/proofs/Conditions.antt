@@ -19,7 +19,7 @@ use Rattle.effect_scan.specs.code.Relations.{IsMarked}
 use Rattle.certificate_lang.specs.declared.certificate.Line.{Line}
 use Rattle.certificate_lang.specs.declared.certificate.Certificate.{Certificate}
 use Rattle.rank_check.specs.declared.entries.Entry.{Entry}
-use Rattle.rank_check.specs.declared.causes.Place.{Place}
+use Rattle.rank_check.specs.declared.causes.NodeLine.{NodeLine}
 use Rattle.rank_check.specs.declared.causes.Rise.{Rise}
 use Rattle.rank_check.specs.declared.causes.Mistake.{Mistake}
 use Rattle.rank_check.specs.declared.causes.Mistake.TheVariants.{Unclosed, Own, Lost}
@@ -60,14 +60,14 @@ module _ (p : Loaded) (certificate : Certificate) (scan : Scanned) (is : IsScan 
       subst (λ (l : Line). IsEntry p l e) line_is own.is
 
   -- the edge between two places, and the lines there
-  record Joined (first second : Place) (a b : Entry) : Type 0 where
+  record Joined (first second : NodeLine) (a b : Entry) : Type 0 where
     pub upper : Line
     pub lower : Line
     pub edge : IsEdgeOf p certificate first second upper lower
     pub upper_is : IsEntry p upper a
     pub lower_is : IsEntry p lower b
 
-  joined : (first second : Place) (a b : Entry) → IsPlaceOf entries first a → IsPlaceOf entries second b → Edge scan.rows first.node second.node → Joined first second a b
+  joined : (first second : NodeLine) (a b : Entry) → IsPlaceOf entries first a → IsPlaceOf entries second b → Edge scan.rows first.node second.node → Joined first second a b
   joined first second a b at_a at_b edge =
       let x = names.are.each first a at_a in
       let y = names.are.each second b at_b in
@@ -105,12 +105,12 @@ module _ (p : Loaded) (certificate : Certificate) (scan : Scanned) (is : IsScan 
 
   -- ---- sets
   -- the line at the place where a set is wrong by itself
-  at_own : (mistake : Mistake) (h : IsMistakeOfOne p scan.nodes entries mistake) (place : Place) → place ≡ h.place → (line : Line) × IsAtPlace p certificate place h.node line × IsEntry p line h.entry
+  at_own : (mistake : Mistake) (h : IsMistakeOfOne p scan.nodes entries mistake) (place : NodeLine) → place ≡ h.place → (line : Line) × IsAtPlace p certificate place h.node line × IsEntry p line h.entry
   at_own mistake h place same =
       let own = names.are.each h.place h.entry h.is in
       let at = subst (λ (ns : List Node). IsAt ns h.node h.place.node) is.nodes h.stands in
       let here = subst (λ (z : Node). IsAtPlace p certificate h.place z own.line) (one_at p own.node h.node h.place.node own.at.is at) own.at in
-      (own.line, subst (λ (q : Place). IsAtPlace p certificate q h.node own.line) (sym same) here, own.is)
+      (own.line, subst (λ (q : NodeLine). IsAtPlace p certificate q h.node own.line) (sym same) here, own.is)
 
   pub mistake_told : (mistake : Mistake) → IsMistakeIn p scan.nodes scan.rows entries mistake → IsMistake p certificate mistake
   mistake_told (Unclosed place d) h =

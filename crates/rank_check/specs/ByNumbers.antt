@@ -7,7 +7,7 @@ use Rattle.effect_scan.specs.declared.node.Member.TheVariants.{Destruction}
 use Rattle.effect_scan.specs.Rows.{Edge}
 use Rattle.effect_scan.specs.Destroying.{Closure}
 use Rattle.effect_scan.specs.code.Relations.{IsMarked}
-use Rattle.rank_check.specs.declared.causes.Place.{Place}
+use Rattle.rank_check.specs.declared.causes.NodeLine.{NodeLine}
 use Rattle.rank_check.specs.declared.causes.Rise.{Rise}
 use Rattle.rank_check.specs.declared.causes.Mistake.{Mistake}
 use Rattle.rank_check.specs.declared.causes.Mistake.TheVariants.{Unclosed, Own, Lost}
@@ -15,7 +15,7 @@ use Rattle.rank_check.specs.declared.entries.Entry.{Entry}
 use Rattle.rank_check.specs.Valid.{HasBody}
 
 -- the place is that of the node with this entry
-pub record IsPlaceOf (entries : List Entry) (place : Place) (entry : Entry) : Type 0 where
+pub record IsPlaceOf (entries : List Entry) (place : NodeLine) (entry : Entry) : Type 0 where
   pub stands : slice_get entries place.node ≡ Some entry
   pub line : entry.line ≡ place.line
 
@@ -26,7 +26,7 @@ abbrev pub AreLower : List ℕ → List Entry → ℕ → Type 0
 AreLower targets entries rank = (b : ℕ) (y : Entry) → Contains targets b → slice_get entries b ≡ Some y → y.rank < rank
 
 -- the node at this place is one of these, and its rank is not below this one
-pub record IsAsHigh (targets : List ℕ) (entries : List Entry) (rank : ℕ) (place : Place) : Type 0 where
+pub record IsAsHigh (targets : List ℕ) (entries : List Entry) (rank : ℕ) (place : NodeLine) : Type 0 where
   pub held : Contains targets place.node
   pub entry : Entry
   pub is : IsPlaceOf entries place entry
@@ -57,7 +57,7 @@ abbrev pub AreWithin : List ℕ → List Entry → List Bool → Type 0
 AreWithin targets entries set = (b : ℕ) (y : Entry) → Contains targets b → slice_get entries b ≡ Some y → IsWithin y.destroys set
 
 -- the set of the node at this place, which is one of these, has a class that isn't in this one
-pub record HasLost (targets : List ℕ) (entries : List Entry) (set : List Bool) (place : Place) (d : ℕ) : Type 0 where
+pub record HasLost (targets : List ℕ) (entries : List Entry) (set : List Bool) (place : NodeLine) (d : ℕ) : Type 0 where
   pub held : Contains targets place.node
   pub entry : Entry
   pub is : IsPlaceOf entries place entry
@@ -70,7 +70,7 @@ pub record HoldsOwn (p : Loaded) (x : Node) (set : List Bool) : Type 0 where
   pub spared : HasBody p x → ¬ IsMarked set x.class
 
 -- the set of the node at this place has this mistake in what it has to hold by itself
-abbrev pub IsOwnMistake : Loaded → Node → List Bool → Place → Mistake → Type 0
+abbrev pub IsOwnMistake : Loaded → Node → List Bool → NodeLine → Mistake → Type 0
 IsOwnMistake p x set place (Unclosed at d) = (at ≡ place) × (x.member ≡ Destruction) × Closure p x.class d × ¬ IsMarked set d
 IsOwnMistake p x set place (Own at) = (at ≡ place) × HasBody p x × IsMarked set x.class
 IsOwnMistake p x set place (Lost first second d) = ⊥
@@ -83,7 +83,7 @@ pub record Hold (p : Loaded) (nodes : List Node) (rows : List (List ℕ)) (entri
 
 -- the set of one node has this mistake in what it has to hold by itself
 pub record IsMistakeOfOne (p : Loaded) (nodes : List Node) (entries : List Entry) (mistake : Mistake) : Type 0 where
-  pub place : Place
+  pub place : NodeLine
   pub node : Node
   pub stands : slice_get nodes place.node ≡ Some node
   pub entry : Entry
@@ -91,7 +91,7 @@ pub record IsMistakeOfOne (p : Loaded) (nodes : List Node) (entries : List Entry
   pub wrong : IsOwnMistake p node entry.destroys place mistake
 
 -- a class isn't passed on along the edge from the first place to the second
-pub record IsLostAlong (rows : List (List ℕ)) (entries : List Entry) (first second : Place) (d : ℕ) : Type 0 where
+pub record IsLostAlong (rows : List (List ℕ)) (entries : List Entry) (first second : NodeLine) (d : ℕ) : Type 0 where
   pub edge : Edge rows first.node second.node
   pub upper : Entry
   pub upper_is : IsPlaceOf entries first upper

@@ -12,7 +12,7 @@ use Rattle.type_check.specs.Typed.{FindsUntyped}
 use Rattle.certificate_lang.specs.declared.certificate.SetItem.{SetItem}
 use Rattle.certificate_lang.specs.declared.certificate.Line.{Line}
 use Rattle.certificate_lang.specs.declared.certificate.Certificate.{Certificate}
-use Rattle.rank_check.specs.declared.causes.Place.{Place}
+use Rattle.rank_check.specs.declared.causes.NodeLine.{NodeLine}
 use Rattle.rank_check.specs.declared.causes.Extra.{Extra}
 use Rattle.rank_check.specs.declared.causes.Extra.TheVariants.{Unknown, Twice, Class}
 use Rattle.rank_check.specs.declared.causes.Rise.{Rise}
@@ -74,13 +74,13 @@ IsExtra p lines (Class k item) = LacksClass p lines k item
 -- ---- ranks and sets
 
 -- this node has this line, by number and place
-pub record IsAtPlace (p : Loaded) (certificate : Certificate) (place : Place) (x : Node) (a : Line) : Type 0 where
+pub record IsAtPlace (p : Loaded) (certificate : Certificate) (place : NodeLine) (x : Node) (a : Line) : Type 0 where
   pub is : IsAt (nodes_of p) x place.node
   pub stands : slice_get certificate.lines place.line ≡ Some a
   pub named : IsNodeNamed p a.node x
 
 -- an edge leads from the one node to the other, which have these lines
-pub record IsEdgeOf (p : Loaded) (certificate : Certificate) (first second : Place) (a b : Line) : Type 0 where
+pub record IsEdgeOf (p : Loaded) (certificate : Certificate) (first second : NodeLine) (a b : Line) : Type 0 where
   pub from : Node
   pub to : Node
   pub from_is : IsAtPlace p certificate first from a
@@ -95,7 +95,7 @@ pub record IsRise (p : Loaded) (certificate : Certificate) (rise : Rise) : Type 
   pub rises : upper.rank ≤ lower.rank
 
 -- the node is `~C`, and its set lacks this class of the closure of C
-pub record IsUnclosed (p : Loaded) (certificate : Certificate) (place : Place) (d : ℕ) : Type 0 where
+pub record IsUnclosed (p : Loaded) (certificate : Certificate) (place : NodeLine) (d : ℕ) : Type 0 where
   pub node : Node
   pub line : Line
   pub at : IsAtPlace p certificate place node line
@@ -104,7 +104,7 @@ pub record IsUnclosed (p : Loaded) (certificate : Certificate) (place : Place) (
   pub lacks : ¬ Destroys p line d
 
 -- the node is a slot or native, and its set holds its own class
-pub record HoldsItself (p : Loaded) (certificate : Certificate) (place : Place) : Type 0 where
+pub record HoldsItself (p : Loaded) (certificate : Certificate) (place : NodeLine) : Type 0 where
   pub node : Node
   pub line : Line
   pub at : IsAtPlace p certificate place node line
@@ -112,7 +112,7 @@ pub record HoldsItself (p : Loaded) (certificate : Certificate) (place : Place) 
   pub holds : Destroys p line node.class
 
 -- the set of the second node holds this class, and that of the first, which leads to it, lacks it
-pub record IsLost (p : Loaded) (certificate : Certificate) (first second : Place) (d : ℕ) : Type 0 where
+pub record IsLost (p : Loaded) (certificate : Certificate) (first second : NodeLine) (d : ℕ) : Type 0 where
   pub upper : Line
   pub lower : Line
   pub edge : IsEdgeOf p certificate first second upper lower

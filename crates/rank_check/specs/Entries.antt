@@ -13,7 +13,7 @@ use Rattle.certificate_lang.specs.declared.certificate.SetItem.{SetItem}
 use Rattle.certificate_lang.specs.declared.certificate.Line.{Line}
 use Rattle.certificate_lang.specs.declared.certificate.Certificate.{Certificate}
 use Rattle.rank_check.specs.declared.causes.Cause.{Cause}
-use Rattle.rank_check.specs.declared.causes.Place.{Place}
+use Rattle.rank_check.specs.declared.causes.NodeLine.{NodeLine}
 use Rattle.rank_check.specs.declared.causes.Extra.{Extra}
 use Rattle.rank_check.specs.declared.causes.Extra.TheVariants.{Unknown, Twice, Class}
 use Rattle.rank_check.specs.declared.entries.Entry.{Entry}
@@ -142,7 +142,7 @@ abbrev pub FindsEntries : Loaded → List Line → List ℕ → Result (List Ent
 FindsEntries p lines places found = MatchResult found (AllZip (IsEntryAt p lines) places) (IsExtra p lines)
 
 -- the entry of the node at this place
-pub record IsEntryOf (p : Loaded) (certificate : Certificate) (place : Place) (entry : Entry) : Type 0 where
+pub record IsEntryOf (p : Loaded) (certificate : Certificate) (place : NodeLine) (entry : Entry) : Type 0 where
   pub node : Node
   pub line : Line
   pub at : IsAtPlace p certificate place node line
@@ -151,7 +151,7 @@ pub record IsEntryOf (p : Loaded) (certificate : Certificate) (place : Place) (e
 -- an entry for each node, in their order
 pub record AreEntries (p : Loaded) (certificate : Certificate) (entries : List Entry) : Type 0 where
   pub count : length entries ≡ length (nodes_of p)
-  pub each : (place : Place) (entry : Entry) → IsPlaceOf entries place entry → IsEntryOf p certificate place entry
+  pub each : (place : NodeLine) (entry : Entry) → IsPlaceOf entries place entry → IsEntryOf p certificate place entry
 
 -- the lines name each node once, and nothing else
 pub record NamesNodes (p : Loaded) (certificate : Certificate) (entries : List Entry) : Type 0 where

@@ -9,7 +9,7 @@ use type_check::Spot;
 
 /// A node, by its number, and the place of its line among the certificate's; both from 0.
 #[derive(Clone, Copy, Debug, PartialEq, Eq)]
-pub struct Place {
+pub struct NodeLine {
     /// The node.
     pub node: usize,
     /// The line.
@@ -31,20 +31,20 @@ pub enum Extra {
 #[derive(Clone, Copy, Debug, PartialEq, Eq)]
 pub struct Rise {
     /// What it leads from.
-    pub from: Place,
+    pub from: NodeLine,
     /// What it leads to.
-    pub to: Place,
+    pub to: NodeLine,
 }
 
 /// What is wrong with a destroy set. Classes are given by their numbers.
 #[derive(Clone, Copy, Debug, PartialEq, Eq)]
 pub enum Mistake {
     /// That of this destruction lacks a class of its closure.
-    Unclosed(Place, usize),
+    Unclosed(NodeLine, usize),
     /// That of this slot or native holds its own class.
-    Own(Place),
+    Own(NodeLine),
     /// That of the first node lacks a class of the set of the second, to which it leads.
-    Lost(Place, Place, usize),
+    Lost(NodeLine, NodeLine, usize),
 }
 
 /// What is wrong with a bound.

@@ -8,7 +8,7 @@ ghost use Rattle.effect_scan.specs.Scans.{IsScan};
 ghost use Rattle.rank_check.specs.Valid.{RunsBody};
 ghost use Rattle.rank_check.specs.ByNumbers.{AreWithin, HasLost, HoldsOwn, IsOwnMistake, Hold, IsMistakeIn};
 
-use crate::causes::{Mistake, Place};
+use crate::causes::{Mistake, NodeLine};
 use crate::class_set::ClassSet;
 use crate::entries::Entry;
 use effect_scan::{Member, Node, Scan, row_at};
@@ -26,7 +26,7 @@ pub fn first_mistake(meta: &Meta, scan: &Scan, entries: &[Entry]) -> Option<Mist
 {
     for (number, node) in scan.nodes().iter().enumerate() {
         let entry = &entries[number];
-        let place = Place {
+        let place = NodeLine {
             node: number,
             line: entry.line,
         };
@@ -42,7 +42,7 @@ pub fn first_mistake(meta: &Meta, scan: &Scan, entries: &[Entry]) -> Option<Mist
 }
 
 /// The first class of the sets of these nodes that isn't in this one, with the place of the node that has it.
-fn lost_class(targets: &[usize], entries: &[Entry], set: &ClassSet) -> Option<(Place, usize)>
+fn lost_class(targets: &[usize], entries: &[Entry], set: &ClassSet) -> Option<(NodeLine, usize)>
     requires { (b : ℕ) → Contains targets.now b → b < length entries.now }
     ensures { MatchOption result (AreWithin targets.now entries.now set.now)
         (λ lost. HasLost targets.now entries.now set.now lost.0 lost.1) }
@@ -50,7 +50,7 @@ fn lost_class(targets: &[usize], entries: &[Entry], set: &ClassSet) -> Option<(P
     for target in targets {
         let entry = &entries[*target];
         if let Some(class) = entry.destroys.first_lost(set) {
-            let to = Place {
+            let to = NodeLine {
                 node: *target,
                 line: entry.line,
             };
@@ -66,7 +66,7 @@ fn own_mistake(
     scan: &Scan,
     node: Node,
     set: &ClassSet,
-    place: Place,
+    place: NodeLine,
 ) -> Option<Mistake>
     requires { IsScan meta.now scan.now }
     ensures { MatchOption result (HoldsOwn meta.now node set.now) (IsOwnMistake meta.now node set.now place) }

@@ -13,7 +13,7 @@ mod places;
 mod ranks;
 mod sets;
 
-pub use causes::{Cause, Extra, Loose, Mistake, Place, Rise};
+pub use causes::{Cause, Extra, Loose, Mistake, NodeLine, Rise};
 pub use certificate_lang::{
     Certificate, CertificateFault, Line, MemberName, NodeName, SetItem, read_certificate,
 };

@@ -7,7 +7,7 @@ ghost use Rattle.rank_check.specs.Valid.{IsBounded};
 ghost use Rattle.rank_check.specs.Causes.{IsLoose};
 ghost use Rattle.rank_check.specs.ByNumbers.{AreLower, IsAsHigh, Fall, IsRiseIn};
 
-use crate::causes::{Loose, Place, Rise};
+use crate::causes::{Loose, NodeLine, Rise};
 use crate::entries::Entry;
 use certificate_lang::Certificate;
 use effect_scan::Scan;
@@ -23,7 +23,7 @@ pub fn first_rise(scan: &Scan, entries: &[Entry]) -> Option<Rise>
 {
     for (node, entry) in entries.iter().enumerate() {
         if let Some(to) = first_as_high(scan.targets(node), entries, entry.rank) {
-            let from = Place {
+            let from = NodeLine {
                 node,
                 line: entry.line,
             };
@@ -34,14 +34,14 @@ pub fn first_rise(scan: &Scan, entries: &[Entry]) -> Option<Rise>
 }
 
 /// The first of these nodes that hasn't a rank below this one.
-fn first_as_high(targets: &[usize], entries: &[Entry], rank: u32) -> Option<Place>
+fn first_as_high(targets: &[usize], entries: &[Entry], rank: u32) -> Option<NodeLine>
     requires { (b : ℕ) → Contains targets.now b → b < length entries.now }
     ensures { MatchOption result (AreLower targets.now entries.now rank) (IsAsHigh targets.now entries.now rank) }
 {
     for target in targets {
         let entry = &entries[*target];
         if entry.rank >= rank {
-            return Some(Place {
+            return Some(NodeLine {
                 node: *target,
                 line: entry.line,
             });

@@ -7,17 +7,17 @@ use Rattle.rank_graph.specs.declared.bits.TheConstants.{SIZE}
 use Rattle.rank_graph.specs.declared.bits.Bits.{Bits}
 use Rattle.rank_graph.specs.declared.path.Entry.{Entry}
 use Rattle.rank_graph.specs.declared.solution.Solution.{Solution}
-use Rattle.rank_graph.specs.Walks.{Leads}
+use Rattle.rank_graph.specs.Walks.{LeadsBy}
 use Rattle.rank_graph.specs.Entries.{owns, rank_at, leads_at, IsSearched}
 use Rattle.rank_graph.specs.Groups.{IsGroup}
 use Rattle.rank_graph.specs.Solutions.{AreRanks, LeadsTo, AreClasses, entries_of, rank_of, leads_of}
 
 -- what falls along edges falls along a walk
-pub walk_low : (rows : List (List ℕ)) (rank : ℕ → ℕ) → ((a b : ℕ) → Edge rows a b → rank b < rank a) → (a : ℕ) (along : List ℕ) (to : ℕ) → Leads (Edge rows) a along to → length along ≤ rank a
+pub walk_low : (rows : List (List ℕ)) (rank : ℕ → ℕ) → ((a b : ℕ) → Edge rows a b → rank b < rank a) → (a : ℕ) (along : List ℕ) (to : ℕ) → LeadsBy (Edge rows) a along to → length along ≤ rank a
 walk_low rows rank falls a [] to l = omega arith
 walk_low rows rank falls a (w ∷ along) to l = let h = walk_low rows rank falls w along to l.1 in omega (arith, falls a w l.0)
 
-pub chain_of : (rows : List (List ℕ)) (own : List Bits) (es : List Entry) (n a : ℕ) → IsSearched rows own es → rank_at es a ≡ n → (along : List ℕ) × (to : ℕ) × Leads (Edge rows) a along to × (length along ≡ n)
+pub chain_of : (rows : List (List ℕ)) (own : List Bits) (es : List Entry) (n a : ℕ) → IsSearched rows own es → rank_at es a ≡ n → (along : List ℕ) × (to : ℕ) × LeadsBy (Edge rows) a along to × (length along ≡ n)
 chain_of rows own es zero a s e = ([], a, refl, refl)
 chain_of rows own es (suc n) a s e =
     elim (s.tight a) [
@@ -26,7 +26,7 @@ chain_of rows own es (suc n) a s e =
     ]
 
 -- a class comes from a node that has it
-pub reaches : (rows : List (List ℕ)) (own : List Bits) (es : List Entry) (n a c : ℕ) → IsSearched rows own es → rank_at es a ≤ n → leads_at es a c ≡ true → (b : ℕ) × (along : List ℕ) × Leads (Edge rows) a along b × owns own b c
+pub reaches : (rows : List (List ℕ)) (own : List Bits) (es : List Entry) (n a c : ℕ) → IsSearched rows own es → rank_at es a ≤ n → leads_at es a c ≡ true → (b : ℕ) × (along : List ℕ) × LeadsBy (Edge rows) a along b × owns own b c
 reaches rows own es zero a c s low h =
     elim (s.source a c h) [
       | inl itself ↦ (a, [], refl, itself)
@@ -39,7 +39,7 @@ reaches rows own es (suc n) a c s low h =
     ]
 
 -- edges carry a class back to where they begin
-pub carried : (rows : List (List ℕ)) (leads : ℕ → Bool) → ((a b : ℕ) → Edge rows a b → leads b ≡ true → leads a ≡ true) → (a : ℕ) (along : List ℕ) (b : ℕ) → Leads (Edge rows) a along b → leads b ≡ true → leads a ≡ true
+pub carried : (rows : List (List ℕ)) (leads : ℕ → Bool) → ((a b : ℕ) → Edge rows a b → leads b ≡ true → leads a ≡ true) → (a : ℕ) (along : List ℕ) (b : ℕ) → LeadsBy (Edge rows) a along b → leads b ≡ true → leads a ≡ true
 carried rows leads holds a [] b l h = subst (λ (x : ℕ). leads x ≡ true) (sym l) h
 carried rows leads holds a (w ∷ along) b l h = holds a w l.0 (carried rows leads holds w along b l.1 h)
 

@@ -7,7 +7,7 @@ use Rattle.std.proofs.lemmas.List.Elements.{Contains-push, Contains-push_cases, 
 use Rattle.rank_graph.specs.Bits.{has}
 use Rattle.effect_scan.specs.Rows.{row, Edge}
 use Rattle.rank_graph.specs.Graphs.{InRange}
-use Rattle.rank_graph.specs.Walks.{Leads, AreDistinct}
+use Rattle.rank_graph.specs.Walks.{LeadsBy, AreDistinct}
 use Rattle.rank_graph.specs.Entries.{owns}
 use Rattle.rank_graph.specs.Searching.{state_of, Joins, room, Finished, NoneOpen, OnPath, AreOnce, Visiting, Held, Searching, Grows, Visited, Since, left, left_below, Climbs, LeadsRound}
 use Rattle.rank_graph.specs.declared.bits.Bits.{Bits}
@@ -391,7 +391,7 @@ held_climbs rows own states child [] h = tt
 held_climbs rows own states child (v ∷ vs) h =
     (subst (λ (x : ℕ). Contains (row rows v.node) x) h.0.leads (Contains-get_or (row rows v.node) v.next 0 h.0.more), held_climbs rows own states v.node vs h.1)
 
-pub leads_push : (rows : List (List ℕ)) (a : ℕ) (ws : List ℕ) (b c : ℕ) → Leads (Edge rows) a ws b → Edge rows b c → Leads (Edge rows) a (ws ++ c ∷ []) c
+pub leads_push : (rows : List (List ℕ)) (a : ℕ) (ws : List ℕ) (b c : ℕ) → LeadsBy (Edge rows) a ws b → Edge rows b c → LeadsBy (Edge rows) a (ws ++ c ∷ []) c
 leads_push rows a [] b c l e = (subst (λ (x : ℕ). Edge rows x c) (sym l) e, refl)
 leads_push rows a (w ∷ ws) b c l e = (l.0, leads_push rows w ws b c l.1 e)
 
@@ -399,13 +399,13 @@ pub climb_on : (target current : ℕ) (path after : List Visit) (v : Visit) → 
 climb_on target current path after v on ne popped =
     elim on [ inl e ↦ absurd (ne (sym e)) | inr below ↦ subst (λ (p : List Visit). OnPath target p) popped below ]
 
-pub climb_step : (rows : List (List ℕ)) (current top : ℕ) (path after : List Visit) (v : Visit) (nodes more : List ℕ) → path ≡ v ∷ after → more ≡ nodes ++ v.node ∷ [] → Climbs rows current path × ((ws : List ℕ) × (reverse nodes ≡ current ∷ ws) × Leads (Edge rows) current ws top)
-    → Climbs rows v.node after × ((ws : List ℕ) × (reverse more ≡ v.node ∷ ws) × Leads (Edge rows) v.node ws top)
+pub climb_step : (rows : List (List ℕ)) (current top : ℕ) (path after : List Visit) (v : Visit) (nodes more : List ℕ) → path ≡ v ∷ after → more ≡ nodes ++ v.node ∷ [] → Climbs rows current path × ((ws : List ℕ) × (reverse nodes ≡ current ∷ ws) × LeadsBy (Edge rows) current ws top)
+    → Climbs rows v.node after × ((ws : List ℕ) × (reverse more ≡ v.node ∷ ws) × LeadsBy (Edge rows) v.node ws top)
 climb_step rows current top path after v nodes more popped pushed x =
     let climbs : Climbs rows current (v ∷ after) = subst (λ (p : List Visit). Climbs rows current p) popped x.0 in
     (climbs.1, (current ∷ x.1.0, ap reverse pushed ∙ reverse-append nodes (v.node ∷ []) ∙ ap (λ (l : List ℕ). v.node ∷ l) x.1.1, (climbs.0, x.1.2)))
 
-pub climbed : (rows : List (List ℕ)) (target current top : ℕ) (nodes all : List ℕ) → current ≡ target → all ≡ reverse nodes → Edge rows top target → (ws : List ℕ) × (reverse nodes ≡ current ∷ ws) × Leads (Edge rows) current ws top → LeadsRound rows all
+pub climbed : (rows : List (List ℕ)) (target current top : ℕ) (nodes all : List ℕ) → current ≡ target → all ≡ reverse nodes → Edge rows top target → (ws : List ℕ) × (reverse nodes ≡ current ∷ ws) × LeadsBy (Edge rows) current ws top → LeadsRound rows all
 climbed rows target current top nodes all same turned edge x =
     let first : all ≡ current ∷ x.0 = turned ∙ x.1 in
     subst (λ (l : List ℕ). LeadsRound rows l) (sym first) (leads_push rows current x.0 top current x.2 (subst (λ (y : ℕ). Edge rows top y) (sym same) edge))

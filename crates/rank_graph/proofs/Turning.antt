@@ -6,14 +6,14 @@ use Rattle.std.proofs.lemmas.List.Elements.{Contains-append_left, Contains-appen
 use Rattle.effect_scan.specs.Rows.{Edge}
 use Rattle.rank_graph.specs.Graphs.{IsToldCycle}
 use Rattle.rank_graph.specs.Searching.{LeadsRound}
-use Rattle.rank_graph.specs.Walks.{Leads, AreDistinct}
+use Rattle.rank_graph.specs.Walks.{LeadsBy, AreDistinct}
 use Rattle.rank_graph.proofs.Distinct.{swapped}
 
-pub leads_split : (rows : List (List ℕ)) (a : ℕ) (xs : List ℕ) (b : ℕ) (ys : List ℕ) (c : ℕ) → Leads (Edge rows) a (xs ++ b ∷ ys) c → Leads (Edge rows) a (xs ++ b ∷ []) b × Leads (Edge rows) b ys c
+pub leads_split : (rows : List (List ℕ)) (a : ℕ) (xs : List ℕ) (b : ℕ) (ys : List ℕ) (c : ℕ) → LeadsBy (Edge rows) a (xs ++ b ∷ ys) c → LeadsBy (Edge rows) a (xs ++ b ∷ []) b × LeadsBy (Edge rows) b ys c
 leads_split rows a [] b ys c l = ((l.0, refl), l.1)
 leads_split rows a (x ∷ xs) b ys c l = let r = leads_split rows x xs b ys c l.1 in ((l.0, r.0), r.1)
 
-pub leads_join : (rows : List (List ℕ)) (a : ℕ) (xs : List ℕ) (b : ℕ) (ys : List ℕ) (c : ℕ) → Leads (Edge rows) a (xs ++ b ∷ []) b → Leads (Edge rows) b ys c → Leads (Edge rows) a (xs ++ b ∷ ys) c
+pub leads_join : (rows : List (List ℕ)) (a : ℕ) (xs : List ℕ) (b : ℕ) (ys : List ℕ) (c : ℕ) → LeadsBy (Edge rows) a (xs ++ b ∷ []) b → LeadsBy (Edge rows) b ys c → LeadsBy (Edge rows) a (xs ++ b ∷ ys) c
 leads_join rows a [] b ys c l m = (l.0, m)
 leads_join rows a (x ∷ xs) b ys c l m = (l.0, leads_join rows x xs b ys c l.1 m)
 
@@ -21,9 +21,9 @@ pub turned : (rows : List (List ℕ)) (xs ys : List ℕ) → LeadsRound rows (xs
 turned rows [] ys h = subst (LeadsRound rows) (sym (append-nil ys)) h
 turned rows (a ∷ xs) [] h = subst (LeadsRound rows) (append-nil (a ∷ xs)) h
 turned rows (a ∷ xs) (b ∷ ys) h =
-    let l : Leads (Edge rows) a (xs ++ b ∷ (ys ++ a ∷ [])) a = subst (λ (w : List ℕ). Leads (Edge rows) a w a) (append_assoc xs (b ∷ ys) (a ∷ [])) h in
+    let l : LeadsBy (Edge rows) a (xs ++ b ∷ (ys ++ a ∷ [])) a = subst (λ (w : List ℕ). LeadsBy (Edge rows) a w a) (append_assoc xs (b ∷ ys) (a ∷ [])) h in
     let r = leads_split rows a xs b (ys ++ a ∷ []) a l in
-    subst (λ (w : List ℕ). Leads (Edge rows) b w b) (sym (append_assoc ys (a ∷ xs) (b ∷ []))) (leads_join rows b ys a (xs ++ b ∷ []) b r.1 r.0)
+    subst (λ (w : List ℕ). LeadsBy (Edge rows) b w b) (sym (append_assoc ys (a ∷ xs) (b ∷ []))) (leads_join rows b ys a (xs ++ b ∷ []) b r.1 r.0)
 
 turned_at : (rows : List (List ℕ)) (nodes all : List ℕ) (p : ℕ) → all ≡ drop p nodes ++ take p nodes → LeadsRound rows nodes → LeadsRound rows all
 turned_at rows nodes all p e h =

@@ -9,7 +9,7 @@ use Rattle.effect_scan.specs.Rows.{row, Edge}
 use Rattle.rank_graph.specs.declared.bits.TheConstants.{SIZE}
 use Rattle.rank_graph.specs.declared.path.Entry.{Entry}
 use Rattle.rank_graph.specs.declared.solution.Solution.{Solution}
-use Rattle.rank_graph.specs.Walks.{Leads, IsWalk, AreDistinct}
+use Rattle.rank_graph.specs.Walks.{LeadsBy, IsWalk, AreDistinct}
 use Rattle.rank_graph.specs.Entries.{leads_at}
 use Rattle.rank_graph.specs.Solutions.{AreRanks, AreClasses, entries_of, leads_of}
 use Rattle.rank_graph.proofs.Distinct.{cons_cases}
@@ -57,7 +57,7 @@ rank_falls rows rank a b r ranks e has =
     omega (arith, chain.3)
 
 -- so they are lower behind a walk's first node
-low_behind : (rows : List (List ℕ)) (rank : ℕ → ℕ) → AreRanks rows rank → (a : ℕ) (ws : List ℕ) (b : ℕ) → Leads (Edge rows) a ws b → (c : ℕ) → Contains ws c → rank c < rank a
+low_behind : (rows : List (List ℕ)) (rank : ℕ → ℕ) → AreRanks rows rank → (a : ℕ) (ws : List ℕ) (b : ℕ) → LeadsBy (Edge rows) a ws b → (c : ℕ) → Contains ws c → rank c < rank a
 low_behind rows rank ranks a [] b l c held = omega (arith, held.1)
 low_behind rows rank ranks a (w ∷ ws) b l c held =
     let low = rank_falls rows rank a w (row rows a) ranks refl l.0 in
@@ -67,7 +67,7 @@ low_behind rows rank ranks a (w ∷ ws) b l c held =
     ]
 
 -- and it comes to no node twice
-walk_once : (rows : List (List ℕ)) (rank : ℕ → ℕ) → AreRanks rows rank → (a : ℕ) (ws : List ℕ) (b : ℕ) → Leads (Edge rows) a ws b → AreDistinct (a ∷ ws)
+walk_once : (rows : List (List ℕ)) (rank : ℕ → ℕ) → AreRanks rows rank → (a : ℕ) (ws : List ℕ) (b : ℕ) → LeadsBy (Edge rows) a ws b → AreDistinct (a ∷ ws)
 walk_once rows rank ranks a [] b l = (λ held. omega (arith, held.1), tt)
 walk_once rows rank ranks a (w ∷ ws) b l =
     (λ held. let low = low_behind rows rank ranks a (w ∷ ws) b l a held in omega arith, walk_once rows rank ranks w ws b l.1)
@@ -76,7 +76,7 @@ pub walked_once : (rows : List (List ℕ)) (rank : ℕ → ℕ) (from at : ℕ) 
 walked_once rows rank from at nodes ranks w = subst AreDistinct (sym w.nodes_are) (walk_once rows rank ranks from w.after at w.leads)
 
 -- from a node without the class some edge leads on
-pub leads_on : (rows own : List (List ℕ)) (leads : ℕ → ℕ → Bool) (a c : ℕ) → AreClasses rows own leads → (along : List ℕ) (to : ℕ) → Leads (Edge rows) a along to → Edge own to c → (Edge own a c → ⊥) → ((b : ℕ) → Edge rows a b → leads b c ≡ false) → ⊥
+pub leads_on : (rows own : List (List ℕ)) (leads : ℕ → ℕ → Bool) (a c : ℕ) → AreClasses rows own leads → (along : List ℕ) (to : ℕ) → LeadsBy (Edge rows) a along to → Edge own to c → (Edge own a c → ⊥) → ((b : ℕ) → Edge rows a b → leads b c ≡ false) → ⊥
 leads_on rows own leads a c classes [] to l has lacks none = lacks (subst (λ (x : ℕ). Edge own x c) (sym l) has)
 leads_on rows own leads a c classes (x ∷ along) to l has lacks none =
     let further : leads x c ≡ true = (classes x c).1 (record { along = along; to = to; leads = l.1; has = has }) in
@@ -94,7 +94,7 @@ not_at_end rows own leads a c r mine classes holds here lacks e none =
 pub next_there : (rows : List (List ℕ)) (rank : ℕ → ℕ) (a n : ℕ) (r : List ℕ) → AreRanks rows rank → rank a ≡ suc n → r ≡ row rows a → ((b : ℕ) → Contains r b → rank b ≡ n → ⊥) → ⊥
 next_there rows rank a n r ranks is e none = let chain = ranks.chains a in from chain.0 chain.1 chain.2 (chain.3 ∙ is)
   where
-    from : (along : List ℕ) (to : ℕ) → Leads (Edge rows) a along to → length along ≡ suc n → ⊥
+    from : (along : List ℕ) (to : ℕ) → LeadsBy (Edge rows) a along to → length along ≡ suc n → ⊥
     from [] to l long = omega (arith, long)
     from (b ∷ along) to l long =
         let held = row_has rows a b r e l.0 in

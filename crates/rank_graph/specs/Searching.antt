@@ -4,7 +4,7 @@ use Rattle.std.specs.List.{Contains}
 use Rattle.rank_graph.specs.Bits.{has}
 use Rattle.effect_scan.specs.Rows.{row, Edge}
 use Rattle.rank_graph.specs.Entries.{owns}
-use Rattle.rank_graph.specs.Walks.{Leads}
+use Rattle.rank_graph.specs.Walks.{LeadsBy}
 use Rattle.rank_graph.specs.declared.bits.Bits.{Bits}
 use Rattle.rank_graph.specs.declared.path.Entry.{Entry}
 use Rattle.rank_graph.specs.declared.path.State.{State}
@@ -110,7 +110,7 @@ Climbs rows child (v ∷ vs) = Edge rows v.node child × Climbs rows v.node vs
 -- edges lead from each of these nodes to the next one, and from the last to the first
 abbrev pub LeadsRound : List (List ℕ) → List ℕ → Type 0
 LeadsRound rows [] = ⊥
-LeadsRound rows (a ∷ xs) = Leads (Edge rows) a (xs ++ a ∷ []) a
+LeadsRound rows (a ∷ xs) = LeadsBy (Edge rows) a (xs ++ a ∷ []) a
 
 abbrev pub AllDone : List State → Type 0
 AllDone states = (a : ℕ) → a < length states → (d : Entry) × (state_of states a ≡ Done d)

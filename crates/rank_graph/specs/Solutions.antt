@@ -4,19 +4,19 @@ use Rattle.effect_scan.specs.Rows.{Edge}
 use Rattle.rank_graph.specs.declared.bits.TheConstants.{SIZE}
 use Rattle.rank_graph.specs.declared.path.Entry.{Entry}
 use Rattle.rank_graph.specs.declared.solution.Solution.{Solution}
-use Rattle.rank_graph.specs.Walks.{Leads}
+use Rattle.rank_graph.specs.Walks.{LeadsBy}
 use Rattle.rank_graph.specs.Entries.{rank_at, leads_at}
 
 -- the rank of a node is how many edges its longest chain has
 pub record AreRanks (rows : List (List ℕ)) (rank : ℕ → ℕ) : Type 0 where
-  pub chains : (a : ℕ) → (along : List ℕ) × (to : ℕ) × Leads (Edge rows) a along to × (length along ≡ rank a)
-  pub longest : (a : ℕ) (along : List ℕ) (to : ℕ) → Leads (Edge rows) a along to → length along ≤ rank a
+  pub chains : (a : ℕ) → (along : List ℕ) × (to : ℕ) × LeadsBy (Edge rows) a along to × (length along ≡ rank a)
+  pub longest : (a : ℕ) (along : List ℕ) (to : ℕ) → LeadsBy (Edge rows) a along to → length along ≤ rank a
 
 -- edges lead from the node to one that has the class itself
 pub record LeadsTo (rows own : List (List ℕ)) (a c : ℕ) : Type 0 where
   pub along : List ℕ
   pub to : ℕ
-  pub leads : Leads (Edge rows) a along to
+  pub leads : LeadsBy (Edge rows) a along to
   pub has : Edge own to c
 
 -- the classes of a node are just those that it leads to

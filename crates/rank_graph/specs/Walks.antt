@@ -3,15 +3,15 @@ use Rattle.std.specs.Prelude.{◌≡◌, ◌+◌, ◌<◌, ℕ, List, [], ◌∷
 use Rattle.std.specs.List.{Contains}
 
 -- edges lead from a along these to b, the last of them
-abbrev pub Leads : {X : Type 0} → (X → X → Type 0) → X → List X → X → Type 0
-Leads E a [] b = a ≡ b
-Leads E a (x ∷ xs) b = E a x × Leads E x xs b
+abbrev pub LeadsBy : {X : Type 0} → (X → X → Type 0) → X → List X → X → Type 0
+LeadsBy E a [] b = a ≡ b
+LeadsBy E a (x ∷ xs) b = E a x × LeadsBy E x xs b
 
 -- what a walk comes to, with what it begins at
 pub record IsWalk {X : Type 0} (E : X → X → Type 0) (from to : X) (nodes : List X) : Type 0 where
   pub after : List X
   pub nodes_are : nodes ≡ from ∷ after
-  pub leads : Leads E from after to
+  pub leads : LeadsBy E from after to
 
 -- nothing appears twice in the list
 abbrev pub AreDistinct : {X : Type 0} → List X → Type 0

@@ -13,18 +13,18 @@ use Rattle.type_check.specs.declared.spot.Spot.TheVariants as spot
 use Rattle.type_check.specs.Typed.{FindsUntyped}
 use Rattle.rank_check.specs.Valid.{IsLineOf, Destroys, HasBody, IsValid}
 use Rattle.rank_check.proofs.Elements.{place_of}
-use Rattle.rank_graph.specs.Walks.{Leads, IsWalk, ComesBack}
+use Rattle.rank_graph.specs.Walks.{LeadsBy, IsWalk, ComesBack}
 use Rattle.rank_make.specs.Walks.{IsToldCycle, LeadsToDestruction, IsDestroyPath, IsHighChain}
 use Rattle.rank_make.specs.Makes.{NoneIsValid}
 
 module _ (p : Loaded) (join : EdgesJoinNodes p) where
   -- a walk of an edge or more begins at a node
-  pub begins_at_node : (x : Node) (zs : List Node) (y : Node) → Leads (MayLead p) x zs y → 0 < length zs → IsNode p x
+  pub begins_at_node : (x : Node) (zs : List Node) (y : Node) → LeadsBy (MayLead p) x zs y → 0 < length zs → IsNode p x
   begins_at_node x [] y leads some = absurd (omega arith)
   begins_at_node x (z ∷ zs) y leads some = (join x z leads.0).0
 
   -- a path to a destruction has an edge
-  pub path_some : (x : Node) (zs : List Node) (y : Node) → Leads (MayLead p) x zs y → HasBody p x → y.member ≡ member.Destruction → 0 < length zs
+  pub path_some : (x : Node) (zs : List Node) (y : Node) → LeadsBy (MayLead p) x zs y → HasBody p x → y.member ≡ member.Destruction → 0 < length zs
   path_some x [] y leads body destruction = let same : x ≡ y = leads in let from = body.from in let e = ap (λ (n : Node). n.member) same in absurd (cc)
   path_some x (z ∷ zs) y leads body destruction = omega arith
 
@@ -37,7 +37,7 @@ module _ (p : Loaded) (join : EdgesJoinNodes p) where
         let same : i.0 ≡ j.0 = valid.nothing_else.once i.0 j.0 a b x i.1 j.1 h.named g.named in
         same_Some a b (sym i.1 ∙ ap (slice_get certificate.lines) same ∙ j.1)
 
-    pub walk_falls : (x : Node) (zs : List Node) (y : Node) (a : Line) → Leads (MayLead p) x zs y → IsLineOf p certificate x a → (b : Line) × IsLineOf p certificate y b × (b.rank + length zs ≤ a.rank)
+    pub walk_falls : (x : Node) (zs : List Node) (y : Node) (a : Line) → LeadsBy (MayLead p) x zs y → IsLineOf p certificate x a → (b : Line) × IsLineOf p certificate y b × (b.rank + length zs ≤ a.rank)
     walk_falls x [] y a leads h = let same : x ≡ y = leads in (a, subst (λ (n : Node). IsLineOf p certificate n a) same h, omega arith)
     walk_falls x (z ∷ zs) y a leads h =
         let line = valid.each_node z ((join x z leads.0).1) in
@@ -46,7 +46,7 @@ module _ (p : Loaded) (join : EdgesJoinNodes p) where
         let more = rest.2 in
         (rest.0, rest.1, omega arith)
 
-    pub walk_carries : (x : Node) (zs : List Node) (y : Node) (a b : Line) (d : ℕ) → Leads (MayLead p) x zs y → IsLineOf p certificate x a → IsLineOf p certificate y b → Destroys p b d → Destroys p a d
+    pub walk_carries : (x : Node) (zs : List Node) (y : Node) (a b : Line) (d : ℕ) → LeadsBy (MayLead p) x zs y → IsLineOf p certificate x a → IsLineOf p certificate y b → Destroys p b d → Destroys p a d
     walk_carries x [] y a b d leads h g destroys =
         let same : y ≡ x = sym leads in
         let line : b ≡ a = one_line x b a (subst (λ (n : Node). IsLineOf p certificate n b) same g) h in
@@ -99,7 +99,7 @@ module _ (p : Loaded) (join : EdgesJoinNodes p) where
   chain_bars nodes chain certificate valid = chain_invalid certificate valid nodes chain
 
   -- ---- what a reason names are nodes
-  walk_nodes : (x : Node) (zs : List Node) (y : Node) → Leads (MayLead p) x zs y → IsNode p x → (k : ℕ) (z : Node) → slice_get (x ∷ zs) k ≡ Some z → IsNode p z
+  walk_nodes : (x : Node) (zs : List Node) (y : Node) → LeadsBy (MayLead p) x zs y → IsNode p x → (k : ℕ) (z : Node) → slice_get (x ∷ zs) k ≡ Some z → IsNode p z
   walk_nodes x zs y leads node zero z at = subst (λ (n : Node). IsNode p n) (same_Some x z at) node
   walk_nodes x [] y leads node (suc k) z at = absurd (none-some z at)
   walk_nodes x (w ∷ ws) y leads node (suc k) z at = walk_nodes w ws y leads.1 ((join x w leads.0).1) k z at

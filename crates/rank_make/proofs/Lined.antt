@@ -21,7 +21,7 @@ use Rattle.rank_check.specs.Valid.{IsLineOf, StandsFor, Destroys, AreClassesTher
 use Rattle.rank_check.specs.Entries.{IsReady}
 use Rattle.rank_check.proofs.Elements.{some_inside, place_of, element_at}
 use Rattle.rank_graph.specs.Solutions.{LeadsTo}
-use Rattle.rank_graph.specs.Walks.{Leads}
+use Rattle.rank_graph.specs.Walks.{LeadsBy}
 use Rattle.rank_make.specs.Least.{IsLeast, IsClosureOf, AreInOrder, IsInOrder, IsLeastValid}
 use Rattle.rank_make.specs.Solved.{own_rows, IsSolved, NoneEnds, IsLineFor, AreLinesFor}
 use Rattle.rank_check.proofs.Listing.{closure_low}
@@ -39,7 +39,7 @@ module _ (p : Loaded) (sound : IsSound p) (join : EdgesJoinNodes p) (scan : Scan
   -- ---- what a valid certificate has to say
   module _ (other : Certificate) (valid : IsValid p other) where
     -- a rank is at least as great as a walk is long
-    walk_low : (n : ℕ) (ws : List ℕ) (to : ℕ) (x : Node) (b : Line) → Leads (Edge scan.rows) n ws to → IsAt (nodes_of p) x n → IsLineOf p other x b → length ws ≤ b.rank
+    walk_low : (n : ℕ) (ws : List ℕ) (to : ℕ) (x : Node) (b : Line) → LeadsBy (Edge scan.rows) n ws to → IsAt (nodes_of p) x n → IsLineOf p other x b → length ws ≤ b.rank
     walk_low n [] to x b walk at line = omega arith
     walk_low n (w ∷ ws) to x b walk at line =
         let edge = edge_leads p scan is n w x walk.0 at in
@@ -56,7 +56,7 @@ module _ (p : Loaded) (sound : IsSound p) (join : EdgesJoinNodes p) (scan : Scan
         omega (arith, chain.3)
 
     -- a set has each class that a walk leads to
-    walk_has : (n : ℕ) (ws : List ℕ) (to d : ℕ) (x : Node) (b : Line) → Leads (Edge scan.rows) n ws to → Edge (own_rows scan) to d → IsAt (nodes_of p) x n → IsLineOf p other x b → Destroys p b d
+    walk_has : (n : ℕ) (ws : List ℕ) (to d : ℕ) (x : Node) (b : Line) → LeadsBy (Edge scan.rows) n ws to → Edge (own_rows scan) to d → IsAt (nodes_of p) x n → IsLineOf p other x b → Destroys p b d
     walk_has n [] to d x b walk own at line =
         let same : n ≡ to = walk in
         let end = own_is p scan is to d own in

@@ -17,7 +17,7 @@ use Rattle.effect_scan.specs.Scans.{Scanned, IsScan}
 use Rattle.effect_scan.proofs.Adding.{row_found, no_members, edge_inside}
 use Rattle.rank_check.proofs.Elements.{some_inside}
 use Rattle.rank_graph.specs.Solutions.{LeadsTo}
-use Rattle.rank_graph.specs.Walks.{Leads}
+use Rattle.rank_graph.specs.Walks.{LeadsBy}
 use Rattle.rank_make.specs.Walks.{NoCycle, NoDestroyPath}
 use Rattle.rank_make.specs.Solved.{own_by, own_of, own_rows, IsSolved, NoneEnds}
 use Rattle.rank_make.proofs.Placed.{one_number, one_at}
@@ -34,8 +34,8 @@ module _ (p : Loaded) (scan : Scanned) (is : IsScan p scan) where
       (leads.to, leads.is_to, subst (λ (n : Node). MayLead p n leads.to) (one_at p leads.from x a leads.is_from at) leads.leads)
 
   -- a walk by numbers is one between the nodes of these numbers
-  pub lift : (a : ℕ) (ws : List ℕ) (b : ℕ) (x : Node) (zs : List Node) → Leads (Edge scan.rows) a ws b → IsAt (nodes_of p) x a → AllZip (λ n z. IsAt (nodes_of p) z n) ws zs
-      → (y : Node) × IsAt (nodes_of p) y b × Leads (MayLead p) x zs y
+  pub lift : (a : ℕ) (ws : List ℕ) (b : ℕ) (x : Node) (zs : List Node) → LeadsBy (Edge scan.rows) a ws b → IsAt (nodes_of p) x a → AllZip (λ n z. IsAt (nodes_of p) z n) ws zs
+      → (y : Node) × IsAt (nodes_of p) y b × LeadsBy (MayLead p) x zs y
   lift a [] b x [] leads at zip = let same : a ≡ b = leads in (x, subst (λ (n : ℕ). IsAt (nodes_of p) x n) same at, refl)
   lift a [] b x (z ∷ zs) leads at zip = absurd zip
   lift a (w ∷ ws) b x [] leads at zip = absurd zip
@@ -46,8 +46,8 @@ module _ (p : Loaded) (scan : Scanned) (is : IsScan p scan) where
       (rest.0, rest.1, (subst (λ (n : Node). MayLead p x n) same edge.2, rest.2))
 
   -- a walk between nodes is one between their numbers
-  pub lower : EdgesJoinNodes p → (x : Node) (zs : List Node) (y : Node) (a : ℕ) → Leads (MayLead p) x zs y → IsAt (nodes_of p) x a
-      → (ws : List ℕ) × (b : ℕ) × Leads (Edge scan.rows) a ws b × IsAt (nodes_of p) y b × (length ws ≡ length zs)
+  pub lower : EdgesJoinNodes p → (x : Node) (zs : List Node) (y : Node) (a : ℕ) → LeadsBy (MayLead p) x zs y → IsAt (nodes_of p) x a
+      → (ws : List ℕ) × (b : ℕ) × LeadsBy (Edge scan.rows) a ws b × IsAt (nodes_of p) y b × (length ws ≡ length zs)
   lower join x [] y a leads at = let same : x ≡ y = leads in ([], a, refl, subst (λ (n : Node). IsAt (nodes_of p) n a) same at, refl)
   lower join x (z ∷ zs) y a leads at =
       let node = (join x z leads.0).1 in
@@ -90,7 +90,7 @@ module _ (p : Loaded) (scan : Scanned) (is : IsScan p scan) where
         let low : length (b ∷ chain.0) ≤ rank a = solved.ranks.longest a (b ∷ chain.0) chain.1 (edge, chain.2) in
         omega (arith, chain.3)
 
-    walk_low : (a : ℕ) (ws : List ℕ) (b : ℕ) → Leads (Edge scan.rows) a ws b → rank b + length ws ≤ rank a
+    walk_low : (a : ℕ) (ws : List ℕ) (b : ℕ) → LeadsBy (Edge scan.rows) a ws b → rank b + length ws ≤ rank a
     walk_low a [] b leads = let same : a ≡ b = leads in let e = ap rank same in omega arith
     walk_low a (w ∷ ws) b leads = let rest = walk_low w ws b leads.1 in let low = rank_falls a w leads.0 in omega arith
 

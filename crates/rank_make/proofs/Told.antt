@@ -16,7 +16,7 @@ use Rattle.rank_check.specs.Valid.{HasBody, most_bound}
 use Rattle.rank_check.proofs.Conditions.{edges_inside}
 use Rattle.rank_check.proofs.Elements.{some_inside, place_of, element_at}
 use Rattle.rank_graph.specs.Graphs.{IsToldCycle as IsToldByNumber, IsPathTo}
-use Rattle.rank_graph.specs.Walks.{Leads, IsWalk, AreDistinct, IsChain}
+use Rattle.rank_graph.specs.Walks.{LeadsBy, IsWalk, AreDistinct, IsChain}
 use Rattle.rank_make.specs.Walks.{IsToldCycle, IsDestroyPath, IsHighChain}
 use Rattle.rank_make.specs.Solved.{own_rows}
 use Rattle.rank_make.proofs.Placed.{one_number, one_at}
@@ -36,18 +36,18 @@ module _ (p : Loaded) (scan : Scanned) (is : IsScan p scan) where
   count_is = ap (λ (ns : List Node). length ns) is.nodes
 
   -- ---- all numbers of a walk are those of nodes
-  walk_inside : (a : ℕ) (ws : List ℕ) (b : ℕ) → Leads (Edge scan.rows) a ws b → a < length scan.nodes → (k n : ℕ) → slice_get (a ∷ ws) k ≡ Some n → n < length scan.nodes
+  walk_inside : (a : ℕ) (ws : List ℕ) (b : ℕ) → LeadsBy (Edge scan.rows) a ws b → a < length scan.nodes → (k n : ℕ) → slice_get (a ∷ ws) k ≡ Some n → n < length scan.nodes
   walk_inside a ws b leads low zero n e = subst (λ (m : ℕ). m < length scan.nodes) (same_Some a n e) low
   walk_inside a [] b leads low (suc k) n e = absurd (none-some n e)
   walk_inside a (w ∷ ws) b leads low (suc k) n e = walk_inside w ws b leads.1 (edges_inside p scan is (length scan.nodes) count_is a w leads.0) k n e
 
-  all_inside : (a : ℕ) (ws : List ℕ) (b : ℕ) (numbers : List ℕ) → numbers ≡ a ∷ ws → Leads (Edge scan.rows) a ws b → a < length scan.nodes → (n : ℕ) → Contains numbers n → n < length scan.nodes
+  all_inside : (a : ℕ) (ws : List ℕ) (b : ℕ) (numbers : List ℕ) → numbers ≡ a ∷ ws → LeadsBy (Edge scan.rows) a ws b → a < length scan.nodes → (n : ℕ) → Contains numbers n → n < length scan.nodes
   all_inside a ws b numbers e leads low n held =
       let at = place_of numbers n held in
       walk_inside a ws b leads low at.0 n (subst (λ (l : List ℕ). slice_get l at.0 ≡ Some n) e at.1)
 
   -- a walk by numbers is given by the nodes of these numbers
-  walk_told : (a : ℕ) (ws : List ℕ) (b : ℕ) (numbers : List ℕ) (zs : List Node) (x : Node) → numbers ≡ a ∷ ws → Leads (Edge scan.rows) a ws b → AreAt scan.nodes numbers zs → IsAt (nodes_of p) x a
+  walk_told : (a : ℕ) (ws : List ℕ) (b : ℕ) (numbers : List ℕ) (zs : List Node) (x : Node) → numbers ≡ a ∷ ws → LeadsBy (Edge scan.rows) a ws b → AreAt scan.nodes numbers zs → IsAt (nodes_of p) x a
       → (y : Node) × IsAt (nodes_of p) y b × IsWalk (MayLead p) x y zs
   walk_told a ws b numbers zs x e leads zip at =
       told zs (subst (λ (l : List ℕ). AreAt (nodes_of p) l zs) e (subst (λ (ns : List Node). AreAt ns numbers zs) is.nodes zip))
@@ -87,7 +87,7 @@ module _ (p : Loaded) (scan : Scanned) (is : IsScan p scan) where
   path_inside rows own from c numbers shown x same at path show n held =
       let low = slice_get_low x from at in
       let walk = path.path.walk in
-      all_inside from walk.after path.to numbers walk.nodes_are (subst (λ (g : List (List ℕ)). Leads (Edge g) from walk.after path.to) same walk.leads) low n (subst (λ (l : List ℕ). Contains l n) show held)
+      all_inside from walk.after path.to numbers walk.nodes_are (subst (λ (g : List (List ℕ)). LeadsBy (Edge g) from walk.after path.to) same walk.leads) low n (subst (λ (l : List ℕ). Contains l n) show held)
     where
       slice_get_low : (x : Node) (from : ℕ) → IsAt (nodes_of p) x from → from < length scan.nodes
       slice_get_low x from at = let low = slice_get_within (nodes_of p) from x at in let count = count_is in omega arith
@@ -96,7 +96,7 @@ module _ (p : Loaded) (scan : Scanned) (is : IsScan p scan) where
       → AreAt scan.nodes shown zs → IsDestroyPath p zs
   path_told rows own from c numbers shown zs x same same_own at body class path show zip =
       let by_number = path.path.walk in
-      let leads = subst (λ (g : List (List ℕ)). Leads (Edge g) from by_number.after path.to) same by_number.leads in
+      let leads = subst (λ (g : List (List ℕ)). LeadsBy (Edge g) from by_number.after path.to) same by_number.leads in
       let walk = walk_told from by_number.after path.to numbers zs x by_number.nodes_are leads (subst (λ (l : List ℕ). AreAt scan.nodes l zs) show zip) at in
       let has : Edge (own_rows scan) path.to x.class = subst (λ (d : ℕ). Edge (own_rows scan) path.to d) class (subst (λ (o : List (List ℕ)). Edge o path.to c) same_own path.has) in
       let end = own_is p scan is path.to x.class has in
@@ -117,7 +117,7 @@ module _ (p : Loaded) (scan : Scanned) (is : IsScan p scan) where
   pub chain_inside : (rows : List (List ℕ)) (count from : ℕ) (numbers shown : List ℕ) → rows ≡ scan.rows → from < length scan.nodes → IsChain (Edge rows) count from numbers → shown ≡ numbers → (n : ℕ) → Contains shown n → n < length scan.nodes
   chain_inside rows count from numbers shown same low chain show n held =
       let walk = chain.path.walk in
-      all_inside from walk.after chain.to numbers walk.nodes_are (subst (λ (g : List (List ℕ)). Leads (Edge g) from walk.after chain.to) same walk.leads) low n (subst (λ (l : List ℕ). Contains l n) show held)
+      all_inside from walk.after chain.to numbers walk.nodes_are (subst (λ (g : List (List ℕ)). LeadsBy (Edge g) from walk.after chain.to) same walk.leads) low n (subst (λ (l : List ℕ). Contains l n) show held)
 
   pub chain_told : (rows : List (List ℕ)) (from : ℕ) (numbers shown : List ℕ) (zs : List Node) → rows ≡ scan.rows → from < length scan.nodes → IsChain (Edge rows) most_bound from numbers → shown ≡ numbers → AreAt scan.nodes shown zs → IsHighChain p zs
   chain_told rows from numbers shown zs same low chain show zip =
@@ -125,7 +125,7 @@ module _ (p : Loaded) (scan : Scanned) (is : IsScan p scan) where
       let inside : from < length (nodes_of p) = omega arith in
       let x = some_inside (nodes_of p) from inside in
       let by_number = chain.path.walk in
-      let leads = subst (λ (g : List (List ℕ)). Leads (Edge g) from by_number.after chain.to) same by_number.leads in
+      let leads = subst (λ (g : List (List ℕ)). LeadsBy (Edge g) from by_number.after chain.to) same by_number.leads in
       let at = subst (λ (l : List ℕ). AreAt scan.nodes l zs) show zip in
       let walk = walk_told from by_number.after chain.to numbers zs x.0 by_number.nodes_are leads at x.1 in
       let both = zip_length (λ n y. IsAt scan.nodes y n) numbers zs at in
@@ -133,7 +133,7 @@ module _ (p : Loaded) (scan : Scanned) (is : IsScan p scan) where
       (x.0, record { to = walk.0; path = record { walk = walk.2; once = walk_once numbers shown zs show zip chain.path.once }; edges = omega arith })
 
   -- ---- a cycle
-  first_inside : (a : ℕ) (ws : List ℕ) (b : ℕ) → Leads (Edge scan.rows) a ws b → 0 < length ws → a < length scan.nodes
+  first_inside : (a : ℕ) (ws : List ℕ) (b : ℕ) → LeadsBy (Edge scan.rows) a ws b → 0 < length ws → a < length scan.nodes
   first_inside a [] b leads some = absurd (omega arith)
   first_inside a (w ∷ ws) b leads some = let low = edge_inside scan.rows a w leads.0 in let count = is.edges.count in let nodes = count_is in omega arith
 

@@ -16,7 +16,7 @@ const FAULT: &[u8] = b"// fault";
 
 /// How an event is answered.
 #[derive(Clone, Copy, Debug, PartialEq, Eq)]
-pub enum Answer {
+pub enum ExpectedAnswer {
     /// It is accepted.
     Accepted,
     /// It is refused with this number.
@@ -31,7 +31,7 @@ pub struct Expected<'t> {
     /// What its line has in front of what is expected, without blanks at its ends.
     pub event: &'t [u8],
     /// How it is answered.
-    pub answer: Answer,
+    pub answer: ExpectedAnswer,
     /// The fault with which the run stops in it, or before its own line is written; `None` where the run goes on.
     pub fault: Option<u8>,
     /// The lines that the run writes below the event's own, each with its newline; `None` where any will do.
@@ -95,13 +95,13 @@ impl<'t> Expected<'t> {
         let mut expected = Expected {
             line: number,
             event: text,
-            answer: Answer::Accepted,
+            answer: ExpectedAnswer::Accepted,
             fault: None,
             lines: None,
         };
         if let Some((event, refusal)) = split_number(text, REFUSED) {
             expected.event = event;
-            expected.answer = Answer::Refused(refusal);
+            expected.answer = ExpectedAnswer::Refused(refusal);
         } else if let Some((event, fault)) = split_number(text, FAULT) {
             expected.event = event;
             expected.fault = Some(fault);

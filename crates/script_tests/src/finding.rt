@@ -4,7 +4,7 @@ ghost use Rattle.std.specs.Prelude.{◌≡◌, ◌↔◌, ◌⊎◌, Some, None,
 ghost use Rattle.script_tests.specs.Expectations.{WentAsExpected};
 
 use crate::difference::{Difference, first_difference};
-use crate::expected::{Answer, Expected};
+use crate::expected::{Expected, ExpectedAnswer};
 use crate::happened::Happened;
 
 /// How an event went beside what is expected of it.
@@ -13,7 +13,7 @@ pub enum Finding<'t> {
     /// It went as is expected.
     AsExpected,
     /// It was answered otherwise: so.
-    Answered(Answer),
+    Answered(ExpectedAnswer),
     /// It isn't run, as the run ended before it.
     NotRun,
     /// The run wrote other lines of it; this is where they differ first.

@@ -1,6 +1,6 @@
 //! What a trace tells of events.
 
-use crate::expected::Answer;
+use crate::expected::ExpectedAnswer;
 use texts::split_line;
 use trace_reading::TraceLine;
 
@@ -8,7 +8,7 @@ use trace_reading::TraceLine;
 #[derive(Clone, Copy, Debug, PartialEq, Eq)]
 pub struct Happened<'t> {
     /// How it was answered; `None` where it has no line of its own, since the run ended before.
-    pub answer: Option<Answer>,
+    pub answer: Option<ExpectedAnswer>,
     /// The lines that the run wrote below it, each with its newline, but for a fault's.
     pub lines: &'t [u8],
     /// The fault whose line comes next.
@@ -45,11 +45,11 @@ pub fn split_event(trace: &[u8]) -> (Happened<'_>, &[u8]) {
 }
 
 /// How the event is answered with whose line the trace begins, if it begins with one, and what it has behind that line.
-fn own_line(trace: &[u8]) -> Option<(Answer, &[u8])> {
+fn own_line(trace: &[u8]) -> Option<(ExpectedAnswer, &[u8])> {
     let (line, rest) = split_line(trace)?;
     match TraceLine::of(line)? {
-        TraceLine::Accepted(_) => Some((Answer::Accepted, rest)),
-        TraceLine::Refused(_, number) => Some((Answer::Refused(number), rest)),
+        TraceLine::Accepted(_) => Some((ExpectedAnswer::Accepted, rest)),
+        TraceLine::Refused(_, number) => Some((ExpectedAnswer::Refused(number), rest)),
         TraceLine::At(_, _) | TraceLine::Fault(_) => None,
     }
 }

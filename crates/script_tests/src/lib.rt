@@ -9,7 +9,7 @@ mod judging;
 mod telling;
 
 pub use difference::{Difference, first_difference};
-pub use expected::{Answer, ExpectationFault, Expected, expectations};
+pub use expected::{ExpectationFault, Expected, ExpectedAnswer, expectations};
 pub use finding::{Finding, find, went_as_expected};
 pub use happened::{Happened, split_event};
 pub use judging::{Test, judge};

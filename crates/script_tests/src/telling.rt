@@ -1,7 +1,7 @@
 //! What is said of the events of a script that was run as a test.
 
 use crate::difference::Difference;
-use crate::expected::Answer;
+use crate::expected::ExpectedAnswer;
 use crate::finding::{Finding, find};
 use crate::judging::Test;
 use std::alloc::{AllocError, Global};
@@ -100,10 +100,10 @@ fn push_finding(
     }
 }
 
-fn push_answer(text: &mut String, answer: Answer) -> Result<(), AllocError> {
+fn push_answer(text: &mut String, answer: ExpectedAnswer) -> Result<(), AllocError> {
     match answer {
-        Answer::Accepted => text.push_str("accepted"),
-        Answer::Refused(number) => write!(text, "refused with {number}"),
+        ExpectedAnswer::Accepted => text.push_str("accepted"),
+        ExpectedAnswer::Refused(number) => write!(text, "refused with {number}"),
     }
 }
 

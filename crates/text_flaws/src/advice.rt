@@ -7,7 +7,7 @@ use crate::habits::{
 use crate::misfit::Misfit;
 use crate::pattern::{fits, start_of};
 use crate::source::Part;
-use diagnostics::{Place, Printed, nearest};
+use diagnostics::{Printed, TextPlace, nearest};
 use std::alloc::{AllocError, Global};
 use texts::{Symbol, Token, Word};
 use token_reading::Wanted;
@@ -122,7 +122,7 @@ fn unclosed(alloc: Global, misfit: Misfit) -> Result<Option<String>, AllocError>
         return Ok(None);
     };
     let place = source.place(begun).min(source.text.len());
-    let line = Place::of(source.text, place).line;
+    let line = TextPlace::of(source.text, place).line;
     let (word, name) = (source.shown(begun), source.shown(begun.saturating_add(1)));
     let place = if source.token(misfit.at).is_some() {
         "before this"

@@ -40,7 +40,7 @@ pub fn bad_byte(alloc: Global, text: &[u8], at: usize) -> Result<Flaw, AllocErro
     }
     let first = Character(left);
     let sentence = format!(in alloc; "no token begins with {first}")?;
-    Flaw::told(alloc, at, sentence, advice(left))
+    Flaw::with_advice(alloc, at, sentence, advice(left))
 }
 
 /// What to write in place of what begins with these bytes.
@@ -64,14 +64,14 @@ fn bad_text(alloc: Global, text: &[u8], at: usize, inner: &[u8]) -> Result<Flaw,
                 alloc,
                 "the text that begins here isn't closed in its line",
             )?;
-            Flaw::told(alloc, at, sentence, Some(advice_on_quotes(text, at)))
+            Flaw::with_advice(alloc, at, sentence, Some(advice_on_quotes(text, at)))
         }
         _ => {
             let first = Character(left);
             let sentence = format!(in alloc; "a text doesn't hold {first}")?;
             let advice = "texts are ASCII, and hold the characters from blank to `~` alone";
             let place = at.saturating_add(held).saturating_add(1);
-            Flaw::told(alloc, place, sentence, Some(advice))
+            Flaw::with_advice(alloc, place, sentence, Some(advice))
         }
     }
 }

@@ -119,7 +119,7 @@ fn excess_flaw(
             "the program has {total} {name}: at most {most} may be, and this is the first one too many"
         )?
     };
-    Flaw::told(alloc, source.place(at), sentence, None)
+    Flaw::with_advice(alloc, source.place(at), sentence, None)
 }
 
 /// A text of this name, a program or a script, with more bytes than it may have.
@@ -131,7 +131,7 @@ pub fn size_flaw(alloc: Global, name: &str, text: &[u8]) -> Result<Option<Flaw>,
         return Ok(None);
     }
     let sentence = format!(in alloc; "the {name} has {size} bytes: at most {MOST_BYTES} may be")?;
-    let flaw = Flaw::told(alloc, MOST_BYTES, sentence, None)?;
+    let flaw = Flaw::with_advice(alloc, MOST_BYTES, sentence, None)?;
     Ok(within(0, size, Some(flaw)))
 }
 
@@ -157,7 +157,7 @@ pub fn depth_flaw(alloc: Global, source: Source) -> Result<Option<Flaw>, AllocEr
             continue;
         };
         let sentence = String::from_str(alloc, sentence)?;
-        return Ok(Some(Flaw::told(alloc, placed.at, sentence, None)?));
+        return Ok(Some(Flaw::with_advice(alloc, placed.at, sentence, None)?));
     }
     Ok(None)
 }
@@ -244,5 +244,5 @@ fn long_list(alloc: Global, source: Source, at: usize) -> Result<Option<Flaw>, A
         let name = source.shown(at.saturating_sub(1));
         format!(in alloc; "`{name}` has {total} parameters: at most 8 may be")?
     };
-    Ok(Some(Flaw::told(alloc, place, sentence, None)?))
+    Ok(Some(Flaw::with_advice(alloc, place, sentence, None)?))
 }

@@ -102,7 +102,7 @@ fn row_flaw(alloc: Global, source: Source, row: Row) -> Result<Option<Flaw>, All
             let number = source.shown(1);
             let sentence = format!(in alloc; "there is no version {number} of certificates")?;
             let advice = "write `certificate 2`; `certificate 1` is read too";
-            Ok(Some(Flaw::told(alloc, source.place(1), sentence, Some(advice))?))
+            Ok(Some(Flaw::with_advice(alloc, source.place(1), sentence, Some(advice))?))
         }
         None => Ok(None),
     }
@@ -123,7 +123,7 @@ fn version_of(source: Source) -> Option<Version> {
 fn ends_early(alloc: Global, at: usize) -> Result<Flaw, AllocError> {
     let sentence = String::from_str(alloc, "the certificate ends too early")?;
     let advice = "its first line is `certificate 2`, its second one `bound N`";
-    Flaw::told(alloc, at, sentence, Some(advice))
+    Flaw::with_advice(alloc, at, sentence, Some(advice))
 }
 
 /// What is wrong with a line through which the reader went so.

@@ -154,6 +154,6 @@ impl<'a> Misfit<'a> {
         let sentence = format!(in alloc; "`{spelled}` can't stand in the expression of a binding")?;
         let advice =
             "a binding reads its formal sources alone, each by one property, as `a.p`, and has no `this` and no `null`";
-        Flaw::told(alloc, self.source.place(at), sentence, Some(advice))
+        Flaw::with_advice(alloc, self.source.place(at), sentence, Some(advice))
     }
 }

@@ -73,7 +73,7 @@ pub fn wire_flaw(alloc: Global, text: &[u8], number: usize) -> Result<Option<Fla
         return Ok(None);
     };
     let sentence = String::from_str(alloc, meaning(70).unwrap_or(""))?;
-    let flaw = Flaw::told(alloc, wire.at, sentence, None)?;
+    let flaw = Flaw::with_advice(alloc, wire.at, sentence, None)?;
     Ok(within(0, text.len(), Some(flaw)))
 }
 

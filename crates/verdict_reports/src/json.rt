@@ -1,7 +1,7 @@
 //! A verdict as JSON (docs/verdict.md).
 
 use crate::names::Names;
-use findings::{Finding, Place, Step, TextKind, Verdict};
+use findings::{Finding, Step, TextKind, TextPlace, Verdict};
 use serde::Serialize;
 use serde_json::to_string_pretty;
 use std::alloc::{AllocError, Global};
@@ -107,10 +107,10 @@ fn help_of(finding: &Finding) -> Option<&str> {
     }
 }
 
-fn line_of(place: Option<Place>) -> Option<usize> {
+fn line_of(place: Option<TextPlace>) -> Option<usize> {
     Some(place?.line)
 }
 
-fn column_of(place: Option<Place>) -> Option<usize> {
+fn column_of(place: Option<TextPlace>) -> Option<usize> {
     Some(place?.column)
 }

@@ -3,7 +3,7 @@
 
 use crate::names::Names;
 use crate::uri::uri_of;
-use findings::{Finding, Place, Rule, Step, TextKind, Verdict};
+use findings::{Finding, Rule, Step, TextKind, TextPlace, Verdict};
 use serde::Serialize;
 use serde_json::to_string_pretty;
 use std::alloc::{AllocError, Global};
@@ -260,7 +260,11 @@ fn flow_of<'v>(
 }
 
 /// A place in the file of this reference.
-fn location_of<'v>(uri: &'v str, place: Option<Place>, message: Option<Words<'v>>) -> Location<'v> {
+fn location_of<'v>(
+    uri: &'v str,
+    place: Option<TextPlace>,
+    message: Option<Words<'v>>,
+) -> Location<'v> {
     Location {
         physical_location: PhysicalLocation {
             artifact_location: ArtifactLocation { uri },
@@ -271,7 +275,7 @@ fn location_of<'v>(uri: &'v str, place: Option<Place>, message: Option<Words<'v>
 }
 
 /// The region that begins at this place.
-fn region_of(place: Place) -> Region {
+fn region_of(place: TextPlace) -> Region {
     Region {
         start_line: place.line,
         start_column: place.column,

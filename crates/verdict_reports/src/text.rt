@@ -1,7 +1,7 @@
 //! A verdict as lines, as compilers write them.
 
 use crate::names::Names;
-use findings::{Finding, Place, Step, TextKind, Verdict};
+use findings::{Finding, Step, TextKind, TextPlace, Verdict};
 use std::alloc::{AllocError, Global};
 
 /// So many steps of a chain are reported.
@@ -50,9 +50,9 @@ fn push_step(text: &mut String, step: &Step, names: Names<'_>) -> Result<(), All
 }
 
 /// Adds a place in the text of this name.
-fn push_place(text: &mut String, name: &str, place: Option<Place>) -> Result<(), AllocError> {
+fn push_place(text: &mut String, name: &str, place: Option<TextPlace>) -> Result<(), AllocError> {
     match place {
-        Some(Place { line, column }) => write!(text, "{name}:{line}:{column}:"),
+        Some(TextPlace { line, column }) => write!(text, "{name}:{line}:{column}:"),
         None => write!(text, "{name}:"),
     }
 }

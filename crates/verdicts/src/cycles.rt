@@ -4,7 +4,7 @@ use crate::located::Located;
 use crate::search::Search;
 use crate::sentences::push_names;
 use effect_scan::Node;
-use findings::{CycleSet, Finding, Link, Place, Rule, Step, TextKind, Verdict};
+use findings::{CycleSet, Finding, Link, Rule, Step, TextKind, TextPlace, Verdict};
 use program_flaws::breaking;
 use std::alloc::AllocError;
 
@@ -77,7 +77,7 @@ fn cycle_text(located: Located<'_>, cycle: &[Node], members: usize) -> Result<St
 }
 
 /// Where a cycle is reported: at its first wire, where it has one.
-fn place_in(chain: &[Step]) -> Option<Place> {
+fn place_in(chain: &[Step]) -> Option<TextPlace> {
     let wire = chain.iter().find(|step: &&Step| step.link == Link::Wire);
     match wire {
         Some(step) => step.place,

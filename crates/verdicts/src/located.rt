@@ -1,7 +1,7 @@
 //! A program together with the places of its parts.
 
 use crate::places::Places;
-use diagnostics::Place;
+use diagnostics::TextPlace;
 use effect_scan::{Member, Node, Reason};
 use findings::{Link, Step};
 use program_flaws::{Source, node_text, push_edge};
@@ -83,7 +83,7 @@ impl<'s> Located<'s> {
     }
 
     /// Where the member stands; where it is the destruction of objects, their class.
-    pub fn node_place(&self, node: Node) -> Option<Place> {
+    pub fn node_place(&self, node: Node) -> Option<TextPlace> {
         match node.member {
             Member::Method(method) => {
                 let declared = self.declared_method(node.class, method);
@@ -98,7 +98,7 @@ impl<'s> Located<'s> {
     }
 
     /// The statement of this number in the body of the slot that the node is.
-    pub fn statement_place(&self, node: Node, number: usize) -> Option<Place> {
+    pub fn statement_place(&self, node: Node, number: usize) -> Option<TextPlace> {
         let Member::Method(method) = node.member else {
             return None;
         };
@@ -108,7 +108,7 @@ impl<'s> Located<'s> {
     }
 
     /// Where that stands by which the one node leads to the other.
-    fn reason_place(&self, reason: Reason, from: Node) -> Option<Place> {
+    fn reason_place(&self, reason: Reason, from: Node) -> Option<TextPlace> {
         match reason {
             Reason::Statement(number) => self.statement_place(from, number),
             Reason::Wire(place) => self.places.wire(place),

@@ -1,7 +1,7 @@
 //! Where the declarations, the members and the statements of a program are in its text.
 
 use class_lang::program_trail;
-use diagnostics::Place;
+use diagnostics::TextPlace;
 use std::alloc::{AllocError, Global};
 use texts::{LexFault, PlaceFault, PlacedToken, Token, Word, placed_tokens, tokens};
 use token_reading::{Begun, Landmark};
@@ -9,16 +9,16 @@ use token_reading::{Begun, Landmark};
 /// Where a slot or native stands, and the statements of its body, in the order of the text.
 #[derive(Drop)]
 struct SlotPlaces {
-    at: Place,
-    statements: Vec<Place>,
+    at: TextPlace,
+    statements: Vec<TextPlace>,
 }
 
 /// Where a class stands, and its members of each sort, in their order.
 #[derive(Drop)]
 struct ClassPlaces {
-    at: Place,
-    properties: Vec<Place>,
-    signals: Vec<Place>,
+    at: TextPlace,
+    properties: Vec<TextPlace>,
+    signals: Vec<TextPlace>,
     slots: Vec<SlotPlaces>,
 }
 
@@ -26,15 +26,15 @@ struct ClassPlaces {
 #[derive(Drop)]
 pub struct Places {
     classes: Vec<ClassPlaces>,
-    wires: Vec<Place>,
-    sites: Vec<Place>,
+    wires: Vec<TextPlace>,
+    sites: Vec<TextPlace>,
 }
 
 /// How far a text was gone through.
 struct Walk<'t> {
     text: &'t [u8],
     at: usize,
-    place: Place,
+    place: TextPlace,
 }
 
 impl Drop for Walk<'_> {
@@ -53,12 +53,12 @@ impl<'t> Walk<'t> {
         Walk {
             text,
             at: 0,
-            place: Place { line: 1, column: 1 },
+            place: TextPlace { line: 1, column: 1 },
         }
     }
 
     /// Goes on to this byte, and answers its place.
-    fn to(&mut self, at: usize) -> Place {
+    fn to(&mut self, at: usize) -> TextPlace {
         let passed = self.text.get(self.at..at).unwrap_or(&[]);
         for byte in passed {
             if *byte == b'\n' {
@@ -111,7 +111,7 @@ impl Places {
         alloc: Global,
         begun: Begun,
         token: &PlacedToken,
-        place: Place,
+        place: TextPlace,
     ) -> Result<(), AllocError> {
         let word = match &token.token {
             Token::Word(word) => Some(*word),
@@ -129,7 +129,7 @@ impl Places {
         &mut self,
         alloc: Global,
         word: Option<Word>,
-        place: Place,
+        place: TextPlace,
     ) -> Result<(), AllocError> {
         match word {
             Some(Word::Class) => {
@@ -152,7 +152,7 @@ impl Places {
         &mut self,
         alloc: Global,
         word: Option<Word>,
-        place: Place,
+        place: TextPlace,
     ) -> Result<(), AllocError> {
         let Some(class) = self.classes.last_mut() else {
             return Ok(());
@@ -172,7 +172,7 @@ impl Places {
     }
 
     /// Adds a statement of the last slot.
-    fn push_statement(&mut self, place: Place) -> Result<(), AllocError> {
+    fn push_statement(&mut self, place: TextPlace) -> Result<(), AllocError> {
         if let Some(class) = self.classes.last_mut() {
             if let Some(slot) = class.slots.last_mut() {
                 slot.statements.push(place)?;
@@ -182,17 +182,17 @@ impl Places {
     }
 
     /// The class that is declared at this place among them.
-    pub fn class(&self, class: usize) -> Option<Place> {
+    pub fn class(&self, class: usize) -> Option<TextPlace> {
         Some(self.classes.get(class)?.at)
     }
 
     /// A property of the class, by its place among those that it declares.
-    pub fn property(&self, class: usize, own: usize) -> Option<Place> {
+    pub fn property(&self, class: usize, own: usize) -> Option<TextPlace> {
         self.classes.get(class)?.properties.get(own).copied()
     }
 
     /// A method of the class, by its place among those that it declares: signals, and then slots and natives.
-    pub fn method(&self, class: usize, own: usize) -> Option<Place> {
+    pub fn method(&self, class: usize, own: usize) -> Option<TextPlace> {
         let class = self.classes.get(class)?;
         match own.checked_sub(class.signals.len()) {
             Some(slot) => Some(class.slots.get(slot)?.at),
@@ -201,19 +201,19 @@ impl Places {
     }
 
     /// The statement of this number in the body of such a method.
-    pub fn statement(&self, class: usize, own: usize, number: usize) -> Option<Place> {
+    pub fn statement(&self, class: usize, own: usize, number: usize) -> Option<TextPlace> {
         let class = self.classes.get(class)?;
         let slot = class.slots.get(own.checked_sub(class.signals.len())?)?;
         slot.statements.get(number).copied()
     }
 
     /// The wire at this place among them.
-    pub fn wire(&self, place: usize) -> Option<Place> {
+    pub fn wire(&self, place: usize) -> Option<TextPlace> {
         self.wires.get(place).copied()
     }
 
     /// The binding at this place among them.
-    pub fn site(&self, place: usize) -> Option<Place> {
+    pub fn site(&self, place: usize) -> Option<TextPlace> {
         self.sites.get(place).copied()
     }
 }

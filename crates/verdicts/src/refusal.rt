@@ -1,7 +1,7 @@
 //! Texts that are refused.
 
 use declaration_flaws::declaration_flaw;
-use diagnostics::{Flaw, Place, meaning};
+use diagnostics::{Flaw, TextPlace, meaning};
 use findings::{Finding, Rule, TextKind};
 use program_commands::Refusal;
 use std::alloc::{AllocError, Global};
@@ -33,7 +33,7 @@ pub fn refusal_finding(
             message: String::from_str(alloc, meaning(number).unwrap_or(""))?,
             help: None,
             text: kind,
-            place: Some(Place { line: 1, column: 1 }),
+            place: Some(TextPlace { line: 1, column: 1 }),
             chain: Vec::new(alloc),
         }),
     }
@@ -54,7 +54,7 @@ fn flaw_finding(
     } = flaw;
     Ok(Finding {
         rule,
-        place: Some(Place::of(text, at.min(text.len()))),
+        place: Some(TextPlace::of(text, at.min(text.len()))),
         message: sentence,
         help: advice,
         text: kind,

@@ -2,7 +2,7 @@
 
 use crate::located::Located;
 use crate::sentences::Told;
-use diagnostics::Place;
+use diagnostics::TextPlace;
 use effect_scan::Node;
 use findings::{Finding, Rule, TextKind, Verdict};
 use meta_objects::{Meta, MetaWire};
@@ -66,7 +66,7 @@ fn gather_type(located: Located<'_>, spot: Spot, found: &mut Verdict) -> Result<
 }
 
 /// Where the spot stands, or the statement of this number in it.
-fn spot_place(located: Located<'_>, spot: Spot, statement: Option<usize>) -> Option<Place> {
+fn spot_place(located: Located<'_>, spot: Spot, statement: Option<usize>) -> Option<TextPlace> {
     match (spot, statement) {
         (Spot::Node(node), Some(number)) => located.statement_place(node, number),
         (Spot::Node(node), None) => located.node_place(node),
@@ -79,7 +79,7 @@ fn finding(
     located: Located<'_>,
     rule: Rule,
     text: &str,
-    place: Option<Place>,
+    place: Option<TextPlace>,
 ) -> Result<Finding, AllocError> {
     let told = Told::of(located.source.alloc, text)?;
     Ok(Finding {

@@ -16,13 +16,13 @@ abbrev pub Ordered : (Place → Option Binding) → List Place → Type 0
 Ordered F [] = Unit {0}
 Ordered F (p ∷ ps) = Free F p (p ∷ ps) × Ordered F ps
 
-abbrev pub Covers : (Place → Option Binding) → List Place → Type 0
-Covers F ps = (p : Place) (b : Binding) → F p ≡ Some b → In p ps
+abbrev pub ListsBound : (Place → Option Binding) → List Place → Type 0
+ListsBound F ps = (p : Place) (b : Binding) → F p ≡ Some b → In p ps
 
 -- an order of evaluation for these bindings; it may name properties that are bound no more
 pub record IsOrder (F : Place → Option Binding) (order : List Place) : Type 0 where
   pub ordered : Ordered F order
-  pub covers : Covers F order
+  pub covers : ListsBound F order
 
 -- each of these is bound
 abbrev pub AreBound : (Place → Option Binding) → List Place → Type 0

@@ -13,15 +13,15 @@ use Rattle.machine_state.proofs.Told.{each-set, one-set}
 use Rattle.machine_state.proofs.telling.Telling.add_sets.Goals.{in-Some+in_ok-line-in-Some, in-None}
 use Rattle.machine_state.proofs.telling.Telling.add_sets.Goals as goal
 
-pub told-requires-clause-has : goal.told-requires-clause-has
-told-requires-clause-has c =
+pub line_with-requires-clause-has : goal.line_with-requires-clause-has
+line_with-requires-clause-has c =
     let self = c.args.self.now in
     let Has : Place → Type 0 = HasValue self.meta.now self.tree.now in
     let Each : Option Assignment → Type 0 = λ set. IfSome set (λ (a : Assignment). Has a.place) in
     subst Each (sym c.set-item.is ∙ c.in-Some.is) (All-from_recursion Each c.args.sets.now (each-set Has c.args.sets.now c.requires.can.have) c.loop-set.set-index c.set-item.result c.loop-set-test.true)
 
-pub told-requires-clause-will_have : goal.told-requires-clause-will_have
-told-requires-clause-will_have c =
+pub line_with-requires-clause-will_have : goal.line_with-requires-clause-will_have
+line_with-requires-clause-will_have c =
     let self = c.args.self.now in
     let Has : Place → Type 0 = HasValue self.meta.now (after self.planned.now self.tree.now) in
     let Each : Option Assignment → Type 0 = λ set. IfSome set (λ (a : Assignment). Has a.place) in

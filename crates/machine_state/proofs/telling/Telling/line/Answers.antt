@@ -13,5 +13,5 @@ returns c =
     let cause = c.args.cause in
     let at = c.args.place.now in
     let v = c.in-Some.value.now in
-    IfOk-weaker c.told.result (IsToldWith self.meta.now new self.depth cause at v) (IsTold self.meta.now new self.depth cause at)
-    (λ (entry : Entry) told. told-now self.meta.now new self.depth cause at v entry (sym c.in-Some.ensures) told) c.told.ensures
+    IfOk-weaker c.line_with.result (IsToldWith self.meta.now new self.depth cause at v) (IsTold self.meta.now new self.depth cause at)
+    (λ (entry : Entry) told. told-now self.meta.now new self.depth cause at v entry (sym c.in-Some.ensures) told) c.line_with.ensures

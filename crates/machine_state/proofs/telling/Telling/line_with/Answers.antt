@@ -3,7 +3,7 @@ use Rattle.trace_entries.specs.declared.entry.Entry.TheVariants.{At}
 use Rattle.machine_state.specs.Telling.{entry_kind_of}
 use Rattle.prop_bindings.specs.Plans.{after}
 use Rattle.machine_state.proofs.Ahead.{told-ahead}
-use Rattle.machine_state.proofs.telling.Telling.told.Goals as goal
+use Rattle.machine_state.proofs.telling.Telling.line_with.Goals as goal
 
 pub returns : goal.returns
 returns c =
