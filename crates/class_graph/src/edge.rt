@@ -1,7 +1,8 @@
 //! Edges: what may lead from one member to another, at once or later.
 
+use class_outlines::{DESTROYED, DESTROYED_ALONE};
 use effect_scan::{Member, Node, Reason, Scan, reason_for};
-use meta_model::{DESTROYED, DESTROYED_ALONE, MetaWire, Work};
+use meta_model::{MetaWire, Work};
 use meta_objects::Meta;
 use signatures::Kind;
 use std::alloc::{AllocError, Global};

@@ -3,8 +3,8 @@
 use crate::edge::Edges;
 use crate::fault::PartFault;
 use crate::label::member_text;
+use class_outlines::{DELETE_LATER, OBJECT_NAME};
 use effect_scan::{Member, Node, Scan};
-use meta_model::{DELETE_LATER, OBJECT_NAME};
 use meta_objects::{Meta, MetaObject};
 use std::alloc::{AllocError, Global};
 

@@ -1,7 +1,7 @@
 //! Declarations by their places in a program.
 
 use crate::sentence::{Piece, push_pieces};
-use meta_model::{Declaration, Member};
+use class_outlines::{Declaration, Member};
 use std::alloc::{AllocError, Global};
 use syntax_trees::{Class, Owns, Parameter, Program, Property, Signal, Site, Slot, SlotWork, Wire};
 

@@ -2,7 +2,8 @@
 
 use crate::finding::{Finding, found};
 use crate::sentence::Piece;
-use meta_model::{Declaration, Member, ValueType, names_before_work};
+use class_outlines::{Declaration, Member, names_before_work};
+use meta_model::ValueType;
 use meta_objects::Meta;
 use signatures::{Name, QType, Sig};
 use std::alloc::{AllocError, Global};

@@ -4,7 +4,7 @@ use crate::declarations::Declared;
 use crate::finding::{Finding, found};
 use crate::sentence::Piece;
 use crate::words::Told;
-use meta_model::{Unfit, names_before_parameter};
+use class_outlines::{Unfit, names_before_parameter};
 use signatures::{Name, QType};
 use std::alloc::AllocError;
 

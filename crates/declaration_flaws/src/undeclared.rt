@@ -3,7 +3,7 @@
 use crate::finding::{Finding, found};
 use crate::sentence::Piece;
 use crate::words::Told;
-use meta_model::{End, Missing, Near, Sought};
+use class_outlines::{End, Missing, Near, Sought};
 use signatures::{QType, Sig};
 use std::alloc::AllocError;
 

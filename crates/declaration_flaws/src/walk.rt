@@ -1,6 +1,6 @@
 //! The declarations of a program, in the order of its text.
 
-use meta_model::{Declaration, Member};
+use class_outlines::{Declaration, Member};
 use texts::{PlacedToken, Token, Word};
 
 /// How many declarations were met in a text; members are those of the last class.

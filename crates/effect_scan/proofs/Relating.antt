@@ -8,7 +8,7 @@ use Rattle.meta_model.specs.declared.object.MetaObject.{MetaObject}
 use Rattle.meta_model.specs.declared.object.MetaOwns.{MetaOwns}
 use Rattle.meta_model.specs.Loaded.{Loaded}
 use Rattle.meta_model.specs.Members.{IsClass, Below, Owns, same, under}
-use Rattle.meta_model.proofs.Searches.{in_list, place_in}
+use Rattle.meta_model.proofs.InLists.{in_list, place_in}
 use Rattle.std.proofs.lemmas.Option.{slice_get_within, slice_get_past, none-some}
 use Rattle.meta_model.proofs.OneAnswer.{below_absent}
 use Rattle.effect_scan.specs.Rows.{row}

@@ -14,9 +14,9 @@ use crate::effect::{Effect, gather, gather_native};
 use crate::node::{Member, Node};
 use crate::places::Places;
 use crate::rows::{Added, join};
+use class_outlines::{DESTROYED, DESTROYED_ALONE};
 use meta_model::{
-    DESTROYED, DESTROYED_ALONE, MetaMethod, MetaObject, MetaProperty, MetaSite, MetaWire,
-    SourceProperty, ValueType, Work,
+    MetaMethod, MetaObject, MetaProperty, MetaSite, MetaWire, SourceProperty, ValueType, Work,
 };
 use signatures::Kind;
 use sqlite_items::{Items, at};

@@ -9,9 +9,8 @@ ghost use Rattle.effect_scan.specs.Reasons.{BodyLeads, NativeLeads, WireJoins, W
 use crate::edges::named;
 use crate::effect::{Effect, Reach, effect_of};
 use crate::node::{Member, Node};
-use meta_model::{
-    DESTROYED, MetaEffects, MetaSite, MetaWire, SourceProperty, Statement, ValueType, Work,
-};
+use class_outlines::DESTROYED;
+use meta_model::{MetaEffects, MetaSite, MetaWire, SourceProperty, Statement, ValueType, Work};
 use meta_objects::Meta;
 use signatures::Kind;
 use syntax_trees::Expr;

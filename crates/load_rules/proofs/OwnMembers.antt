@@ -10,18 +10,19 @@ use Rattle.syntax_trees.specs.declared.program.Signal.{Signal}
 use Rattle.syntax_trees.specs.declared.program.Slot.{Slot}
 use Rattle.syntax_trees.specs.declared.program.Class.{Class}
 use Rattle.meta_model.specs.declared.object.ValueType.TheVariants.{Text, Reference}
-use Rattle.meta_model.specs.declared.outline.Heading.{Heading}
-use Rattle.meta_model.specs.declared.outline.Outline.{Outline}
-use Rattle.meta_model.specs.declared.outline.Sort.TheVariants as sort
-use Rattle.meta_model.specs.Places.{StandsAt, StandsFirst}
+use Rattle.class_outlines.specs.declared.outline.Heading.{Heading}
+use Rattle.class_outlines.specs.declared.outline.Outline.{Outline}
+use Rattle.class_outlines.specs.declared.outline.Sort.TheVariants as sort
+use Rattle.class_outlines.specs.Places.{StandsAt, StandsFirst}
 use Rattle.meta_model.specs.Kinds.{LacksType}
-use Rattle.meta_model.specs.Conditions.{IsSignalOf, IsNotifiedBy, LacksNotifier, NotifiesBadly, BadNotify, LacksPropertyType, LacksParameterType, LacksTypes, LacksAnyType}
-use Rattle.meta_model.specs.Outlines.{heading, destroyed, destroyed_alone, name_changed, object_name, kinds_of, signal_heading, slot_headings, own_methods, qobject, IsOutlineNamed, Outlines}
+use Rattle.class_outlines.specs.Notifiers.{IsSignalOf, IsNotifiedBy, LacksNotifier, NotifiesBadly, BadNotify}
+use Rattle.meta_model.specs.Conditions.{LacksPropertyType, LacksParameterType, LacksTypes, LacksAnyType}
+use Rattle.class_outlines.specs.Outlines.{heading, destroyed, destroyed_alone, name_changed, object_name, kinds_of, signal_heading, slot_headings, own_methods, qobject, IsOutlineNamed, Outlines}
 use Rattle.load_rules.specs.code.OwnTypes.{DeclaresUnknown}
-use Rattle.meta_model.proofs.Anys.{any_none, of_one, any_front, any_back, any_part}
-use Rattle.meta_model.proofs.Once.{get_split_at}
-use Rattle.meta_model.proofs.Outlined.{Declared, outline_of}
-use Rattle.meta_model.proofs.Zips.{any_of, place_of_any, get_front}
+use Rattle.class_outlines.proofs.Anys.{any_none, of_one, any_front, any_back, any_part}
+use Rattle.class_outlines.proofs.Once.{get_split_at}
+use Rattle.class_outlines.proofs.Outlined.{Declared, outline_of}
+use Rattle.class_outlines.proofs.Zips.{any_of, place_of_any, get_front}
 
 -- ---- fronts
 any_later : {X : Type 0} (P : X → Type 0) (x : X) (xs : List X) → Any P xs → Any P (x ∷ xs)

@@ -1,10 +1,10 @@
 -- The first element to which one before it is alike.
 use Rattle.std.proofs.Common.{◌≡◌, ℕ, zero, suc, ◌+◌, ◌<◌, ◌≤◌, List, [], ◌∷◌, length, take, get_or, slice_get, Some, Any, refl, sym, ap, ◌∙◌, subst, below_more, arith}
 use Rattle.std.proofs.lemmas.Option.{slice_get_read, slice_get_within, same_Some, none-some}
-use Rattle.meta_model.specs.Twice.{StandsTwice}
-use Rattle.meta_model.proofs.Fronts.{get_take, take_get}
-use Rattle.meta_model.proofs.Indexing.{twice_at, places_of_twice}
-use Rattle.meta_model.proofs.Zips.{any_of, place_of_any}
+use Rattle.class_outlines.specs.Twice.{StandsTwice}
+use Rattle.class_outlines.proofs.Fronts.{get_take, take_get}
+use Rattle.class_outlines.proofs.Indexing.{twice_at, places_of_twice}
+use Rattle.class_outlines.proofs.Zips.{any_of, place_of_any}
 
 -- no element before i has one before it to which it is alike
 abbrev pub NoneRepeats : {X : Type 0} → (X → X → Type 0) → List X → ℕ → Type 0

@@ -1,21 +1,21 @@
 //! Names that appear twice.
 
 ghost use Rattle.std.specs.Prelude.{◌≡◌, ◌↔◌, IsTrue, Any};
-ghost use Rattle.meta_model.specs.Twice.{FindsRepeated};
-ghost use Rattle.meta_model.specs.Conditions.{IsTaken, DuplicateClass};
+ghost use Rattle.class_outlines.specs.Twice.{FindsRepeated};
+ghost use Rattle.class_outlines.specs.Clashes.{IsTaken, DuplicateClass};
 ghost use Rattle.meta_model.specs.Conditions.{RepeatsInMethod, RepeatsInSlot, RepeatsName, AreOneParameter};
 ghost use Rattle.meta_model.specs.Conditions.{RepeatsDeclared};
-ghost use Rattle.meta_model.specs.LookUps.{FindsOne};
+ghost use Rattle.class_outlines.specs.LookUps.{FindsOne};
 ghost use Rattle.meta_model.specs.Natives.{RepeatsAction, RepeatsEffect, RepeatsEffectIn};
-ghost use Rattle.meta_model.specs.Offences.{TellsBreach, TellsOffence, TellsOffenceIn};
+ghost use Rattle.class_outlines.specs.Offences.{TellsBreach, TellsOffence, TellsOffenceIn};
 ghost use Rattle.meta_model.specs.Sites.{RepeatsSite, RepeatsFormal};
-ghost use Rattle.meta_model.specs.declared.fault.MetaFault.TheVariants as fault;
-ghost use Rattle.meta_model.specs.declared.offence.Declaration.TheVariants as declaration;
-ghost use Rattle.meta_model.specs.declared.reason.Reason.TheVariants as reason;
+ghost use Rattle.class_outlines.specs.declared.fault.MetaFault.TheVariants as fault;
+ghost use Rattle.class_outlines.specs.declared.offence.Declaration.TheVariants as declaration;
+ghost use Rattle.class_outlines.specs.declared.reason.Reason.TheVariants as reason;
 ghost use Rattle.syntax_trees.specs.declared.program.Class.{Class as AClass};
 ghost use Rattle.syntax_trees.specs.declared.program.Signal.{Signal as ASignal};
 
-use meta_model::{
+use class_outlines::{
     Breach, ClassClash, Declaration, Member, Offence, Reason, Repeated, names_before_parameter,
     names_before_work, names_of_sig,
 };

@@ -1,16 +1,16 @@
 //! The types of what natives take, read, emit and set.
 
 ghost use Rattle.std.specs.Prelude.{◌≡◌, IfOk, Any};
-ghost use Rattle.meta_model.specs.LookUps.{Tells};
+ghost use Rattle.class_outlines.specs.LookUps.{Tells};
 ghost use Rattle.meta_model.specs.Natives.{IsPointer, TakesReference, ActsOnReference, AffectsReference};
 ghost use Rattle.meta_model.specs.Natives.{TouchesReference, HasReferenceNative};
-ghost use Rattle.meta_model.specs.Offences.{TellsBreach, TellsOffence, TellsOffenceIn};
+ghost use Rattle.class_outlines.specs.Offences.{TellsBreach, TellsOffence, TellsOffenceIn};
 ghost use Rattle.meta_model.specs.Sites.{IsReferenceIn};
-ghost use Rattle.meta_model.specs.declared.fault.MetaFault.TheVariants as fault;
-ghost use Rattle.meta_model.specs.declared.reason.Reason.TheVariants as reason;
+ghost use Rattle.class_outlines.specs.declared.fault.MetaFault.TheVariants as fault;
+ghost use Rattle.class_outlines.specs.declared.reason.Reason.TheVariants as reason;
 
 use crate::site_references::reference_in;
-use meta_model::{
+use class_outlines::{
     Breach, Declaration, IndexedOutline, Member, Offence, Reason, Unfit, names_before_parameter,
     names_before_work, names_of_sig,
 };

@@ -1,13 +1,13 @@
 //! Notify signals.
 
 ghost use Rattle.std.specs.Prelude.{◌≡◌, ◌↔◌, ◌⊎◌, ℕ, List, [], ◌∷◌, IsTrue, Any};
-ghost use Rattle.meta_model.specs.Conditions.{IsNotifiedBy, LacksNotifier, MayNotify, BadNotify};
-ghost use Rattle.meta_model.specs.Offences.{TellsBreach, TellsOffence, TellsOffenceIn};
-ghost use Rattle.meta_model.specs.Outlines.{Outlines};
-ghost use Rattle.meta_model.specs.declared.fault.MetaFault.TheVariants as fault;
+ghost use Rattle.class_outlines.specs.Notifiers.{IsNotifiedBy, LacksNotifier, MayNotify, BadNotify};
+ghost use Rattle.class_outlines.specs.Offences.{TellsBreach, TellsOffence, TellsOffenceIn};
+ghost use Rattle.class_outlines.specs.Outlines.{Outlines};
+ghost use Rattle.class_outlines.specs.declared.fault.MetaFault.TheVariants as fault;
 ghost use Rattle.syntax_trees.specs.declared.program.Property.{Property as AProperty};
 
-use meta_model::{Breach, DELETE_LATER, Declaration, IndexedOutline, Member, Offence, Reason};
+use class_outlines::{Breach, DELETE_LATER, Declaration, IndexedOutline, Member, Offence, Reason};
 use signatures::{QType, Sig};
 use syntax_trees::{Class, Program, Property};
 

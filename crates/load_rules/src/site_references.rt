@@ -1,15 +1,15 @@
 //! References that binding sites take.
 
 ghost use Rattle.std.specs.Prelude.{◌≡◌, IfOk, Any};
-ghost use Rattle.meta_model.specs.LookUps.{Tells};
-ghost use Rattle.meta_model.specs.Offences.{fault_of, TellsBreach, TellsOffence};
+ghost use Rattle.class_outlines.specs.LookUps.{Tells};
+ghost use Rattle.class_outlines.specs.Offences.{fault_of, TellsBreach, TellsOffence};
 ghost use Rattle.meta_model.specs.Sites.{IsReferenceIn, ReadsReference, UsesReference, paths_in};
-ghost use Rattle.meta_model.specs.declared.fault.MetaFault.TheVariants as fault;
+ghost use Rattle.class_outlines.specs.declared.fault.MetaFault.TheVariants as fault;
 
-use meta_model::{
+use class_outlines::{
     Breach, Declaration, IndexedOutline, Offence, Reason, Unfit, names_before_expression,
-    property_in, source_property,
 };
+use meta_model::{property_in, source_property};
 use signatures::{Name, QType};
 use std::alloc::AllocError;
 use syntax_trees::{Expr, Path, Program, Site};

@@ -2,14 +2,14 @@
 
 ghost use Rattle.std.specs.Prelude.{IfOk, Any};
 ghost use Rattle.meta_model.specs.Conditions.{MisusesReference, NoType};
-ghost use Rattle.meta_model.specs.Offences.{TellsOffence};
-ghost use Rattle.meta_model.specs.Outlines.{Outlines};
-ghost use Rattle.meta_model.specs.declared.fault.MetaFault.TheVariants as fault;
+ghost use Rattle.class_outlines.specs.Offences.{TellsOffence};
+ghost use Rattle.class_outlines.specs.Outlines.{Outlines};
+ghost use Rattle.class_outlines.specs.declared.fault.MetaFault.TheVariants as fault;
 
 use crate::native_types::touched_reference;
 use crate::site_references::bound_reference;
 use crate::unknown_types::unknown_type;
-use meta_model::{IndexedOutline, Offence};
+use class_outlines::{IndexedOutline, Offence};
 use std::alloc::{AllocError, Global};
 use syntax_trees::Program;
 

@@ -3,17 +3,18 @@
 ghost use Rattle.std.specs.Prelude.{Any};
 ghost use Rattle.meta_model.specs.Conditions.{LacksPropertyType, LacksAnyType};
 ghost use Rattle.meta_model.specs.Kinds.{LacksType};
-ghost use Rattle.meta_model.specs.Offences.{TellsBreach, TellsOffence, TellsOffenceIn};
-ghost use Rattle.meta_model.specs.Outlines.{Outlines, kinds_of};
+ghost use Rattle.class_outlines.specs.Offences.{TellsBreach, TellsOffence, TellsOffenceIn};
+ghost use Rattle.class_outlines.specs.Outlines.{Outlines, kinds_of};
 ghost use Rattle.load_rules.specs.code.OwnTypes.{DeclaresUnknown};
-ghost use Rattle.meta_model.specs.declared.fault.MetaFault.TheVariants as fault;
+ghost use Rattle.class_outlines.specs.declared.fault.MetaFault.TheVariants as fault;
 ghost use Rattle.syntax_trees.specs.declared.program.Signal.{Signal as ASignal};
 ghost use Rattle.syntax_trees.specs.declared.program.Slot.{Slot as ASlot};
 
-use meta_model::{
-    Breach, Declaration, IndexedOutline, Member, Offence, Reason, Unfit, kind_of,
-    names_before_parameter, place_of,
+use class_outlines::{
+    Breach, Declaration, IndexedOutline, Member, Offence, Reason, Unfit, names_before_parameter,
+    place_of,
 };
+use meta_model::kind_of;
 use signatures::QType;
 use syntax_trees::{Class, Parameter, Program};
 

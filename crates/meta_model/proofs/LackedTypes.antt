@@ -2,8 +2,8 @@
 use Rattle.std.proofs.Common.{◌≡◌, ℕ, true, List, ap}
 use Rattle.signatures.specs.declared.qtype.QType.{QType}
 use Rattle.meta_model.specs.declared.object.ValueType.TheVariants.{Int, Bool, Text, Reference}
-use Rattle.meta_model.specs.declared.outline.Outline.{Outline}
-use Rattle.meta_model.specs.Places.{StandsAt}
+use Rattle.class_outlines.specs.declared.outline.Outline.{Outline}
+use Rattle.class_outlines.specs.Places.{StandsAt}
 use Rattle.meta_model.specs.Kinds.{LacksType}
 
 -- a pointer to what is no class

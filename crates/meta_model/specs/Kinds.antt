@@ -4,10 +4,10 @@ use Rattle.signatures.specs.declared.qtype.QType.{QType}
 use Rattle.signatures.specs.Types.{value_type}
 use Rattle.meta_model.specs.declared.object.ValueType.{ValueType}
 use Rattle.meta_model.specs.declared.object.ValueType.TheVariants.{Int, Bool, Text, Reference}
-use Rattle.meta_model.specs.declared.outline.Outline.{Outline}
+use Rattle.class_outlines.specs.declared.outline.Outline.{Outline}
 use Rattle.meta_model.specs.Loaded.{Loaded}
 use Rattle.meta_model.specs.Members.{IsClassNamed}
-use Rattle.meta_model.specs.Outlines.{IsOutlineNamed}
+use Rattle.class_outlines.specs.Outlines.{IsOutlineNamed}
 
 -- a declared type, where these are the names of these classes
 abbrev pub IsTypeOf : (List ℕ → ℕ → Type 0) → QType → ValueType → Type 0

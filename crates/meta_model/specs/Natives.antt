@@ -9,8 +9,8 @@ use Rattle.syntax_trees.specs.declared.program.SlotWork.{SlotWork}
 use Rattle.syntax_trees.specs.declared.program.SlotWork.TheVariants as work
 use Rattle.syntax_trees.specs.declared.program.Slot.{Slot}
 use Rattle.syntax_trees.specs.declared.program.Class.{Class}
-use Rattle.meta_model.specs.declared.outline.Outline.{Outline}
-use Rattle.meta_model.specs.Twice.{StandsTwice}
+use Rattle.class_outlines.specs.declared.outline.Outline.{Outline}
+use Rattle.class_outlines.specs.Twice.{StandsTwice}
 use Rattle.meta_model.specs.Sites.{IsReferenceIn}
 
 -- ---- names that appear twice

@@ -14,11 +14,11 @@ use Rattle.meta_model.specs.declared.site.SourceProperty.{SourceProperty}
 use Rattle.meta_model.specs.declared.site.MetaSite.{MetaSite}
 use Rattle.meta_model.specs.declared.site_properties.FoundProperty.{FoundProperty}
 use Rattle.meta_model.specs.declared.site_properties.FoundSource.{FoundSource}
-use Rattle.meta_model.specs.declared.outline.Outline.{Outline}
+use Rattle.class_outlines.specs.declared.outline.Outline.{Outline}
 use Rattle.meta_model.specs.Loaded.{Loaded}
-use Rattle.meta_model.specs.Places.{StandsFirst, StandsAt}
-use Rattle.meta_model.specs.Twice.{StandsTwice}
-use Rattle.meta_model.specs.Outlines.{IsOutlineNamed}
+use Rattle.class_outlines.specs.Places.{StandsFirst, StandsAt}
+use Rattle.class_outlines.specs.Twice.{StandsTwice}
+use Rattle.class_outlines.specs.Outlines.{IsOutlineNamed}
 
 -- ---- names that appear twice
 -- two formal sources of a binding have one name

@@ -4,12 +4,11 @@ ghost use Rattle.std.specs.Prelude.{◌≡◌, ◌↔◌, ℕ, List, IsTrue, IfO
 ghost use Rattle.std.specs.List.{AllZip};
 ghost use Rattle.meta_model.specs.Kinds.{IsKindIn};
 ghost use Rattle.meta_model.specs.code.ReadTypes.{IsReadAs};
-ghost use Rattle.meta_model.specs.LookUps.{LooksUp};
+ghost use Rattle.class_outlines.specs.LookUps.{LooksUp};
 ghost use Rattle.signatures.specs.Types.{value_type};
 
-use crate::indexed::IndexedOutline;
 use crate::object::ValueType;
-use crate::places::place_of;
+use class_outlines::{IndexedOutline, place_of};
 use signatures::QType;
 use sqlite_items::Items;
 use std::alloc::{AllocError, Global};

@@ -1,8 +1,9 @@
-ghost use Rattle.std.specs.Prelude.{◌≡◌, IfOk};
+ghost use Rattle.std.specs.Prelude.{◌≡◌, length, IfOk};
 ghost use Rattle.meta_model.specs.Values.{default};
 
 use crate::effects::MetaEffects;
 use crate::slot_body::SlotBody;
+use class_outlines::Called;
 use signatures::{Kind, Name, QType, Sig, Text, Value};
 use sqlite_items::Items;
 use std::alloc::{AllocError, Global};
@@ -144,6 +145,20 @@ impl Drop for MetaMethod {
             kinds: _,
             work: _,
         } = self;
+    }
+}
+
+impl Called for MetaMethod {
+    ghost name_of = { λ method. method.sig.name };
+
+    ghost count_of = { λ method. length method.sig.types };
+
+    fn called(&self) -> &Name {
+        &self.sig.name
+    }
+
+    fn count(&self) -> usize {
+        self.sig.types.len()
     }
 }
 

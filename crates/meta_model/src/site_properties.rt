@@ -2,9 +2,8 @@
 
 ghost use Rattle.meta_model.specs.Sites.{FindsProperty, FindsSource};
 
-use crate::indexed::IndexedOutline;
-use crate::places::find;
 use crate::site::SourceProperty;
+use class_outlines::{IndexedOutline, find};
 use signatures::Name;
 use syntax_trees::{Path, Property, Root, Site};
 

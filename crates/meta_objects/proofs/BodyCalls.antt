@@ -9,12 +9,12 @@ use Rattle.meta_model.specs.declared.object.Statement.{Statement}
 use Rattle.meta_model.specs.declared.object.Statement.TheVariants as statement_by
 use Rattle.meta_model.specs.declared.object.Statement.TheOpen as statement
 use Rattle.meta_model.specs.declared.object.Statement.TheViews.{out-Statement}
-use Rattle.meta_model.specs.declared.outline.Heading.{Heading}
-use Rattle.meta_model.specs.declared.outline.Outline.{Outline}
-use Rattle.meta_model.specs.declared.outline.Sort.TheVariants as sort
-use Rattle.meta_model.specs.Places.{StandsAt, StandsFirst, Found}
+use Rattle.class_outlines.specs.declared.outline.Heading.{Heading}
+use Rattle.class_outlines.specs.declared.outline.Outline.{Outline}
+use Rattle.class_outlines.specs.declared.outline.Sort.TheVariants as sort
+use Rattle.class_outlines.specs.Places.{StandsAt, StandsFirst, Found}
 use Rattle.meta_objects.specs.code.Bodies.{Scope, AreExprs, IsObjectPath, IsCallOf, IsEmit, IsCall, IsStatement, emit_is, call_is, IsStatementOf}
-use Rattle.meta_model.proofs.Firsts.{found_item, same_in}
+use Rattle.class_outlines.proofs.Firsts.{found_item, same_in}
 use Rattle.meta_objects.proofs.Bodies.{same_object}
 use Rattle.meta_objects.proofs.BodyPieces.{by_parts, parts_of}
 

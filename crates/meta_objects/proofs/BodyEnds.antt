@@ -11,13 +11,13 @@ use Rattle.meta_model.specs.declared.object.Statement.{Statement}
 use Rattle.meta_model.specs.declared.object.Statement.TheVariants as statement_by
 use Rattle.meta_model.specs.declared.object.Statement.TheOpen as statement
 use Rattle.meta_model.specs.declared.object.Statement.TheViews.{out-Statement}
-use Rattle.meta_model.specs.declared.outline.Outline.{Outline}
-use Rattle.meta_model.specs.declared.qobject.TheConstants.{OBJECT_NAME_CHANGED}
-use Rattle.meta_model.specs.Places.{StandsFirst, NoneStands, StandsAt}
-use Rattle.meta_model.specs.Conditions.{IsSignalOf}
-use Rattle.meta_model.specs.Ends.{IsSigned}
+use Rattle.class_outlines.specs.declared.outline.Outline.{Outline}
+use Rattle.class_outlines.specs.declared.qobject.TheConstants.{OBJECT_NAME_CHANGED}
+use Rattle.class_outlines.specs.Places.{StandsFirst, NoneStands, StandsAt}
+use Rattle.class_outlines.specs.Notifiers.{IsSignalOf}
+use Rattle.class_outlines.specs.Ends.{IsSigned}
 use Rattle.meta_objects.specs.code.Bodies.{Scope, IsObjectPath, AreEnds, IsStatement, connect_is, disconnect_is, IsStatementOf}
-use Rattle.meta_model.proofs.Firsts.{same_in}
+use Rattle.class_outlines.proofs.Firsts.{same_in}
 use Rattle.meta_objects.proofs.Bodies.{same_object}
 use Rattle.meta_objects.proofs.BodyPieces.{by_parts, parts_of}
 

@@ -13,10 +13,10 @@ use Rattle.syntax_trees.specs.declared.syntax.Root.{Root}
 use Rattle.syntax_trees.specs.declared.syntax.Root.TheVariants as root
 use Rattle.meta_model.specs.declared.object.MetaRoot.{MetaRoot}
 use Rattle.meta_model.specs.declared.object.MetaRoot.TheVariants as resolved
-use Rattle.meta_model.specs.declared.offence.PartFault.{PartFault}
-use Rattle.meta_model.specs.declared.fault.MetaFault.TheVariants as fault
+use Rattle.class_outlines.specs.declared.offence.PartFault.{PartFault}
+use Rattle.class_outlines.specs.declared.fault.MetaFault.TheVariants as fault
 use Rattle.meta_objects.specs.declared.body_resolution.path.Led.{Led}
-use Rattle.meta_model.specs.Offences.{LoadsPart}
+use Rattle.class_outlines.specs.Offences.{LoadsPart}
 use Rattle.std.specs.Prelude.{Result, Ok, Err}
 use Rattle.syntax_trees.specs.declared.program.Parameter.{Parameter}
 use Rattle.syntax_trees.specs.declared.syntax.Stmt.{Stmt}
@@ -31,14 +31,14 @@ use Rattle.meta_model.specs.declared.object.Statement.{Statement}
 use Rattle.meta_model.specs.declared.object.Statement.TheVariants as statement_by
 use Rattle.meta_model.specs.declared.object.Statement.TheOpen as statement
 use Rattle.meta_model.specs.declared.object.Statement.TheViews.{out-Statement}
-use Rattle.meta_model.specs.declared.outline.Outline.{Outline}
-use Rattle.meta_model.specs.Places.{StandsAt, StandsFirst, Found}
+use Rattle.class_outlines.specs.declared.outline.Outline.{Outline}
+use Rattle.class_outlines.specs.Places.{StandsAt, StandsFirst, Found}
 use Rattle.meta_model.specs.code.ReadTypes.{IsReadAs}
 use Rattle.meta_model.specs.Literals.{literal}
 use Rattle.meta_model.specs.Sound.{AreSets}
 use Rattle.meta_objects.specs.code.Bodies.{Scope, IsRoot, this_root, parameter_root, PointsTo, PointsToThis, HasMember, AreSteps, IsPath, IsExpr, literal_is, path_is, unary_is, binary_is, AreExprs, IsObjectPath, IsPropertyOfName, IsSet, IsStatement, set_is, if_is, group_is, AreStatements, none_are, next_is, IsStatementOf, LacksInBody}
-use Rattle.meta_model.proofs.OutlineSteps.{drop_at, drop_end}
-use Rattle.meta_model.proofs.Firsts.{first_item, same_in}
+use Rattle.class_outlines.proofs.OutlineSteps.{drop_at, drop_end}
+use Rattle.class_outlines.proofs.Firsts.{first_item, same_in}
 use Rattle.meta_objects.proofs.Bodies.{part, same_member, same_root, same_path, same_object, same_statements}
 
 -- ---- members

@@ -1,11 +1,11 @@
 -- The ends of wires.
 use Rattle.std.proofs.Common.{◌≡◌, ℕ, List, sym, subst}
-use Rattle.meta_model.specs.declared.outline.Heading.{Heading}
-use Rattle.meta_model.specs.declared.outline.Outline.{Outline}
-use Rattle.meta_model.specs.Places.{StandsAt, StandsFirst, Found}
-use Rattle.meta_model.specs.Ends.{IsEnd}
-use Rattle.meta_model.proofs.Searches.{same_first}
-use Rattle.meta_model.proofs.Firsts.{first_item, found_item}
+use Rattle.class_outlines.specs.declared.outline.Heading.{Heading}
+use Rattle.class_outlines.specs.declared.outline.Outline.{Outline}
+use Rattle.class_outlines.specs.Places.{StandsAt, StandsFirst, Found}
+use Rattle.class_outlines.specs.Ends.{IsEnd}
+use Rattle.class_outlines.proofs.Searches.{same_first}
+use Rattle.class_outlines.proofs.Firsts.{first_item, found_item}
 
 module _ (P : Heading → Type 0) (outlines : List Outline) (name : List ℕ) where
   pub an_end : (c m : ℕ) (o : Outline) → Found (λ (o : Outline). o.name ≡ name) outlines c o → StandsFirst P o.methods m → IsEnd P outlines name c m

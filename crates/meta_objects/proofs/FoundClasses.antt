@@ -21,16 +21,18 @@ use Rattle.meta_model.specs.declared.object.Work.TheVariants as work
 use Rattle.meta_model.specs.declared.object.MetaMethod.{MetaMethod}
 use Rattle.meta_model.specs.declared.object.MetaProperty.{MetaProperty}
 use Rattle.meta_model.specs.declared.object.MetaObject.{MetaObject}
-use Rattle.meta_model.specs.declared.outline.Heading.{Heading}
-use Rattle.meta_model.specs.declared.outline.Outline.{Outline}
+use Rattle.class_outlines.specs.declared.outline.Heading.{Heading}
+use Rattle.class_outlines.specs.declared.outline.Outline.{Outline}
 use Rattle.meta_model.specs.Loaded.{Loaded}
-use Rattle.meta_model.specs.Places.{StandsFirst}
+use Rattle.class_outlines.specs.Places.{StandsFirst}
 use Rattle.meta_model.specs.Members.{IsClass, IsClassNamed}
 use Rattle.meta_model.specs.Sound.{IsKind, IsSound}
 use Rattle.meta_model.specs.Root.{root_class}
-use Rattle.meta_model.specs.Outlines.{IsOutlineNamed, kinds_of, signal_heading, slot_headings, own_methods, qobject}
+use Rattle.class_outlines.specs.Outlines.{IsOutlineNamed, kinds_of, signal_heading, slot_headings, own_methods, qobject}
 use Rattle.meta_model.specs.code.ReadTypes.{IsReadAs}
-use Rattle.meta_model.specs.Conditions.{HasTwoMembers, DuplicateMember, IsSignalOf}
+use Rattle.class_outlines.specs.Clashes.{HasTwoMembers}
+use Rattle.meta_model.specs.Conditions.{DuplicateMember}
+use Rattle.class_outlines.specs.Notifiers.{IsSignalOf}
 use Rattle.meta_objects.specs.declared.body_resolution.work.ResolvedWork.{ResolvedWork}
 use Rattle.meta_objects.specs.declared.body_resolution.work.ResolvedWork.TheVariants as resolved
 use Rattle.meta_objects.specs.code.Bodies.{scope_of, IsWork, IsSlotWork, AreWorks, AllWorks}
@@ -41,9 +43,9 @@ use Rattle.meta_objects.specs.LoadedSites.{IsLoadedSite}
 use Rattle.meta_objects.specs.LoadedBodies.{Site, site}
 use Rattle.meta_objects.specs.LoadedProgram.{IsLoadedSignal, IsLoadedWork, IsLoadedSlot, HasNotifier, IsLoadedProperty, IsLoadedClass, IsLoadedWire, IsLoadedOwns, IsLoadedProgram}
 use Rattle.meta_objects.specs.Builds.{HasOutlines, IsLoadedForm, OneAsDeclared, OneLoading}
-use Rattle.meta_model.proofs.Once.{none_at}
-use Rattle.meta_model.proofs.Outlined.{Declared, outline_of, outlines_count, root_at, distinct_outlines}
-use Rattle.meta_model.proofs.Zips.{zip_right, zip_append, zip_also, zip_both}
+use Rattle.class_outlines.proofs.Once.{none_at}
+use Rattle.class_outlines.proofs.Outlined.{Declared, outline_of, outlines_count, root_at, distinct_outlines}
+use Rattle.class_outlines.proofs.Zips.{zip_right, zip_append, zip_also, zip_both}
 use Rattle.meta_objects.proofs.Soundness.{map_at}
 use Rattle.meta_objects.proofs.Unique.{same_loaded}
 use Rattle.load_rules.proofs.OwnMembers.{first_in_front, name_changed_first}

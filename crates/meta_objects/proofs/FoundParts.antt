@@ -16,11 +16,11 @@ use Rattle.meta_model.specs.declared.object.MetaWire.{MetaWire}
 use Rattle.meta_model.specs.declared.object.MetaOwns.{MetaOwns}
 use Rattle.meta_model.specs.declared.site.SourceProperty.{SourceProperty}
 use Rattle.meta_model.specs.declared.site.MetaSite.{MetaSite}
-use Rattle.meta_model.specs.declared.outline.Outline.{Outline}
+use Rattle.class_outlines.specs.declared.outline.Outline.{Outline}
 use Rattle.meta_model.specs.Loaded.{Loaded}
 use Rattle.meta_model.specs.Members.{IsClassNamed, IsPropertyNamed}
-use Rattle.meta_model.specs.Outlines.{IsOutlineNamed}
-use Rattle.meta_model.specs.Conditions.{HasTwoMembers}
+use Rattle.class_outlines.specs.Outlines.{IsOutlineNamed}
+use Rattle.class_outlines.specs.Clashes.{HasTwoMembers}
 use Rattle.meta_model.specs.Sites.{IsPropertyIn, IsSourceProperty}
 use Rattle.meta_objects.specs.declared.body_resolution.work.ResolvedWork.{ResolvedWork}
 use Rattle.meta_objects.specs.code.Natives.{HasPropertyIn, HasSignalIn, AreEffects}
@@ -30,7 +30,7 @@ use Rattle.meta_objects.specs.code.Loading.{IsObject}
 use Rattle.meta_objects.specs.LoadedProgram.{IsLoadedWire, IsLoadedOwns}
 use Rattle.meta_objects.specs.code.Sites.{IsFormula, literal_is, path_is, unary_is, binary_is, IsSite}
 use Rattle.meta_objects.specs.LoadedSites.{IsLoadedSource, IsLoadedFormula, literal_loads, path_loads, unary_loads, binary_loads, IsLoadedSite}
-use Rattle.meta_model.proofs.Zips.{zip_left, zip_also}
+use Rattle.class_outlines.proofs.Zips.{zip_left, zip_also}
 use Rattle.meta_objects.proofs.FoundBodies.{first_property, first_class, heading_at, declared_at, name_of, outline_named, signal_end, method_end}
 
 module _ (outlines : List Outline) (works : List (List ResolvedWork)) (p : Loaded) (objects : AllZip (IsObject outlines works) outlines p.classes)

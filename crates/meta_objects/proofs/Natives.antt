@@ -12,22 +12,22 @@ use Rattle.meta_model.specs.declared.object.MetaMethod.{MetaMethod}
 use Rattle.meta_model.specs.declared.object.MetaObject.{MetaObject}
 use Rattle.meta_model.specs.declared.object.MetaProperty.{MetaProperty}
 use Rattle.meta_model.specs.declared.object.ValueType.{ValueType}
-use Rattle.meta_model.specs.declared.outline.Outline.{Outline}
+use Rattle.class_outlines.specs.declared.outline.Outline.{Outline}
 use Rattle.meta_model.specs.code.ReadTypes.{IsReadAs}
 use Rattle.meta_model.specs.Loaded.{Loaded}
 use Rattle.meta_model.specs.Members.{IsPropertyNamed}
 use Rattle.meta_model.specs.Natives.{RepeatsEffect, IsPointer, TakesReference, AffectsReference}
-use Rattle.meta_model.specs.Outlines.{IsOutlineNamed, kinds_of}
+use Rattle.class_outlines.specs.Outlines.{IsOutlineNamed, kinds_of}
 use Rattle.meta_model.specs.Sites.{IsReferenceIn}
 use Rattle.meta_model.specs.Sound.{IsPlain, IsPlainProperty, IsPlainSignal, AreOnce, AreSoundEffects}
-use Rattle.meta_model.specs.Twice.{StandsTwice}
+use Rattle.class_outlines.specs.Twice.{StandsTwice}
 use Rattle.meta_objects.specs.declared.body_resolution.work.ResolvedWork.{ResolvedWork}
 use Rattle.meta_objects.specs.code.Loading.{work_of, IsObject}
 use Rattle.meta_objects.specs.code.Natives.{HasPropertyIn, HasSignalIn, AreEffects}
 use Rattle.meta_objects.specs.LoadedNatives.{IsEmitted, AreLoadedEffects}
-use Rattle.meta_model.proofs.Once.{none_at}
-use Rattle.meta_model.proofs.Searches.{same_first}
-use Rattle.meta_model.proofs.Zips.{any_of, place_of_any, zip_right, zip_also}
+use Rattle.class_outlines.proofs.Once.{none_at}
+use Rattle.class_outlines.proofs.Searches.{same_first}
+use Rattle.class_outlines.proofs.Zips.{any_of, place_of_any, zip_right, zip_also}
 use Rattle.meta_objects.proofs.Sited.{all_of, named_in, plain_kind, plain_in}
 use Rattle.meta_objects.proofs.Soundness.{IsTyped, FoundMethod, method_at}
 

@@ -9,12 +9,12 @@ use Rattle.syntax_trees.specs.declared.program.Formal.{Formal}
 use Rattle.syntax_trees.specs.declared.program.Site.{Site}
 use Rattle.meta_model.specs.declared.site.SourceProperty.{SourceProperty}
 use Rattle.meta_model.specs.declared.site.MetaSite.{MetaSite}
-use Rattle.meta_model.specs.declared.outline.Outline.{Outline}
+use Rattle.class_outlines.specs.declared.outline.Outline.{Outline}
 use Rattle.meta_model.specs.Literals.{literal}
-use Rattle.meta_model.specs.Outlines.{IsOutlineNamed}
+use Rattle.class_outlines.specs.Outlines.{IsOutlineNamed}
 use Rattle.meta_model.specs.Sites.{IsSourceProperty}
 use Rattle.meta_objects.specs.code.Sites.{IsFormula, literal_is, path_is, unary_is, binary_is, IsSite}
-use Rattle.meta_model.proofs.Searches.{same_first}
+use Rattle.class_outlines.proofs.Searches.{same_first}
 use Rattle.meta_model.proofs.SiteProperties.{one_property_in, one_source}
 
 -- two lists that relate to one list in the same way are the same

@@ -3,11 +3,14 @@ use Rattle.std.proofs.Common.{◌≡◌, ◌≢◌, ℕ, zero, suc, ◌<◌, Lis
 use Rattle.std.proofs.lemmas.Bool.{cases_lt}
 use Rattle.std.proofs.lemmas.Option.{none-some, same_Some}
 use Rattle.syntax_trees.specs.declared.program.Program.{Program}
-use Rattle.meta_model.specs.declared.fault.MetaFault.{MetaFault}
-use Rattle.meta_model.specs.declared.fault.MetaFault.TheVariants as fault
-use Rattle.meta_model.specs.declared.outline.Outline.{Outline}
+use Rattle.class_outlines.specs.declared.fault.MetaFault.{MetaFault}
+use Rattle.class_outlines.specs.declared.fault.MetaFault.TheVariants as fault
+use Rattle.class_outlines.specs.declared.outline.Outline.{Outline}
 use Rattle.meta_model.specs.Loaded.{Loaded}
-use Rattle.meta_model.specs.Conditions.{DuplicateClass, NoBase, DuplicateMember, BadNotify, NoType}
+use Rattle.class_outlines.specs.Clashes.{DuplicateClass}
+use Rattle.class_outlines.specs.Bases.{NoBase}
+use Rattle.meta_model.specs.Conditions.{DuplicateMember, NoType}
+use Rattle.class_outlines.specs.Notifiers.{BadNotify}
 use Rattle.meta_objects.specs.LackedNames.{LacksMember}
 use Rattle.meta_objects.specs.Builds.{HasOutlines, Builds, OneAnswer}
 use Rattle.meta_objects.proofs.Unique.{same_all}

@@ -1,16 +1,18 @@
 -- What refuses a program, and what a program that isn't refused has.
 use Rattle.std.proofs.Common.{◌≡◌, List, Result, Ok, Err, IsErr, IsErrAnd, Any, ◌⊎◌, inl, inr, sym, subst}
 use Rattle.syntax_trees.specs.declared.program.Program.{Program}
-use Rattle.meta_model.specs.declared.fault.MetaFault.{MetaFault}
-use Rattle.meta_model.specs.declared.fault.MetaFault.TheVariants as fault
+use Rattle.class_outlines.specs.declared.fault.MetaFault.{MetaFault}
+use Rattle.class_outlines.specs.declared.fault.MetaFault.TheVariants as fault
 use Rattle.meta_model.specs.declared.object.MetaWire.{MetaWire}
 use Rattle.meta_model.specs.declared.object.MetaOwns.{MetaOwns}
 use Rattle.meta_model.specs.declared.site.MetaSite.{MetaSite}
-use Rattle.meta_model.specs.declared.outline.Outline.{Outline}
+use Rattle.class_outlines.specs.declared.outline.Outline.{Outline}
 use Rattle.meta_model.specs.Loaded.{Loaded}
-use Rattle.meta_model.specs.Outlines.{Outlines}
-use Rattle.meta_model.specs.Conditions.{DuplicateClass, NoBase, HasTwoMembers, RepeatsDeclared, DuplicateMember}
-use Rattle.meta_model.specs.Indexed.{AreIndexed}
+use Rattle.class_outlines.specs.Outlines.{Outlines}
+use Rattle.class_outlines.specs.Clashes.{DuplicateClass, HasTwoMembers}
+use Rattle.class_outlines.specs.Bases.{NoBase}
+use Rattle.meta_model.specs.Conditions.{RepeatsDeclared, DuplicateMember}
+use Rattle.class_outlines.specs.Indexed.{AreIndexed}
 use Rattle.meta_objects.specs.declared.body_resolution.work.ResolvedWork.{ResolvedWork}
 use Rattle.meta_objects.specs.code.Bodies.{IsSlotWork, AreWorks}
 use Rattle.meta_objects.specs.LackedNames.{LacksInSlot, LacksInClass}
@@ -19,13 +21,13 @@ use Rattle.meta_objects.specs.LackedNames.{LacksInSite}
 use Rattle.meta_objects.specs.code.Wires.{IsWire, IsOwns}
 use Rattle.meta_objects.specs.LackedNames.{LacksEnd, LacksClass, LacksMember}
 use Rattle.meta_objects.specs.code.Loading.{HasUses}
-use Rattle.meta_model.specs.declared.offence.Offence.{Offence}
-use Rattle.meta_model.specs.declared.offence.LoadFault.{LoadFault}
-use Rattle.meta_model.specs.declared.offence.LoadFault.TheVariants as load
-use Rattle.meta_model.specs.Offences.{IsOffence, IsOffenceBy, LoadsOf, fault_told}
+use Rattle.class_outlines.specs.declared.offence.Offence.{Offence}
+use Rattle.class_outlines.specs.declared.offence.LoadFault.{LoadFault}
+use Rattle.class_outlines.specs.declared.offence.LoadFault.TheVariants as load
+use Rattle.class_outlines.specs.Offences.{IsOffence, IsOffenceBy, LoadsOf, fault_told}
 use Rattle.meta_objects.specs.Builds.{HasOutlines, Builds, LoadsProgram}
-use Rattle.meta_model.proofs.Zips.{none_of_zip}
-use Rattle.meta_model.proofs.OutlineSteps.{none_lack}
+use Rattle.class_outlines.proofs.Zips.{none_of_zip}
+use Rattle.class_outlines.proofs.OutlineSteps.{none_lack}
 
 pub outlined : (program : Program) (o : List Outline) → (¬ DuplicateClass program) → Outlines program.classes o → HasOutlines program o
 outlined program o distinct are = record { distinct = distinct; based = none_lack program.classes o are; are = are }

@@ -12,13 +12,13 @@ use Rattle.syntax_trees.specs.declared.program.Formal.{Formal}
 use Rattle.syntax_trees.specs.declared.program.Property.{Property}
 use Rattle.syntax_trees.specs.declared.program.Site.{Site}
 use Rattle.meta_model.specs.declared.site.SourceProperty.{SourceProperty}
-use Rattle.meta_model.specs.declared.outline.Outline.{Outline}
+use Rattle.class_outlines.specs.declared.outline.Outline.{Outline}
 use Rattle.meta_model.specs.Literals.{literal}
-use Rattle.meta_model.specs.Outlines.{IsOutlineNamed}
+use Rattle.class_outlines.specs.Outlines.{IsOutlineNamed}
 use Rattle.meta_model.specs.Sites.{IsSourceProperty}
 use Rattle.meta_objects.specs.code.Sites.{IsFormula, literal_is, path_is, unary_is, binary_is}
 use Rattle.meta_objects.specs.LackedNames.{LacksInSite}
-use Rattle.meta_model.proofs.Zips.{none_of_zip}
+use Rattle.class_outlines.proofs.Zips.{none_of_zip}
 
 module _ (outlines : List Outline) (site : Site) where
   -- ---- the site

@@ -15,12 +15,12 @@ use Rattle.meta_model.specs.declared.object.ValueType.{ValueType}
 use Rattle.meta_model.specs.declared.object.ValueType.TheVariants as type
 use Rattle.meta_model.specs.declared.site.SourceProperty.{SourceProperty}
 use Rattle.meta_model.specs.declared.site.MetaSite.{MetaSite}
-use Rattle.meta_model.specs.declared.outline.Outline.{Outline}
+use Rattle.class_outlines.specs.declared.outline.Outline.{Outline}
 use Rattle.meta_model.specs.code.ReadTypes.{IsReadAs}
 use Rattle.meta_model.specs.Literals.{literal, HoldsNoObject}
 use Rattle.meta_model.specs.Loaded.{Loaded}
 use Rattle.meta_model.specs.Members.{IsClassNamed, IsPropertyNamed}
-use Rattle.meta_model.specs.Outlines.{IsOutlineNamed}
+use Rattle.class_outlines.specs.Outlines.{IsOutlineNamed}
 use Rattle.meta_model.specs.Sites.{IsPropertyIn, IsSourceProperty, paths_in, literals_in, ReadsReference, UsesReference, by_target, by_source}
 use Rattle.meta_model.specs.Sound.{IsPlain, IsPlainProperty, IsSoundSource, IsSoundSite}
 use Rattle.meta_objects.specs.declared.body_resolution.work.ResolvedWork.{ResolvedWork}
@@ -28,8 +28,8 @@ use Rattle.meta_objects.specs.code.Loading.{IsObject}
 use Rattle.meta_objects.specs.code.Sites.{IsFormula, literal_is, path_is, unary_is, binary_is, IsSite}
 use Rattle.meta_objects.specs.LoadedSites.{IsLoadedSource, IsLoadedFormula, literal_loads, path_loads, unary_loads, binary_loads, IsLoadedSite}
 use Rattle.meta_model.proofs.PathsIn.{paths_of, literals_of}
-use Rattle.meta_model.proofs.Searches.{same_first}
-use Rattle.meta_model.proofs.Zips.{any_of, zip_left, zip_right, zip_append, zip_also}
+use Rattle.class_outlines.proofs.Searches.{same_first}
+use Rattle.class_outlines.proofs.Zips.{any_of, zip_left, zip_right, zip_append, zip_also}
 use Rattle.meta_objects.proofs.SoundBodies.{no_object}
 use Rattle.meta_objects.proofs.Soundness.{object_at, named, FoundProperty, property_at}
 

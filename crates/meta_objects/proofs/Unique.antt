@@ -24,13 +24,13 @@ use Rattle.meta_model.specs.declared.object.MetaObject.{MetaObject}
 use Rattle.meta_model.specs.declared.object.MetaWire.{MetaWire}
 use Rattle.meta_model.specs.declared.object.MetaOwns.{MetaOwns}
 use Rattle.meta_model.specs.declared.site.MetaSite.{MetaSite}
-use Rattle.meta_model.specs.declared.outline.Heading.{Heading}
-use Rattle.meta_model.specs.declared.outline.Outline.{Outline}
+use Rattle.class_outlines.specs.declared.outline.Heading.{Heading}
+use Rattle.class_outlines.specs.declared.outline.Outline.{Outline}
 use Rattle.meta_model.specs.Loaded.{Loaded}
-use Rattle.meta_model.specs.Places.{IsPlace}
-use Rattle.meta_model.specs.Outlines.{IsOutline, Outlines, base_name, own_methods, qobject}
+use Rattle.class_outlines.specs.Places.{IsPlace}
+use Rattle.class_outlines.specs.Outlines.{IsOutline, Outlines, base_name, own_methods, qobject}
 use Rattle.meta_model.specs.code.ReadTypes.{IsReadAs}
-use Rattle.meta_model.specs.Conditions.{IsSignalOf}
+use Rattle.class_outlines.specs.Notifiers.{IsSignalOf}
 use Rattle.meta_objects.specs.declared.body_resolution.work.ResolvedWork.{ResolvedWork}
 use Rattle.meta_objects.specs.declared.body_resolution.work.ResolvedWork.TheVariants as loads
 use Rattle.meta_objects.specs.code.Natives.{HasPropertyIn, HasSignalIn, AreEffects}
@@ -39,9 +39,9 @@ use Rattle.meta_objects.specs.code.Wires.{IsWire, IsOwns}
 use Rattle.meta_objects.specs.LoadedProgram.{initial_of}
 use Rattle.meta_objects.specs.code.Loading.{IsMethodOf, IsNotify, IsPropertyOf, IsObject, IsLoaded}
 use Rattle.meta_objects.specs.code.Sites.{IsSite}
-use Rattle.meta_model.proofs.Searches.{same_first}
-use Rattle.meta_model.proofs.Firsts.{first_item}
-use Rattle.meta_model.proofs.Fronts.{inside, next_take}
+use Rattle.class_outlines.proofs.Searches.{same_first}
+use Rattle.class_outlines.proofs.Firsts.{first_item}
+use Rattle.class_outlines.proofs.Fronts.{inside, next_take}
 use Rattle.meta_model.proofs.SiteProperties.{one_property_in}
 use Rattle.meta_objects.proofs.Ends.{one_end}
 use Rattle.meta_objects.proofs.Bodies.{same_statements}

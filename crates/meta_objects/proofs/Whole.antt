@@ -26,21 +26,23 @@ use Rattle.meta_model.specs.declared.object.MetaObject.{MetaObject}
 use Rattle.meta_model.specs.declared.object.MetaWire.{MetaWire}
 use Rattle.meta_model.specs.declared.object.MetaOwns.{MetaOwns}
 use Rattle.meta_model.specs.declared.site.MetaSite.{MetaSite}
-use Rattle.meta_model.specs.declared.outline.Sort.{Sort}
-use Rattle.meta_model.specs.declared.outline.Sort.TheVariants as sort
-use Rattle.meta_model.specs.declared.outline.Heading.{Heading}
-use Rattle.meta_model.specs.declared.outline.Outline.{Outline}
+use Rattle.class_outlines.specs.declared.outline.Sort.{Sort}
+use Rattle.class_outlines.specs.declared.outline.Sort.TheVariants as sort
+use Rattle.class_outlines.specs.declared.outline.Heading.{Heading}
+use Rattle.class_outlines.specs.declared.outline.Outline.{Outline}
 use Rattle.meta_model.specs.Loaded.{Loaded}
-use Rattle.meta_model.specs.Places.{StandsAt, StandsFirst}
+use Rattle.class_outlines.specs.Places.{StandsAt, StandsFirst}
 use Rattle.meta_model.specs.Members.{IsClass, IsProperty, methods_in, method_count, methods_before, method_offset, Declares, base_of, Below, same, under, IsIn}
 use Rattle.meta_model.specs.Sound.{IsKind, IsSoundWork, IsSoundMethod, IsNotifier, IsSoundProperty, IsUnder, HasDistinctMethods, HasDistinctProperties, IsSoundClass, IsSoundWire, IsSoundOwns, IsSoundSite, AreDistinctSites, IsSound}
 use Rattle.meta_model.specs.Literals.{HoldsNoObject}
 use Rattle.meta_model.specs.Sites.{UsesReference}
 use Rattle.meta_model.specs.Root.{root_methods, root_class, BeginsAsRoot}
-use Rattle.meta_model.specs.Outlines.{IsOutlineNamed, kinds_of, signal_heading, slot_headings, own_methods, heading, destroyed, destroyed_alone, name_changed, qobject}
+use Rattle.class_outlines.specs.Outlines.{IsOutlineNamed, kinds_of, signal_heading, slot_headings, own_methods, heading, destroyed, destroyed_alone, name_changed, qobject}
 use Rattle.meta_model.specs.Kinds.{LacksType}
 use Rattle.meta_model.specs.code.ReadTypes.{IsReadAs}
-use Rattle.meta_model.specs.Conditions.{AreOneCall, HasTwoMembers, RepeatsName, RepeatsInSlot, RepeatsInMethod, IsSignalOf, LacksNotifier, LacksTypes}
+use Rattle.class_outlines.specs.Clashes.{AreOneCall, HasTwoMembers}
+use Rattle.meta_model.specs.Conditions.{RepeatsName, RepeatsInSlot, RepeatsInMethod, LacksTypes}
+use Rattle.class_outlines.specs.Notifiers.{IsSignalOf, LacksNotifier}
 use Rattle.meta_model.specs.Natives.{RepeatsEffectIn, TouchesReference, HasReferenceNative}
 use Rattle.meta_objects.specs.declared.body_resolution.work.ResolvedWork.{ResolvedWork}
 use Rattle.meta_objects.specs.declared.body_resolution.work.ResolvedWork.TheVariants as resolved
@@ -54,15 +56,15 @@ use Rattle.meta_objects.specs.LoadedSites.{IsLoadedSite}
 use Rattle.meta_objects.specs.LoadedBodies.{site}
 use Rattle.meta_objects.specs.LoadedEnds.{Connects}
 use Rattle.meta_objects.specs.LoadedProgram.{IsLoadedSignal, IsLoadedWork, IsLoadedSlot, HasNotifier, IsLoadedProperty, IsLoadedClass, HasLoadedClass, IsLoadedWire, IsLoadedOwns, IsLoadedProgram}
-use Rattle.meta_model.proofs.Zips.{zip_left, zip_right, zip_split, zip_also, zip_both, same_zip_by, get_front, get_back}
-use Rattle.meta_model.proofs.Searches.{place_in}
-use Rattle.meta_model.proofs.Once.{once, none_at, get_split_at}
+use Rattle.class_outlines.proofs.Zips.{zip_left, zip_right, zip_split, zip_also, zip_both, same_zip_by, get_front, get_back}
+use Rattle.meta_model.proofs.InLists.{place_in}
+use Rattle.class_outlines.proofs.Once.{once, none_at, get_split_at}
 use Rattle.load_rules.proofs.OwnMembers.{first_in_front, name_changed_first}
 use Rattle.meta_model.proofs.ReadTypes.{same_read}
 use Rattle.meta_objects.proofs.Deciding.{carries}
 use Rattle.meta_objects.proofs.OneSite.{same_zip}
 use Rattle.meta_objects.proofs.Unique.{same_method, same_property_by, same_place, same_object}
-use Rattle.meta_model.proofs.Outlined.{Declared, Reaches, here, up, HasSlot, outline_of, slot_of, outlines_count, root_at, reaches_root, delete_later_in_root, distinct_outlines}
+use Rattle.class_outlines.proofs.Outlined.{Declared, Reaches, here, up, HasSlot, outline_of, slot_of, outlines_count, root_at, reaches_root, delete_later_in_root, distinct_outlines}
 use Rattle.meta_objects.proofs.Soundness.{IsTyped, zip_length, object_at, named, kind_in, connects, kinds_counted, statements_load}
 use Rattle.meta_objects.proofs.Sited.{site_loads, site_sound}
 use Rattle.meta_objects.proofs.Natives.{plain_parameters, effects_load, effects_sound}

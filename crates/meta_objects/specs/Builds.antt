@@ -1,15 +1,18 @@
 -- When a program loads, and what its meta-objects are (docs/machine.md, "Loading").
 use Rattle.std.specs.Prelude.{◌≡◌, ◌≢◌, List, Option, None, Some, Result, Ok, Err}
 use Rattle.syntax_trees.specs.declared.program.Program.{Program}
-use Rattle.meta_model.specs.declared.fault.MetaFault.{MetaFault}
-use Rattle.meta_model.specs.declared.fault.MetaFault.TheVariants as fault
-use Rattle.meta_model.specs.declared.offence.LoadFault.{LoadFault}
-use Rattle.meta_model.specs.declared.offence.Offence.{Offence}
-use Rattle.meta_model.specs.declared.outline.Outline.{Outline}
-use Rattle.meta_model.specs.Offences.{fault_of, fault_told, IsDeclared, IsPlaced}
+use Rattle.class_outlines.specs.declared.fault.MetaFault.{MetaFault}
+use Rattle.class_outlines.specs.declared.fault.MetaFault.TheVariants as fault
+use Rattle.class_outlines.specs.declared.offence.LoadFault.{LoadFault}
+use Rattle.class_outlines.specs.declared.offence.Offence.{Offence}
+use Rattle.class_outlines.specs.declared.outline.Outline.{Outline}
+use Rattle.class_outlines.specs.Offences.{fault_of, fault_told, IsDeclared, IsPlaced}
 use Rattle.meta_model.specs.Loaded.{Loaded}
-use Rattle.meta_model.specs.Outlines.{Outlines}
-use Rattle.meta_model.specs.Conditions.{DuplicateClass, NoBase, DuplicateMember, BadNotify, NoType}
+use Rattle.class_outlines.specs.Outlines.{Outlines}
+use Rattle.class_outlines.specs.Clashes.{DuplicateClass}
+use Rattle.class_outlines.specs.Bases.{NoBase}
+use Rattle.meta_model.specs.Conditions.{DuplicateMember, NoType}
+use Rattle.class_outlines.specs.Notifiers.{BadNotify}
 use Rattle.meta_objects.specs.LackedNames.{LacksMember}
 use Rattle.meta_objects.specs.LoadedProgram.{IsLoadedProgram}
 

@@ -2,10 +2,11 @@
 
 ghost use Rattle.std.specs.Prelude.{◌≡◌, IfOk};
 ghost use Rattle.std.specs.List.{AllZip};
-ghost use Rattle.meta_model.specs.NamePlaces.{place_in};
+ghost use Rattle.class_outlines.specs.NamePlaces.{place_in};
 ghost use Rattle.meta_objects.specs.Indexes.{IndexesClasses, IndexesProperties, IndexesMembers, IsIndexOf, IndexesSites, property_in, method_in};
 
-use meta_model::{MetaObject, MetaProperty, MetaSite, NameIndex, find_call, index_calls};
+use class_outlines::{NameIndex, find_call, index_calls};
+use meta_model::{MetaObject, MetaProperty, MetaSite};
 use signatures::Name;
 use sqlite_items::Items;
 use std::alloc::{AllocError, Global};

@@ -15,12 +15,12 @@ mod resolve_uses;
 mod resolve_wire;
 
 pub use body_resolution::Scope;
+pub use class_outlines::{Declaration, LoadFault, Member, MetaFault, Offence};
 pub use laws::{one_answer, one_as_declared, one_loading};
 pub use meta::{Meta, Wired};
 pub use meta_model::{
-    Declaration, Formula, LoadFault, Member, MetaEffects, MetaEndpoints, MetaFault, MetaMethod,
-    MetaObject, MetaOwns, MetaPath, MetaProperty, MetaRoot, MetaSite, MetaWire, Offence, SlotBody,
-    SourceProperty, Statement, Step, ValueType, Work,
+    Formula, MetaEffects, MetaEndpoints, MetaMethod, MetaObject, MetaOwns, MetaPath, MetaProperty,
+    MetaRoot, MetaSite, MetaWire, SlotBody, SourceProperty, Statement, Step, ValueType, Work,
 };
 pub use refusal::first_offence;
 pub use resolve_native::emitted;

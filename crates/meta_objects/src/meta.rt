@@ -1,6 +1,6 @@
 ghost use Rattle.std.specs.Prelude.{◌≡◌, ◌<◌, List, IsTrue, ◌↔◌, IfSome, option_copied, slice_get};
 ghost use Rattle.meta_objects.specs.Builds.{Builds, LoadsProgram};
-ghost use Rattle.meta_model.specs.LookUps.{LooksUp, LooksUpRef, FindsOnly};
+ghost use Rattle.class_outlines.specs.LookUps.{LooksUp, LooksUpRef, FindsOnly};
 ghost use Rattle.meta_model.specs.Members.{IsClassNamed, IsMethod, HasSig, IsMethodNamed, IsPropertyNamed};
 ghost use Rattle.meta_model.specs.Members.{base_of, method_count, method_offset, Below};
 ghost use Rattle.meta_model.specs.Members.{CoversBy, Covers, OwnsBy, Owns};
@@ -12,11 +12,9 @@ ghost use Rattle.meta_objects.specs.Wiring.{IsWired};
 use crate::class_index::{ClassIndex, index_sites};
 use crate::resolve_object::resolve_objects;
 use crate::resolve_uses::{Uses, resolve_uses};
+use class_outlines::{LoadFault, MetaFault, NameIndex, index_outlines, outline_classes};
 use load_rules::{bad_notifier, duplicate_class, repeated_name, unfit_type};
-use meta_model::{
-    LoadFault, MetaFault, MetaMethod, MetaObject, MetaOwns, MetaSite, MetaWire, NameIndex,
-    ValueType, index_outlines, outline_classes,
-};
+use meta_model::{MetaMethod, MetaObject, MetaOwns, MetaSite, MetaWire, ValueType};
 use signatures::{Kind, Name, ObjectId, Sig, Value, fits};
 use sqlite_items::Items;
 use std::alloc::Global;

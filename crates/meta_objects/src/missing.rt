@@ -1,11 +1,13 @@
 //! What is looked for where a name isn't declared.
 
 ghost use Rattle.std.specs.Prelude.{◌≡◌, ◌⊎◌};
-ghost use Rattle.meta_model.specs.Offences.{fault_in};
-ghost use Rattle.meta_model.specs.declared.fault.MetaFault.TheVariants.{NoMember};
-ghost use Rattle.meta_model.specs.declared.offence.PartFault.TheVariants.{Memory};
+ghost use Rattle.class_outlines.specs.Offences.{fault_in};
+ghost use Rattle.class_outlines.specs.declared.fault.MetaFault.TheVariants.{NoMember};
+ghost use Rattle.class_outlines.specs.declared.offence.PartFault.TheVariants.{Memory};
 
-use meta_model::{Breach, End, IndexedOutline, Missing, PartFault, Reason, Sought, find, place_of};
+use class_outlines::{
+    Breach, End, IndexedOutline, Missing, PartFault, Reason, Sought, find, place_of,
+};
 use signatures::{Name, Sig};
 use std::alloc::Global;
 

@@ -4,7 +4,7 @@ ghost use Rattle.std.specs.Prelude.{IfOk};
 ghost use Rattle.meta_objects.specs.Builds.{TellsRefusal};
 
 use crate::meta::Meta;
-use meta_model::{LoadFault, Offence};
+use class_outlines::{LoadFault, Offence};
 use std::alloc::{AllocError, Global};
 use syntax_trees::Program;
 

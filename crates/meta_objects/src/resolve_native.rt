@@ -1,15 +1,14 @@
 //! The effects of natives, whose names are replaced by numbers.
 
 ghost use Rattle.std.specs.Prelude.{◌≡◌};
-ghost use Rattle.meta_model.specs.LookUps.{LooksUp};
+ghost use Rattle.class_outlines.specs.LookUps.{LooksUp};
 ghost use Rattle.meta_objects.specs.code.Natives.{AreEffects, HasPropertyIn, HasSignalIn};
 ghost use Rattle.meta_objects.specs.code.Resolving.{Resolves, ResolvesEach};
 
 use crate::missing::{no_end, no_property};
 use crate::resolve_wire::signal_end;
-use meta_model::{
-    End, IndexedOutline, MetaEffects, OBJECT_NAME_CHANGED, PartFault, names_of_sig, property_in,
-};
+use class_outlines::{End, IndexedOutline, OBJECT_NAME_CHANGED, PartFault, names_of_sig};
+use meta_model::{MetaEffects, property_in};
 use signatures::{Name, Sig};
 use sqlite_items::Items;
 use std::alloc::Global;

@@ -7,9 +7,10 @@ ghost use Rattle.meta_objects.specs.code.Loading.{IsNotify, IsPropertyOf, ArePro
 ghost use Rattle.meta_objects.specs.code.Loading.{IsObject, AreObjects};
 
 use crate::body_resolution::ResolvedWork;
+use class_outlines::{Heading, IndexedOutline, Sort};
 use meta_model::{
-    Heading, IndexedOutline, MetaMethod, MetaObject, MetaProperty, SlotBody, Sort, ValueType, Work,
-    delete_later_body, read_kind, read_kinds,
+    MetaMethod, MetaObject, MetaProperty, SlotBody, ValueType, Work, delete_later_body, read_kind,
+    read_kinds,
 };
 use signatures::Value;
 use sqlite_items::Items;

@@ -1,17 +1,18 @@
 //! Binding sites whose names are replaced by numbers.
 
 ghost use Rattle.std.specs.Prelude.{◌≡◌};
-ghost use Rattle.meta_model.specs.Offences.{fault_in};
-ghost use Rattle.meta_model.specs.declared.fault.MetaFault.TheVariants.{NoMember};
+ghost use Rattle.class_outlines.specs.Offences.{fault_in};
+ghost use Rattle.class_outlines.specs.declared.fault.MetaFault.TheVariants.{NoMember};
 ghost use Rattle.meta_objects.specs.code.Resolving.{Resolves, ResolvesAll, ResolvesEach};
 ghost use Rattle.meta_objects.specs.code.Sites.{IsFormalOf, IsFormula, IsSite};
 
 use crate::literals::literal_of;
 use crate::missing::{no_property, undeclared};
-use meta_model::{
-    Declaration, Formula, IndexedOutline, LoadFault, MetaSite, Missing, PartFault, SourceProperty,
-    find, names_before_expression, place_of, property_in, source_property,
+use class_outlines::{
+    Declaration, IndexedOutline, LoadFault, Missing, PartFault, find, names_before_expression,
+    place_of,
 };
+use meta_model::{Formula, MetaSite, SourceProperty, property_in, source_property};
 use sqlite_items::{Boxed, Items};
 use std::alloc::Global;
 use syntax_trees::{Expr, Formal, Path, Program, Root, Site};

@@ -1,16 +1,17 @@
 //! Wires and owns whose names are replaced by numbers.
 
 ghost use Rattle.std.specs.Prelude.{◌≡◌};
-ghost use Rattle.meta_model.specs.Conditions.{IsSignalOf};
-ghost use Rattle.meta_model.specs.Ends.{IsSigned};
+ghost use Rattle.class_outlines.specs.Notifiers.{IsSignalOf};
+ghost use Rattle.class_outlines.specs.Ends.{IsSigned};
 ghost use Rattle.meta_objects.specs.code.Wires.{IsWire, IsOwns};
 ghost use Rattle.meta_objects.specs.code.Resolving.{FindsEnd, Resolves, ResolvesAll};
 
 use crate::missing::{no_end, undeclared};
-use meta_model::{
-    Declaration, End, IndexedOutline, LoadFault, MetaOwns, MetaWire, Missing, OBJECT_NAME_CHANGED,
-    PartFault, find, names_of_sig, place_of,
+use class_outlines::{
+    Declaration, End, IndexedOutline, LoadFault, Missing, OBJECT_NAME_CHANGED, PartFault, find,
+    names_of_sig, place_of,
 };
+use meta_model::{MetaOwns, MetaWire};
 use signatures::{Name, Sig};
 use sqlite_items::Items;
 use std::alloc::Global;

@@ -11,7 +11,7 @@ use crate::object::Object;
 use crate::objects::Objects;
 use crate::typing::begin_well;
 use crate::values::Values;
-use meta_model::NameIndex;
+use class_outlines::NameIndex;
 use meta_objects::{Meta, MetaObject};
 use signatures::{LoopId, Name};
 use std::alloc::{AllocError, Global};

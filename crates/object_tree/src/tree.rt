@@ -20,7 +20,7 @@ use crate::object::Object;
 use crate::objects::Objects;
 use crate::seen::{is_same, seen, seen_reference};
 use crate::typing::{has_type, have_types};
-use meta_model::NameIndex;
+use class_outlines::NameIndex;
 use meta_objects::{Meta, ValueType};
 use signatures::{LoopId, Name, ObjectId, Value};
 use std::alloc::{AllocError, Global};

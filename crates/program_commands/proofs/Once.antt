@@ -11,11 +11,11 @@ use Rattle.class_lang.specs.Reads.{number_of as text_number}
 use Rattle.class_lang.specs.declared.fault.TextFault.{TextFault}
 use Rattle.class_lang.specs.declared.fault.TextFault.TheVariants as of_text
 use Rattle.class_lang.proofs.OneAnswer.{one_answer as one_reading}
-use Rattle.meta_model.specs.FaultNumbers.{number_of as meta_number}
+use Rattle.class_outlines.specs.FaultNumbers.{number_of as meta_number}
 use Rattle.meta_model.specs.Loaded.{Loaded}
 use Rattle.meta_model.specs.Sound.{IsSound}
-use Rattle.meta_model.specs.declared.fault.MetaFault.{MetaFault}
-use Rattle.meta_model.specs.declared.fault.MetaFault.TheVariants as of_meta
+use Rattle.class_outlines.specs.declared.fault.MetaFault.{MetaFault}
+use Rattle.class_outlines.specs.declared.fault.MetaFault.TheVariants as of_meta
 use Rattle.meta_objects.specs.Builds.{Builds}
 use Rattle.meta_objects.proofs.OnlyAnswer.{one_answer as one_loading}
 use Rattle.meta_objects.proofs.FoundClasses.{form_sound}

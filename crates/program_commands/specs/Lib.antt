@@ -5,7 +5,7 @@ pub mod Reasons
 pub mod Refusals
 pub mod Steps
 pub use Rattle.class_lang.specs.Reads as ClassLangReads
-pub use Rattle.meta_model.specs.FaultNumbers as MetaModelFaultNumbers
+pub use Rattle.class_outlines.specs.FaultNumbers as MetaModelFaultNumbers
 pub use Rattle.native_slots.specs.FaultNumbers as NativeSlotsFaultNumbers
 pub use Rattle.certificate_lang.specs.Reads as CertificateLangReads
 pub use Rattle.rank_check.specs.Checks

@@ -1,7 +1,7 @@
 -- Refused texts, the checker's nos, and their lines (docs/commands.md, "Refusals").
 use Rattle.std.specs.Prelude.{ℕ, List, ◌++◌, codes, decimal, Option, Some, None}
 use Rattle.class_lang.specs.Reads.{number_of as text_number}
-use Rattle.meta_model.specs.FaultNumbers.{number_of as meta_number}
+use Rattle.class_outlines.specs.FaultNumbers.{number_of as meta_number}
 use Rattle.certificate_lang.specs.Reads.{number_of as certificate_number}
 use Rattle.rank_check.specs.Checks.{number_of as no_number}
 use Rattle.native_slots.specs.FaultNumbers.{number_of as native_number}

@@ -1,7 +1,7 @@
 //! A program, as it is declared and as it is loaded.
 
 use class_lang::{TextFault, read_program};
-use meta_model::MetaFault;
+use class_outlines::MetaFault;
 use meta_objects::Meta;
 use std::alloc::{AllocError, Global};
 use syntax_trees::{Class, Program, Slot};

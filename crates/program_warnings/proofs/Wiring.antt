@@ -6,7 +6,7 @@ use Rattle.meta_model.specs.declared.object.MetaWire.{MetaWire}
 use Rattle.meta_model.specs.Loaded.{Loaded}
 use Rattle.meta_model.specs.Members.{HasSig, CoversBy}
 use Rattle.meta_model.specs.Sound.{IsSound, IsSoundWire}
-use Rattle.meta_model.proofs.Searches.{in_list}
+use Rattle.meta_model.proofs.InLists.{in_list}
 use Rattle.program_warnings.specs.Wires.{IsWider, LeavesNothing, MayServe, Leaves, IsIdle}
 use Rattle.program_warnings.proofs.Classes.{below-of-below, meet, sig-below, sig-above, one-number}
 

@@ -1,7 +1,7 @@
 -- The numbers of the nodes that are named.
 use Rattle.std.proofs.Common.{◌≡◌, ℕ, Option, Some, None, ap, ◌∙◌, subst}
 use Rattle.meta_model.specs.Loaded.{Loaded}
-use Rattle.meta_model.specs.LookUps.{LooksUp, FindsOnly}
+use Rattle.class_outlines.specs.LookUps.{LooksUp, FindsOnly}
 use Rattle.meta_model.specs.Members.{IsClassNamed}
 use Rattle.effect_scan.specs.declared.node.Node.{Node}
 use Rattle.effect_scan.specs.declared.node.Member.{Member}

@@ -5,7 +5,7 @@ pub mod Checks
 pub mod Entries
 pub mod ByNumbers
 pub mod Words
-pub use Rattle.meta_model.specs.LookUps
+pub use Rattle.class_outlines.specs.LookUps
 pub use Rattle.effect_scan.specs.Destroying
 pub use Rattle.effect_scan.specs.code.Relations
 pub use Rattle.effect_scan.specs.Nodes

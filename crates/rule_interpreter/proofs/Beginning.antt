@@ -16,7 +16,7 @@ use Rattle.trace_entries.specs.declared.fault.Fault.TheVariants.{BadType, TooDee
 use Rattle.event_loops.specs.declared.item.Item.TheVariants.{Call}
 use Rattle.std.specs.Option.{option_map}
 use Rattle.std.specs.Prelude.{is_some}
-use Rattle.meta_model.specs.declared.qobject.TheConstants.{DESTROYED}
+use Rattle.class_outlines.specs.declared.qobject.TheConstants.{DESTROYED}
 use Rattle.object_tree.specs.Objects.{Lives, life_of, home_of}
 use Rattle.object_tree.proofs.Changing.{life-of-lives, lives-of-life}
 use Rattle.object_tree.specs.declared.life.Life.{Life}

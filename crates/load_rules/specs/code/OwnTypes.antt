@@ -3,10 +3,10 @@ use Rattle.std.specs.Prelude.{List, Any, ◌⊎◌}
 use Rattle.syntax_trees.specs.declared.program.Signal.{Signal}
 use Rattle.syntax_trees.specs.declared.program.Slot.{Slot}
 use Rattle.syntax_trees.specs.declared.program.Class.{Class}
-use Rattle.meta_model.specs.declared.outline.Outline.{Outline}
+use Rattle.class_outlines.specs.declared.outline.Outline.{Outline}
 use Rattle.meta_model.specs.Conditions.{LacksPropertyType}
 use Rattle.meta_model.specs.Kinds.{LacksType}
-use Rattle.meta_model.specs.Outlines.{kinds_of}
+use Rattle.class_outlines.specs.Outlines.{kinds_of}
 
 -- the type of one of its own properties, or of a parameter of one of its own methods, isn't there
 abbrev pub DeclaresUnknown : List Outline → Class → Type 0

@@ -32,17 +32,17 @@ use Rattle.meta_model.specs.declared.object.MetaEndpoints.{MetaEndpoints}
 use Rattle.meta_model.specs.declared.object.Statement.{Statement}
 use Rattle.meta_model.specs.declared.object.Statement.TheOpen as statement
 use Rattle.meta_model.specs.declared.object.Statement.TheViews.{out-Statement}
-use Rattle.meta_model.specs.declared.outline.Outline.{Outline}
-use Rattle.meta_model.specs.declared.outline.Sort.TheVariants as sort
-use Rattle.meta_model.specs.Places.{StandsFirst}
-pub use Rattle.meta_model.specs.Indexed.{IsCallOf, IsPropertyOfName}
-use Rattle.meta_model.specs.Outlines.{IsOutlineNamed}
-use Rattle.meta_model.specs.declared.qobject.TheConstants.{OBJECT_NAME_CHANGED}
+use Rattle.class_outlines.specs.declared.outline.Outline.{Outline}
+use Rattle.class_outlines.specs.declared.outline.Sort.TheVariants as sort
+use Rattle.class_outlines.specs.Places.{StandsFirst}
+pub use Rattle.class_outlines.specs.Indexed.{IsCallOf, IsPropertyOfName}
+use Rattle.class_outlines.specs.Outlines.{IsOutlineNamed}
+use Rattle.class_outlines.specs.declared.qobject.TheConstants.{OBJECT_NAME_CHANGED}
 use Rattle.meta_model.specs.Literals.{literal}
 use Rattle.meta_model.specs.Sound.{AreSets}
 use Rattle.meta_model.specs.code.ReadTypes.{IsReadAs}
-use Rattle.meta_model.specs.Conditions.{IsSignalOf}
-use Rattle.meta_model.specs.Ends.{IsSigned}
+use Rattle.class_outlines.specs.Notifiers.{IsSignalOf}
+use Rattle.class_outlines.specs.Ends.{IsSigned}
 use Rattle.meta_objects.specs.declared.body_resolution.work.ResolvedWork.{ResolvedWork}
 use Rattle.meta_objects.specs.declared.body_resolution.work.ResolvedWork.TheVariants as loads
 use Rattle.meta_objects.specs.code.Natives.{AreEffects}

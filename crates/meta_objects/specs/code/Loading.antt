@@ -13,15 +13,15 @@ use Rattle.meta_model.specs.declared.object.MetaProperty.{MetaProperty}
 use Rattle.meta_model.specs.declared.object.MetaObject.{MetaObject}
 use Rattle.meta_model.specs.declared.object.MetaWire.{MetaWire}
 use Rattle.meta_model.specs.declared.object.MetaOwns.{MetaOwns}
-use Rattle.meta_model.specs.declared.outline.Sort.{Sort}
-use Rattle.meta_model.specs.declared.outline.Sort.TheVariants as sort
-use Rattle.meta_model.specs.declared.outline.Heading.{Heading}
-use Rattle.meta_model.specs.declared.outline.Outline.{Outline}
+use Rattle.class_outlines.specs.declared.outline.Sort.{Sort}
+use Rattle.class_outlines.specs.declared.outline.Sort.TheVariants as sort
+use Rattle.class_outlines.specs.declared.outline.Heading.{Heading}
+use Rattle.class_outlines.specs.declared.outline.Outline.{Outline}
 use Rattle.meta_model.specs.Loaded.{Loaded}
-use Rattle.meta_model.specs.Places.{IsPlace}
+use Rattle.class_outlines.specs.Places.{IsPlace}
 use Rattle.meta_model.specs.Root.{delete_later_body}
 use Rattle.meta_model.specs.code.ReadTypes.{IsReadAs}
-use Rattle.meta_model.specs.Conditions.{IsSignalOf}
+use Rattle.class_outlines.specs.Notifiers.{IsSignalOf}
 use Rattle.meta_model.specs.declared.site.MetaSite.{MetaSite}
 use Rattle.meta_objects.specs.declared.body_resolution.work.ResolvedWork.{ResolvedWork}
 use Rattle.meta_objects.specs.declared.body_resolution.work.ResolvedWork.TheVariants as resolved

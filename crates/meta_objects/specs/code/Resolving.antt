@@ -8,16 +8,16 @@ use Rattle.syntax_trees.specs.declared.syntax.Path.{Path}
 use Rattle.syntax_trees.specs.declared.program.Property.{Property}
 use Rattle.syntax_trees.specs.declared.program.Class.{Class}
 use Rattle.syntax_trees.specs.declared.program.Program.{Program}
-use Rattle.meta_model.specs.declared.fault.MetaFault.TheVariants as fault
+use Rattle.class_outlines.specs.declared.fault.MetaFault.TheVariants as fault
 use Rattle.meta_model.specs.declared.object.MetaRoot.{MetaRoot}
-use Rattle.meta_model.specs.declared.offence.LoadFault.{LoadFault}
-use Rattle.meta_model.specs.declared.offence.PartFault.{PartFault}
+use Rattle.class_outlines.specs.declared.offence.LoadFault.{LoadFault}
+use Rattle.class_outlines.specs.declared.offence.PartFault.{PartFault}
 use Rattle.meta_model.specs.declared.object.MetaPath.{MetaPath}
 use Rattle.meta_model.specs.declared.object.Step.{Step}
-use Rattle.meta_model.specs.declared.outline.Heading.{Heading}
-use Rattle.meta_model.specs.declared.outline.Outline.{Outline}
-use Rattle.meta_model.specs.Ends.{IsEnd}
-use Rattle.meta_model.specs.Offences.{LoadsPart, LoadsIn, LoadsOf}
+use Rattle.class_outlines.specs.declared.outline.Heading.{Heading}
+use Rattle.class_outlines.specs.declared.outline.Outline.{Outline}
+use Rattle.class_outlines.specs.Ends.{IsEnd}
+use Rattle.class_outlines.specs.Offences.{LoadsPart, LoadsIn, LoadsOf}
 use Rattle.meta_objects.specs.declared.body_resolution.path.Led.{Led}
 use Rattle.meta_objects.specs.declared.body_resolution.path.Target.{Target}
 use Rattle.meta_objects.specs.declared.body_resolution.scope.Scope.{Scope as ScopeGiven}

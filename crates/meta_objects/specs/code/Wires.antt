@@ -4,11 +4,11 @@ use Rattle.syntax_trees.specs.declared.program.Wire.{Wire}
 use Rattle.syntax_trees.specs.declared.program.Owns.{Owns}
 use Rattle.meta_model.specs.declared.object.MetaWire.{MetaWire}
 use Rattle.meta_model.specs.declared.object.MetaOwns.{MetaOwns}
-use Rattle.meta_model.specs.declared.outline.Outline.{Outline}
-use Rattle.meta_model.specs.Outlines.{IsOutlineNamed}
-use Rattle.meta_model.specs.declared.qobject.TheConstants.{OBJECT_NAME_CHANGED}
-use Rattle.meta_model.specs.Conditions.{IsSignalOf}
-use Rattle.meta_model.specs.Ends.{IsSigned, IsEnd}
+use Rattle.class_outlines.specs.declared.outline.Outline.{Outline}
+use Rattle.class_outlines.specs.Outlines.{IsOutlineNamed}
+use Rattle.class_outlines.specs.declared.qobject.TheConstants.{OBJECT_NAME_CHANGED}
+use Rattle.class_outlines.specs.Notifiers.{IsSignalOf}
+use Rattle.class_outlines.specs.Ends.{IsSigned, IsEnd}
 
 -- a wire leads from a signal to a slot or a signal, which isn't one that the runtime emits
 pub record IsWire (outlines : List Outline) (wire : Wire) (loaded : MetaWire) : Type 0 where

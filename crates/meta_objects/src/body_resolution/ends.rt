@@ -6,7 +6,8 @@ ghost use Rattle.meta_objects.specs.code.Resolving.{scope, Resolves};
 use crate::body_resolution::path::Target;
 use crate::body_resolution::scope::Scope;
 use crate::missing::no_method;
-use meta_model::{End, MetaEndpoints, OBJECT_NAME_CHANGED, PartFault, names_of_sig};
+use class_outlines::{End, OBJECT_NAME_CHANGED, PartFault, names_of_sig};
+use meta_model::MetaEndpoints;
 use syntax_trees::{Endpoints, Path};
 
 impl<'a> Scope<'a> {

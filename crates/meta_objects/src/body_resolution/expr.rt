@@ -7,7 +7,8 @@ ghost use Rattle.meta_objects.specs.code.Resolving.{scope, Resolves};
 use crate::body_resolution::path::Led;
 use crate::body_resolution::scope::Scope;
 use crate::literals::literal_of;
-use meta_model::{MetaPath, PartFault};
+use class_outlines::PartFault;
+use meta_model::MetaPath;
 use sqlite_items::{Boxed, Items};
 use syntax_trees::{Expr, Path};
 

@@ -1,17 +1,16 @@
 //! Paths whose names are resolved.
 
 ghost use Rattle.std.specs.Prelude.{◌≡◌};
-ghost use Rattle.meta_model.specs.Offences.{fault_in};
-ghost use Rattle.meta_model.specs.declared.fault.MetaFault.TheVariants.{NoMember};
+ghost use Rattle.class_outlines.specs.Offences.{fault_in};
+ghost use Rattle.class_outlines.specs.declared.fault.MetaFault.TheVariants.{NoMember};
 ghost use Rattle.meta_objects.specs.code.Bodies.{IsReferencePath};
 ghost use Rattle.meta_objects.specs.code.Resolving.{scope, Resolves, ResolvesPath, ResolvesFrom, ResolvesObject};
 ghost use Rattle.meta_objects.specs.code.Resolving.{FindsClass, FindsMember};
 
 use crate::body_resolution::scope::Scope;
 use crate::missing::undeclared;
-use meta_model::{
-    IndexedOutline, MetaPath, MetaRoot, Missing, PartFault, Step, find, read_kind, reference_to,
-};
+use class_outlines::{IndexedOutline, Missing, PartFault, find, reference_to};
+use meta_model::{MetaPath, MetaRoot, Step, read_kind};
 use signatures::{Name, QType};
 use sqlite_items::Items;
 use syntax_trees::{Path, Property, Root};

@@ -1,6 +1,6 @@
 //! Where slot bodies stand.
 
-use meta_model::IndexedOutline;
+use class_outlines::IndexedOutline;
 use signatures::Name;
 use std::alloc::Global;
 use syntax_trees::Parameter;

@@ -6,10 +6,10 @@ ghost use Rattle.meta_objects.specs.code.Resolving.{Resolves, ResolvesClassWorks
 
 use crate::body_resolution::scope::Scope;
 use crate::resolve_native::resolve_effects;
-use meta_model::{
-    Declaration, IndexedOutline, LoadFault, Member, MetaEffects, PartFault, SlotBody,
-    names_before_work,
+use class_outlines::{
+    Declaration, IndexedOutline, LoadFault, Member, PartFault, names_before_work,
 };
+use meta_model::{MetaEffects, SlotBody};
 use sqlite_items::Items;
 use std::alloc::Global;
 use syntax_trees::{Body, Class, Program, Slot, SlotWork};

@@ -32,7 +32,7 @@ use Rattle.machine_rules.specs.Natives.{NativeAnswers}
 use Rattle.statement_meaning.specs.Operations.{Operation, Begin}
 use Rattle.machine_rules.specs.Rules.{Rule, Begins, Connects, Disconnects, begin_entry}
 use Rattle.machine_rules.specs.Settling.{Writes}
-use Rattle.meta_model.specs.Outlines.{destroyed}
+use Rattle.class_outlines.specs.Outlines.{destroyed}
 use Rattle.object_tree.specs.Objects.{life_of, home_of}
 use Rattle.prop_bindings.specs.Fits.{Agree}
 use Rattle.trace_entries.specs.declared.entry.Shown.TheVariants as show

@@ -1,5 +1,5 @@
 use Rattle.std.proofs.Common.{subst, List, Bool, length}
-use Rattle.meta_model.proofs.Zips.{zip_push}
+use Rattle.class_outlines.proofs.Zips.{zip_push}
 use Rattle.effect_scan.specs.code.Places.{Lists}
 use Rattle.effect_scan.specs.code.Relations.{IsMarked}
 use Rattle.effect_scan.proofs.closure.list_rows.Goals as goal

@@ -1,5 +1,5 @@
 use Rattle.std.proofs.Common.{◌<◌, length, refl, arith}
-use Rattle.meta_model.proofs.Zips.{zip_push}
+use Rattle.class_outlines.proofs.Zips.{zip_push}
 use Rattle.effect_scan.specs.code.Adding.{IsOrdered}
 use Rattle.effect_scan.proofs.Adding.{left_rows, row_taken}
 use Rattle.effect_scan.proofs.rows.ordered_rows.Goals as goal

@@ -1,5 +1,5 @@
 use Rattle.std.proofs.Common.{inl, inr, refl}
-use Rattle.meta_model.specs.Conditions.{IsTaken, DuplicateClass}
+use Rattle.class_outlines.specs.Clashes.{IsTaken, DuplicateClass}
 use Rattle.load_rules.proofs.clashes.duplicate_class.Goals as goal
 
 pub returns-in-Some : goal.returns-in-Some

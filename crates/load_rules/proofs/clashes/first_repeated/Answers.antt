@@ -1,4 +1,4 @@
-use Rattle.meta_model.proofs.Choices.{fails}
+use Rattle.class_outlines.proofs.Choices.{fails}
 use Rattle.load_rules.proofs.Repeats.{none_repeats, repeats_further, repeats_here, repeats_never}
 use Rattle.load_rules.proofs.clashes.first_repeated.Goals as goal
 

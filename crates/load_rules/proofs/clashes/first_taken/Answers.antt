@@ -1,8 +1,8 @@
 use Rattle.std.proofs.Common.{refl}
 use Rattle.syntax_trees.specs.declared.program.Class.{Class}
-use Rattle.meta_model.specs.Conditions.{IsTaken}
-use Rattle.meta_model.proofs.Choices.{fails}
-use Rattle.meta_model.proofs.Offending.{none_further, any_met, none_met}
+use Rattle.class_outlines.specs.Clashes.{IsTaken}
+use Rattle.class_outlines.proofs.Choices.{fails}
+use Rattle.class_outlines.proofs.Offending.{none_further, any_met, none_met}
 use Rattle.load_rules.proofs.clashes.first_taken.Goals as goal
 
 pub loop-place-preserved : goal.loop-place-preserved

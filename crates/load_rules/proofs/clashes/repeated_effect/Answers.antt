@@ -1,9 +1,9 @@
 use Rattle.std.specs.Prelude.{◌≡◌, ℕ, List}
 use Rattle.meta_model.specs.Natives.{RepeatsAction}
-use Rattle.meta_model.specs.Twice.{StandsTwice}
+use Rattle.class_outlines.specs.Twice.{StandsTwice}
 use Rattle.std.proofs.Common.{inl, refl}
-use Rattle.meta_model.specs.declared.fault.MetaFault.TheVariants as fault
-use Rattle.meta_model.proofs.Offending.{or_breach}
+use Rattle.class_outlines.specs.declared.fault.MetaFault.TheVariants as fault
+use Rattle.class_outlines.proofs.Offending.{or_breach}
 use Rattle.load_rules.proofs.clashes.repeated_effect.Goals as goal
 
 pub returns-in-Some : goal.returns-in-Some

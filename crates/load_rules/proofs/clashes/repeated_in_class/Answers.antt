@@ -2,8 +2,8 @@ use Rattle.std.specs.Prelude.{Any}
 use Rattle.syntax_trees.specs.declared.program.Signal.{Signal}
 use Rattle.meta_model.specs.Conditions.{RepeatsName, RepeatsInSlot}
 use Rattle.std.proofs.Common.{inl}
-use Rattle.meta_model.specs.declared.fault.MetaFault.TheVariants as fault
-use Rattle.meta_model.proofs.Offending.{or_offence_in}
+use Rattle.class_outlines.specs.declared.fault.MetaFault.TheVariants as fault
+use Rattle.class_outlines.proofs.Offending.{or_offence_in}
 use Rattle.load_rules.proofs.clashes.repeated_in_class.Goals as goal
 
 pub returns-in-Some : goal.returns-in-Some

@@ -1,6 +1,6 @@
 use Rattle.meta_model.specs.Conditions.{RepeatsInMethod}
-use Rattle.meta_model.specs.declared.fault.MetaFault.TheVariants as fault
-use Rattle.meta_model.proofs.Offending.{item_at, none_further, any_met, none_met, offends_from}
+use Rattle.class_outlines.specs.declared.fault.MetaFault.TheVariants as fault
+use Rattle.class_outlines.proofs.Offending.{item_at, none_further, any_met, none_met, offends_from}
 use Rattle.load_rules.proofs.clashes.repeated_in_classes.Goals as goal
 
 pub loop-number-preserved : goal.loop-number-preserved

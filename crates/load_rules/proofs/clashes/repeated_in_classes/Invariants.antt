@@ -1,6 +1,6 @@
 use Rattle.std.proofs.Common.{ℕ, ◌<◌}
 use Rattle.meta_model.specs.Conditions.{RepeatsInMethod}
-use Rattle.meta_model.specs.Places.{StandsAt}
+use Rattle.class_outlines.specs.Places.{StandsAt}
 use Rattle.load_rules.proofs.clashes.repeated_in_classes.Given as goal
 
 abbrev pub invariant-loop-number : goal.invariant-loop-number

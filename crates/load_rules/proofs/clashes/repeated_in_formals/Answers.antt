@@ -1,7 +1,7 @@
 use Rattle.meta_model.specs.Sites.{RepeatsFormal}
-use Rattle.meta_model.specs.declared.fault.MetaFault.TheVariants as fault
-use Rattle.meta_model.specs.declared.offence.Declaration.TheVariants as declaration
-use Rattle.meta_model.proofs.Offending.{within, none_further, any_met, none_met, offends}
+use Rattle.class_outlines.specs.declared.fault.MetaFault.TheVariants as fault
+use Rattle.class_outlines.specs.declared.offence.Declaration.TheVariants as declaration
+use Rattle.class_outlines.proofs.Offending.{within, none_further, any_met, none_met, offends}
 use Rattle.load_rules.proofs.clashes.repeated_in_formals.Goals as goal
 
 pub loop-place-preserved : goal.loop-place-preserved

@@ -1,7 +1,7 @@
 use Rattle.std.proofs.Common.{ℕ, ◌<◌}
 use Rattle.syntax_trees.specs.declared.program.Signal.{Signal}
 use Rattle.meta_model.specs.Conditions.{RepeatsName}
-use Rattle.meta_model.specs.Places.{StandsAt}
+use Rattle.class_outlines.specs.Places.{StandsAt}
 use Rattle.load_rules.proofs.clashes.repeated_in_signals.Given as goal
 
 abbrev pub invariant-loop-place : goal.invariant-loop-place

@@ -1,11 +1,11 @@
 use Rattle.std.specs.Prelude.{◌≡◌, Any}
 use Rattle.syntax_trees.specs.declared.program.Site.{Site}
 use Rattle.meta_model.specs.Sites.{RepeatsFormal}
-use Rattle.meta_model.specs.Twice.{StandsTwice}
+use Rattle.class_outlines.specs.Twice.{StandsTwice}
 use Rattle.std.proofs.Common.{inl, refl}
-use Rattle.meta_model.specs.declared.fault.MetaFault.TheVariants as fault
-use Rattle.meta_model.specs.declared.offence.Declaration.TheVariants as declaration
-use Rattle.meta_model.proofs.Offending.{offends, or_offence}
+use Rattle.class_outlines.specs.declared.fault.MetaFault.TheVariants as fault
+use Rattle.class_outlines.specs.declared.offence.Declaration.TheVariants as declaration
+use Rattle.class_outlines.proofs.Offending.{offends, or_offence}
 use Rattle.load_rules.proofs.clashes.repeated_in_sites.Goals as goal
 
 pub returns-in-Some : goal.returns-in-Some

@@ -1,8 +1,8 @@
 use Rattle.meta_model.specs.Conditions.{RepeatsName}
 use Rattle.meta_model.specs.Natives.{RepeatsEffectIn}
 use Rattle.std.proofs.Common.{inl}
-use Rattle.meta_model.specs.declared.fault.MetaFault.TheVariants as fault
-use Rattle.meta_model.proofs.Offending.{or_breach}
+use Rattle.class_outlines.specs.declared.fault.MetaFault.TheVariants as fault
+use Rattle.class_outlines.proofs.Offending.{or_breach}
 use Rattle.load_rules.proofs.clashes.repeated_in_slot.Goals as goal
 
 pub returns-in-Some : goal.returns-in-Some

@@ -1,6 +1,6 @@
 use Rattle.std.proofs.Common.{ℕ, ◌<◌}
 use Rattle.meta_model.specs.Conditions.{RepeatsInSlot}
-use Rattle.meta_model.specs.Places.{StandsAt}
+use Rattle.class_outlines.specs.Places.{StandsAt}
 use Rattle.load_rules.proofs.clashes.repeated_in_slots.Given as goal
 
 abbrev pub invariant-loop-place : goal.invariant-loop-place

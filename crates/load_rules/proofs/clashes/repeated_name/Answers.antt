@@ -2,8 +2,8 @@ use Rattle.std.specs.Prelude.{Any}
 use Rattle.meta_model.specs.Conditions.{RepeatsInMethod}
 use Rattle.meta_model.specs.Sites.{RepeatsSite}
 use Rattle.std.proofs.Common.{inl}
-use Rattle.meta_model.specs.declared.fault.MetaFault.TheVariants as fault
-use Rattle.meta_model.proofs.Offending.{or_offence}
+use Rattle.class_outlines.specs.declared.fault.MetaFault.TheVariants as fault
+use Rattle.class_outlines.proofs.Offending.{or_offence}
 use Rattle.load_rules.proofs.clashes.repeated_name.Goals as goal
 
 pub returns-in-Some : goal.returns-in-Some

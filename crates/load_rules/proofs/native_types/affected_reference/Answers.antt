@@ -3,8 +3,8 @@ use Rattle.meta_model.specs.Natives.{ActsOnReference}
 use Rattle.meta_model.specs.Sites.{IsReferenceIn}
 use Rattle.std.proofs.Common.{inl}
 use Rattle.std.proofs.lemmas.Result.{IfOk-weaker}
-use Rattle.meta_model.specs.declared.fault.MetaFault.TheVariants as fault
-use Rattle.meta_model.proofs.Offending.{or_breach}
+use Rattle.class_outlines.specs.declared.fault.MetaFault.TheVariants as fault
+use Rattle.class_outlines.proofs.Offending.{or_breach}
 use Rattle.load_rules.proofs.native_types.affected_reference.Goals as goal
 
 pub returns-in-Some : goal.returns-in-Some

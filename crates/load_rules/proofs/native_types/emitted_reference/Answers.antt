@@ -2,7 +2,7 @@ use Rattle.std.proofs.Common.{refl}
 use Rattle.std.specs.Prelude.{Any}
 use Rattle.signatures.specs.declared.sig.Sig.{Sig}
 use Rattle.meta_model.specs.Natives.{IsPointer}
-use Rattle.meta_model.proofs.Offending.{none_further, any_met, none_met}
+use Rattle.class_outlines.proofs.Offending.{none_further, any_met, none_met}
 use Rattle.load_rules.proofs.native_types.emitted_reference.Goals as goal
 
 pub loop-sig-preserved : goal.loop-sig-preserved

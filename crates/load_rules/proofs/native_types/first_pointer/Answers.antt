@@ -1,6 +1,6 @@
 use Rattle.std.proofs.Common.{refl}
 use Rattle.meta_model.specs.Natives.{IsPointer}
-use Rattle.meta_model.proofs.Offending.{none_further, any_met, none_met}
+use Rattle.class_outlines.proofs.Offending.{none_further, any_met, none_met}
 use Rattle.load_rules.proofs.native_types.first_pointer.Goals as goal
 
 pub loop-place-preserved : goal.loop-place-preserved

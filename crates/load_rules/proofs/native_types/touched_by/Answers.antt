@@ -1,8 +1,8 @@
 use Rattle.meta_model.specs.Natives.{TakesReference, AffectsReference}
 use Rattle.std.proofs.Common.{inl}
 use Rattle.std.proofs.lemmas.Result.{IfOk-weaker}
-use Rattle.meta_model.specs.declared.fault.MetaFault.TheVariants as fault
-use Rattle.meta_model.proofs.Offending.{or_breach}
+use Rattle.class_outlines.specs.declared.fault.MetaFault.TheVariants as fault
+use Rattle.class_outlines.proofs.Offending.{or_breach}
 use Rattle.load_rules.proofs.native_types.touched_by.Goals as goal
 
 pub returns-in-Body : goal.returns-in-Body

@@ -1,6 +1,6 @@
 use Rattle.std.proofs.Common.{ℕ, ◌<◌}
 use Rattle.meta_model.specs.Natives.{HasReferenceNative}
-use Rattle.meta_model.specs.Places.{StandsAt}
+use Rattle.class_outlines.specs.Places.{StandsAt}
 use Rattle.load_rules.proofs.native_types.touched_reference.Given as goal
 
 abbrev pub invariant-loop-number : goal.invariant-loop-number

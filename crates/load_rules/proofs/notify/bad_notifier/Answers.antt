@@ -2,10 +2,10 @@ use Rattle.std.proofs.Common.{◌≡◌, ℕ, suc, ◌+◌, ◌<◌, List, lengt
 use Rattle.std.proofs.lemmas.Option.{slice_get_read, slice_get_within}
 use Rattle.syntax_trees.specs.declared.program.Property.{Property}
 use Rattle.syntax_trees.specs.declared.program.Class.{Class}
-use Rattle.meta_model.specs.declared.fault.MetaFault.TheVariants as fault
-use Rattle.meta_model.specs.declared.outline.Outline.{Outline}
-use Rattle.meta_model.specs.Conditions.{LacksNotifier}
-use Rattle.meta_model.proofs.Offending.{item_at, within, offends_from}
+use Rattle.class_outlines.specs.declared.fault.MetaFault.TheVariants as fault
+use Rattle.class_outlines.specs.declared.outline.Outline.{Outline}
+use Rattle.class_outlines.specs.Notifiers.{LacksNotifier}
+use Rattle.class_outlines.proofs.Offending.{item_at, within, offends_from}
 use Rattle.load_rules.proofs.OwnMembers.{next_own, notifies_badly, none_notifies_badly}
 use Rattle.load_rules.proofs.notify.bad_notifier.Goals as goal
 

@@ -1,8 +1,8 @@
 use Rattle.std.proofs.Common.{◌≡◌, ℕ, suc, ◌<◌, Any, slice_get, Some}
 use Rattle.syntax_trees.specs.declared.program.Property.{Property}
 use Rattle.syntax_trees.specs.declared.program.Class.{Class}
-use Rattle.meta_model.specs.declared.outline.Outline.{Outline}
-use Rattle.meta_model.specs.Conditions.{LacksNotifier}
+use Rattle.class_outlines.specs.declared.outline.Outline.{Outline}
+use Rattle.class_outlines.specs.Notifiers.{LacksNotifier}
 use Rattle.load_rules.proofs.notify.bad_notifier.Given as goal
 
 -- none of the classes so far declares such a property

@@ -1,8 +1,8 @@
 use Rattle.syntax_trees.specs.declared.program.Property.{Property}
-use Rattle.meta_model.specs.Conditions.{LacksNotifier}
-use Rattle.meta_model.specs.declared.fault.MetaFault.TheVariants as fault
-use Rattle.meta_model.specs.declared.offence.Member.TheVariants as member
-use Rattle.meta_model.proofs.Offending.{within, none_further, any_met, none_met, offends_in}
+use Rattle.class_outlines.specs.Notifiers.{LacksNotifier}
+use Rattle.class_outlines.specs.declared.fault.MetaFault.TheVariants as fault
+use Rattle.class_outlines.specs.declared.offence.Member.TheVariants as member
+use Rattle.class_outlines.proofs.Offending.{within, none_further, any_met, none_met, offends_in}
 use Rattle.load_rules.proofs.notify.bad_notifier_of.Goals as goal
 
 pub loop-place-preserved : goal.loop-place-preserved

@@ -1,5 +1,5 @@
 use Rattle.std.proofs.Common.{ℕ, ◌<◌}
-use Rattle.meta_model.specs.Places.{StandsAt}
+use Rattle.class_outlines.specs.Places.{StandsAt}
 use Rattle.meta_model.specs.Sites.{UsesReference}
 use Rattle.load_rules.proofs.site_references.bound_reference.Given as goal
 

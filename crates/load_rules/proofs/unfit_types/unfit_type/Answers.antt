@@ -1,8 +1,8 @@
 use Rattle.meta_model.specs.Conditions.{LacksAnyType, MisusesReference}
 use Rattle.std.proofs.Common.{inl}
 use Rattle.std.proofs.lemmas.Result.{IfOk-weaker}
-use Rattle.meta_model.specs.declared.fault.MetaFault.TheVariants as fault
-use Rattle.meta_model.proofs.Offending.{or_offence}
+use Rattle.class_outlines.specs.declared.fault.MetaFault.TheVariants as fault
+use Rattle.class_outlines.proofs.Offending.{or_offence}
 use Rattle.load_rules.proofs.unfit_types.unfit_type.Goals as goal
 
 pub returns-in-Some : goal.returns-in-Some

@@ -2,8 +2,8 @@ use Rattle.std.proofs.Common.{ℕ, ◌<◌}
 use Rattle.std.specs.Prelude.{Any}
 use Rattle.syntax_trees.specs.declared.program.Signal.{Signal}
 use Rattle.meta_model.specs.Kinds.{LacksType}
-use Rattle.meta_model.specs.Outlines.{kinds_of}
-use Rattle.meta_model.specs.Places.{StandsAt}
+use Rattle.class_outlines.specs.Outlines.{kinds_of}
+use Rattle.class_outlines.specs.Places.{StandsAt}
 use Rattle.load_rules.proofs.unknown_types.unknown_in_signals.Given as goal
 
 abbrev pub invariant-loop-place : goal.invariant-loop-place

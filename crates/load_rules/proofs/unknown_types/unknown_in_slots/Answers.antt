@@ -1,10 +1,10 @@
 use Rattle.std.specs.Prelude.{Any}
 use Rattle.syntax_trees.specs.declared.program.Slot.{Slot}
 use Rattle.meta_model.specs.Kinds.{LacksType}
-use Rattle.meta_model.specs.Outlines.{kinds_of}
-use Rattle.meta_model.specs.declared.fault.MetaFault.TheVariants as fault
-use Rattle.meta_model.specs.declared.offence.Member.TheVariants as member
-use Rattle.meta_model.proofs.Offending.{within, none_further, any_met, none_met, offends_in}
+use Rattle.class_outlines.specs.Outlines.{kinds_of}
+use Rattle.class_outlines.specs.declared.fault.MetaFault.TheVariants as fault
+use Rattle.class_outlines.specs.declared.offence.Member.TheVariants as member
+use Rattle.class_outlines.proofs.Offending.{within, none_further, any_met, none_met, offends_in}
 use Rattle.load_rules.proofs.unknown_types.unknown_in_slots.Goals as goal
 
 pub loop-place-preserved : goal.loop-place-preserved

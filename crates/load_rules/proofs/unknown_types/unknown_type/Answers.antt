@@ -1,7 +1,7 @@
-use Rattle.meta_model.specs.declared.fault.MetaFault.TheVariants as fault
+use Rattle.class_outlines.specs.declared.fault.MetaFault.TheVariants as fault
 use Rattle.load_rules.specs.code.OwnTypes.{DeclaresUnknown}
-use Rattle.meta_model.proofs.Offending.{item_at, none_further, none_met, offends_from}
-use Rattle.meta_model.proofs.Once.{none_at}
+use Rattle.class_outlines.proofs.Offending.{item_at, none_further, none_met, offends_from}
+use Rattle.class_outlines.proofs.Once.{none_at}
 use Rattle.load_rules.proofs.OwnMembers.{lacks_type, none_lacks_type}
 use Rattle.load_rules.proofs.unknown_types.unknown_type.Goals as goal
 

@@ -1,5 +1,5 @@
 use Rattle.std.proofs.Common.{ℕ, ◌<◌}
-use Rattle.meta_model.specs.Places.{StandsAt}
+use Rattle.class_outlines.specs.Places.{StandsAt}
 use Rattle.load_rules.specs.code.OwnTypes.{DeclaresUnknown}
 use Rattle.load_rules.proofs.unknown_types.unknown_type.Given as goal
 

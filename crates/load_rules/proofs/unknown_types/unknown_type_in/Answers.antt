@@ -3,10 +3,10 @@ use Rattle.syntax_trees.specs.declared.program.Signal.{Signal}
 use Rattle.syntax_trees.specs.declared.program.Slot.{Slot}
 use Rattle.meta_model.specs.Conditions.{LacksPropertyType}
 use Rattle.meta_model.specs.Kinds.{LacksType}
-use Rattle.meta_model.specs.Outlines.{kinds_of}
+use Rattle.class_outlines.specs.Outlines.{kinds_of}
 use Rattle.std.proofs.Common.{inl, inr}
-use Rattle.meta_model.specs.declared.fault.MetaFault.TheVariants as fault
-use Rattle.meta_model.proofs.Offending.{or_offence_in}
+use Rattle.class_outlines.specs.declared.fault.MetaFault.TheVariants as fault
+use Rattle.class_outlines.proofs.Offending.{or_offence_in}
 use Rattle.load_rules.proofs.unknown_types.unknown_type_in.Goals as goal
 
 pub returns-in-Some : goal.returns-in-Some

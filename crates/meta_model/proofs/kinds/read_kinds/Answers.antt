@@ -1,5 +1,5 @@
 use Rattle.std.proofs.Common.{rules}
-use Rattle.meta_model.proofs.Zips.{zip_push}
+use Rattle.class_outlines.proofs.Zips.{zip_push}
 use Rattle.meta_model.proofs.kinds.read_kinds.Goals as goal
 
 pub loop-one-preserved : goal.loop-one-preserved

@@ -1,5 +1,5 @@
 use Rattle.meta_model.specs.declared.object.MetaObject.{MetaObject}
-use Rattle.meta_model.proofs.Indexing.{names_more, names_all}
+use Rattle.class_outlines.proofs.Indexing.{names_more, names_all}
 use Rattle.meta_objects.proofs.class_index.index_classes.Goals as goal
 
 pub loop-number-preserved : goal.loop-number-preserved

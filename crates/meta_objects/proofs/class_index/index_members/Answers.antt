@@ -1,5 +1,5 @@
 use Rattle.meta_objects.specs.Indexes.{IndexesMembers}
-use Rattle.meta_model.proofs.Zips.{zip_push}
+use Rattle.class_outlines.proofs.Zips.{zip_push}
 use Rattle.meta_objects.proofs.class_index.index_members.Goals as goal
 
 pub loop-class-preserved : goal.loop-class-preserved

@@ -1,7 +1,7 @@
 use Rattle.std.proofs.Common.{◌≡◌, ℕ, List}
-use Rattle.meta_model.specs.NamePlaces.{place_in}
+use Rattle.class_outlines.specs.NamePlaces.{place_in}
 use Rattle.meta_model.specs.declared.object.MetaProperty.{MetaProperty}
-use Rattle.meta_model.proofs.Indexing.{IsPlaceBefore}
+use Rattle.class_outlines.proofs.Indexing.{IsPlaceBefore}
 use Rattle.meta_objects.proofs.class_index.index_properties.Given as goal
 
 -- the index is that of the items so far

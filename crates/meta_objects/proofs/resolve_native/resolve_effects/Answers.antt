@@ -1,10 +1,10 @@
 use Rattle.std.proofs.Common.{ℕ, Any}
 use Rattle.std.specs.List.{AllZip}
 use Rattle.meta_model.specs.declared.effects.MetaEffects.{MetaEffects}
-use Rattle.meta_model.specs.declared.fault.MetaFault.TheVariants as fault
+use Rattle.class_outlines.specs.declared.fault.MetaFault.TheVariants as fault
 use Rattle.meta_objects.specs.code.Natives.{HasPropertyIn, HasSignalIn, AreEffects}
-use Rattle.meta_model.proofs.Loading.{failed}
-use Rattle.meta_model.proofs.Zips.{none_of_zip}
+use Rattle.class_outlines.proofs.Loading.{failed}
+use Rattle.class_outlines.proofs.Zips.{none_of_zip}
 use Rattle.meta_objects.proofs.resolve_native.resolve_effects.Goals as goal
 
 pub returns-in_err-reads : goal.returns-in_err-reads

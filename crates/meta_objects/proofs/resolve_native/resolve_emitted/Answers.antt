@@ -1,7 +1,7 @@
 use Rattle.std.proofs.Common.{sym, rules}
-use Rattle.meta_model.specs.declared.fault.MetaFault.TheVariants as fault
-use Rattle.meta_model.proofs.Loading.{lacking}
-use Rattle.meta_model.proofs.Zips.{zip_push}
+use Rattle.class_outlines.specs.declared.fault.MetaFault.TheVariants as fault
+use Rattle.class_outlines.proofs.Loading.{lacking}
+use Rattle.class_outlines.proofs.Zips.{zip_push}
 use Rattle.meta_objects.proofs.resolve_native.resolve_emitted.Goals as goal
 
 pub loop-sig-preserved : goal.loop-sig-preserved

@@ -1,5 +1,5 @@
 use Rattle.std.proofs.Common.{inr, refl, sym, rules}
-use Rattle.meta_model.proofs.Zips.{zip_push}
+use Rattle.class_outlines.proofs.Zips.{zip_push}
 use Rattle.meta_objects.proofs.resolve_native.resolve_named.Goals as goal
 
 pub loop-name-preserved : goal.loop-name-preserved

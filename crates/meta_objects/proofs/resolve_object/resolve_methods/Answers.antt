@@ -1,5 +1,5 @@
 use Rattle.std.proofs.Common.{rules}
-use Rattle.meta_model.proofs.Zips.{zip_push}
+use Rattle.class_outlines.proofs.Zips.{zip_push}
 use Rattle.meta_objects.proofs.resolve_object.resolve_methods.Goals as goal
 
 pub loop-heading-preserved : goal.loop-heading-preserved

@@ -1,5 +1,5 @@
 use Rattle.std.proofs.Common.{inr, refl, sym, rules}
-use Rattle.meta_model.proofs.Zips.{zip_push}
+use Rattle.class_outlines.proofs.Zips.{zip_push}
 use Rattle.meta_objects.proofs.resolve_site.resolve_formals.Goals as goal
 
 pub loop-formal-preserved : goal.loop-formal-preserved

@@ -1,7 +1,7 @@
 use Rattle.std.proofs.Common.{ℕ, take}
 use Rattle.std.specs.List.{AllZip}
 use Rattle.syntax_trees.specs.declared.program.Formal.{Formal}
-use Rattle.meta_model.specs.Outlines.{IsOutlineNamed}
+use Rattle.class_outlines.specs.Outlines.{IsOutlineNamed}
 use Rattle.meta_objects.proofs.resolve_site.resolve_formals.Given as goal
 
 abbrev pub invariant-loop-formal : goal.invariant-loop-formal

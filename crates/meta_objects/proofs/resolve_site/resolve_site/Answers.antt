@@ -1,11 +1,11 @@
 use Rattle.std.proofs.Common.{ℕ, Any, inr, refl}
 use Rattle.std.specs.List.{AllZip}
 use Rattle.syntax_trees.specs.declared.program.Formal.{Formal}
-use Rattle.meta_model.specs.declared.fault.MetaFault.TheVariants as fault
-use Rattle.meta_model.specs.Outlines.{IsOutlineNamed}
+use Rattle.class_outlines.specs.declared.fault.MetaFault.TheVariants as fault
+use Rattle.class_outlines.specs.Outlines.{IsOutlineNamed}
 use Rattle.meta_objects.specs.code.Sites.{IsSite}
 use Rattle.meta_objects.specs.LackedNames.{LacksInSite}
-use Rattle.meta_model.proofs.Loading.{failed}
+use Rattle.class_outlines.proofs.Loading.{failed}
 use Rattle.meta_objects.proofs.SitePieces.{no_formals}
 use Rattle.meta_objects.proofs.resolve_site.resolve_site.Goals as goal
 

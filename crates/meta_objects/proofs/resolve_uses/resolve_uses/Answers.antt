@@ -5,7 +5,7 @@ use Rattle.meta_objects.specs.code.Bodies.{AllWorks}
 use Rattle.meta_objects.specs.code.Wires.{IsWire, IsOwns}
 use Rattle.meta_objects.specs.code.Loading.{HasUses}
 use Rattle.meta_objects.specs.code.Sites.{IsSite}
-use Rattle.meta_model.proofs.Loading.{stopped}
+use Rattle.class_outlines.proofs.Loading.{stopped}
 use Rattle.meta_objects.proofs.resolve_uses.resolve_uses.Goals as goal
 
 pub returns-in_err-works : goal.returns-in_err-works

@@ -2,10 +2,10 @@ use Rattle.std.proofs.Common.{Any}
 use Rattle.std.specs.List.{AllZip}
 use Rattle.meta_objects.specs.code.Wires.{IsOwns}
 use Rattle.meta_objects.specs.LackedNames.{LacksClass}
-use Rattle.meta_model.specs.declared.fault.MetaFault.TheVariants as fault
-use Rattle.meta_model.specs.declared.offence.Declaration.TheVariants as declaration
-use Rattle.meta_model.proofs.Loading.{stops_at}
-use Rattle.meta_model.proofs.Offending.{within, any_met, zip_further, zip_done}
+use Rattle.class_outlines.specs.declared.fault.MetaFault.TheVariants as fault
+use Rattle.class_outlines.specs.declared.offence.Declaration.TheVariants as declaration
+use Rattle.class_outlines.proofs.Loading.{stops_at}
+use Rattle.class_outlines.proofs.Offending.{within, any_met, zip_further, zip_done}
 use Rattle.meta_objects.proofs.resolve_wire.resolve_owns.Goals as goal
 
 pub loop-place-preserved : goal.loop-place-preserved

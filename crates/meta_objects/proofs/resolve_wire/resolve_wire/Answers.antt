@@ -1,6 +1,6 @@
 use Rattle.std.proofs.Common.{arith}
-use Rattle.meta_model.specs.declared.fault.MetaFault.TheVariants as fault
-use Rattle.meta_model.proofs.Loading.{lacking}
+use Rattle.class_outlines.specs.declared.fault.MetaFault.TheVariants as fault
+use Rattle.class_outlines.proofs.Loading.{lacking}
 use Rattle.meta_objects.proofs.Ends.{one_end}
 use Rattle.meta_objects.proofs.resolve_wire.resolve_wire.Goals as goal
 

@@ -1,11 +1,11 @@
 use Rattle.std.proofs.Common.{Any}
 use Rattle.std.specs.List.{AllZip}
-use Rattle.meta_model.specs.declared.fault.MetaFault.TheVariants as fault
-use Rattle.meta_model.specs.declared.offence.Member.TheVariants as member
+use Rattle.class_outlines.specs.declared.fault.MetaFault.TheVariants as fault
+use Rattle.class_outlines.specs.declared.offence.Member.TheVariants as member
 use Rattle.meta_objects.specs.LackedNames.{LacksInSlot, LacksInClass}
 use Rattle.meta_objects.specs.code.Bodies.{IsSlotWork}
-use Rattle.meta_model.proofs.Loading.{stops_in}
-use Rattle.meta_model.proofs.Offending.{within, any_met, zip_further, zip_done}
+use Rattle.class_outlines.proofs.Loading.{stops_in}
+use Rattle.class_outlines.proofs.Offending.{within, any_met, zip_further, zip_done}
 use Rattle.meta_objects.proofs.body_resolution.work.resolve_class_works.Goals as goal
 
 pub loop-place-preserved : goal.loop-place-preserved

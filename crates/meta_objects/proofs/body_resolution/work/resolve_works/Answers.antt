@@ -1,10 +1,10 @@
 use Rattle.std.proofs.Common.{Any}
 use Rattle.std.specs.List.{AllZip}
-use Rattle.meta_model.specs.declared.fault.MetaFault.TheVariants as fault
+use Rattle.class_outlines.specs.declared.fault.MetaFault.TheVariants as fault
 use Rattle.meta_objects.specs.LackedNames.{LacksInClass}
 use Rattle.meta_objects.specs.code.Bodies.{AreWorks, AllWorks}
-use Rattle.meta_model.proofs.Loading.{stopped_in}
-use Rattle.meta_model.proofs.Offending.{item_at, any_met, zip_further, zip_done}
+use Rattle.class_outlines.proofs.Loading.{stopped_in}
+use Rattle.class_outlines.proofs.Offending.{item_at, any_met, zip_further, zip_done}
 use Rattle.meta_objects.proofs.body_resolution.work.resolve_works.Goals as goal
 
 pub loop-number-preserved : goal.loop-number-preserved

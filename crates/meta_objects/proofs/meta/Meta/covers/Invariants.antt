@@ -1,6 +1,6 @@
 use Rattle.std.proofs.Common.{ℕ, ◌<◌}
 use Rattle.meta_model.specs.Members.{CoversBy}
-use Rattle.meta_model.specs.Places.{StandsAt}
+use Rattle.class_outlines.specs.Places.{StandsAt}
 use Rattle.meta_objects.proofs.meta.Meta.covers.Given as goal
 
 -- no earlier wire covers the connection

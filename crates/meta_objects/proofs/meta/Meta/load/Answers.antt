@@ -1,6 +1,6 @@
 use Rattle.std.proofs.Common.{inl, inr}
-use Rattle.meta_model.specs.declared.fault.MetaFault.TheVariants as fault
-use Rattle.meta_model.specs.Indexed.{AreIndexed}
+use Rattle.class_outlines.specs.declared.fault.MetaFault.TheVariants as fault
+use Rattle.class_outlines.specs.Indexed.{AreIndexed}
 use Rattle.meta_objects.specs.code.Loading.{HasUses}
 use Rattle.meta_objects.specs.Builds.{IsClean}
 use Rattle.meta_objects.specs.declared.resolve_uses.Uses.{Uses}

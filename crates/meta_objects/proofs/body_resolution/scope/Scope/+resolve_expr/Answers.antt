@@ -2,10 +2,10 @@ use Rattle.signatures.specs.declared.qtype.QType.{QType}
 use Rattle.syntax_trees.specs.declared.syntax.Expr.{Expr}
 use Rattle.meta_model.specs.declared.object.MetaPath.{MetaPath}
 use Rattle.meta_objects.specs.declared.body_resolution.path.Led.{Led}
-use Rattle.meta_model.specs.declared.fault.MetaFault.TheVariants as fault
+use Rattle.class_outlines.specs.declared.fault.MetaFault.TheVariants as fault
 use Rattle.meta_objects.specs.code.Bodies.{IsPath, IsExpr}
 use Rattle.meta_objects.specs.code.Resolving.{scope}
-use Rattle.meta_model.proofs.Loading.{failed}
+use Rattle.class_outlines.proofs.Loading.{failed}
 use Rattle.meta_objects.proofs.BodyPieces.{literal_piece, path_piece, unary_piece, binary_piece, no_path}
 use Rattle.meta_objects.proofs.body_resolution.scope.Scope.+resolve_expr.Goals as goal
 

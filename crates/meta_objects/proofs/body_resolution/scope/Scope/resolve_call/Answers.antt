@@ -3,12 +3,12 @@ use Rattle.syntax_trees.specs.declared.syntax.Expr.{Expr}
 use Rattle.syntax_trees.specs.declared.syntax.Stmt.TheVariants.{Call}
 use Rattle.meta_model.specs.declared.object.MetaPath.{MetaPath}
 use Rattle.meta_model.specs.declared.object.Statement.{Statement}
-use Rattle.meta_model.specs.declared.outline.Outline.{Outline}
-use Rattle.meta_model.specs.declared.fault.MetaFault.TheVariants as fault
+use Rattle.class_outlines.specs.declared.outline.Outline.{Outline}
+use Rattle.class_outlines.specs.declared.fault.MetaFault.TheVariants as fault
 use Rattle.meta_objects.specs.declared.body_resolution.path.Target.{Target}
 use Rattle.meta_objects.specs.code.Bodies.{IsObjectPath, AreExprs, IsStatementOf}
 use Rattle.meta_objects.specs.code.Resolving.{scope}
-use Rattle.meta_model.proofs.Loading.{failed}
+use Rattle.class_outlines.proofs.Loading.{failed}
 use Rattle.meta_objects.proofs.BodyCalls.{no_call_object, no_call_values, no_call_method, no_call, call_piece}
 use Rattle.meta_objects.proofs.body_resolution.scope.Scope.resolve_call.Goals as goal
 

@@ -3,10 +3,10 @@ use Rattle.syntax_trees.specs.declared.syntax.Expr.{Expr}
 use Rattle.syntax_trees.specs.declared.syntax.Stmt.TheVariants.{Emit}
 use Rattle.meta_model.specs.declared.object.MetaPath.{MetaPath}
 use Rattle.meta_model.specs.declared.object.Statement.{Statement}
-use Rattle.meta_model.specs.declared.fault.MetaFault.TheVariants as fault
+use Rattle.class_outlines.specs.declared.fault.MetaFault.TheVariants as fault
 use Rattle.meta_objects.specs.code.Bodies.{AreExprs, IsStatementOf}
 use Rattle.meta_objects.specs.code.Resolving.{scope}
-use Rattle.meta_model.proofs.Loading.{failed}
+use Rattle.class_outlines.proofs.Loading.{failed}
 use Rattle.meta_objects.proofs.BodyCalls.{no_emit_class, no_emit_values, no_emit_method, no_emit, emit_piece}
 use Rattle.meta_objects.proofs.body_resolution.scope.Scope.resolve_emit.Goals.{then-signal-le-OBJECT_NAME_CHANGED-via-then-signal-le-OBJECT_NAME_CHANGED, then-signal-le-OBJECT_NAME_CHANGED-via-else-signal-le-OBJECT_NAME_CHANGED+then-not-is_signal}
 use Rattle.meta_objects.proofs.body_resolution.scope.Scope.resolve_emit.Goals as goal

@@ -1,12 +1,12 @@
 use Rattle.std.proofs.Common.{inr, refl}
 use Rattle.meta_model.specs.declared.object.MetaPath.{MetaPath}
 use Rattle.meta_model.specs.declared.object.MetaEndpoints.{MetaEndpoints}
-use Rattle.meta_model.specs.declared.outline.Outline.{Outline}
-use Rattle.meta_model.specs.declared.fault.MetaFault.TheVariants as fault
+use Rattle.class_outlines.specs.declared.outline.Outline.{Outline}
+use Rattle.class_outlines.specs.declared.fault.MetaFault.TheVariants as fault
 use Rattle.meta_objects.specs.declared.body_resolution.path.Target.{Target}
 use Rattle.meta_objects.specs.code.Bodies.{IsObjectPath, AreEnds}
 use Rattle.meta_objects.specs.code.Resolving.{scope}
-use Rattle.meta_model.proofs.Loading.{failed, lacking}
+use Rattle.class_outlines.proofs.Loading.{failed, lacking}
 use Rattle.meta_objects.proofs.BodyEnds.{no_sender, no_signal, no_receiver, no_method, no_called}
 use Rattle.meta_objects.proofs.body_resolution.scope.Scope.resolve_ends.Goals as goal
 

@@ -2,10 +2,10 @@ use Rattle.std.proofs.Common.{List, refl}
 use Rattle.std.proofs.lemmas.Option.{slice_get_read}
 use Rattle.syntax_trees.specs.declared.syntax.Expr.{Expr}
 use Rattle.meta_model.specs.declared.object.MetaPath.{MetaPath}
-use Rattle.meta_model.specs.declared.fault.MetaFault.TheVariants as fault
+use Rattle.class_outlines.specs.declared.fault.MetaFault.TheVariants as fault
 use Rattle.meta_objects.specs.code.Bodies.{IsExpr, AreExprs}
 use Rattle.meta_objects.specs.code.Resolving.{scope}
-use Rattle.meta_model.proofs.Loading.{failed}
+use Rattle.class_outlines.proofs.Loading.{failed}
 use Rattle.meta_objects.proofs.BodyPieces.{exprs_left, exprs_only, exprs_stuck, exprs_end}
 use Rattle.meta_objects.proofs.body_resolution.scope.Scope.resolve_exprs.Goals as goal
 

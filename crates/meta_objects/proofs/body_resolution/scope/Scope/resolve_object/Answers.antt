@@ -1,13 +1,13 @@
 use Rattle.std.proofs.Common.{inr, refl}
 use Rattle.signatures.specs.declared.qtype.QType.{QType}
 use Rattle.meta_model.specs.declared.object.MetaPath.{MetaPath}
-use Rattle.meta_model.specs.declared.outline.Outline.{Outline}
-use Rattle.meta_model.specs.declared.fault.MetaFault.TheVariants as fault
+use Rattle.class_outlines.specs.declared.outline.Outline.{Outline}
+use Rattle.class_outlines.specs.declared.fault.MetaFault.TheVariants as fault
 use Rattle.meta_objects.specs.declared.body_resolution.path.Led.{Led}
 use Rattle.meta_objects.specs.declared.body_resolution.path.Target.{Target}
 use Rattle.meta_objects.specs.code.Bodies.{IsPath, IsObjectPath}
 use Rattle.meta_objects.specs.code.Resolving.{scope}
-use Rattle.meta_model.proofs.Loading.{failed}
+use Rattle.class_outlines.proofs.Loading.{failed}
 use Rattle.meta_objects.proofs.BodyPieces.{no_object_path, no_object_class, an_object}
 use Rattle.meta_objects.proofs.body_resolution.scope.Scope.resolve_object.Goals as goal
 

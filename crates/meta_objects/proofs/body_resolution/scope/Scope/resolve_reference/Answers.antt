@@ -2,11 +2,11 @@ use Rattle.std.proofs.Common.{inr, refl}
 use Rattle.std.proofs.lemmas.Bool.{not-true, not-false}
 use Rattle.signatures.specs.declared.qtype.QType.{QType}
 use Rattle.meta_model.specs.declared.object.MetaPath.{MetaPath}
-use Rattle.meta_model.specs.declared.fault.MetaFault.TheVariants as fault
+use Rattle.class_outlines.specs.declared.fault.MetaFault.TheVariants as fault
 use Rattle.meta_objects.specs.declared.body_resolution.path.Led.{Led}
 use Rattle.meta_objects.specs.code.Bodies.{IsPath, IsReferencePath}
 use Rattle.meta_objects.specs.code.Resolving.{scope}
-use Rattle.meta_model.proofs.Loading.{failed}
+use Rattle.class_outlines.proofs.Loading.{failed}
 use Rattle.meta_objects.proofs.BodyReferences.{no_reference, no_pointer}
 use Rattle.meta_objects.proofs.body_resolution.scope.Scope.resolve_reference.Goals as goal
 

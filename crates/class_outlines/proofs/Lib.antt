@@ -1,0 +1,16 @@
+pub mod Searches
+pub mod Choices
+pub mod Zips
+pub mod Firsts
+pub mod Once
+pub mod OutlineSteps
+pub mod Fronts
+pub mod Outlined
+pub mod Indexing
+pub mod OneMember
+pub mod Anys
+pub mod Offending
+pub mod OwnPlaces
+pub mod TwinMembers
+pub mod Nexts
+pub mod Loading

@@ -1,0 +1,6 @@
+use Rattle.std.proofs.Common.{ℕ, ◌<◌}
+use Rattle.class_outlines.specs.Places.{StandsAt}
+use Rattle.class_outlines.proofs.places.find.Given as goal
+
+abbrev pub invariant-loop-place : goal.invariant-loop-place
+invariant-loop-place g l = (k : ℕ) → k < l.place → ¬ StandsAt (λ item. g.T.Named.has_name item l.name) l.items k

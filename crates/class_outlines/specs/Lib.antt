@@ -1,0 +1,16 @@
+pub mod NamePlaces
+pub mod Places
+pub mod LookUps
+pub mod CallPlaces
+pub mod Twice
+pub mod Outlines
+pub mod Ends
+pub mod Clashes
+pub mod Bases
+pub mod Notifiers
+pub mod Indexed
+pub mod FaultNumbers
+pub mod Offences
+pub mod code
+pub use Rattle.signatures.specs.Name
+pub use Rattle.signatures.specs.Types

@@ -1,0 +1,4 @@
+-- What the contracts of this crate's functions need besides.
+pub mod Twins
+pub mod NearMembers
+pub mod OwnMembers

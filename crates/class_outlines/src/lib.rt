@@ -1,0 +1,34 @@
+//! What is known of a program's classes before their bodies are loaded: each with its whole lists of members, as declared,
+//! and found by name; and the offences for which a program is refused.
+#![tactic(auto)]
+
+mod call_index;
+mod fault;
+mod indexed;
+mod name_index;
+mod names;
+mod offence;
+mod outline;
+mod outlining;
+mod places;
+mod qobject;
+mod reason;
+mod twin_members;
+
+pub use call_index::{Called, find_call, index_calls};
+pub use fault::MetaFault;
+pub use indexed::{IndexedOutline, index_outlines};
+pub use name_index::NameIndex;
+pub use names::{
+    names_before_expression, names_before_parameter, names_before_work, names_of_parameters,
+    names_of_sig,
+};
+pub use offence::{Breach, Declaration, LoadFault, Member, Offence, PartFault};
+pub use outline::{Heading, Outline, Sort};
+pub use outlining::outline_classes;
+pub use places::{Named, find, place_of};
+pub use qobject::{
+    DELETE_LATER, DESTROYED, DESTROYED_ALONE, OBJECT_NAME, OBJECT_NAME_CHANGED, QOBJECT,
+    reference_to,
+};
+pub use reason::{BasePlace, ClassClash, End, Missing, Near, Reason, Repeated, Sought, Unfit};

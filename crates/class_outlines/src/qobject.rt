@@ -1,0 +1,133 @@
+//! The class `QObject`, the base of all others.
+
+ghost use Rattle.std.specs.Prelude.{◌≡◌, false, [], ◌∷◌, IfOk, codes};
+ghost use Rattle.signatures.specs.Name.{IsName};
+ghost use Rattle.signatures.specs.Normal.{pointer_type};
+ghost use Rattle.signatures.specs.Types.{value_type};
+ghost use Rattle.class_outlines.specs.Outlines.{qobject, sig_of, heading, name_changed, object_name};
+ghost use Rattle.class_outlines.specs.declared.outline.Sort.TheVariants.{Signal};
+
+use crate::outline::{Heading, Outline, Sort};
+use signatures::{Name, QType, Sig};
+use sqlite_items::Items;
+use std::alloc::{AllocError, Global};
+use syntax_trees::Property;
+
+/// The number of `QObject` among the classes.
+pub const QOBJECT: usize = 0;
+
+/// The number of the signal `destroyed(QObject*)` in every class.
+pub const DESTROYED: usize = 0;
+
+/// The number of the signal `destroyed()` in every class.
+pub const DESTROYED_ALONE: usize = 1;
+
+/// The number of the signal `objectNameChanged(QString)` in every class: the last of those that the runtime emits.
+pub const OBJECT_NAME_CHANGED: usize = 2;
+
+/// The number of the slot `deleteLater()` in every class: the last of `QObject`'s methods.
+pub const DELETE_LATER: usize = 3;
+
+/// The number of the property `objectName` in every class.
+pub const OBJECT_NAME: usize = 0;
+
+/// `QObject` with its four methods and its property.
+pub fn qobject(alloc: Global) -> Result<Outline, AllocError>
+    ensures { IfOk result (λ outline. outline ≡ qobject) }
+{
+    let name = Name::new(alloc, b"QObject")?;
+    let mut methods = Items::new(alloc);
+    let object = reference_to(&name)?;
+    let destroyed = sig_of_one(alloc, b"destroyed", object)?;
+    methods.push(signal(destroyed))?;
+    let destroyed_alone = sig_of_none(alloc, b"destroyed")?;
+    methods.push(signal(destroyed_alone))?;
+    let name_changed = name_changed(alloc)?;
+    methods.push(signal(name_changed))?;
+    let delete_later = sig_of_none(alloc, b"deleteLater")?;
+    methods.push(Heading {
+        sig: delete_later,
+        sort: Sort::DeleteLater,
+    })?;
+    let mut properties = Items::new(alloc);
+    let object_name = object_name(alloc)?;
+    properties.push(object_name)?;
+    Ok(Outline {
+        name,
+        base: None,
+        methods,
+        properties,
+    })
+}
+
+/// A signal.
+fn signal(sig: Sig) -> Heading
+    ensures { result ≡ heading sig Signal }
+{
+    Heading {
+        sig,
+        sort: Sort::Signal,
+    }
+}
+
+/// The signature of this name without parameters.
+fn sig_of_none(alloc: Global, name: &[u8]) -> Result<Sig, AllocError>
+    requires { IsName name.now }
+    ensures { IfOk result (λ sig. sig ≡ sig_of name.now []) }
+{
+    let name = Name::new(alloc, name)?;
+    Ok(Sig {
+        name,
+        types: Items::new(alloc),
+    })
+}
+
+/// The signature of this name with one parameter.
+fn sig_of_one(alloc: Global, name: &[u8], kind: QType) -> Result<Sig, AllocError>
+    requires { IsName name.now }
+    ensures { IfOk result (λ sig. sig ≡ sig_of name.now (kind ∷ [])) }
+{
+    let name = Name::new(alloc, name)?;
+    let mut types = Items::new(alloc);
+    types.push(kind)?;
+    Ok(Sig { name, types })
+}
+
+/// The type `C*` of references to objects of this class.
+pub fn reference_to(class: &Name) -> Result<QType, AllocError>
+    ensures { IfOk result (λ kind. kind ≡ pointer_type class.now false) }
+{
+    let name = class.copy()?;
+    Ok(QType::pointer_to(name, false))
+}
+
+/// `QString`
+fn text_type(alloc: Global) -> Result<QType, AllocError>
+    ensures { IfOk result (λ kind. kind ≡ value_type (codes "QString")) }
+{
+    let name = Name::new(alloc, b"QString")?;
+    Ok(QType::value(name))
+}
+
+/// `objectNameChanged(QString)`
+fn name_changed(alloc: Global) -> Result<Sig, AllocError>
+    ensures { IfOk result (λ sig. sig ≡ name_changed) }
+{
+    let kind = text_type(alloc)?;
+    sig_of_one(alloc, b"objectNameChanged", kind)
+}
+
+/// `property QString objectName notify objectNameChanged(QString);`
+fn object_name(alloc: Global) -> Result<Property, AllocError>
+    ensures { IfOk result (λ property. property ≡ object_name) }
+{
+    let kind = text_type(alloc)?;
+    let name = Name::new(alloc, b"objectName")?;
+    let notify = name_changed(alloc)?;
+    Ok(Property {
+        kind,
+        name,
+        initial: None,
+        notify: Some(notify),
+    })
+}

@@ -1,5 +1,0 @@
-use Rattle.std.proofs.Common.{◌≡◌, take, map}
-use Rattle.meta_model.proofs.outlining.declared_sig.Given as goal
-
-abbrev pub invariant-loop-parameter : goal.invariant-loop-parameter
-invariant-loop-parameter l = l.types ≡ map (λ p. p.kind) (take l.parameter-index l.parameters)
