@@ -1,6 +1,6 @@
 #!/usr/bin/env python3
 """Checks that each must-fail edit of a repository fits: every `old:` text stands exactly once in its file (the lines
-of an edit one after another), at most 10 a crate, at most 140 in all.
+of an edit one after another), at most 10 a crate, at most 142 in all.
 Usage: edits_fit.py [ROOT]   (default: the current folder)"""
 import os, sys
 root = sys.argv[1] if len(sys.argv) > 1 else '.'
@@ -24,6 +24,6 @@ for crate in sorted(os.listdir(root + '/crates')):
                 if text.count(old) != 1: print(f'{crate}/{name}: {text.count(old)} times in {file}: {old}'); bad += 1
             elif line.startswith('new: '): texts[file] = (texts.get(file) or '').replace(old, line[5:], 1)
             elif line.strip(): print(f'{crate}/{name}: a strange line: {line}'); bad += 1
-if total > 140: print(f'{total} edits in all'); bad += 1
+if total > 142: print(f'{total} edits in all'); bad += 1
 print(f'{total} edits, {bad} faults')
 sys.exit(bad > 0)

@@ -33,12 +33,12 @@ use Rattle.meta_model.specs.code.ReadTypes.{IsReadAs}
 use Rattle.class_outlines.specs.Clashes.{HasTwoMembers}
 use Rattle.meta_model.specs.Conditions.{DuplicateMember}
 use Rattle.class_outlines.specs.Notifiers.{IsSignalOf}
-use Rattle.meta_objects.specs.declared.body_resolution.work.ResolvedWork.{ResolvedWork}
-use Rattle.meta_objects.specs.declared.body_resolution.work.ResolvedWork.TheVariants as resolved
-use Rattle.meta_objects.specs.code.Bodies.{scope_of, IsWork, IsSlotWork, AreWorks, AllWorks}
-use Rattle.meta_objects.specs.code.Wires.{IsWire, IsOwns}
-use Rattle.meta_objects.specs.code.Loading.{work_at, found_work, IsMethodOf, IsNotify, IsPropertyOf, IsObject, IsLoaded}
-use Rattle.meta_objects.specs.code.Sites.{IsSite}
+use Rattle.name_resolution.specs.declared.body_resolution.work.ResolvedWork.{ResolvedWork}
+use Rattle.name_resolution.specs.declared.body_resolution.work.ResolvedWork.TheVariants as resolved
+use Rattle.name_resolution.specs.code.Bodies.{scope_of, IsWork, IsSlotWork, AreWorks, AllWorks}
+use Rattle.name_resolution.specs.code.Wires.{IsWire, IsOwns}
+use Rattle.name_resolution.specs.code.Loading.{work_at, found_work, IsMethodOf, IsNotify, IsPropertyOf, IsObject, IsLoaded}
+use Rattle.name_resolution.specs.code.Sites.{IsSite}
 use Rattle.meta_objects.specs.LoadedSites.{IsLoadedSite}
 use Rattle.meta_objects.specs.LoadedBodies.{Site, site}
 use Rattle.meta_objects.specs.LoadedProgram.{IsLoadedSignal, IsLoadedWork, IsLoadedSlot, HasNotifier, IsLoadedProperty, IsLoadedClass, IsLoadedWire, IsLoadedOwns, IsLoadedProgram}
@@ -47,7 +47,7 @@ use Rattle.class_outlines.proofs.Once.{none_at}
 use Rattle.class_outlines.proofs.Outlined.{Declared, outline_of, outlines_count, root_at, distinct_outlines}
 use Rattle.class_outlines.proofs.Zips.{zip_right, zip_append, zip_also, zip_both}
 use Rattle.meta_objects.proofs.Soundness.{map_at}
-use Rattle.meta_objects.proofs.Unique.{same_loaded}
+use Rattle.name_resolution.proofs.Unique.{same_loaded}
 use Rattle.load_rules.proofs.OwnMembers.{first_in_front, name_changed_first}
 use Rattle.meta_objects.proofs.Whole.{sound}
 use Rattle.meta_objects.proofs.FoundBodies.{stands_first, first_signal, signal_sort, statements_found}

@@ -22,13 +22,13 @@ use Rattle.meta_model.specs.Members.{IsClassNamed, IsPropertyNamed}
 use Rattle.class_outlines.specs.Outlines.{IsOutlineNamed}
 use Rattle.class_outlines.specs.Clashes.{HasTwoMembers}
 use Rattle.meta_model.specs.Sites.{IsPropertyIn, IsSourceProperty}
-use Rattle.meta_objects.specs.declared.body_resolution.work.ResolvedWork.{ResolvedWork}
-use Rattle.meta_objects.specs.code.Natives.{HasPropertyIn, HasSignalIn, AreEffects}
+use Rattle.name_resolution.specs.declared.body_resolution.work.ResolvedWork.{ResolvedWork}
+use Rattle.name_resolution.specs.code.Natives.{HasPropertyIn, HasSignalIn, AreEffects}
 use Rattle.meta_objects.specs.LoadedNatives.{IsEmitted, AreLoadedEffects}
-use Rattle.meta_objects.specs.code.Wires.{IsWire, IsOwns}
-use Rattle.meta_objects.specs.code.Loading.{IsObject}
+use Rattle.name_resolution.specs.code.Wires.{IsWire, IsOwns}
+use Rattle.name_resolution.specs.code.Loading.{IsObject}
 use Rattle.meta_objects.specs.LoadedProgram.{IsLoadedWire, IsLoadedOwns}
-use Rattle.meta_objects.specs.code.Sites.{IsFormula, literal_is, path_is, unary_is, binary_is, IsSite}
+use Rattle.name_resolution.specs.code.Sites.{IsFormula, literal_is, path_is, unary_is, binary_is, IsSite}
 use Rattle.meta_objects.specs.LoadedSites.{IsLoadedSource, IsLoadedFormula, literal_loads, path_loads, unary_loads, binary_loads, IsLoadedSite}
 use Rattle.class_outlines.proofs.Zips.{zip_left, zip_also}
 use Rattle.meta_objects.proofs.FoundBodies.{first_property, first_class, heading_at, declared_at, name_of, outline_named, signal_end, method_end}

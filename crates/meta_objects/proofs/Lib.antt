@@ -1,11 +1,4 @@
-pub mod Bodies
-pub mod BodyPieces
-pub mod BodyCalls
-pub mod BodyEnds
-pub mod BodyReferences
 pub mod LookUps
-pub mod Ends
-pub mod Unique
 pub mod Soundness
 pub mod SoundBodies
 pub mod Deciding
@@ -13,8 +6,6 @@ pub mod Whole
 pub mod Refusals
 pub mod Indexing
 pub mod OnlyAnswer
-pub mod SitePieces
-pub mod OneSite
 pub mod Sited
 pub mod Natives
 pub mod FoundBodies

@@ -21,9 +21,9 @@ use Rattle.class_outlines.specs.Outlines.{IsOutlineNamed, kinds_of}
 use Rattle.meta_model.specs.Sites.{IsReferenceIn}
 use Rattle.meta_model.specs.Sound.{IsPlain, IsPlainProperty, IsPlainSignal, AreOnce, AreSoundEffects}
 use Rattle.class_outlines.specs.Twice.{StandsTwice}
-use Rattle.meta_objects.specs.declared.body_resolution.work.ResolvedWork.{ResolvedWork}
-use Rattle.meta_objects.specs.code.Loading.{work_of, IsObject}
-use Rattle.meta_objects.specs.code.Natives.{HasPropertyIn, HasSignalIn, AreEffects}
+use Rattle.name_resolution.specs.declared.body_resolution.work.ResolvedWork.{ResolvedWork}
+use Rattle.name_resolution.specs.code.Loading.{work_of, IsObject}
+use Rattle.name_resolution.specs.code.Natives.{HasPropertyIn, HasSignalIn, AreEffects}
 use Rattle.meta_objects.specs.LoadedNatives.{IsEmitted, AreLoadedEffects}
 use Rattle.class_outlines.proofs.Once.{none_at}
 use Rattle.class_outlines.proofs.Searches.{same_first}

@@ -11,9 +11,9 @@ use Rattle.class_outlines.specs.Clashes.{DuplicateClass}
 use Rattle.class_outlines.specs.Bases.{NoBase}
 use Rattle.meta_model.specs.Conditions.{DuplicateMember, NoType}
 use Rattle.class_outlines.specs.Notifiers.{BadNotify}
-use Rattle.meta_objects.specs.LackedNames.{LacksMember}
+use Rattle.name_resolution.specs.LackedNames.{LacksMember}
 use Rattle.meta_objects.specs.Builds.{HasOutlines, Builds, OneAnswer}
-use Rattle.meta_objects.proofs.Unique.{same_all}
+use Rattle.name_resolution.proofs.Unique.{same_all}
 use Rattle.meta_objects.proofs.FoundClasses.{one_loading}
 
 abbrev place_of : Result Loaded MetaFault → ℕ

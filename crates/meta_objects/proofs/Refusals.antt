@@ -13,14 +13,14 @@ use Rattle.class_outlines.specs.Clashes.{DuplicateClass, HasTwoMembers}
 use Rattle.class_outlines.specs.Bases.{NoBase}
 use Rattle.meta_model.specs.Conditions.{RepeatsDeclared, DuplicateMember}
 use Rattle.class_outlines.specs.Indexed.{AreIndexed}
-use Rattle.meta_objects.specs.declared.body_resolution.work.ResolvedWork.{ResolvedWork}
-use Rattle.meta_objects.specs.code.Bodies.{IsSlotWork, AreWorks}
-use Rattle.meta_objects.specs.LackedNames.{LacksInSlot, LacksInClass}
-use Rattle.meta_objects.specs.code.Sites.{IsSite}
-use Rattle.meta_objects.specs.LackedNames.{LacksInSite}
-use Rattle.meta_objects.specs.code.Wires.{IsWire, IsOwns}
-use Rattle.meta_objects.specs.LackedNames.{LacksEnd, LacksClass, LacksMember}
-use Rattle.meta_objects.specs.code.Loading.{HasUses}
+use Rattle.name_resolution.specs.declared.body_resolution.work.ResolvedWork.{ResolvedWork}
+use Rattle.name_resolution.specs.code.Bodies.{IsSlotWork, AreWorks}
+use Rattle.name_resolution.specs.LackedNames.{LacksInSlot, LacksInClass}
+use Rattle.name_resolution.specs.code.Sites.{IsSite}
+use Rattle.name_resolution.specs.LackedNames.{LacksInSite}
+use Rattle.name_resolution.specs.code.Wires.{IsWire, IsOwns}
+use Rattle.name_resolution.specs.LackedNames.{LacksEnd, LacksClass, LacksMember}
+use Rattle.name_resolution.specs.code.Loading.{HasUses}
 use Rattle.class_outlines.specs.declared.offence.Offence.{Offence}
 use Rattle.class_outlines.specs.declared.offence.LoadFault.{LoadFault}
 use Rattle.class_outlines.specs.declared.offence.LoadFault.TheVariants as load

@@ -23,9 +23,9 @@ use Rattle.meta_model.specs.Members.{IsClassNamed, IsPropertyNamed}
 use Rattle.class_outlines.specs.Outlines.{IsOutlineNamed}
 use Rattle.meta_model.specs.Sites.{IsPropertyIn, IsSourceProperty, paths_in, literals_in, ReadsReference, UsesReference, by_target, by_source}
 use Rattle.meta_model.specs.Sound.{IsPlain, IsPlainProperty, IsSoundSource, IsSoundSite}
-use Rattle.meta_objects.specs.declared.body_resolution.work.ResolvedWork.{ResolvedWork}
-use Rattle.meta_objects.specs.code.Loading.{IsObject}
-use Rattle.meta_objects.specs.code.Sites.{IsFormula, literal_is, path_is, unary_is, binary_is, IsSite}
+use Rattle.name_resolution.specs.declared.body_resolution.work.ResolvedWork.{ResolvedWork}
+use Rattle.name_resolution.specs.code.Loading.{IsObject}
+use Rattle.name_resolution.specs.code.Sites.{IsFormula, literal_is, path_is, unary_is, binary_is, IsSite}
 use Rattle.meta_objects.specs.LoadedSites.{IsLoadedSource, IsLoadedFormula, literal_loads, path_loads, unary_loads, binary_loads, IsLoadedSite}
 use Rattle.meta_model.proofs.PathsIn.{paths_of, literals_of}
 use Rattle.class_outlines.proofs.Searches.{same_first}

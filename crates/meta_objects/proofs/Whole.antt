@@ -44,14 +44,14 @@ use Rattle.class_outlines.specs.Clashes.{AreOneCall, HasTwoMembers}
 use Rattle.meta_model.specs.Conditions.{RepeatsName, RepeatsInSlot, RepeatsInMethod, LacksTypes}
 use Rattle.class_outlines.specs.Notifiers.{IsSignalOf, LacksNotifier}
 use Rattle.meta_model.specs.Natives.{RepeatsEffectIn, TouchesReference, HasReferenceNative}
-use Rattle.meta_objects.specs.declared.body_resolution.work.ResolvedWork.{ResolvedWork}
-use Rattle.meta_objects.specs.declared.body_resolution.work.ResolvedWork.TheVariants as resolved
-use Rattle.meta_objects.specs.code.Bodies.{scope_of, IsWork, IsSlotWork, AreWorks}
-use Rattle.meta_objects.specs.code.Wires.{IsWire, IsOwns}
-use Rattle.meta_objects.specs.LoadedProgram.{initial_of}
-use Rattle.meta_objects.specs.code.Loading.{work_at, found_work, work_of, IsMethodOf, IsNotify, IsPropertyOf, IsObject, HasUses, IsLoaded}
+use Rattle.name_resolution.specs.declared.body_resolution.work.ResolvedWork.{ResolvedWork}
+use Rattle.name_resolution.specs.declared.body_resolution.work.ResolvedWork.TheVariants as resolved
+use Rattle.name_resolution.specs.code.Bodies.{scope_of, IsWork, IsSlotWork, AreWorks}
+use Rattle.name_resolution.specs.code.Wires.{IsWire, IsOwns}
+use Rattle.name_resolution.specs.InitialValues.{initial_of}
+use Rattle.name_resolution.specs.code.Loading.{work_at, found_work, work_of, IsMethodOf, IsNotify, IsPropertyOf, IsObject, HasUses, IsLoaded}
 use Rattle.meta_objects.specs.Builds.{HasOutlines, IsClean, IsLoadedForm}
-use Rattle.meta_objects.specs.code.Sites.{IsSite}
+use Rattle.name_resolution.specs.code.Sites.{IsSite}
 use Rattle.meta_objects.specs.LoadedSites.{IsLoadedSite}
 use Rattle.meta_objects.specs.LoadedBodies.{site}
 use Rattle.meta_objects.specs.LoadedEnds.{Connects}
@@ -62,8 +62,8 @@ use Rattle.class_outlines.proofs.Once.{once, none_at, get_split_at}
 use Rattle.load_rules.proofs.OwnMembers.{first_in_front, name_changed_first}
 use Rattle.meta_model.proofs.ReadTypes.{same_read}
 use Rattle.meta_objects.proofs.Deciding.{carries}
-use Rattle.meta_objects.proofs.OneSite.{same_zip}
-use Rattle.meta_objects.proofs.Unique.{same_method, same_property_by, same_place, same_object}
+use Rattle.name_resolution.proofs.OneSite.{same_zip}
+use Rattle.name_resolution.proofs.Unique.{same_method, same_property_by, same_place, same_object}
 use Rattle.class_outlines.proofs.Outlined.{Declared, Reaches, here, up, HasSlot, outline_of, slot_of, outlines_count, root_at, reaches_root, delete_later_in_root, distinct_outlines}
 use Rattle.meta_objects.proofs.Soundness.{IsTyped, zip_length, object_at, named, kind_in, connects, kinds_counted, statements_load}
 use Rattle.meta_objects.proofs.Sited.{site_loads, site_sound}

@@ -13,7 +13,7 @@ use Rattle.class_outlines.specs.Clashes.{DuplicateClass}
 use Rattle.class_outlines.specs.Bases.{NoBase}
 use Rattle.meta_model.specs.Conditions.{DuplicateMember, NoType}
 use Rattle.class_outlines.specs.Notifiers.{BadNotify}
-use Rattle.meta_objects.specs.LackedNames.{LacksMember}
+use Rattle.name_resolution.specs.LackedNames.{LacksMember}
 use Rattle.meta_objects.specs.LoadedProgram.{IsLoadedProgram}
 
 -- class names and bases are as they are to be, so that the classes have these members

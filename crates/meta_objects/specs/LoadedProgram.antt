@@ -3,9 +3,6 @@
 use Rattle.std.specs.Prelude.{◌≡◌, ℕ, suc, ◌<◌, List, ◌++◌, length, Option, None, Some, slice_get}
 use Rattle.std.specs.List.{AllZip}
 use Rattle.signatures.specs.declared.sig.Sig.{Sig}
-use Rattle.signatures.specs.declared.value.Value.{Value}
-use Rattle.syntax_trees.specs.Literals.{literal_value}
-use Rattle.syntax_trees.specs.declared.syntax.Literal.{Literal}
 use Rattle.syntax_trees.specs.declared.program.Property.{Property}
 use Rattle.syntax_trees.specs.declared.program.Signal.{Signal}
 use Rattle.syntax_trees.specs.declared.program.SlotWork.{SlotWork}
@@ -15,7 +12,6 @@ use Rattle.syntax_trees.specs.declared.program.Class.{Class}
 use Rattle.syntax_trees.specs.declared.program.Wire.{Wire}
 use Rattle.syntax_trees.specs.declared.program.Owns.{Owns}
 use Rattle.syntax_trees.specs.declared.program.Program.{Program}
-use Rattle.meta_model.specs.declared.object.ValueType.{ValueType}
 use Rattle.meta_model.specs.declared.object.Work.{Work}
 use Rattle.meta_model.specs.declared.object.Work.TheVariants as work
 use Rattle.meta_model.specs.declared.object.MetaMethod.{MetaMethod}
@@ -28,8 +24,8 @@ use Rattle.meta_model.specs.Loaded.{Loaded}
 use Rattle.meta_model.specs.Members.{IsClass, IsClassNamed}
 use Rattle.class_outlines.specs.Outlines.{sig_of, kinds_of, base_name}
 use Rattle.meta_model.specs.Root.{root_class}
-use Rattle.meta_model.specs.Values.{default}
 use Rattle.meta_model.specs.Kinds.{IsKind}
+use Rattle.name_resolution.specs.InitialValues.{initial_of}
 use Rattle.meta_objects.specs.LoadedBodies.{Site, site, AreLoadedStatements}
 use Rattle.meta_objects.specs.LoadedEnds.{Connects}
 use Rattle.meta_objects.specs.LoadedNatives.{AreLoadedEffects}
@@ -56,11 +52,6 @@ pub record IsLoadedSlot (p : Loaded) (c : ℕ) (declared : Slot) (method : MetaM
   pub signed : method.sig ≡ sig_of declared.name (kinds_of declared.parameters)
   pub typed : AllZip (IsKind p) (kinds_of declared.parameters) method.kinds
   pub does : IsLoadedWork (site p c declared.parameters method.kinds) declared.work method.work
-
--- what a property is at first: its literal, or else the default of its type
-abbrev pub initial_of : Option Literal → ValueType → Value
-initial_of None kind = default kind
-initial_of (Some l) kind = literal_value l
 
 -- method m of the class is the signal of this signature
 pub record IsSignalAt (class : MetaObject) (sig : Sig) (m : ℕ) : Type 0 where

@@ -10,11 +10,10 @@ ghost use Rattle.meta_objects.specs.Typed.{TellsType, TellsReference};
 ghost use Rattle.meta_objects.specs.Wiring.{IsWired};
 
 use crate::class_index::{ClassIndex, index_sites};
-use crate::resolve_object::resolve_objects;
-use crate::resolve_uses::{Uses, resolve_uses};
 use class_outlines::{LoadFault, MetaFault, NameIndex, index_outlines, outline_classes};
 use load_rules::{bad_notifier, duplicate_class, repeated_name, unfit_type};
 use meta_model::{MetaMethod, MetaObject, MetaOwns, MetaSite, MetaWire, ValueType};
+use name_resolution::{Uses, resolve_objects, resolve_uses};
 use signatures::{Kind, Name, ObjectId, Sig, Value, fits};
 use sqlite_items::Items;
 use std::alloc::Global;

@@ -1,9 +1,9 @@
 use Rattle.std.proofs.Common.{inl, inr}
 use Rattle.class_outlines.specs.declared.fault.MetaFault.TheVariants as fault
 use Rattle.class_outlines.specs.Indexed.{AreIndexed}
-use Rattle.meta_objects.specs.code.Loading.{HasUses}
+use Rattle.name_resolution.specs.code.Loading.{HasUses}
 use Rattle.meta_objects.specs.Builds.{IsClean}
-use Rattle.meta_objects.specs.declared.resolve_uses.Uses.{Uses}
+use Rattle.name_resolution.specs.declared.uses.Uses.{Uses}
 use Rattle.meta_objects.proofs.Refusals.{outlined, members_once, nothing_lacks, answers, refused, refused_base, refused_member, refused_use}
 use Rattle.meta_objects.proofs.Whole.{sound, loaded_form}
 use Rattle.meta_objects.proofs.meta.Meta.load.Goals as goal

@@ -1,7 +1,0 @@
-use Rattle.std.proofs.Common.{take}
-use Rattle.std.specs.List.{AllZip}
-use Rattle.meta_objects.specs.code.Loading.{IsMethodOf}
-use Rattle.meta_objects.proofs.resolve_object.resolve_methods.Given as goal
-
-abbrev pub invariant-loop-heading : goal.invariant-loop-heading
-invariant-loop-heading l = AllZip (IsMethodOf l.outlines l.works) (take l.heading-index l.headings) l.methods

@@ -1,7 +1,0 @@
-use Rattle.std.proofs.Common.{take}
-use Rattle.std.specs.List.{AllZip}
-use Rattle.meta_objects.specs.code.Loading.{IsObject}
-use Rattle.meta_objects.proofs.resolve_object.resolve_objects.Given as goal
-
-abbrev pub invariant-loop-outline : goal.invariant-loop-outline
-invariant-loop-outline l = AllZip (IsObject l.outlines l.works) (take l.outline-index l.outlines) l.objects

@@ -1,7 +1,0 @@
-use Rattle.std.proofs.Common.{take}
-use Rattle.std.specs.List.{AllZip}
-use Rattle.meta_objects.specs.code.Loading.{IsPropertyOf}
-use Rattle.meta_objects.proofs.resolve_object.resolve_properties.Given as goal
-
-abbrev pub invariant-loop-declared : goal.invariant-loop-declared
-invariant-loop-declared l = AllZip (IsPropertyOf l.outlines l.outline) (take l.declared-index l.declared-items) l.properties

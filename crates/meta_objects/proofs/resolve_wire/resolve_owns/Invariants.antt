@@ -1,7 +1,0 @@
-use Rattle.std.proofs.Common.{take}
-use Rattle.std.specs.List.{AllZip}
-use Rattle.meta_objects.specs.code.Wires.{IsOwns}
-use Rattle.meta_objects.proofs.resolve_wire.resolve_owns.Given as goal
-
-abbrev pub invariant-loop-place : goal.invariant-loop-place
-invariant-loop-place l = AllZip (IsOwns l.outlines) (take l.place l.program.owns) l.loaded

@@ -1,0 +1,9 @@
+pub mod Bodies
+pub mod BodyPieces
+pub mod BodyCalls
+pub mod BodyEnds
+pub mod BodyReferences
+pub mod Ends
+pub mod Unique
+pub mod SitePieces
+pub mod OneSite

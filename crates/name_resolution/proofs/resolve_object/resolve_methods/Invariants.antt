@@ -1,0 +1,7 @@
+use Rattle.std.proofs.Common.{take}
+use Rattle.std.specs.List.{AllZip}
+use Rattle.name_resolution.specs.code.Loading.{IsMethodOf}
+use Rattle.name_resolution.proofs.resolve_object.resolve_methods.Given as goal
+
+abbrev pub invariant-loop-heading : goal.invariant-loop-heading
+invariant-loop-heading l = AllZip (IsMethodOf l.outlines l.works) (take l.heading-index l.headings) l.methods

@@ -1,0 +1,7 @@
+use Rattle.std.proofs.Common.{take}
+use Rattle.std.specs.List.{AllZip}
+use Rattle.name_resolution.specs.code.Loading.{IsPropertyOf}
+use Rattle.name_resolution.proofs.resolve_object.resolve_properties.Given as goal
+
+abbrev pub invariant-loop-declared : goal.invariant-loop-declared
+invariant-loop-declared l = AllZip (IsPropertyOf l.outlines l.outline) (take l.declared-index l.declared-items) l.properties
