@@ -1,5 +1,5 @@
 -- Lines as they are shown, one after another.
-use Rattle.std.proofs.Common.{◌≡◌, ◌≢◌, ◌∙◌, sym, ap, refl, subst, ℕ, ◌<◌, ◌≤◌, ◌==◌, Bool, true, false, List, [], ◌∷◌, ◌++◌, ◌⊎◌, inl, inr, length, Option, Some, None, append_assoc, length-append, IfSome, arith}
+use Rattle.std.proofs.Common.{◌≡◌, ◌≢◌, ◌∙◌, sym, ap, refl, subst, ℕ, ◌<◌, ◌≤◌, ◌==◌, Bool, true, false, List, [], ◌∷◌, ◌++◌, ◌⊎◌, inl, inr, length, Option, Some, None, Result, Ok, Err, OnOk, is_ok, if◌then◌else◌, append_assoc, length-append, IfSome, arith}
 use Rattle.std.proofs.lemmas.Bool.{eqb-true}
 use Rattle.std.proofs.lemmas.Bool.Decides.{nat_tests}
 use Rattle.std.specs.List.{AllByRecursion}
@@ -9,7 +9,7 @@ use Rattle.std.proofs.KnownBytes.{Appends-nil, Appends-trans}
 use Rattle.texts.specs.Lines.{IsFrontLine}
 use Rattle.texts.proofs.FrontLines.{one_front_line, no_line_at_end}
 use Rattle.trace_layout.specs.Shown.{ShownLine, ShowsFront, ShowsUpTo, ShowsRead, ShowsTrace, ShowsLine, AddsColoured, AddsRemark, indent_of}
-use Rattle.trace_reading.specs.Lines.{IsTraceLine}
+use Rattle.trace_reading.specs.Lines.{TellsLine}
 use Rattle.trace_reading.specs.declared.line.TraceLine.{TraceLine}
 
 -- ---- what is read up to a newline
@@ -148,11 +148,17 @@ all_lines colours (Some input) (Some xs) before after then_after f e k =
 
 -- ---- one line
 
-pub dressed : (colours : Bool) (told : TraceLine) (text before a b after : List ℕ) → IsTraceLine text told → a ≡ before ++ indent_of told → AddsColoured colours text a b → AddsRemark b after → ShowsLine colours text before after
+-- a line of a trace
+pub dressed : (colours : Bool) (told : TraceLine) (text before a b after : List ℕ) → TellsLine text (Some told) → a ≡ before ++ indent_of told → AddsColoured colours text a b → AddsRemark b after → ShowsLine colours text before after
 dressed colours told text before a b after t i k r =
     let whole : after ≡ ((before ++ indent_of told) ++ k.0) ++ r.0 = r.2 ∙ ap (λ x. x ++ r.0) (k.2 ∙ ap (λ x. x ++ k.0) i) in
     let joined : ((before ++ indent_of told) ++ k.0) ++ r.0 ≡ before ++ (indent_of told ++ k.0 ++ r.0) = simp append_assoc in
-    (indent_of told ++ k.0 ++ r.0, inr (told, t, record { coloured = k.0; remark = r.0; in_colour = k.1; is_remark = r.1; whole = refl }), whole ∙ joined)
+    (indent_of told ++ k.0 ++ r.0, inr (told, (t told).1 refl, record { coloured = k.0; remark = r.0; in_colour = k.1; is_remark = r.1; whole = refl }), whole ∙ joined)
+
+-- .. that is none of a trace
+pub as_it_is : {X E : Type 0} (colours : Bool) (text before after : List ℕ) (added : Result X E) → TellsLine text None → after ≡ (if is_ok added then before ++ text else before) → OnOk added (ShowsLine colours text before after)
+as_it_is colours text before after (Ok done) t e = (text, inl ((λ told is. let k : None ≡ Some told = (t told).0 is in cc), refl), e)
+as_it_is colours text before after (Err why) t e = tt
 
 pub read_ended : (colours : Bool) (read text rest before shown after : List ℕ) → IsFrontLine read text rest → length text < length read → ShowsLine colours text before shown → after ≡ shown ++ 10 ∷ [] → ShowsRead colours read before after
 read_ended colours read text rest before shown after f shorter s e = go f.ends

@@ -4,7 +4,7 @@ use Rattle.std.specs.List.{AllByRecursion}
 use Rattle.std.specs.Io.KnownBytes.{Appends}
 use Rattle.texts.specs.Limits.{most_depth}
 use Rattle.texts.specs.Lines.{IsFrontLine}
-use Rattle.trace_reading.specs.Lines.{IsTraceLine}
+use Rattle.trace_reading.specs.Lines.{IsLine}
 use Rattle.trace_reading.specs.declared.line.TraceLine.{TraceLine}
 use Rattle.trace_reading.specs.declared.line.TraceLine.TheVariants as line
 
@@ -44,10 +44,11 @@ pub record IsDressed (colours : Bool) (told : TraceLine) (text shown : List ℕ)
   pub is_remark : IsRemark remark
   pub whole : shown ≡ indent_of told ++ coloured ++ remark
 
--- a line as it is shown: one that is none of a trace as it is
+-- a line as it is shown: dressed where it tells anything, and as it is where no line of a trace tells anything of it
 abbrev pub IsShownAs : Bool → List ℕ → List ℕ → Type 0
 IsShownAs colours text shown =
-    (shown ≡ text) ⊎ ((told : TraceLine) × IsTraceLine text told × IsDressed colours told text shown)
+    (((told : TraceLine) → ¬ IsLine text told) × (shown ≡ text))
+    ⊎ ((told : TraceLine) × IsLine text told × IsDressed colours told text shown)
 
 -- the bytes grow by the line as it is shown
 abbrev pub ShowsLine : Bool → List ℕ → List ℕ → List ℕ → Type 0

@@ -1,4 +1,3 @@
 pub mod Cutting
-pub mod Begun
 pub mod Skipping
 pub mod Telling

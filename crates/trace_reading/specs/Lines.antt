@@ -1,5 +1,5 @@
 -- The lines of a trace, as far as they are told apart (docs/commands.md, "The trace").
-use Rattle.std.specs.Prelude.{ℕ, ◌≡◌, List, ◌∷◌, ◌++◌, codes, ◌⊎◌}
+use Rattle.std.specs.Prelude.{ℕ, ◌≡◌, ◌<◌, ◌^◌, ◌↔◌, List, ◌∷◌, ◌++◌, codes, ◌⊎◌, Option, Some}
 use Rattle.texts.specs.Numerals.{IsNumeral}
 use Rattle.trace_reading.specs.declared.line.EntryKind.{EntryKind}
 use Rattle.trace_reading.specs.declared.line.EntryKind.TheVariants as kind
@@ -69,3 +69,56 @@ IsTraceLine text (line.Refused event reason) =
 IsTraceLine text (line.At depth what) =
     (digits rest : List ℕ) × IsNumeral digits depth × BeginsAsKind rest what × (text ≡ digits ++ 32 ∷ rest)
 IsTraceLine text (line.Fault fault) = GivesNumber text (codes "fault") fault
+
+-- ---- as in a run, whose numbers have bounds: of an event and a depth 64 bits at most, of a reason and a fault 8
+
+abbrev pub IsWide : ℕ → Type 0
+IsWide number = number < 2 ^ 64
+
+abbrev pub IsSmall : ℕ → Type 0
+IsSmall number = number < 2 ^ 8
+
+abbrev pub KindHasBounds : EntryKind → Type 0
+KindHasBounds (kind.Refused reason) = IsSmall reason
+KindHasBounds _ = Unit {0}
+
+abbrev pub HasBounds : TraceLine → Type 0
+HasBounds (line.Accepted event) = IsWide event
+HasBounds (line.Refused event reason) = IsWide event × IsSmall reason
+HasBounds (line.At depth what) = IsWide depth × KindHasBounds what
+HasBounds (line.Fault fault) = IsSmall fault
+
+-- the line tells this
+abbrev pub IsLine : List ℕ → TraceLine → Type 0
+IsLine text told = HasBounds told × IsTraceLine text told
+
+-- what follows the word `event` and a blank in a line that tells this
+abbrev pub EndsLine : List ℕ → TraceLine → Type 0
+EndsLine text told = HasBounds told × EndsEvent text told
+
+-- what follows the depth and a blank in a line that tells this
+abbrev pub IsEntry : List ℕ → EntryKind → Type 0
+IsEntry text what = KindHasBounds what × BeginsAsKind text what
+
+-- ---- what is found is what the text tells, and nothing is found just where it tells nothing
+
+abbrev pub TellsLine : List ℕ → Option TraceLine → Type 0
+TellsLine text found = (told : TraceLine) → IsLine text told ↔ (found ≡ Some told)
+
+abbrev pub TellsEnd : List ℕ → Option TraceLine → Type 0
+TellsEnd text found = (told : TraceLine) → EndsLine text told ↔ (found ≡ Some told)
+
+abbrev pub TellsEntry : List ℕ → Option EntryKind → Type 0
+TellsEntry text found = (what : EntryKind) → IsEntry text what ↔ (found ≡ Some what)
+
+-- .. of a word that something follows
+abbrev pub TellsPlain : List ℕ → Option EntryKind → Type 0
+TellsPlain word found = (what : EntryKind) → (IsPlain what × (word ≡ kind_word what)) ↔ (found ≡ Some what)
+
+-- .. of the word `refused` and the number of a reason
+abbrev pub TellsReason : List ℕ → Option ℕ → Type 0
+TellsReason text found = (reason : ℕ) → IsEntry text (kind.Refused reason) ↔ (found ≡ Some reason)
+
+-- .. of the number of a reason or of a fault
+abbrev pub TellsNumber : List ℕ → Option ℕ → Type 0
+TellsNumber digits found = (number : ℕ) → (IsSmall number × IsNumeral digits number) ↔ (found ≡ Some number)

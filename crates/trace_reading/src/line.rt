@@ -1,9 +1,8 @@
 //! The lines of a trace.
 
-ghost use Rattle.std.specs.Prelude.{◌≡◌, ◌<◌, ◌^◌, ℕ, ◌↔◌, Some, IfSome};
-ghost use Rattle.texts.specs.Numerals.{IsNumeral};
-ghost use Rattle.trace_reading.specs.Events.{IsEventsLine, EndsEventsLine, GivesReason, event_of};
-ghost use Rattle.trace_reading.specs.Lines.{IsTraceLine, BeginsAsKind, kind_word, IsPlain, EndsEvent};
+ghost use Rattle.std.specs.Prelude.{◌≡◌, ℕ, ◌↔◌, Some};
+ghost use Rattle.trace_reading.specs.Events.{IsEventsLine, event_of};
+ghost use Rattle.trace_reading.specs.Lines.{TellsLine, TellsEnd, TellsEntry, TellsPlain, TellsReason, TellsNumber};
 
 use crate::words::cut_word;
 use texts::number;
@@ -62,7 +61,7 @@ impl TraceLine {
     /// What a line tells, which stands here without its newline; `None` where it is no line of a trace. What follows the
     /// word of an entry isn't judged.
     pub fn of(line: &[u8]) -> Option<TraceLine>
-        ensures told { IfSome result (IsTraceLine line.now) }
+        ensures told { TellsLine line.now result }
         ensures event { (event : ℕ) → IsEventsLine line.now event ↔ (event_of result ≡ Some event) }
     {
         let (first, rest) = cut_word(line);
@@ -94,8 +93,7 @@ impl TraceLine {
 
 /// What a line tells that begins with `event`, by what follows that word.
 fn event_line(text: &[u8]) -> Option<TraceLine>
-    ensures told { IfSome result (EndsEvent text.now) }
-    ensures event { (event : ℕ) → EndsEventsLine text.now event ↔ (event_of result ≡ Some event) }
+    ensures { TellsEnd text.now result }
 {
     let (digits, rest) = cut_word(text);
     let event = number(digits, LARGEST)?;
@@ -108,7 +106,7 @@ fn event_line(text: &[u8]) -> Option<TraceLine>
 
 /// The number of a reason behind the word `refused`; `None` where the text is anything else.
 fn refusal(text: &[u8]) -> Option<u8>
-    ensures { (number : ℕ) → GivesReason text.now number ↔ (result ≡ Some number) }
+    ensures { TellsReason text.now result }
 {
     let (word, rest) = cut_word(text);
     let rest = rest?;
@@ -121,18 +119,16 @@ fn refusal(text: &[u8]) -> Option<u8>
 
 /// The number of a reason or of a fault.
 fn reason(digits: &[u8]) -> Option<u8>
-    ensures numeral { IfSome result (IsNumeral digits.now) }
-    ensures every { (number : ℕ) → (number < 2 ^ 8) → IsNumeral digits.now number → result ≡ Some number }
-    ensures small { IfSome result (λ number. number < 2 ^ 8) }
+    ensures { TellsNumber digits.now result }
 {
     let number = number(digits, LARGEST_REASON)?;
     Some(number as u8)
 }
 
 impl EntryKind {
-    /// What happens by this text, which begins with the word for it.
+    /// What happens by this text, which begins with the word for it; `None` where no entry begins so.
     pub fn of(text: &[u8]) -> Option<EntryKind>
-        ensures { IfSome result (BeginsAsKind text.now) }
+        ensures { TellsEntry text.now result }
     {
         let (word, rest) = cut_word(text);
         let Some(rest) = rest else {
@@ -172,8 +168,7 @@ impl EntryKind {
 
 /// What happens by this word, which something follows.
 fn of_word(word: &[u8]) -> Option<EntryKind>
-    ensures word { IfSome result (λ kind. word.now ≡ kind_word kind) }
-    ensures plain { IfSome result IsPlain }
+    ensures { TellsPlain word.now result }
 {
     match word {
         b"emit" => Some(EntryKind::Emit),

@@ -1,5 +1,5 @@
 use Rattle.std.proofs.Common.{ap, refl, Some, None}
-use Rattle.trace_reading.proofs.Telling.{found_as}
+use Rattle.trace_reading.proofs.Telling.{found_as, no_event}
 use Rattle.trace_reading.proofs.line.TraceLine.event.Goals as goal
 
 pub returns-in_err-event : goal.returns-in_err-event
@@ -10,3 +10,6 @@ returns-in-Accepted c = found_as c.args.line.now (Some c.in_ok-event.field-0) _ 
 
 pub returns-in-Refused : goal.returns-in-Refused
 returns-in-Refused c = found_as c.args.line.now (Some c.in_ok-event.field-0) _ (Some c.in-Refused.event) (ap Some c.in-Refused.is) refl c.in_ok-event.ensures.event
+
+pub returns-in-At : goal.returns-in-At
+returns-in-At c = no_event c.args.line.now c.in_ok-event.field-0 c.in-At.is c.in_ok-event.ensures.event
