@@ -1,6 +1,6 @@
 #!/usr/bin/env python3
 """The merge gate: `rt ci`, and then what is tried on the programs that it built: the second program's cases, the wrapper, the
-tutorial, want of memory and hostile input. The last line is `N passed, M failed` over all of these. Where `rt ci` fails
+tutorial, runs without memory and hostile input. The last line is `N passed, M failed` over all of these. Where `rt ci` fails
 nothing is tried, and the last line has its numbers."""
 import os
 import re

@@ -56,7 +56,7 @@ class Call:
         self.is_command = b": status " in head
 
     def fronts(self):
-        """What may be told of a run that stops for want of memory."""
+        """What may be told of a run that stops because memory ran out."""
         if self.word not in SCRIPTS:
             return set()
         return set(rule_ends(self.told.rstrip(b"\n").splitlines(keepends=True), SCRIPTS[self.word]))

@@ -167,7 +167,7 @@ def example_rows():
 
 def deep_row():
     """The run that was measured to need most of the host's stack: a slot that calls itself within nested blocks. It asks for
-    memory at each depth. A stack that can't grow isn't want of memory, and `built.STACK` is enough for it."""
+    memory at each depth. A stack that can't grow isn't memory that ran out, and `built.STACK` is enough for it."""
     body = b"if (true) { " * 29 + b"call this.f(); " + b"} " * 29
     text = b"class A { slot f() { %s } }\n%%%%\nnew a A\ncall a.f()\n" % body
     calls_of_f = b"".join(b"%d call a.f()\n" % depth for depth in range(1, 257))

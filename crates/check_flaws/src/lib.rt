@@ -5,7 +5,6 @@
 mod compared;
 mod explain;
 mod node_name;
-mod numbered;
 mod rows;
 
 pub use compared::cause_text;

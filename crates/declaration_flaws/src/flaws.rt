@@ -4,37 +4,30 @@ ghost use Rattle.std.specs.Prelude.{◌≤◌, length, IfOk, IfSome};
 
 use crate::declarations::declared_at;
 use crate::likely::likely;
-use crate::natives::native_flaw;
+use crate::source::source_of;
 use crate::walk::first_token;
 use crate::words::Told;
-use class_lang::{TextFault, read_program};
 use class_outlines::{Declaration, LoadFault, Offence};
 use diagnostics::Flaw;
 use meta_objects::Meta;
 use signatures::Name;
 use std::alloc::{AllocError, Global};
 use syntax_trees::Program;
-use texts::{PlaceFault, PlacedToken, Token, placed_tokens};
+use texts::{PlacedToken, Token};
 
-/// The declaration of a program that breaks the rule of this number, where the program is refused for that: a class's name
-/// (10), a base (11), a name that appears twice (12), a name that isn't there (13), a notify signature (14), a type
-/// (15), a native without a closure (17) or with one of other effects (18). Of 10 to 15 it is the one for which loading
-/// refuses the program. The place is that of the name that is wrong. `None` for other numbers, and where the text is no
-/// program.
+/// The declaration for which loading refuses a program under this number: a class's name (10), a base (11), a name that
+/// appears twice (12), a name that isn't there (13), a notify signature (14) or a type (15). The place is that of the name
+/// that is wrong. `None` for other numbers, and where the text is no program.
 pub fn declaration_flaw(alloc: Global, text: &[u8], number: u8) -> Result<Option<Flaw>, AllocError>
     ensures { IfOk result (λ flaw. IfSome flaw (λ f. f.at ≤ length text.now)) }
 {
-    let program = match read_program(alloc, text) {
-        Ok(program) => program,
-        Err(TextFault::Memory) => return Err(AllocError),
-        Err(_) => return Ok(None),
-    };
-    let placed = match placed_tokens(alloc, text) {
-        Ok(placed) => placed,
-        Err(PlaceFault::Memory) => return Err(AllocError),
-        Err(PlaceFault::BadByte(_)) => return Ok(None),
-    };
-    flaw_of(alloc, text, &program, placed.as_slice(), number)
+    match source_of(alloc, text)? {
+        Some(source) => {
+            let tokens = source.tokens.as_slice();
+            flaw_of(alloc, text, &source.program, tokens, number)
+        }
+        None => Ok(None),
+    }
 }
 
 /// The same of this program, whose text has these tokens.
@@ -47,15 +40,15 @@ fn flaw_of(
 ) -> Result<Option<Flaw>, AllocError>
     ensures { IfOk result (λ flaw. IfSome flaw (λ f. f.at ≤ length text.now)) }
 {
-    let found = match (Meta::load(alloc, program), number) {
-        (Ok(meta), 17 | 18) => of_native(alloc, program, &meta, tokens, number)?,
-        (Err(LoadFault::Offence(offence)), _) if offence.number() == number => {
-            of_offence(alloc, program, tokens, &offence)?
-        }
-        (Err(LoadFault::Memory), _) => return Err(AllocError),
-        _ => None,
+    let offence = match Meta::load(alloc, program) {
+        Err(LoadFault::Offence(offence)) => offence,
+        Err(LoadFault::Memory) => return Err(AllocError),
+        Ok(_) => return Ok(None),
     };
-    match found {
+    if offence.number() != number {
+        return Ok(None);
+    }
+    match of_offence(alloc, program, tokens, &offence)? {
         Some(flaw) => Ok(Some(flaw.within(0, text.len()))),
         None => Ok(None),
     }
@@ -82,30 +75,8 @@ fn of_offence(
     Ok(Some(flaw))
 }
 
-/// The flaw for which a native of the loaded program is refused under this number.
-fn of_native(
-    alloc: Global,
-    program: &Program,
-    meta: &Meta,
-    tokens: &[PlacedToken],
-    number: u8,
-) -> Result<Option<Flaw>, AllocError> {
-    let Some(native) = native_flaw(alloc, program, meta, number)? else {
-        return Ok(None);
-    };
-    let Some(told) = told_at(alloc, program, tokens, native.declaration, native.name) else {
-        return Ok(None);
-    };
-    let advice = match native.finding.advice {
-        Some(advice) => Some(String::from_str(alloc, advice)?),
-        None => None,
-    };
-    let flaw = told.flaw(native.finding.sentence.as_str(), advice)?;
-    Ok(Some(flaw))
-}
-
 /// The declaration, with its name of this number.
-fn told_at<'a>(
+pub fn told_at<'a>(
     alloc: Global,
     program: &'a Program,
     tokens: &'a [PlacedToken],

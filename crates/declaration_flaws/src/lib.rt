@@ -7,9 +7,11 @@ mod flaws;
 mod likely;
 mod natives;
 mod sentence;
+mod source;
 mod types;
 mod undeclared;
 mod walk;
 mod words;
 
 pub use flaws::declaration_flaw;
+pub use natives::native_flaw;

@@ -2,11 +2,12 @@
 
 use crate::usage::push_usage;
 use check_flaws::broken_condition;
-use declaration_flaws::declaration_flaw;
+use declaration_flaws::{declaration_flaw, native_flaw};
 use diagnostics::{Flaw, Severity, Span, TextKind, meaning, push_flaw, text_spans};
 use meta_objects::Meta;
 use native_slots::Answering;
 use program_flaws::missing_certificate;
+use rank_check::Denied;
 use std::alloc::{AllocError, Global};
 use text_flaws::{certificate_flaw, program_flaw, script_flaw, size_flaw, wire_flaw};
 use trace_tool::{Fault, Outcome, ProgramOutcome, Refusal, ScriptFault, Why};
@@ -62,10 +63,10 @@ fn push_refusal(
         return Ok(());
     };
     let about = meaning(number).unwrap_or("");
-    if let Refusal::Check(_) = refusal {
+    if let Refusal::Check(denied) = refusal {
         writeln!(text, "no {number}: {about}")?;
         return match input {
-            Some(input) => push_broken(text, alloc, input, number),
+            Some(input) => push_broken(text, alloc, input, denied),
             None => Ok(()),
         };
     }
@@ -113,7 +114,8 @@ fn flaw_of(
 ) -> Result<Option<Flaw>, AllocError> {
     match refusal {
         Refusal::Text(_) => program_flaw(alloc, source, number),
-        Refusal::Loading(_) | Refusal::Natives(_) => declaration_flaw(alloc, source, number),
+        Refusal::Loading(_) => declaration_flaw(alloc, source, number),
+        Refusal::Natives(misfit) => native_flaw(alloc, source, *misfit),
         Refusal::Certificate(_) => certificate_flaw(alloc, source),
         Refusal::Script(ScriptFault::BadLine(line)) => script_flaw(alloc, source, *line),
         Refusal::Script(_) => size_flaw(alloc, "script", source),
@@ -121,12 +123,12 @@ fn flaw_of(
     }
 }
 
-/// Adds what breaks the condition of this number.
+/// Adds what breaks the condition that the check denied.
 fn push_broken(
     text: &mut String,
     alloc: Global,
     input: &[u8],
-    number: u8,
+    denied: &Denied,
 ) -> Result<(), AllocError> {
     let spans = text_spans(alloc, input)?;
     let spans = spans.as_slice();
@@ -138,7 +140,7 @@ fn push_broken(
     };
     let program = source_of(input, program);
     let certificate = source_of(input, certificate);
-    match broken_condition(alloc, program, certificate, number)? {
+    match broken_condition(alloc, program, certificate, denied)? {
         Some(reason) => text.push_str(reason.as_str()),
         None => Ok(()),
     }

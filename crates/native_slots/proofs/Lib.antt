@@ -5,3 +5,4 @@ pub mod Joining
 pub mod Asking
 pub mod Promising
 pub mod OnlyFitting
+pub mod Telling

@@ -1,5 +1,5 @@
 -- Closures fit a program in one way.
-use Rattle.std.proofs.Common.{◌≡◌, refl, sym, ◌∙◌, subst, List, Result, Ok, Err}
+use Rattle.std.proofs.Common.{◌≡◌, refl, sym, ◌∙◌, subst, List, Ok, Err}
 use Rattle.std.proofs.lemmas.Option.{none-some, same_Some}
 use Rattle.meta_model.specs.declared.effects.MetaEffects.{MetaEffects}
 use Rattle.meta_model.specs.declared.object.MetaMethod.{MetaMethod}
@@ -9,11 +9,11 @@ use Rattle.native_slots.specs.declared.head.NativeHead.{NativeHead}
 use Rattle.native_slots.specs.Fitting.{Natives, AreAsDeclared, HasFitting, HasNone, HasOther, EachNative, SomeNative, OneFitting}
 
 -- a native whose first closure fits has one
-has_some : (heads : List NativeHead) (class : MetaObject) (method : MetaMethod) (effects : MetaEffects) → HasFitting heads class method effects → HasNone heads class method effects → ⊥
+pub has_some : (heads : List NativeHead) (class : MetaObject) (method : MetaMethod) (effects : MetaEffects) → HasFitting heads class method effects → HasNone heads class method effects → ⊥
 has_some heads class method effects fits none = none-some fits.head (sym none ∙ fits.first)
 
 -- .. and it doesn't keep to other effects
-not_other : (heads : List NativeHead) (class : MetaObject) (method : MetaMethod) (effects : MetaEffects) → HasFitting heads class method effects → HasOther heads class method effects → ⊥
+pub not_other : (heads : List NativeHead) (class : MetaObject) (method : MetaMethod) (effects : MetaEffects) → HasFitting heads class method effects → HasOther heads class method effects → ⊥
 not_other heads class method effects fits other =
     let same : fits.head ≡ other.head = same_Some _ _ (sym fits.first ∙ other.first) in
     other.differs (subst (λ head. AreAsDeclared class method effects head.effects) same fits.same)

@@ -18,12 +18,13 @@ use Rattle.native_slots.specs.declared.action.TheConstants.{MOST_ACTIONS}
 use Rattle.native_slots.specs.declared.effects.Effects.{Effects}
 use Rattle.native_slots.specs.declared.effects.PlainProperty.{PlainProperty}
 use Rattle.native_slots.specs.declared.effects.PlainSignal.{PlainSignal}
-use Rattle.native_slots.specs.declared.fault.NativeFault.{NativeFault}
 use Rattle.native_slots.specs.declared.head.NativeHead.{NativeHead}
+use Rattle.native_slots.specs.declared.misfit.Misfit.{Misfit}
 use Rattle.native_slots.specs.declared.plain_type.PlainType.{PlainType}
 use Rattle.native_slots.specs.Answers.{takes_any, MayAnswer}
 use Rattle.native_slots.specs.Effects.{kinds_of, kinds_of_properties, accepts, is_within, are_within}
-use Rattle.native_slots.specs.Fitting.{Fit, IsPropertyAs, IsSignalAs, AreAsDeclared}
+use Rattle.native_slots.specs.Fitting.{IsPropertyAs, IsSignalAs, AreAsDeclared}
+use Rattle.native_slots.specs.Misfits.{Fits}
 use Rattle.native_slots.specs.Plain.{kind_of, is_of, are_of}
 use Rattle.native_slots.specs.Promises.{IsValueOf, Promises, is_declared, are_declared}
 use Rattle.native_slots.proofs.Asking.{heads_found}
@@ -100,11 +101,11 @@ module _ (class : MetaObject) where
 
 -- .. where each closure keeps its own promise
 module _ {S : Type 0} (head_of : S → NativeHead) (answers : S → List Value → List Value → Result (Vec Action Global) AllocError → Type 0) (slots : List S) (p : Loaded) where
-  pub promised : Fit (map head_of slots) p (Ok tt)
+  pub promised : Fits (map head_of slots) p (Ok tt)
       → ((slot : S) (arguments reads : List Value) (v : Vec Action Global) → IsTrue (accepts (head_of slot).effects arguments reads) → answers slot arguments reads (Ok v) → IsTrue (are_within (head_of slot).effects v.items))
       → Promises p (λ class sig arguments reads. takes_any (map head_of slots) class sig arguments reads) (λ class sig arguments reads actions. MayAnswer head_of answers slots class sig arguments reads actions)
   promised fit kept c m class method effects native classes arguments reads typed valued =
-      let has = fit class method effects (record { c = c; m = m; is = native }) in
+      let has = fit (record { class = c; method = m }) class method effects native in
       let accepted : IsTrue (accepts has.head.effects arguments reads) =
       both_true _ _ (are_typed p classes arguments has.head.effects.parameters (subst (λ Ts. HaveTypes p classes arguments Ts) has.same.parameters typed))
       (are_valued p classes class effects.reads reads has.head.effects.reads has.same.reads valued) in (
@@ -118,7 +119,7 @@ module _ {S : Type 0} (head_of : S → NativeHead) (answers : S → List Value �
       )
 
   pub promised_on_ok : ((slot : S) (arguments reads : List Value) (v : Vec Action Global) → IsTrue (accepts (head_of slot).effects arguments reads) → answers slot arguments reads (Ok v) → IsTrue (are_within (head_of slot).effects v.items))
-      → (r : Result (Unit {0}) NativeFault) → Fit (map head_of slots) p r
+      → (r : Result (Unit {0}) Misfit) → Fits (map head_of slots) p r
       → OnOk r (Promises p (λ class sig arguments reads. takes_any (map head_of slots) class sig arguments reads) (λ class sig arguments reads actions. MayAnswer head_of answers slots class sig arguments reads actions))
   promised_on_ok kept (Ok u) fit = promised fit kept
   promised_on_ok kept (Err e) fit = tt

@@ -5,5 +5,6 @@ pub mod Effects
 pub mod Answers
 pub mod Promises
 pub mod Fitting
+pub mod Misfits
 pub mod FaultNumbers
 pub mod code

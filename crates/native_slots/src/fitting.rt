@@ -3,27 +3,35 @@
 ghost use Rattle.std.specs.Prelude.{◌≡◌, ◌↔◌, IsTrue, slice_get, Some};
 ghost use Rattle.std.specs.List.{AllZip};
 ghost use Rattle.native_slots.specs.Effects.{kinds_of};
-ghost use Rattle.native_slots.specs.Fitting.{IsPropertyAs, IsSignalAs, AreAsDeclared};
-ghost use Rattle.native_slots.specs.code.Joining.{lower_of};
+ghost use Rattle.native_slots.specs.Fitting.{IsPropertyAs, IsSignalAs};
+ghost use Rattle.native_slots.specs.Misfits.{TellsDifference};
 
 use crate::effects::{Effects, PlainProperty, PlainSignal};
-use crate::fault::NativeFault;
+use crate::misfit::Difference;
 use crate::plain_type::PlainType;
 use meta_objects::{MetaEffects, MetaMethod, MetaObject, ValueType};
 
-/// Whether the effects are those declared of a native, which is this method of this class, each list in its order.
-pub fn are_as_declared(
+/// The first list in which the effects aren't those declared of a native, which is this method of this class; each list has
+/// its order. `None` where all are.
+pub fn difference(
     class: &MetaObject,
     method: &MetaMethod,
     declared: &MetaEffects,
     kept: &Effects,
-) -> bool
-    ensures { IsTrue result ↔ AreAsDeclared class.now method.now declared.now kept.now }
+) -> Option<Difference>
+    ensures { TellsDifference class.now method.now declared.now kept.now result }
 {
-    are_kinds(method.kinds.as_slice(), kept.parameters.as_slice())
-        && are_properties(class, declared.reads.as_slice(), kept.reads.as_slice())
-        && are_signals(class, declared.emits.as_slice(), kept.emits.as_slice())
-        && are_properties(class, declared.sets.as_slice(), kept.sets.as_slice())
+    if !are_kinds(method.kinds.as_slice(), kept.parameters.as_slice()) {
+        Some(Difference::Parameters)
+    } else if !are_properties(class, declared.reads.as_slice(), kept.reads.as_slice()) {
+        Some(Difference::Reads)
+    } else if !are_signals(class, declared.emits.as_slice(), kept.emits.as_slice()) {
+        Some(Difference::Emits)
+    } else if !are_properties(class, declared.sets.as_slice(), kept.sets.as_slice()) {
+        Some(Difference::Sets)
+    } else {
+        None
+    }
 }
 
 /// Whether both lists hold the same types in the same order.
@@ -85,20 +93,5 @@ fn is_signal(class: &MetaObject, number: usize, signal: &PlainSignal) -> bool
                 && are_kinds(found.kinds.as_slice(), signal.types.as_slice())
         }
         None => false,
-    }
-}
-
-/// Of two answers the one of the lower number.
-pub fn lower(
-    one: Result<(), NativeFault>,
-    other: Result<(), NativeFault>,
-) -> Result<(), NativeFault>
-    ensures { result ≡ lower_of one other }
-{
-    match (one, other) {
-        (Ok(()), _) => other,
-        (Err(NativeFault::NoNative), _) => Err(NativeFault::NoNative),
-        (Err(NativeFault::EffectsDiffer), Ok(())) => Err(NativeFault::EffectsDiffer),
-        (Err(NativeFault::EffectsDiffer), Err(fault)) => Err(fault),
     }
 }

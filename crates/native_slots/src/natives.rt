@@ -3,8 +3,9 @@
 use crate::action::Action;
 use crate::answering::Answering;
 use crate::fault::NativeFault;
-use crate::fitting::{are_as_declared, lower};
+use crate::fitting::difference;
 use crate::head::NativeHead;
+use crate::misfit::{Misfit, NativePlace, first_of};
 use crate::native_slot::{NativeSlot, Work};
 use meta_objects::{Meta, MetaMethod, MetaObject, Work as MethodWork};
 use signatures::{Name, Sig, Value};
@@ -29,7 +30,8 @@ impl Natives {
     ghost use Rattle.std.specs.Option.{option_copied};
     ghost use Rattle.native_slots.specs.Answers.{takes_any, MayAnswer};
     ghost use Rattle.native_slots.specs.Effects.{accepts, are_within};
-    ghost use Rattle.native_slots.specs.Fitting.{Fit, FitAmong};
+    ghost use Rattle.native_slots.specs.Fitting.{Fit};
+    ghost use Rattle.native_slots.specs.Misfits.{FitsAmong, Fits};
     ghost use Rattle.native_slots.specs.code.Joining.{IsNativeFrom, IsThis};
     ghost use Rattle.native_slots.specs.Heads.{is_for, first_for};
     ghost use Rattle.native_slots.specs.Promises.{Promises};
@@ -55,45 +57,68 @@ impl Natives {
             MayAnswer (λ slot. slot.head) (λ slot. FnReturnsAtPair Work.Fn slot.work)
             self.now.slots.items class sig arguments reads actions)) }
     {
+        self.fitting(meta)?;
+        Ok(())
+    }
+
+    /// The same, where a refusal says which native leads to it: the first one of those that have no closure, or else of
+    /// those whose first closure keeps to other effects, in the order of the classes and of their methods; and which list
+    /// is the first that differs.
+    pub fn fitting(&self, meta: &Meta) -> Result<(), Misfit>
+        ensures exact { Fits (map (λ slot. slot.head) self.now.slots.items) meta.now result }
+        ensures promises { OnOk result (Promises meta.now
+            (λ class sig arguments reads.
+            takes_any (map (λ slot. slot.head) self.now.slots.items) class sig arguments reads)
+            (λ class sig arguments reads actions.
+            MayAnswer (λ slot. slot.head) (λ slot. FnReturnsAtPair Work.Fn slot.work)
+            self.now.slots.items class sig arguments reads actions)) }
+    {
         let mut answer = Ok(());
         let classes = meta.classes();
         for number in 0..classes.len() {
             let inherited = meta.method_offset(number);
-            answer = lower(answer, self.class_fits(&classes[number], inherited));
+            let of_class = self.class_fits(number, &classes[number], inherited);
+            answer = first_of(answer, of_class);
         }
         answer
     }
 
-    /// The same of the class's natives from this method on.
-    fn class_fits(&self, class: &MetaObject, first: usize) -> Result<(), NativeFault>
-        ensures { FitAmong (map (λ slot. slot.head) self.now.slots.items)
-            (IsNativeFrom class.now first) result }
+    /// The same of the natives of the class of this number from this method on.
+    fn class_fits(&self, number: usize, class: &MetaObject, first: usize) -> Result<(), Misfit>
+        ensures { FitsAmong (map (λ slot. slot.head) self.now.slots.items)
+            (IsNativeFrom number class.now first) result }
     {
         let methods = class.methods.as_slice();
         let mut answer = Ok(());
-        for number in first..methods.len() {
-            answer = lower(answer, self.method_fits(class, &methods[number]));
+        for method in first..methods.len() {
+            let place = NativePlace {
+                class: number,
+                method,
+            };
+            answer = first_of(answer, self.method_fits(place, class, &methods[method]));
         }
         answer
     }
 
-    /// The same of one method of the class.
-    fn method_fits(&self, class: &MetaObject, method: &MetaMethod) -> Result<(), NativeFault>
-        ensures { FitAmong (map (λ slot. slot.head) self.now.slots.items)
-            (IsThis class.now method.now) result }
+    /// The same of the one method of this place, of this class.
+    fn method_fits(
+        &self,
+        place: NativePlace,
+        class: &MetaObject,
+        method: &MetaMethod,
+    ) -> Result<(), Misfit>
+        ensures { FitsAmong (map (λ slot. slot.head) self.now.slots.items)
+            (IsThis place class.now method.now) result }
     {
         let MethodWork::Native(declared) = &method.work else {
             return Ok(());
         };
         match self.head_for(&class.name, &method.sig) {
-            None => Err(NativeFault::NoNative),
-            Some(head) => {
-                if are_as_declared(class, method, declared, &head.effects) {
-                    Ok(())
-                } else {
-                    Err(NativeFault::EffectsDiffer)
-                }
-            }
+            None => Err(Misfit::NoNative(place)),
+            Some(head) => match difference(class, method, declared, &head.effects) {
+                Some(list) => Err(Misfit::EffectsDiffer(place, list)),
+                None => Ok(()),
+            },
         }
     }
 

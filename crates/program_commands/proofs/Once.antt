@@ -19,7 +19,7 @@ use Rattle.class_outlines.specs.declared.fault.MetaFault.TheVariants as of_meta
 use Rattle.meta_objects.specs.Builds.{Builds}
 use Rattle.meta_objects.proofs.OnlyAnswer.{one_answer as one_loading}
 use Rattle.meta_objects.proofs.FoundClasses.{form_sound}
-use Rattle.rank_check.specs.Checks.{Checking, Checks, number_of as no_number}
+use Rattle.rank_check.specs.Checks.{Checking, Denial, Examines, number_of as no_number}
 use Rattle.rank_check.specs.declared.no.No.{No}
 use Rattle.rank_check.specs.declared.no.No.TheVariants as of_check
 use Rattle.rank_make.specs.Makes.{Makes}
@@ -161,19 +161,50 @@ certified_once program certificate =
     (λ loaded. one_first IsShortCertificate IsShortResult (certificate_once certificate) (λ fault is. let same : fault ≡ of_certificate.Memory = cc is in ap certificate_number same) (λ x e. cc e)
     (λ read. one_is IsShortResult (Ok (loaded, read))))
 
-abbrev pub IsShortCheck : Result Checking No → Type 0
-IsShortCheck r = r ≡ Err of_check.Memory
+abbrev pub IsShortCheck : Result Checking Denial → Type 0
+IsShortCheck (Ok checked) = ⊥
+IsShortCheck (Err denial) = denial.no ≡ of_check.Memory
 
-pub check_once : (p : Loaded) (certificate : Certificate) → OneOf IsShortCheck (Checks p certificate)
-check_once p certificate = one_verdict p certificate
+pub never_denied : (checked : Checking) → IsShortCheck (Ok checked) → ⊥
+never_denied checked s = s
 
-pub check_short : (w : No) → IsShortCheck (Err w) → refusal_number (refusal.Check w) ≡ None
-check_short w is = let same : w ≡ of_check.Memory = cc is in ap no_number same
+abbrev denial_of : Loaded → Certificate → No → Result Checking Denial
+denial_of p c reason = Err (record { program = p; certificate = c; no = reason })
+
+-- nos of one program, one certificate and one condition are one
+same_denial : (a b : Denial) → a.program ≡ b.program → a.certificate ≡ b.certificate → a.no ≡ b.no → denial_of a.program a.certificate a.no ≡ denial_of b.program b.certificate b.no
+same_denial a b p c n =
+    ap (λ (q : Loaded). denial_of q a.certificate a.no) p ∙ ap (λ (d : Certificate). denial_of b.program d a.no) c ∙ ap (λ (m : No). denial_of b.program b.certificate m) n
+
+pub check_once : (p : Loaded) (certificate : Certificate) → OneOf IsShortCheck (Examines p certificate)
+check_once p c (Ok x) (Ok y) h g = elim (one_verdict p c (Ok x) (Ok y) h g) [
+  | inl e ↦ absurd (cc e)
+  | inr (inl e) ↦ absurd (cc e)
+  | inr (inr e) ↦ inr (inr (let same : x ≡ y = cc e in ap (λ (z : Checking). let r : Result Checking Denial = Ok z in r) same))
+]
+check_once p c (Ok x) (Err b) h g = elim (one_verdict p c (Ok x) (Err b.no) h g.2) [
+  | inl e ↦ absurd (cc e)
+  | inr (inl e) ↦ inr (inl (let same : b.no ≡ of_check.Memory = cc e in same))
+  | inr (inr e) ↦ absurd (cc e)
+]
+check_once p c (Err a) (Ok y) h g = elim (one_verdict p c (Err a.no) (Ok y) h.2 g) [
+  | inl e ↦ inl (let same : a.no ≡ of_check.Memory = cc e in same)
+  | inr (inl e) ↦ absurd (cc e)
+  | inr (inr e) ↦ absurd (cc e)
+]
+check_once p c (Err a) (Err b) h g = elim (one_verdict p c (Err a.no) (Err b.no) h.2 g.2) [
+  | inl e ↦ inl (let same : a.no ≡ of_check.Memory = cc e in same)
+  | inr (inl e) ↦ inr (inl (let same : b.no ≡ of_check.Memory = cc e in same))
+  | inr (inr e) ↦ inr (inr (let same : a.no ≡ b.no = cc e in same_denial a b (h.0 ∙ sym g.0) (h.1 ∙ sym g.1) same))
+]
+
+pub check_short : (denial : Denial) → IsShortCheck (Err denial) → refusal_number (refusal.Check denial) ≡ None
+check_short denial is = ap no_number is
 
 valid_once : (program certificate : List ℕ) → OneOf IsShortResult (LoadsValid program certificate)
 valid_once program certificate =
     one_first IsShortResult IsShortResult (certified_once program certificate) same_short never_short
-    (λ both. one_first IsShortCheck IsShortResult (check_once both.0 both.1) check_short (λ x e. cc e) (λ checked. one_is IsShortResult (Ok checked)))
+    (λ both. one_first IsShortCheck IsShortResult (check_once both.0 both.1) check_short never_denied (λ checked. one_is IsShortResult (Ok checked)))
 
 -- ---- the commands
 

@@ -7,6 +7,7 @@ pub mod Steps
 pub use Rattle.class_lang.specs.Reads as ClassLangReads
 pub use Rattle.class_outlines.specs.FaultNumbers as MetaModelFaultNumbers
 pub use Rattle.native_slots.specs.FaultNumbers as NativeSlotsFaultNumbers
+pub use Rattle.native_slots.specs.Misfits
 pub use Rattle.certificate_lang.specs.Reads as CertificateLangReads
 pub use Rattle.rank_check.specs.Checks
 pub use Rattle.certificate_texts.specs.Texts as CertificateTexts

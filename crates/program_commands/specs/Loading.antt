@@ -5,7 +5,7 @@ use Rattle.certificate_lang.specs.declared.certificate.Certificate.{Certificate}
 use Rattle.class_lang.specs.Reads.{ReadsProgram}
 use Rattle.meta_objects.specs.Builds.{Builds}
 use Rattle.meta_model.specs.Loaded.{Loaded}
-use Rattle.rank_check.specs.Checks.{Checking, Checks}
+use Rattle.rank_check.specs.Checks.{Checking, Examines}
 use Rattle.program_commands.specs.declared.refusal.Refusal.{Refusal}
 use Rattle.program_commands.specs.declared.refusal.Refusal.TheVariants.{Text, Loading, Certificate as OfCertificate, Check}
 use Rattle.program_commands.specs.Steps.{First, Gives}
@@ -26,4 +26,4 @@ LoadsCertified program certificate =
 abbrev pub LoadsValid : List ℕ → List ℕ → Result Checking Refusal → Type 0
 LoadsValid program certificate =
     First (LoadsCertified program certificate) Err (λ both.
-    First (Checks both.0 both.1) (λ why. Err (Check why)) Gives)
+    First (Examines both.0 both.1) (λ why. Err (Check why)) Gives)

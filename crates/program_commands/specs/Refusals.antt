@@ -5,6 +5,7 @@ use Rattle.class_outlines.specs.FaultNumbers.{number_of as meta_number}
 use Rattle.certificate_lang.specs.Reads.{number_of as certificate_number}
 use Rattle.rank_check.specs.Checks.{number_of as no_number}
 use Rattle.native_slots.specs.FaultNumbers.{number_of as native_number}
+use Rattle.native_slots.specs.Misfits.{fault_of}
 use Rattle.script_lang.specs.declared.fault.ScriptFault.{ScriptFault}
 use Rattle.script_lang.specs.declared.fault.ScriptFault.TheVariants.{TooLarge, BadLine, Memory}
 use Rattle.program_commands.specs.declared.refusal.Refusal.{Refusal}
@@ -23,8 +24,8 @@ refusal_number (Text fault) = text_number fault
 refusal_number (Loading fault) = meta_number fault
 refusal_number (Certificate fault) = certificate_number fault
 refusal_number (Script fault) = script_number fault
-refusal_number (Check why) = no_number why
-refusal_number (Natives fault) = Some (native_number fault)
+refusal_number (Check denial) = no_number denial.no
+refusal_number (Natives misfit) = Some (native_number (fault_of misfit))
 
 -- ---- lines
 
@@ -56,8 +57,8 @@ refusal_line (Text fault) = line_of (codes "refused ") (text_number fault)
 refusal_line (Loading fault) = line_of (codes "refused ") (meta_number fault)
 refusal_line (Certificate fault) = line_of (codes "refused ") (certificate_number fault)
 refusal_line (Script fault) = script_line fault
-refusal_line (Check why) = line_of (codes "no ") (no_number why)
-refusal_line (Natives fault) = line_of (codes "refused ") (Some (native_number fault))
+refusal_line (Check denial) = line_of (codes "no ") (no_number denial.no)
+refusal_line (Natives misfit) = line_of (codes "refused ") (Some (native_number (fault_of misfit)))
 
 -- ---- the exit status
 
@@ -71,5 +72,5 @@ refusal_status (Text fault) = status_of 2 (text_number fault)
 refusal_status (Loading fault) = status_of 2 (meta_number fault)
 refusal_status (Certificate fault) = status_of 2 (certificate_number fault)
 refusal_status (Script fault) = status_of 2 (script_number fault)
-refusal_status (Check why) = status_of 3 (no_number why)
-refusal_status (Natives fault) = status_of 2 (Some (native_number fault))
+refusal_status (Check denial) = status_of 3 (no_number denial.no)
+refusal_status (Natives misfit) = status_of 2 (Some (native_number (fault_of misfit)))

@@ -6,7 +6,7 @@ use crate::refusal::Refusal;
 use certificate_lang::{Certificate, read_certificate};
 use class_lang::read_program;
 use meta_objects::Meta;
-use rank_check::{Checked, check};
+use rank_check::{Checked, examine};
 use std::alloc::Global;
 
 /// Reads and loads a program.
@@ -36,6 +36,6 @@ pub fn load_valid(alloc: Global, program: &[u8], certificate: &[u8]) -> Result<C
     ensures { LoadsValid program.now certificate.now result }
 {
     let (meta, certificate) = load_certified(alloc, program, certificate)?;
-    let checked = check(alloc, meta, certificate)?;
+    let checked = examine(alloc, meta, certificate)?;
     Ok(checked)
 }

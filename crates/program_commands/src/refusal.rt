@@ -8,8 +8,8 @@ use certificate_lang::CertificateFault;
 use class_lang::TextFault;
 use command_output::Output;
 use meta_objects::MetaFault;
-use native_slots::NativeFault;
-use rank_check::No;
+use native_slots::Misfit;
+use rank_check::Denied;
 use script_lang::ScriptFault;
 use std::io::Write;
 use thiserror::Error;
@@ -31,10 +31,10 @@ pub enum Refusal {
     Script(ScriptFault),
     /// The certificate isn't valid for the program.
     #[error(transparent)]
-    Check(No),
+    Check(Denied),
     /// The closures aren't those of the natives that the program declares.
     #[error(transparent)]
-    Natives(NativeFault),
+    Natives(Misfit),
 }
 
 /// The exit status where nothing was done.
@@ -55,8 +55,8 @@ impl Refusal {
             Refusal::Loading(fault) => fault.number(),
             Refusal::Certificate(fault) => fault.number(),
             Refusal::Script(fault) => number_of_script(fault),
-            Refusal::Check(no) => no.number(),
-            Refusal::Natives(fault) => Some(fault.number()),
+            Refusal::Check(denied) => denied.no().number(),
+            Refusal::Natives(misfit) => Some(misfit.fault().number()),
         }
     }
 
@@ -69,8 +69,8 @@ impl Refusal {
             Refusal::Loading(fault) => status_or_undone(REFUSED, fault.number()),
             Refusal::Certificate(fault) => status_or_undone(REFUSED, fault.number()),
             Refusal::Script(fault) => status_or_undone(REFUSED, number_of_script(fault)),
-            Refusal::Check(no) => status_or_undone(DENIED, no.number()),
-            Refusal::Natives(fault) => status_or_undone(REFUSED, Some(fault.number())),
+            Refusal::Check(denied) => status_or_undone(DENIED, denied.no().number()),
+            Refusal::Natives(misfit) => { status_or_undone(REFUSED, Some(misfit.fault().number())) }
         }
     }
 
@@ -83,8 +83,8 @@ impl Refusal {
             Refusal::Loading(fault) => put_line(output, b"refused ", fault.number()),
             Refusal::Certificate(fault) => put_line(output, b"refused ", fault.number()),
             Refusal::Script(fault) => put_script(output, fault),
-            Refusal::Check(no) => put_line(output, b"no ", no.number()),
-            Refusal::Natives(fault) => output.numbered(b"refused ", fault.number()),
+            Refusal::Check(denied) => put_line(output, b"no ", denied.no().number()),
+            Refusal::Natives(misfit) => output.numbered(b"refused ", misfit.fault().number()),
         }
     }
 }
@@ -175,24 +175,24 @@ impl From<ScriptFault> for Refusal {
     }
 }
 
-impl From<No> for Refusal {
+impl From<Denied> for Refusal {
     ghost use Rattle.std.specs.Prelude.{◌≡◌};
     ghost use Rattle.program_commands.specs.declared.refusal.Refusal.TheVariants.{Check};
 
-    ghost from_gives = { λ no refusal. refusal ≡ Check no };
+    ghost from_gives = { λ denied refusal. refusal ≡ Check denied };
 
-    fn from(no: No) -> Refusal {
-        Refusal::Check(no)
+    fn from(denied: Denied) -> Refusal {
+        Refusal::Check(denied)
     }
 }
 
-impl From<NativeFault> for Refusal {
+impl From<Misfit> for Refusal {
     ghost use Rattle.std.specs.Prelude.{◌≡◌};
     ghost use Rattle.program_commands.specs.declared.refusal.Refusal.TheVariants.{Natives};
 
-    ghost from_gives = { λ fault refusal. refusal ≡ Natives fault };
+    ghost from_gives = { λ misfit refusal. refusal ≡ Natives misfit };
 
-    fn from(fault: NativeFault) -> Refusal {
-        Refusal::Natives(fault)
+    fn from(misfit: Misfit) -> Refusal {
+        Refusal::Natives(misfit)
     }
 }

@@ -63,7 +63,19 @@ abbrev pub Judges : Loaded → Certificate → Result (Unit {0}) Cause → Type 
 Judges p certificate (Ok _) = IsValid p certificate
 Judges p certificate (Err cause) = IsCause p certificate cause
 
+-- a program with a certificate that isn't valid for it, and the first condition that doesn't hold
+pub record Denial : Type 0 where
+  pub program : Loaded
+  pub certificate : Certificate
+  pub no : No
+
 -- yes exactly where the certificate is valid, with the program and the certificate that were taken
 abbrev pub Checks : Loaded → Certificate → Result Checking No → Type 0
 Checks p certificate (Ok checked) = (checked.program ≡ p) × (checked.certificate ≡ certificate) × IsValid p certificate
 Checks p certificate (Err reason) = IsNo p certificate reason
+
+-- the same, where a no comes with the program and the certificate that were taken
+abbrev pub Examines : Loaded → Certificate → Result Checking Denial → Type 0
+Examines p certificate (Ok checked) = Checks p certificate (Ok checked)
+Examines p certificate (Err denial) =
+    (denial.program ≡ p) × (denial.certificate ≡ certificate) × IsNo p certificate denial.no

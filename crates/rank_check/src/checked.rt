@@ -1,9 +1,10 @@
 //! Whether a certificate is valid for a program.
 
 ghost use Rattle.std.specs.Prelude.{◌≡◌, ◌≤◌};
-ghost use Rattle.rank_check.specs.Checks.{Checks};
+ghost use Rattle.rank_check.specs.Checks.{Checks, Examines};
 ghost use Rattle.rank_check.specs.Valid.{IsValid, most_bound};
 
+use crate::denied::Denied;
 use crate::judging::judge;
 use crate::no::No;
 use certificate_lang::Certificate;
@@ -88,8 +89,18 @@ impl Checked {
 pub fn check(alloc: Global, meta: Meta, certificate: Certificate) -> Result<Checked, No>
     ensures { Checks meta certificate result }
 {
+    match examine(alloc, meta, certificate) {
+        Ok(checked) => Ok(checked),
+        Err(denied) => Err(denied.no()),
+    }
+}
+
+/// The same, with the program, the certificate and what breaks the condition where the certificate isn't valid.
+pub fn examine(alloc: Global, meta: Meta, certificate: Certificate) -> Result<Checked, Denied>
+    ensures { Examines meta certificate result }
+{
     match judge(alloc, &meta, &certificate) {
         Ok(()) => Ok(Checked { meta, certificate }),
-        Err(cause) => Err(cause.no()),
+        Err(cause) => Err(Denied::new(meta, certificate, cause)),
     }
 }

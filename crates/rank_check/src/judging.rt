@@ -14,8 +14,8 @@ use meta_objects::Meta;
 use std::alloc::Global;
 use type_check::{unfit_wire, untyped};
 
-/// What breaks the first condition of a valid certificate that doesn't hold, as the error. `check` answers by this very
-/// judgement, and keeps the condition alone. `Memory` comes only where a growth of memory was refused.
+/// What breaks the first condition of a valid certificate that doesn't hold, as the error. `examine` answers by this very
+/// judgement, and `check` keeps the condition alone. `Memory` comes only where a growth of memory was refused.
 pub fn judge(alloc: Global, meta: &Meta, certificate: &Certificate) -> Result<(), Cause>
     ensures { Judges meta.now certificate.now result }
 {

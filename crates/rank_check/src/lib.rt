@@ -4,6 +4,7 @@
 mod causes;
 mod checked;
 mod class_set;
+mod denied;
 mod destroys;
 mod entries;
 mod judging;
@@ -17,8 +18,9 @@ pub use causes::{Cause, Extra, Loose, Mistake, NodeLine, Rise};
 pub use certificate_lang::{
     Certificate, CertificateFault, Line, MemberName, NodeName, SetItem, read_certificate,
 };
-pub use checked::{Checked, check};
+pub use checked::{Checked, check, examine};
 pub use class_set::ClassSet;
+pub use denied::Denied;
 pub use judging::judge;
 pub use no::No;
 pub use ranks::MOST_BOUND;

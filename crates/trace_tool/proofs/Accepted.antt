@@ -1,11 +1,11 @@
 -- Where `run` accepts, it refuses nothing unless memory runs out, and runs what it accepts.
-use Rattle.std.proofs.Common.{◌≡◌, ◌≢◌, ℕ, ◌⊎◌, inl, inr, List, Some, None, Result, Ok, Err, refl, sym, ap, ◌∙◌, subst}
+use Rattle.std.proofs.Common.{◌≡◌, ◌≢◌, ℕ, ◌⊎◌, inl, inr, List, None, Result, Ok, Err, refl, ap}
 use Rattle.certificate_lang.specs.declared.certificate.Certificate.{Certificate}
 use Rattle.meta_model.specs.Loaded.{Loaded}
-use Rattle.native_slots.specs.declared.fault.NativeFault.{NativeFault}
-use Rattle.native_slots.specs.declared.fault.NativeFault.TheVariants as of_native
 use Rattle.native_slots.specs.declared.head.NativeHead.{NativeHead}
-use Rattle.native_slots.specs.Fitting.{Fit, AreAsDeclared}
+use Rattle.native_slots.specs.declared.misfit.Misfit.{Misfit}
+use Rattle.native_slots.specs.Misfits.{Fits}
+use Rattle.native_slots.proofs.Telling.{one_misfit}
 use Rattle.rank_check.specs.Checks.{Checking}
 use Rattle.script_lang.specs.Reads.{ReadsScript}
 use Rattle.script_lang.specs.declared.event.Event.{Event}
@@ -19,7 +19,7 @@ use Rattle.program_commands.specs.declared.refusal.Refusal.{Refusal}
 use Rattle.program_commands.specs.declared.refusal.Refusal.TheVariants as refusal
 use Rattle.program_commands.specs.Outcomes.{IsShort as IsShortProgram}
 use Rattle.program_commands.specs.Refusals.{refusal_number, script_number}
-use Rattle.program_commands.proofs.Once.{OneOf, one_first, one_is, goes_with, loads_once, certified_once, check_once, check_short, IsShortCheck, IsShortResult, never_short, same_short, short_refusal}
+use Rattle.program_commands.proofs.Once.{OneOf, one_first, one_is, goes_with, loads_once, certified_once, check_once, check_short, never_denied, IsShortCheck, IsShortResult, never_short, same_short, short_refusal}
 use Rattle.trace_tool.specs.declared.outcome.Outcome.{Outcome}
 use Rattle.trace_tool.specs.Commands.{Accepting, Accepts, AcceptedComesTo, MayRun, RunComesTo, refused}
 use Rattle.trace_tool.specs.Outcomes.{IsShort}
@@ -47,36 +47,17 @@ script_once text a b h k = elim (script_or_short a) [
 pub script_short : (fault : ScriptFault) → IsShortScript (Err fault) → refusal_number (refusal.Script fault) ≡ None
 script_short fault is = let same : fault ≡ of_script.Memory = cc is in ap script_number same
 
--- each native has a closure, of which the first keeps to the effects declared: so none has none, or another
-fit-not : {heads : List NativeHead} {p : Loaded} (fault : NativeFault) → Fit heads p (Err fault) → Fit heads p (Ok tt) → ⊥
-fit-not of_native.NoNative some each =
-    let fits = each some.class some.method some.effects some.meant in
-    let bad : None ≡ Some fits.head = sym some.has ∙ fits.first in
-    cc bad
-fit-not of_native.EffectsDiffer some each =
-    let other = some.1 in
-    let fits = each other.class other.method other.effects other.meant in
-    let both : Some fits.head ≡ Some other.has.head = sym fits.first ∙ other.has.first in
-    let same : fits.head ≡ other.has.head = cc both in
-    other.has.differs (subst (λ (h : NativeHead). AreAsDeclared other.class other.method other.effects h.effects) same fits.same)
-
-abbrev pub NeverShort : Result (Unit {0}) NativeFault → Type 0
+abbrev pub NeverShort : Result (Unit {0}) Misfit → Type 0
 NeverShort r = ⊥
 
-pub fit_once : (heads : List NativeHead) (p : Loaded) → OneOf NeverShort (Fit heads p)
-fit_once heads p (Ok _) (Ok _) h k = inr (inr refl)
-fit_once heads p (Ok _) (Err fault) h k = absurd (fit-not fault k h)
-fit_once heads p (Err fault) (Ok _) h k = absurd (fit-not fault h k)
-fit_once heads p (Err of_native.NoNative) (Err of_native.NoNative) h k = inr (inr refl)
-fit_once heads p (Err of_native.NoNative) (Err of_native.EffectsDiffer) h k = absurd (k.0 h.class h.method h.effects h.meant h.has)
-fit_once heads p (Err of_native.EffectsDiffer) (Err of_native.NoNative) h k = absurd (h.0 k.class k.method k.effects k.meant k.has)
-fit_once heads p (Err of_native.EffectsDiffer) (Err of_native.EffectsDiffer) h k = inr (inr refl)
+pub fit_once : (heads : List NativeHead) (p : Loaded) → OneOf NeverShort (Fits heads p)
+fit_once heads p a b h k = inr (inr (one_misfit heads p a b h k))
 
 pub accepting_once : (heads : List NativeHead) (program certificate script : List ℕ) → OneOf IsShortResult (Accepting heads program certificate script)
 accepting_once heads program certificate script =
     one_first IsShortResult IsShortResult (certified_once program certificate) same_short never_short
     (λ both. one_first IsShortScript IsShortResult (script_once script) script_short (λ x e. cc e)
-    (λ events. one_first IsShortCheck IsShortResult (check_once both.0 both.1) check_short (λ x e. cc e)
+    (λ events. one_first IsShortCheck IsShortResult (check_once both.0 both.1) check_short never_denied
     (λ checked. one_first NeverShort IsShortResult (fit_once heads checked.program) (λ fault s. absurd s) (λ x s. s)
     (λ fit. one_is IsShortResult (Ok (checked, events))))))
 

@@ -6,8 +6,8 @@ use Rattle.checked_runs.specs.Claims.{IsLimit}
 use Rattle.certificate_lang.specs.declared.certificate.Certificate.{Certificate}
 use Rattle.meta_model.specs.Loaded.{Loaded}
 use Rattle.native_slots.specs.declared.head.NativeHead.{NativeHead}
-use Rattle.native_slots.specs.Fitting.{Fit}
-use Rattle.rank_check.specs.Checks.{Checking, Checks}
+use Rattle.native_slots.specs.Misfits.{Fits}
+use Rattle.rank_check.specs.Checks.{Checking, Examines}
 use Rattle.script_lang.specs.Reads.{ReadsScript}
 use Rattle.script_lang.specs.declared.event.Event.{Event}
 use Rattle.machine_rules.specs.Natives.{NativeAnswers}
@@ -45,7 +45,7 @@ abbrev pub MayRun : List NativeHead → List ℕ → List ℕ → Result (Loaded
 MayRun heads program script =
     First (LoadsProgram program) Err (λ loaded.
     First (ReadsScript script) (λ fault. Err (Script fault)) (λ events.
-    First (Fit heads loaded) (λ fault. Err (OfNatives fault)) (λ fit. Gives (loaded, events))))
+    First (Fits heads loaded) (λ misfit. Err (OfNatives misfit)) (λ fit. Gives (loaded, events))))
 
 -- a machine that has done nothing runs on these events, or there is no memory to make it
 pub data Runs {N : Type 0} (gives : N → NativeAnswers) (machine : Seen N) (events : List Event) : Outcome N → Type 0 where
@@ -66,8 +66,8 @@ abbrev pub Accepting : List NativeHead → List ℕ → List ℕ → List ℕ �
 Accepting heads program certificate script =
     First (LoadsCertified program certificate) Err (λ both.
     First (ReadsScript script) (λ fault. Err (Script fault)) (λ events.
-    First (Checks both.0 both.1) (λ why. Err (OfCheck why)) (λ checked.
-    First (Fit heads checked.program) (λ fault. Err (OfNatives fault)) (λ fit. Gives (checked, events)))))
+    First (Examines both.0 both.1) (λ why. Err (OfCheck why)) (λ checked.
+    First (Fits heads checked.program) (λ misfit. Err (OfNatives misfit)) (λ fit. Gives (checked, events)))))
 
 -- `run` accepts texts with the closures: nothing refuses them, and this is what they say
 abbrev pub Accepts : List NativeHead → List ℕ → List ℕ → List ℕ → Loaded → Certificate → List Event → Type 0

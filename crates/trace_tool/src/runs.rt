@@ -17,7 +17,7 @@ use command_output::WriteFault;
 use native_slots::{Answering, Natives};
 use program_commands::{Outcome as ProgramOutcome, Refusal, load_certified, load_program};
 use qt_runtime::{Event, Machine, Meta, read_script};
-use rank_check::{Checked, check};
+use rank_check::{Checked, examine};
 use sqlite_items::Items;
 use std::alloc::Global;
 use std::io::Write;
@@ -119,8 +119,8 @@ fn accept(
 {
     let (meta, certificate) = load_certified(alloc, program, certificate)?;
     let events = read_script(alloc, script)?;
-    let checked = check(alloc, meta, certificate)?;
-    natives.fits(checked.meta())?;
+    let checked = examine(alloc, meta, certificate)?;
+    natives.fitting(checked.meta())?;
     Ok((checked, events))
 }
 
@@ -221,6 +221,6 @@ fn load(
 {
     let meta = load_program(alloc, program)?;
     let events = read_script(alloc, script)?;
-    natives.fits(&meta)?;
+    natives.fitting(&meta)?;
     Ok((meta, events))
 }

@@ -4,25 +4,30 @@ use Rattle.meta_model.specs.declared.effects.MetaEffects.{MetaEffects}
 use Rattle.meta_model.specs.declared.object.MetaMethod.{MetaMethod}
 use Rattle.meta_model.specs.declared.object.MetaObject.{MetaObject}
 use Rattle.meta_model.specs.declared.object.Work.TheVariants.{Native}
-use Rattle.native_slots.specs.declared.fault.NativeFault.{NativeFault}
-use Rattle.native_slots.specs.declared.fault.NativeFault.TheVariants as fault
-use Rattle.native_slots.specs.Fitting.{Natives}
+use Rattle.native_slots.specs.declared.misfit.Misfit.{Misfit}
+use Rattle.native_slots.specs.declared.misfit.Misfit.TheVariants as misfit
+use Rattle.native_slots.specs.declared.misfit.NativePlace.{NativePlace}
 
--- of two answers the one of the lower number
-abbrev pub lower_of : Result (Unit {0}) NativeFault → Result (Unit {0}) NativeFault → Result (Unit {0}) NativeFault
-lower_of (Ok _) other = other
-lower_of (Err fault.NoNative) other = Err fault.NoNative
-lower_of (Err fault.EffectsDiffer) (Ok _) = Err fault.EffectsDiffer
-lower_of (Err fault.EffectsDiffer) (Err fault) = Err fault
+-- of two answers, of which the second is for natives behind those of the first, the one of the lower number, and of one
+-- number the first
+abbrev pub first_of : Result (Unit {0}) Misfit → Result (Unit {0}) Misfit → Result (Unit {0}) Misfit
+first_of (Ok _) other = other
+first_of (Err (misfit.NoNative at)) other = Err (misfit.NoNative at)
+first_of (Err (misfit.EffectsDiffer at differing)) (Ok _) = Err (misfit.EffectsDiffer at differing)
+first_of (Err (misfit.EffectsDiffer at differing)) (Err (misfit.NoNative b)) = Err (misfit.NoNative b)
+first_of (Err (misfit.EffectsDiffer at differing)) (Err (misfit.EffectsDiffer b other)) = Err (misfit.EffectsDiffer at differing)
 
--- this method of this class, where it is a native
-abbrev pub IsThis : MetaObject → MetaMethod → Natives
-IsThis this_class this class method effects = (class ≡ this_class) × (method ≡ this) × (method.work ≡ Native effects)
+-- this method of this class, at this place, where it is a native
+pub record IsThis (place : NativePlace) (this_class : MetaObject) (this : MetaMethod) (at : NativePlace) (class : MetaObject) (method : MetaMethod) (effects : MetaEffects) : Type 0 where
+  pub here : at ≡ place
+  pub same_class : class ≡ this_class
+  pub same : method ≡ this
+  pub native : method.work ≡ Native effects
 
--- the natives of this class from this method on
-pub record IsNativeFrom (this_class : MetaObject) (first : ℕ) (class : MetaObject) (method : MetaMethod) (effects : MetaEffects) : Type 0 where
+-- the natives of this class, which has this number, from this method on
+pub record IsNativeFrom (number : ℕ) (this_class : MetaObject) (first : ℕ) (at : NativePlace) (class : MetaObject) (method : MetaMethod) (effects : MetaEffects) : Type 0 where
+  pub numbered : at.class ≡ number
   pub same : class ≡ this_class
-  pub m : ℕ
-  pub from : first ≤ m
-  pub is : slice_get class.methods m ≡ Some method
+  pub from : first ≤ at.method
+  pub is : slice_get class.methods at.method ≡ Some method
   pub native : method.work ≡ Native effects

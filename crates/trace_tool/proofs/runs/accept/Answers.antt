@@ -2,14 +2,14 @@ use Rattle.std.proofs.Common.{◌≡◌, List, Err, map, refl, subst}
 use Rattle.std.proofs.lemmas.Result.{err_from_is_err_and}
 use Rattle.program_commands.specs.Steps.{fails, goes_on}
 use Rattle.meta_model.specs.Loaded.{Loaded}
-use Rattle.native_slots.specs.declared.fault.NativeFault.{NativeFault}
 use Rattle.native_slots.specs.declared.head.NativeHead.{NativeHead}
-use Rattle.native_slots.specs.Fitting.{Fit}
+use Rattle.native_slots.specs.declared.misfit.Misfit.{Misfit}
+use Rattle.native_slots.specs.Misfits.{Fits}
 use Rattle.trace_tool.proofs.runs.accept.Goals as goal
 
 -- the closures don't fit the program that was checked
-unfit : (heads : List NativeHead) (fault : NativeFault) {asked loaded : Loaded} → asked ≡ loaded → Fit heads asked (Err fault) → Fit heads loaded (Err fault)
-unfit heads fault same fit = subst (λ (p : Loaded). Fit heads p (Err fault)) same fit
+unfit : (heads : List NativeHead) (misfit : Misfit) {asked loaded : Loaded} → asked ≡ loaded → Fits heads asked (Err misfit) → Fits heads loaded (Err misfit)
+unfit heads misfit same fit = subst (λ (p : Loaded). Fits heads p (Err misfit)) same fit
 
 pub returns-in_err-meta-clause-accepting : goal.returns-in_err-meta-clause-accepting
 returns-in_err-meta-clause-accepting g c =
@@ -26,19 +26,19 @@ returns-in_err-checked-clause-accepting g c =
     let p = err_from_is_err_and c.from_residual-in_err-checked.result c.from_residual-in_err-checked.ensures.1 in
     rw (p.1, p.2) (goes_on _ _ c.in_ok-meta.ensures (goes_on c.in_ok-events.events _ c.in_ok-events.ensures (fails _ c.in_err-checked.ensures)))
 
-pub returns-in_err-fits-clause-accepting : goal.returns-in_err-fits-clause-accepting
-returns-in_err-fits-clause-accepting g c =
-    let p = err_from_is_err_and c.from_residual-in_err-fits.result c.from_residual-in_err-fits.ensures.1 in
+pub returns-in_err-fitting-clause-accepting : goal.returns-in_err-fitting-clause-accepting
+returns-in_err-fitting-clause-accepting g c =
+    let p = err_from_is_err_and c.from_residual-in_err-fitting.result c.from_residual-in_err-fitting.ensures.1 in
     rw (p.1, p.2)
     (goes_on _ _ c.in_ok-meta.ensures (goes_on c.in_ok-events.events _ c.in_ok-events.ensures
     (goes_on c.in_ok-checked.checked _ c.in_ok-checked.ensures
-    (fails _ (unfit (map (λ slot. slot.head) c.args.natives.now.slots.items) _ c.meta.ensures.value c.in_err-fits.ensures.exact)))))
+    (fails _ (unfit (map (λ slot. slot.head) c.args.natives.now.slots.items) _ c.meta.ensures.value c.in_err-fitting.ensures.exact)))))
 
 pub returns-clause-accepting : goal.returns-clause-accepting
 returns-clause-accepting g c =
-    let fit = rw c.meta.ensures.value at c.in_ok-fits.ensures.exact in
+    let fit = rw c.meta.ensures.value at c.in_ok-fitting.ensures.exact in
     goes_on _ _ c.in_ok-meta.ensures (goes_on c.in_ok-events.events _ c.in_ok-events.ensures
     (goes_on c.in_ok-checked.checked _ c.in_ok-checked.ensures (goes_on tt _ fit refl)))
 
 pub returns-clause-promises : goal.returns-clause-promises
-returns-clause-promises g c = rw c.meta.ensures.value at c.in_ok-fits.ensures.promises
+returns-clause-promises g c = rw c.meta.ensures.value at c.in_ok-fitting.ensures.promises

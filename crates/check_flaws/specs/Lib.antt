@@ -1,3 +1,0 @@
-pub mod Explained
-pub use Rattle.rank_check.specs.Checks
-pub use Rattle.rank_check.specs.Causes

@@ -1,0 +1,28 @@
+//! A program's text, as it is read.
+
+use class_lang::{TextFault, read_program};
+use sqlite_items::Items;
+use std::alloc::{AllocError, Global};
+use syntax_trees::Program;
+use texts::{PlaceFault, PlacedToken, placed_tokens};
+
+/// What a text says, and its tokens with their places.
+#[derive(Drop)]
+pub struct Source {
+    pub program: Program,
+    pub tokens: Items<PlacedToken>,
+}
+
+/// The program of this text, with the text's tokens; `None` where the text is no program.
+pub fn source_of(alloc: Global, text: &[u8]) -> Result<Option<Source>, AllocError> {
+    let program = match read_program(alloc, text) {
+        Ok(program) => program,
+        Err(TextFault::Memory) => return Err(AllocError),
+        Err(_) => return Ok(None),
+    };
+    match placed_tokens(alloc, text) {
+        Ok(tokens) => Ok(Some(Source { program, tokens })),
+        Err(PlaceFault::Memory) => Err(AllocError),
+        Err(PlaceFault::BadByte(_)) => Ok(None),
+    }
+}
