@@ -6,3 +6,4 @@ pub mod Waiting
 pub mod Rehoming
 pub mod Gathering
 pub mod Sets
+pub mod Told

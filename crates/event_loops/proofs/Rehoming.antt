@@ -9,8 +9,9 @@ use Rattle.std.proofs.lemmas.List.Sums.{sum_by-append}
 use Rattle.std.proofs.lemmas.List.Filters.{sum_by-filter_both}
 use Rattle.event_loops.specs.declared.item.Posted.{Posted}
 use Rattle.event_loops.specs.Queues.{Loop, Queues, receiver_of, items_at, all_items, items_elsewhere, with_items, change, rehomed}
+use Rattle.event_loops.specs.code.Sure.{AllAt}
 use Rattle.event_loops.specs.Rings.{goes, those_going, those_staying, without_going, gathered}
-use Rattle.event_loops.specs.Marks.{waits, is_above, waiting, visible, is_upto, AreUpto}
+use Rattle.event_loops.specs.Marks.{waits, is_above, waiting, visible}
 use Rattle.event_loops.specs.Numbers.{has_number, count_under, IsNumbered}
 use Rattle.event_loops.proofs.Entries.{put-same}
 use Rattle.event_loops.proofs.Waiting.{same_cons, visible-change, items_at-visible}
@@ -140,7 +141,7 @@ module _ (since : ℕ → Option ℕ) (objects : List ℕ) (none : list_any (λ 
       ∙ ap (change home (with_items (λ _. items_at shown home))) (loops-stay loops)
       ∙ put-same home shown
 
--- ---- the numbers of all items
+-- ---- what each item passes
 
 all-filter : (q test : Posted → Bool) (items : List Posted) → list_all q items ≡ true → list_all q (filter test items) ≡ true
 all-filter q test [] h = h
@@ -151,30 +152,30 @@ all-filter q test (p ∷ items) h =
     by_test true rest kept = kept
     by_test false rest kept = rest
 
-module _ (last : ℕ) where
-  upto-put : (items : List Posted) → list_all (is_upto last) items ≡ true → (home : ℕ) (loops : List Loop) → AreUpto last loops → AreUpto last (change home (with_items (λ _. items)) loops)
-  upto-put items all home [] h k = h k
-  upto-put items all zero (l ∷ loops) h zero = all
-  upto-put items all zero (l ∷ loops) h (suc k) = h (suc k)
-  upto-put items all (suc home) (l ∷ loops) h zero = h zero
-  upto-put items all (suc home) (l ∷ loops) h (suc k) = upto-put items all home loops (λ j. h (suc j)) k
+module _ (q : Posted → Bool) where
+  all-put : (items : List Posted) → list_all q items ≡ true → (home : ℕ) (loops : List Loop) → AllAt q loops → AllAt q (change home (with_items (λ _. items)) loops)
+  all-put items all home [] h k = h k
+  all-put items all zero (l ∷ loops) h zero = all
+  all-put items all zero (l ∷ loops) h (suc k) = h (suc k)
+  all-put items all (suc home) (l ∷ loops) h zero = h zero
+  all-put items all (suc home) (l ∷ loops) h (suc k) = all-put items all home loops (λ j. h (suc j)) k
 
-  upto-staying : (going : ℕ → Bool) (loops : List Loop) → AreUpto last loops → AreUpto last (map (without_going going) loops)
-  upto-staying going [] h k = h k
-  upto-staying going (l ∷ loops) h zero = all-filter (is_upto last) (λ p. not (goes going p)) l.items (h zero)
-  upto-staying going (l ∷ loops) h (suc k) = upto-staying going loops (λ j. h (suc j)) k
+  all-staying : (going : ℕ → Bool) (loops : List Loop) → AllAt q loops → AllAt q (map (without_going going) loops)
+  all-staying going [] h k = h k
+  all-staying going (l ∷ loops) h zero = all-filter q (λ p. not (goes going p)) l.items (h zero)
+  all-staying going (l ∷ loops) h (suc k) = all-staying going loops (λ j. h (suc j)) k
 
-  upto-all : (loops : List Loop) → AreUpto last loops → list_all (is_upto last) (all_items loops) ≡ true
-  upto-all [] h = refl
-  upto-all (l ∷ loops) h = list_all-append (is_upto last) l.items (all_items loops) ∙ and_from _ _ (h zero) (upto-all loops (λ j. h (suc j)))
+  all-all_items : (loops : List Loop) → AllAt q loops → list_all q (all_items loops) ≡ true
+  all-all_items [] h = refl
+  all-all_items (l ∷ loops) h = list_all-append q l.items (all_items loops) ∙ and_from _ _ (h zero) (all-all_items loops (λ j. h (suc j)))
 
-  pub upto-gathered : (going : ℕ → Bool) (home : ℕ) (loops : List Loop) → AreUpto last loops → AreUpto last (gathered going home loops)
-  upto-gathered going home loops h =
-      let rest : AreUpto last (change home (with_items emptied) loops) = upto-put [] refl home loops h in
-      let moved : list_all (is_upto last) (those_going going (items_elsewhere home loops)) ≡ true = all-filter (is_upto last) (goes going) (items_elsewhere home loops) (upto-all (change home (with_items emptied) loops) rest) in
-      let all : list_all (is_upto last) (items_at loops home ++ those_going going (items_elsewhere home loops)) ≡ true =
-      list_all-append (is_upto last) (items_at loops home) (those_going going (items_elsewhere home loops)) ∙ and_from _ _ (h home) moved in
-      upto-put (items_at loops home ++ those_going going (items_elsewhere home loops)) all home (map (without_going going) (change home (with_items emptied) loops)) (upto-staying going (change home (with_items emptied) loops) rest)
+  pub all-gathered : (going : ℕ → Bool) (home : ℕ) (loops : List Loop) → AllAt q loops → AllAt q (gathered going home loops)
+  all-gathered going home loops h =
+      let rest : AllAt q (change home (with_items emptied) loops) = all-put [] refl home loops h in
+      let moved : list_all q (those_going going (items_elsewhere home loops)) ≡ true = all-filter q (goes going) (items_elsewhere home loops) (all-all_items (change home (with_items emptied) loops) rest) in
+      let all : list_all q (items_at loops home ++ those_going going (items_elsewhere home loops)) ≡ true =
+      list_all-append q (items_at loops home) (those_going going (items_elsewhere home loops)) ∙ and_from _ _ (h home) moved in
+      all-put (items_at loops home ++ those_going going (items_elsewhere home loops)) all home (map (without_going going) (change home (with_items emptied) loops)) (all-staying going (change home (with_items emptied) loops) rest)
 
 -- ---- how many wait under a number
 

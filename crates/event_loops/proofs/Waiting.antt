@@ -8,6 +8,7 @@ use Rattle.std.proofs.lemmas.List.Folds.{list_all-append}
 use Rattle.event_loops.specs.declared.item.Posted.{Posted}
 use Rattle.event_loops.specs.Queues.{Loop, receiver_of, is_for, is_before, none_for, name_at, items_at, with_items, with_item, without_first, without_first_before, without_object, change}
 use Rattle.event_loops.specs.Marks.{waits, is_above, is_due, waiting, visible, trimmed, taken_due, Notes, Forgets, is_upto, AreUpto, MarkedUpto}
+use Rattle.event_loops.specs.code.Sure.{AllAt}
 
 pub same_cons : {A : Type 0} (xs ys : List A) {x y : A} → x ≡ y → xs ≡ ys → x ∷ xs ≡ y ∷ ys
 same_cons {A} xs ys {x} {y} head rest = ap (λ (z : A). z ∷ xs) head ∙ ap (λ zs. y ∷ zs) rest
@@ -152,17 +153,18 @@ module _ (since : ℕ → Option ℕ) where
 
 -- ---- the numbers of all items, waiting or not, and of the marks
 
-abbrev StayUpto : List Loop → List Loop → Type 0
-StayUpto old new = (last : ℕ) → AreUpto last old → AreUpto last new
+-- what each item in the rings passed, each does still
+abbrev AllStay : List Loop → List Loop → Type 0
+AllStay old new = (q : Posted → Bool) → AllAt q old → AllAt q new
 
-upto-change : (f : List Posted → List Posted) → ((last : ℕ) (items : List Posted) → list_all (is_upto last) items ≡ true → list_all (is_upto last) (f items) ≡ true) → (home : ℕ) (loops : List Loop) → StayUpto loops (change home (with_items f) loops)
-upto-change f keeps home [] last h k = h k
-upto-change f keeps zero (l ∷ loops) last h zero = keeps last l.items (h zero)
-upto-change f keeps zero (l ∷ loops) last h (suc k) = h (suc k)
-upto-change f keeps (suc home) (l ∷ loops) last h zero = h zero
-upto-change f keeps (suc home) (l ∷ loops) last h (suc k) = upto-change f keeps home loops last (λ j. h (suc j)) k
+pub all-change : (f : List Posted → List Posted) → (q : Posted → Bool) → ((items : List Posted) → list_all q items ≡ true → list_all q (f items) ≡ true) → (home : ℕ) (loops : List Loop) → AllAt q loops → AllAt q (change home (with_items f) loops)
+all-change f q keeps home [] h k = h k
+all-change f q keeps zero (l ∷ loops) h zero = keeps l.items (h zero)
+all-change f q keeps zero (l ∷ loops) h (suc k) = h (suc k)
+all-change f q keeps (suc home) (l ∷ loops) h zero = h zero
+all-change f q keeps (suc home) (l ∷ loops) h (suc k) = all-change f q keeps home loops (λ j. h (suc j)) k
 
-all-without_first : (test q : Posted → Bool) (items : List Posted) → list_all q items ≡ true → list_all q (without_first test items) ≡ true
+pub all-without_first : (test q : Posted → Bool) (items : List Posted) → list_all q items ≡ true → list_all q (without_first test items) ≡ true
 all-without_first test q [] h = h
 all-without_first test q (p ∷ items) h =
     let parts = and_parts (q p) (list_all q items) h in by_test (test p) parts.1 (and_from (q p) (list_all q (without_first test items)) parts.0 (all-without_first test q items parts.1))
@@ -179,12 +181,12 @@ all-trimmed since q (p ∷ items) h = by_test (waits since p) (all-trimmed since
     by_test true rest = h
     by_test false rest = rest
 
-pub upto-taken : (since : ℕ → Option ℕ) (number home : ℕ) (loops : List Loop) → StayUpto loops (change home (with_items (taken_due since number)) loops)
-upto-taken since number =
-    upto-change _ (λ last items h. all-trimmed since (is_upto last) _ (all-without_first (is_due since number) (is_upto last) items h))
+pub all-taken : (since : ℕ → Option ℕ) (number home : ℕ) (loops : List Loop) → AllStay loops (change home (with_items (taken_due since number)) loops)
+all-taken since number home loops q =
+    all-change _ q (λ items h. all-trimmed since q _ (all-without_first (is_due since number) q items h)) home loops
 
-pub upto-trimmed : (since : ℕ → Option ℕ) (home : ℕ) (loops : List Loop) → StayUpto loops (change home (with_items (trimmed since)) loops)
-upto-trimmed since = upto-change _ (λ last items h. all-trimmed since (is_upto last) items h)
+pub all-trimmed_at : (since : ℕ → Option ℕ) (home : ℕ) (loops : List Loop) → AllStay loops (change home (with_items (trimmed since)) loops)
+all-trimmed_at since home loops q = all-change _ q (λ items h. all-trimmed since q items h) home loops
 
 upto-more : (last : ℕ) (items : List Posted) → list_all (is_upto last) items ≡ true → list_all (is_upto (last + 1)) items ≡ true
 upto-more last [] h = refl
@@ -203,11 +205,11 @@ upto-posted last zero p (l ∷ loops) is h (suc k) = upto-more last (items_at lo
 upto-posted last (suc home) p (l ∷ loops) is h zero = upto-more last l.items (h zero)
 upto-posted last (suc home) p (l ∷ loops) is h (suc k) = upto-posted last home p loops is (λ j. h (suc j)) k
 
-pub upto-with_loop : (name : List ℕ) (loops : List Loop) → StayUpto loops (loops ++ record { name = name; items = [] } ∷ [])
-upto-with_loop name [] last h zero = refl
-upto-with_loop name [] last h (suc k) = refl
-upto-with_loop name (l ∷ loops) last h zero = h zero
-upto-with_loop name (l ∷ loops) last h (suc k) = upto-with_loop name loops last (λ j. h (suc j)) k
+pub all-with_loop : (name : List ℕ) (loops : List Loop) → AllStay loops (loops ++ record { name = name; items = [] } ∷ [])
+all-with_loop name [] q h zero = refl
+all-with_loop name [] q h (suc k) = refl
+all-with_loop name (l ∷ loops) q h zero = h zero
+all-with_loop name (l ∷ loops) q h (suc k) = all-with_loop name loops q (λ j. h (suc j)) k
 
 module _ (old new : ℕ → Option ℕ) where
   pub marked-forgotten : (object last : ℕ) → Forgets object old new → MarkedUpto last old → MarkedUpto last new

@@ -4,3 +4,4 @@ pub mod Rings
 pub mod Marks
 pub mod Numbers
 pub mod Kept
+pub mod code

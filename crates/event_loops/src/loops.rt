@@ -45,11 +45,12 @@ impl Model for Loops {
 
     ghost Value = { Queues };
 
-    ghost use Rattle.event_loops.specs.Kept.{seen, Kept};
+    ghost use Rattle.event_loops.specs.Kept.{seen};
+    ghost use Rattle.event_loops.specs.code.Sure.{Held};
 
     ghost view = { λ l. record { loops = seen l.queues l.marks; posted = l.posted } };
 
-    ghost invariant = { λ l. Kept l.queues l.marks l.posted };
+    ghost invariant = { λ l. Held l.queues l.marks l.posted };
 }
 
 impl Loops {
@@ -183,6 +184,6 @@ impl Loops {
     pub fn drop_object(&mut self, object: ObjectId)
         ensures { self.new ≡ dropped object self.old }
     {
-        forget(&mut self.queues, &mut self.marks, object);
+        forget(&mut self.queues, &mut self.marks, object, self.posted);
     }
 }

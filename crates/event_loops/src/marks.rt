@@ -1,8 +1,9 @@
 //! For which objects items wait, so that they all go at once.
 
-ghost use Rattle.std.specs.Prelude.{◌≡◌, [], is_some, OnOk, OnErr};
+ghost use Rattle.std.specs.Prelude.{◌≡◌, ℕ, [], None, true, is_some, OnOk, OnErr};
 ghost use Rattle.std.specs.List.{list_any};
 ghost use Rattle.event_loops.specs.Marks.{since_of, waits, WaitAlike, Notes, Forgets};
+ghost use Rattle.event_loops.specs.code.Sure.{is_told};
 
 use crate::item::Posted;
 use indexmap::IndexMap;
@@ -23,19 +24,31 @@ pub struct Mark {
 #[derive(Drop)]
 pub struct Marks {
     pub by_object: IndexMap<usize, Mark>,
+    /// The number of the last item that may be stale: one with a higher number waits.
+    pub last_stale: u64,
 }
 
 impl Marks {
     pub fn new(alloc: Global) -> Marks
-        ensures { result.by_object.entries ≡ [] }
+        ensures unmarked { result.by_object.entries ≡ [] }
+        ensures stale { result.last_stale ≡ 0 }
     {
         Marks {
             by_object: IndexMap::new(alloc),
+            last_stale: 0,
         }
     }
 
-    /// Whether an item waits.
+    /// Whether an item waits. For most a comparison tells it, and the mark needn't be looked up.
     pub fn waits(&self, posted: &Posted) -> bool
+        requires { is_told self.now posted.now ≡ true }
+        ensures { result ≡ waits (since_of self.now) posted.now }
+    {
+        posted.number > self.last_stale || self.has_mark(posted)
+    }
+
+    /// Whether an item's object has a mark that lets it wait.
+    fn has_mark(&self, posted: &Posted) -> bool
         ensures { result ≡ waits (since_of self.now) posted.now }
     {
         match self.by_object.get(&posted.item.object().number()) {
@@ -50,6 +63,7 @@ impl Marks {
         ensures ok { OnOk result
             (Notes object posted (since_of self.old) (since_of self.new)) }
         ensures err { OnErr result (WaitAlike (since_of self.old) (since_of self.new)) }
+        ensures stale { self.new.last_stale ≡ self.old.last_stale }
     {
         if let Some(mark) = self.by_object.get_mut(&object.number()) {
             mark.home = home.number();
@@ -77,7 +91,8 @@ impl Marks {
 
     /// The items that wait for these objects do so in this loop.
     pub fn rehome(&mut self, objects: &[ObjectId], home: LoopId)
-        ensures { WaitAlike (since_of self.old) (since_of self.new) }
+        ensures alike { WaitAlike (since_of self.old) (since_of self.new) }
+        ensures stale { self.new.last_stale ≡ self.old.last_stale }
     {
         for object in objects {
             self.set_home(*object, home);
@@ -86,7 +101,8 @@ impl Marks {
 
     /// The last item for an object waits in this loop, if one does.
     fn set_home(&mut self, object: ObjectId, home: LoopId)
-        ensures { WaitAlike (since_of self.old) (since_of self.new) }
+        ensures alike { WaitAlike (since_of self.old) (since_of self.new) }
+        ensures stale { self.new.last_stale ≡ self.old.last_stale }
     {
         if let Some(mark) = self.by_object.get_mut(&object.number()) {
             mark.home = home.number();
@@ -95,7 +111,9 @@ impl Marks {
 
     /// Takes an object's mark off, so that no item waits for it, and gives the loop to which the last one was posted.
     pub fn forget(&mut self, object: ObjectId) -> Option<usize>
-        ensures { Forgets object (since_of self.old) (since_of self.new) }
+        ensures forgets { Forgets object (since_of self.old) (since_of self.new) }
+        ensures none { result ≡ None → since_of self.old object ≡ None }
+        ensures stale { self.new.last_stale ≡ self.old.last_stale }
     {
         match self.by_object.swap_remove(&object.number()) {
             Some(mark) => Some(mark.home),

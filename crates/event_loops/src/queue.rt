@@ -1,11 +1,12 @@
 //! The items of one loop, in a ring. Some of them may be stale.
 
-ghost use Rattle.std.specs.Prelude.{◌≡◌, [], ◌∷◌, ◌++◌, OnOk, OnErr};
+ghost use Rattle.std.specs.Prelude.{◌≡◌, true, [], ◌∷◌, ◌++◌, OnOk, OnErr};
 ghost use Rattle.std.specs.List.{find};
 ghost use Rattle.std.specs.Option.{option_copied};
 ghost use Rattle.event_loops.specs.Queues.{without_first};
 ghost use Rattle.event_loops.specs.Rings.{place_of_first};
 ghost use Rattle.event_loops.specs.Marks.{since_of, is_due, taken_due, trimmed};
+ghost use Rattle.event_loops.specs.code.Sure.{AreTold, is_told};
 
 use crate::item::Posted;
 use crate::marks::Marks;
@@ -28,6 +29,7 @@ pub fn peek_before<'a>(
     marks: &Marks,
     number: u64,
 ) -> Option<&'a Posted>
+    requires { AreTold marks.now items.now.items }
     ensures { option_copied result ≡ find (is_due (since_of marks.now) number) items.now.items }
 {
     match first_before(items, marks, number) {
@@ -38,6 +40,7 @@ pub fn peek_before<'a>(
 
 /// Removes the first item that waits and was posted before the one of this number, and gives it.
 pub fn take_before(items: &mut VecDeque<Posted>, marks: &Marks, number: u64) -> Option<Posted>
+    requires { AreTold marks.now items.old.items }
     ensures taken { result ≡ find (is_due (since_of marks.now) number) items.old.items }
     ensures rest { items.new.items ≡ taken_due (since_of marks.now) number items.old.items }
 {
@@ -48,6 +51,7 @@ pub fn take_before(items: &mut VecDeque<Posted>, marks: &Marks, number: u64) -> 
 
 #[tactic(auto, using(crate::proofs::Places::by_place))]
 fn remove_before(items: &mut VecDeque<Posted>, marks: &Marks, number: u64) -> Option<Posted>
+    requires { AreTold marks.now items.old.items }
     ensures taken { result ≡ find (is_due (since_of marks.now) number) items.old.items }
     ensures rest { items.new.items
         ≡ without_first (is_due (since_of marks.now) number) items.old.items }
@@ -62,6 +66,7 @@ fn remove_before(items: &mut VecDeque<Posted>, marks: &Marks, number: u64) -> Op
 /// The place of the first item that waits and was posted before the one of this number. Where one is there, it mostly is
 /// the first.
 fn first_before(items: &VecDeque<Posted>, marks: &Marks, number: u64) -> Option<usize>
+    requires { AreTold marks.now items.now.items }
     ensures { result ≡ place_of_first (is_due (since_of marks.now) number) items.now.items }
 {
     for place in 0..items.len() {
@@ -74,6 +79,7 @@ fn first_before(items: &VecDeque<Posted>, marks: &Marks, number: u64) -> Option<
 
 /// Whether an item waits and was posted before the one of this number.
 fn is_due(posted: &Posted, marks: &Marks, number: u64) -> bool
+    requires { is_told marks.now posted.now ≡ true }
     ensures { result ≡ is_due (since_of marks.now) number posted.now }
 {
     posted.number < number && marks.waits(posted)
@@ -81,6 +87,7 @@ fn is_due(posted: &Posted, marks: &Marks, number: u64) -> bool
 
 /// Removes the items in front of the first that waits.
 pub fn trim(items: &mut VecDeque<Posted>, marks: &Marks)
+    requires { AreTold marks.now items.old.items }
     ensures { items.new.items ≡ trimmed (since_of marks.now) items.old.items }
 {
     'trim: while let Some(first) = items.front() {

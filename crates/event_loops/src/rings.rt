@@ -6,6 +6,7 @@ ghost use Rattle.std.specs.Option.{option_copied};
 ghost use Rattle.event_loops.specs.Queues.{items_at, change, is_before, next_item, with_item, without_first_before, without_object};
 ghost use Rattle.event_loops.specs.Rings.{loops_in};
 ghost use Rattle.event_loops.specs.Kept.{seen, Within, StayWithin};
+ghost use Rattle.event_loops.specs.code.Sure.{AllTold};
 ghost use Rattle.event_loops.specs.declared.fault.PostFault.TheVariants.{NoLoop};
 
 use crate::fault::PostFault;
@@ -27,6 +28,7 @@ pub fn post_at(
 ) -> Result<(), PostFault>
     requires within { Within posted queues.old marks.old }
     requires few { posted + 1 < 2 ^ 64 }
+    requires told { AllTold queues.old marks.old }
     ensures pushed { OnOk result
         (seen queues.new marks.new
         ≡ change home (with_item (next_item posted item)) (seen queues.old marks.old)) }
@@ -34,6 +36,7 @@ pub fn post_at(
     ensures no_loop { (result ≡ Err NoLoop) ↔ (length queues.old.entries ≤ home) }
     ensures err { OnErr result (seen queues.new marks.new ≡ seen queues.old marks.old) }
     ensures still { OnErr result (Within posted queues.new marks.new) }
+    ensures told { AllTold queues.new marks.new }
 {
     if home.number() >= queues.len() {
         return Err(PostFault::NoLoop);
@@ -71,6 +74,7 @@ pub fn peek_at<'a>(
     home: usize,
     number: u64,
 ) -> Option<&'a Posted>
+    requires { AllTold queues.now marks.now }
     ensures { option_copied result
         ≡ find (is_before number) (items_at (seen queues.now marks.now) home) }
 {
@@ -87,11 +91,13 @@ pub fn take_at(
     home: usize,
     number: u64,
 ) -> Option<Posted>
+    requires { AllTold queues.old marks.now }
     ensures taken { result
         ≡ find (is_before number) (items_at (seen queues.old marks.now) home) }
     ensures rest { seen queues.new marks.now
         ≡ change home (without_first_before number) (seen queues.old marks.now) }
     ensures within { StayWithin queues.old marks.now queues.new marks.now }
+    ensures told { AllTold queues.new marks.now }
 {
     match queues.get_index_mut(home) {
         None => None,
@@ -99,22 +105,35 @@ pub fn take_at(
     }
 }
 
-/// No item waits for an object any more.
-pub fn forget(queues: &mut IndexMap<Name, VecDeque<Posted>>, marks: &mut Marks, object: ObjectId)
+/// No item waits for an object any more, after so many were posted.
+pub fn forget(
+    queues: &mut IndexMap<Name, VecDeque<Posted>>,
+    marks: &mut Marks,
+    object: ObjectId,
+    posted: u64,
+)
+    requires within { Within posted queues.old marks.old }
+    requires told { AllTold queues.old marks.old }
     ensures dropped { seen queues.new marks.new
         ≡ map (without_object object) (seen queues.old marks.old) }
     ensures within { StayWithin queues.old marks.old queues.new marks.new }
+    ensures told { AllTold queues.new marks.new }
 {
     match marks.forget(object) {
         None => {}
-        Some(home) => trim_at(queues, marks, home),
+        Some(home) => {
+            marks.last_stale = posted;
+            trim_at(queues, marks, home);
+        }
     }
 }
 
 /// Removes the stale items from the front of the ring of the loop at a place.
 fn trim_at(queues: &mut IndexMap<Name, VecDeque<Posted>>, marks: &Marks, home: usize)
+    requires { AllTold queues.old marks.now }
     ensures seen { seen queues.new marks.now ≡ seen queues.old marks.now }
     ensures within { StayWithin queues.old marks.now queues.new marks.now }
+    ensures told { AllTold queues.new marks.now }
 {
     match queues.get_index_mut(home) {
         None => {}

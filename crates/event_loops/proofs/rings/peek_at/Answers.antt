@@ -1,8 +1,9 @@
-use Rattle.std.proofs.Common.{sym, ◌∙◌, ap}
+use Rattle.std.proofs.Common.{sym, subst, ◌∙◌, ap}
 use Rattle.std.specs.List.{find}
 use Rattle.event_loops.specs.Queues.{is_before}
 use Rattle.event_loops.specs.Rings.{loops_in}
 use Rattle.event_loops.specs.Marks.{since_of, waiting}
+use Rattle.event_loops.specs.code.Sure.{AreTold}
 use Rattle.event_loops.proofs.Entries.{items_at-entry, items_at-none}
 use Rattle.event_loops.proofs.Waiting.{find-waiting, items_at-visible}
 use Rattle.event_loops.proofs.rings.peek_at.Goals as goal
@@ -22,3 +23,7 @@ returns-in-Some c =
     ∙ ap (find (is_before c.args.number))
     (sym (items_at-visible since (loops_in c.args.queues.now) c.args.home
     ∙ ap (waiting since) (items_at-entry c.args.queues.now.entries c.args.home (c.in-Some.field-0-0.now, c.in-Some.items.now) (sym c.in-Some.ensures.entry))))
+
+pub peek_before-requires : goal.peek_before-requires
+peek_before-requires c =
+    subst (AreTold c.args.marks.now) (items_at-entry c.args.queues.now.entries c.args.home (c.in-Some.field-0-0.now, c.in-Some.items.now) (sym c.in-Some.ensures.entry)) (c.requires c.args.home)

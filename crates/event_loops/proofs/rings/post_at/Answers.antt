@@ -1,10 +1,12 @@
-use Rattle.std.proofs.Common.{◌≡◌, ◌+◌, true, List, refl, sym, subst, ◌∙◌, ap}
+use Rattle.std.proofs.Common.{◌≡◌, ◌+◌, true, List, ℕ, refl, sym, subst, ◌∙◌, ap}
 use Rattle.event_loops.specs.declared.item.Posted.{Posted}
 use Rattle.event_loops.specs.Queues.{Loop, next_item, with_item, change}
 use Rattle.event_loops.specs.Rings.{loops_in}
 use Rattle.event_loops.specs.Marks.{since_of, waits, visible, AreUpto}
+use Rattle.event_loops.specs.code.Sure.{AllAt, is_sure}
 use Rattle.event_loops.proofs.Entries.{OnErr-always}
 use Rattle.event_loops.proofs.Waiting.{visible-noted, visible-posted, waits-noted, upto-posted, marked-noted, marked-more}
+use Rattle.event_loops.proofs.Told.{all_at-more, all-posted, sure-waits, sure-after}
 use Rattle.event_loops.proofs.rings.post_at.Goals as goal
 
 pub returns-in_err-push_at-clause-err : goal.returns-in_err-push_at-clause-err
@@ -36,3 +38,26 @@ returns-clause-within c =
       upto = subst Upto (sym c.in_ok-push_at.ensures.pushed) (upto-posted c.args.posted c.number-2.result next (loops_in c.args.queues.now) refl c.requires.within.upto);
       marked = marked-more new c.args.posted (marked-noted old new c.object.result c.args.posted c.in_ok-note.ensures.ok c.requires.within.marked);
     }
+
+pub returns-in_err-push_at-clause-told : goal.returns-in_err-push_at-clause-told
+returns-in_err-push_at-clause-told c =
+    let old = since_of c.args.marks.now in
+    let new = since_of c.note.new.self in
+    let bound = c.args.marks.now.last_stale in
+    let Told : ℕ → Type 0 = λ last. AllAt (is_sure last new) (loops_in c.push_at.new.queues) in
+    subst Told (sym c.note.ensures.stale)
+    (subst (AllAt (is_sure bound new)) (sym c.in_err-push_at.ensures.err)
+    (all_at-more (is_sure bound old) (is_sure bound new) (sure-after old new bound c.object.result c.args.posted c.in_ok-note.ensures.ok) (loops_in c.args.queues.now) c.requires.told))
+
+pub returns-clause-told : goal.returns-clause-told
+returns-clause-told c =
+    let old = since_of c.args.marks.now in
+    let new = since_of c.note.new.self in
+    let bound = c.args.marks.now.last_stale in
+    let next : Posted = next_item c.args.posted c.args.item in
+    let told : waits new next ≡ true = waits-noted old new c.object.result c.args.posted c.in_ok-note.ensures.ok c.requires.within.marked next c.object.ensures refl in
+    let Told : ℕ → Type 0 = λ last. AllAt (is_sure last new) (loops_in c.push_at.new.queues) in
+    subst Told (sym c.note.ensures.stale)
+    (subst (AllAt (is_sure bound new)) (sym c.in_ok-push_at.ensures.pushed)
+    (all-posted (is_sure bound new) next (sure-waits bound new next told) c.number-2.result (loops_in c.args.queues.now)
+    (all_at-more (is_sure bound old) (is_sure bound new) (sure-after old new bound c.object.result c.args.posted c.in_ok-note.ensures.ok) (loops_in c.args.queues.now) c.requires.told)))

@@ -2,9 +2,10 @@ use Rattle.std.proofs.Common.{List, sym, subst, ◌∙◌, ap}
 use Rattle.std.specs.List.{find}
 use Rattle.event_loops.specs.Queues.{Loop, is_before}
 use Rattle.event_loops.specs.Rings.{loops_in}
-use Rattle.event_loops.specs.Marks.{since_of, waiting, visible, taken_due, AreUpto}
+use Rattle.event_loops.specs.Marks.{since_of, waiting, visible, taken_due, is_upto, AreUpto}
+use Rattle.event_loops.specs.code.Sure.{AllAt, AreTold, is_told}
 use Rattle.event_loops.proofs.Entries.{change-ring, change-nowhere, items_at-ring, items_at-nowhere}
-use Rattle.event_loops.proofs.Waiting.{find-waiting, items_at-visible, visible-taken, upto-taken}
+use Rattle.event_loops.proofs.Waiting.{find-waiting, items_at-visible, visible-taken, all-taken}
 use Rattle.event_loops.proofs.rings.take_at.Goals as goal
 
 pub returns-in-None-clause-taken : goal.returns-in-None-clause-taken
@@ -42,6 +43,17 @@ returns-in-Some-clause-within c = λ last w.
     record {
       upto = subst Upto
           (sym (change-ring (taken_due since c.args.number) c.args.queues.now.entries c.args.home c.in-Some.items.now c.take_before.new.items (sym c.in-Some.ensures.value) c.take_before.ensures.rest))
-          (upto-taken since c.args.number c.args.home (loops_in c.args.queues.now) last w.upto);
+          (all-taken since c.args.number c.args.home (loops_in c.args.queues.now) (is_upto last) w.upto);
       marked = w.marked;
     }
+
+pub returns-in-Some-clause-told : goal.returns-in-Some-clause-told
+returns-in-Some-clause-told c =
+    let since = since_of c.args.marks.now in
+    subst (AllAt (is_told c.args.marks.now))
+    (sym (change-ring (taken_due since c.args.number) c.args.queues.now.entries c.args.home c.in-Some.items.now c.take_before.new.items (sym c.in-Some.ensures.value) c.take_before.ensures.rest))
+    (all-taken since c.args.number c.args.home (loops_in c.args.queues.now) (is_told c.args.marks.now) c.requires)
+
+pub take_before-requires : goal.take_before-requires
+take_before-requires c =
+    subst (AreTold c.args.marks.now) (items_at-ring c.args.queues.now.entries c.args.home c.in-Some.items.now (sym c.in-Some.ensures.value)) (c.requires c.args.home)

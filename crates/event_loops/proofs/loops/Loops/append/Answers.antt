@@ -1,12 +1,13 @@
 use Rattle.std.proofs.Common.{◌≡◌, ◌∷◌, [], ◌++◌, sym, ◌∙◌, ap, subst, List}
 use Rattle.event_loops.specs.Queues.{Queues, Loop, IsTaken, with_loop}
 use Rattle.event_loops.specs.Rings.{loops_in, loops_of}
-use Rattle.event_loops.specs.Marks.{since_of, visible, AreUpto}
+use Rattle.event_loops.specs.Marks.{since_of, visible, is_upto, AreUpto}
+use Rattle.event_loops.specs.code.Sure.{AllAt, is_told}
 use Rattle.event_loops.specs.Kept.{seen}
 use Rattle.event_loops.specs.Numbers.{IsNumbered}
 use Rattle.event_loops.proofs.Names.{shown-insert}
 use Rattle.event_loops.proofs.Numbers.{IsNumbered-with_loop}
-use Rattle.event_loops.proofs.Waiting.{name_at-visible, visible-with_loop, upto-with_loop}
+use Rattle.event_loops.proofs.Waiting.{name_at-visible, visible-with_loop, all-with_loop}
 use Rattle.event_loops.proofs.loops.Loops.append.Goals as goal
 
 pub invariant_of-self-2 : goal.invariant_of-self-2
@@ -23,12 +24,15 @@ invariant_of-self-2 c =
     let Upto : List Loop → Type 0 = AreUpto c.self.inside.posted in
     let before : Queues = record { loops = seen c.self.inside.queues c.self.inside.marks; posted = c.self.inside.posted } in
     record {
-      numbered = subst Numbered (sym (ap (visible since) added ∙ visible-with_loop since c.args.name.now rings))
-          (IsNumbered-with_loop c.args.name.now before c.self.invariant.numbered);
-      within = record {
-        upto = subst Upto (sym added) (upto-with_loop c.args.name.now rings c.self.inside.posted c.self.invariant.within.upto);
-        marked = c.self.invariant.within.marked;
+      kept = record {
+        numbered = subst Numbered (sym (ap (visible since) added ∙ visible-with_loop since c.args.name.now rings))
+            (IsNumbered-with_loop c.args.name.now before c.self.invariant.kept.numbered);
+        within = record {
+          upto = subst Upto (sym added) (all-with_loop c.args.name.now rings (is_upto c.self.inside.posted) c.self.invariant.kept.within.upto);
+          marked = c.self.invariant.kept.within.marked;
+        };
       };
+      told = subst (AllAt (is_told c.self.inside.marks)) (sym added) (all-with_loop c.args.name.now rings (is_told c.self.inside.marks) c.self.invariant.told);
     }
 
 pub returns-clause-added : goal.returns-clause-added

@@ -10,6 +10,9 @@ invariant_of-self c =
     let Numbered : List Loop → Type 0 = λ loops. IsNumbered (record { loops = loops; posted = c.self.inside.posted }) in
     let before : Queues = record { loops = seen c.self.inside.queues c.self.inside.marks; posted = c.self.inside.posted } in
     record {
-      numbered = subst Numbered (sym c.forget.ensures.dropped) (IsNumbered-dropped c.args.object before c.self.invariant.numbered);
-      within = c.forget.ensures.within c.self.inside.posted c.self.invariant.within;
+      kept = record {
+        numbered = subst Numbered (sym c.forget.ensures.dropped) (IsNumbered-dropped c.args.object before c.self.invariant.kept.numbered);
+        within = c.forget.ensures.within c.self.inside.posted c.self.invariant.kept.within;
+      };
+      told = c.forget.ensures.told;
     }

@@ -12,6 +12,9 @@ invariant_of-self-2 c =
     let Numbered : List Loop → Type 0 = λ loops. IsNumbered (record { loops = loops; posted = c.self.inside.posted + 1 }) in
     let before : Queues = record { loops = seen c.self.inside.queues c.self.inside.marks; posted = c.self.inside.posted } in
     record {
-      numbered = subst Numbered (sym c.in_ok-post_at.ensures.pushed) (IsNumbered-posted c.args.home c.args.item before room c.self.invariant.numbered);
-      within = c.in_ok-post_at.ensures.within;
+      kept = record {
+        numbered = subst Numbered (sym c.in_ok-post_at.ensures.pushed) (IsNumbered-posted c.args.home c.args.item before room c.self.invariant.kept.numbered);
+        within = c.in_ok-post_at.ensures.within;
+      };
+      told = c.in_ok-post_at.ensures.told;
     }
