@@ -21,3 +21,5 @@ pub mod Covering
 pub mod Sited
 pub mod InOrder
 pub mod Counting
+pub mod Near
+pub mod Standing

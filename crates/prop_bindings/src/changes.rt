@@ -70,7 +70,7 @@ pub fn plan(
 }
 
 /// Those of the first properties, and then of the others, in their order, that no longer read as they did once these have
-/// their values. Its error is that memory was refused.
+/// their values, which mostly stand in the same order. Its error is that memory was refused.
 fn changed_among(
     alloc: Global,
     targets: &[Place],
@@ -82,26 +82,31 @@ fn changed_among(
         (targets.now ++ places_of others.now) changed) }
 {
     let mut changed = Vec::new(alloc);
+    let mut likely: usize = 0;
     for target in targets {
-        add_changed(target, tree, values, &mut changed)?;
+        add_changed(target, tree, values, likely, &mut changed)?;
+        likely = likely.saturating_add(1);
     }
     for each in others {
-        add_changed(&each.place, tree, values, &mut changed)?;
+        add_changed(&each.place, tree, values, likely, &mut changed)?;
+        likely = likely.saturating_add(1);
     }
     Ok(Items::from_vec(changed))
 }
 
-/// Adds the property to those that changed, unless it still reads as it did once these have their values.
+/// Adds the property to those that changed, unless it still reads as it did once these have their values. Its own likely
+/// stands at this place among them.
 fn add_changed(
     place: &Place,
     tree: &Tree,
     values: &IndexMap<(usize, usize), Value>,
+    likely: usize,
     changed: &mut Vec<Place>,
 ) -> Result<(), AllocError>
     ensures { OnOk result (AddsChanged tree.now (ahead values.now tree.now) place.now
         changed.old.items changed.new.items) }
 {
-    if stays(place, tree, values) {
+    if stays(place, tree, values, likely) {
         return Ok(());
     }
     changed.push(*place)?;
@@ -138,13 +143,18 @@ fn stays_alone(place: &Place, tree: &Tree, value: &Value) -> bool
     }
 }
 
-/// Whether the property still reads as it did once these have their values.
-fn stays(place: &Place, tree: &Tree, values: &IndexMap<(usize, usize), Value>) -> bool
+/// Whether the property still reads as it did once these have their values. Its own likely stands at this place among them.
+fn stays(
+    place: &Place,
+    tree: &Tree,
+    values: &IndexMap<(usize, usize), Value>,
+    likely: usize,
+) -> bool
     ensures { IsTrue result ↔ (option_map (seen tree.now) (value_ahead values.now tree.now place.now)
         ≡ option_map (seen tree.now) (values_in tree.now place.now)) }
 {
     match (
-        value_ahead(tree, values, place),
+        value_ahead(tree, values, likely, place),
         tree.value(place.object, place.property),
     ) {
         (Some(new), Some(old)) => tree.is_same(new, old),

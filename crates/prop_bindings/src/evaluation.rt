@@ -1,10 +1,11 @@
 //! Evaluation of bindings in an order, ahead of any change.
 
 ghost use Rattle.std.specs.Prelude.{◌≡◌, ◌+◌, ◌<◌, ◌^◌, length, IfOk, OnOk};
+ghost use Rattle.std.specs.Option.{option_map};
 ghost use Rattle.expressions.specs.Evaluation.{Evaluates};
 ghost use Rattle.binding_graph.specs.declared.place.Place.{Place};
 ghost use Rattle.prop_bindings.specs.Values.{values_in};
-ghost use Rattle.binding_graph.specs.Bindings.{binding_at, value_of};
+ghost use Rattle.binding_graph.specs.Bindings.{AreApart, binding_at, value_of};
 ghost use Rattle.prop_bindings.specs.Changes.{DifferInValues};
 ghost use Rattle.binding_graph.specs.code.Graph.{AreKeyed, bindings_in, position_of};
 ghost use Rattle.binding_graph.specs.code.Numbering.{AreNumbered};
@@ -12,7 +13,7 @@ ghost use Rattle.binding_graph.specs.code.Orders.{AreBound, pass};
 ghost use Rattle.prop_bindings.specs.code.Parts.{IsSoundBySome, StaySound, ahead, value_ahead};
 
 use crate::ahead::Ahead;
-use binding_graph::{Binding, Installed, Numbered, Place};
+use binding_graph::{Binding, Installed, Numbered, Place, Reader};
 use expressions::{EvalFault, eval};
 use indexmap::IndexMap;
 use object_tree::Tree;
@@ -30,6 +31,7 @@ pub fn evaluate_all(
     count: &mut usize,
 ) -> Result<Vec<Numbered>, AllocError>
     requires keyed { AreKeyed installed.now }
+    requires apart { AreApart (bindings_in installed.now) }
     requires sound { IsSoundBySome (ahead values.old tree.now) (bindings_in installed.now) }
     requires bound { AreBound (binding_at (bindings_in installed.now)) order.now }
     requires few { count.old + length order.now < 2 ^ 64 }
@@ -44,10 +46,12 @@ pub fn evaluate_all(
         AreNumbered (position_of (bindings_in installed.now)) order.now found.items) }
 {
     let mut found = Vec::with_capacity(alloc, order.len())?;
+    let mut likely: usize = 0;
     for place in order {
-        let Some((number, reader)) = installed.find(place) else {
+        let Some((number, reader)) = find_near(installed, likely, place) else {
             unreachable!()
         };
+        likely = number.saturating_add(1);
         let value = match value_of(alloc, reader.binding(), tree, values, count) {
             Ok(value) => value,
             Err(EvalFault::BadType) => unreachable!(),
@@ -58,6 +62,26 @@ pub fn evaluate_all(
         found.push(Numbered { number, place })?;
     }
     Ok(found)
+}
+
+/// The binding of a property, and where it is in the order, which likely is this place: a comparison tells that it is, and
+/// only where it isn't the binding is looked up.
+fn find_near<'i>(
+    installed: &'i Installed,
+    likely: usize,
+    place: &Place,
+) -> Option<(usize, &'i Reader)>
+    requires keyed { AreKeyed installed.now }
+    requires apart { AreApart (bindings_in installed.now) }
+    ensures position { option_map (λ f. f.0) result ≡ position_of (bindings_in installed.now) place.now }
+    ensures reader { option_map (λ f. f.1.now) result ≡ binding_at (bindings_in installed.now) place.now }
+{
+    if let Some(reader) = installed.at(likely) {
+        if reader.binding().target.is_same(place) {
+            return Some((likely, reader));
+        }
+    }
+    installed.find(place)
 }
 
 /// The value of a binding's expression over these objects, where these properties are to have these values; `BadType` where

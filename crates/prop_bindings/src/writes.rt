@@ -120,20 +120,27 @@ pub fn give_all(alloc: Global, writes: &[Assignment]) -> Result<Given, AllocErro
 pub fn have_all(tree: &Tree, targets: &[Place], values: &IndexMap<(usize, usize), Value>) -> bool
     ensures { IsTrue result ↔ HaveAhead values.now tree.now targets.now }
 {
+    let mut likely: usize = 0;
     for target in targets {
-        if !keeps(tree, target, values) {
+        if !keeps(tree, target, values, likely) {
             return false;
         }
+        likely = likely.saturating_add(1);
     }
     true
 }
 
-/// Whether the property has the value already that it is to have.
-fn keeps(tree: &Tree, place: &Place, values: &IndexMap<(usize, usize), Value>) -> bool
+/// Whether the property has the value already that it is to have, which likely stands at this place among them.
+fn keeps(
+    tree: &Tree,
+    place: &Place,
+    values: &IndexMap<(usize, usize), Value>,
+    likely: usize,
+) -> bool
     ensures { IsTrue result
         ↔ (values_in (ahead values.now tree.now) place.now ≡ values_in tree.now place.now) }
 {
-    match value_ahead(tree, values, place) {
+    match value_ahead(tree, values, likely, place) {
         Some(value) => has_value(tree, place, value),
         None => true,
     }

@@ -43,6 +43,7 @@ pub enum Operation<'p> {
 
 impl<'w> Scope<'w> {
     /// What a statement does; `BadType` where it lacks a value that it needs.
+    #[inline(always)]
     pub fn operation_of<'p>(&self, statement: &'p Statement) -> Result<Operation<'p>, EvalFault>
         requires outside { option_copied self.now.written ≡ None }
         ensures { Yields (operation_in self.now (out-Statement statement.now)) result }
@@ -63,6 +64,7 @@ impl<'w> Scope<'w> {
     }
 
     /// A property of the object that a path leads to is written.
+    #[inline(always)]
     fn assignment<'p>(
         &self,
         path: &MetaPath,
@@ -78,6 +80,7 @@ impl<'w> Scope<'w> {
     }
 
     /// The sets of a group are done in their order; each reads what those before it wrote.
+    #[inline(never)]
     fn group<'p>(&self, sets: &[Statement]) -> Result<Operation<'p>, EvalFault>
         requires outside { option_copied self.now.written ≡ None }
         ensures { Yields (operation_in self.now (Group sets.now)) result }
@@ -114,6 +117,7 @@ impl<'w> Scope<'w> {
     }
 
     /// What a set writes; nothing where its path leads to null.
+    #[inline(always)]
     fn set(
         &self,
         path: &MetaPath,
@@ -159,6 +163,7 @@ impl<'w> Scope<'w> {
     }
 
     /// A signal is connected to a method.
+    #[inline(never)]
     fn connection<'p>(
         &self,
         ends: &MetaEndpoints,
@@ -173,6 +178,7 @@ impl<'w> Scope<'w> {
     }
 
     /// A signal is no longer connected to a method.
+    #[inline(never)]
     fn disconnection<'p>(&self, ends: &MetaEndpoints) -> Result<Operation<'p>, EvalFault>
         ensures { Yields (operation_in self.now (Disconnect ends.now)) result }
     {
@@ -183,6 +189,7 @@ impl<'w> Scope<'w> {
     }
 
     /// The object that a path leads to is deleted.
+    #[inline(never)]
     fn deletion<'p>(&self, path: &MetaPath) -> Result<Operation<'p>, EvalFault>
         ensures { Yields (operation_in self.now (Delete path.now)) result }
     {
@@ -193,6 +200,7 @@ impl<'w> Scope<'w> {
     }
 
     /// The object that a path leads to is deleted when control returns to its event loop.
+    #[inline(never)]
     fn later_deletion<'p>(&self, path: &MetaPath) -> Result<Operation<'p>, EvalFault>
         ensures { Yields (operation_in self.now (Later path.now)) result }
     {

@@ -141,7 +141,10 @@ impl<'w> Scope<'w> {
         ensures { option_copied result ≡ stored (objects_in self.now) object property }
     {
         match self.written {
-            Some(values) => value_ahead(self.objects, values, &Place { object, property }),
+            Some(values) => {
+                let latest = values.len().saturating_sub(1);
+                value_ahead(self.objects, values, latest, &Place { object, property })
+            }
             None => self.objects.value(object, property),
         }
     }
