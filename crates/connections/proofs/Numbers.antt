@@ -82,3 +82,11 @@ splits_at last places number i e r h same =
       below = λ k d w. omega (arith, here d, Rising-order 0 last places k i d r w h);
       above = λ k d w g. omega (arith, here d, Rising-sorted last places r i k d w g);
     }
+
+-- no number is below the first
+pub splits_first : (last : ℕ) (first : CellPlace) (rest : List CellPlace) (number : ℕ) → Rising 0 (first ∷ rest) last → number ≤ first.number → SplitsAt (first ∷ rest) number 0
+splits_first last first rest number r h =
+    record {
+      below = λ k d less. absurd (omega (arith, less));
+      above = λ k d w within. omega (arith, h, Rising-sorted last (first ∷ rest) r 0 k d w within);
+    }

@@ -9,6 +9,7 @@ use crate::cell::Cell;
 use crate::connection::Connection;
 use crate::fault::{ConnectFault, DisconnectFault};
 use crate::groups::Lists;
+use crate::hint::SignalHint;
 use crate::removing::{Removal, remove};
 use crate::search::{lead_to_any, next_above};
 use crate::sweeping::sweep;
@@ -106,17 +107,20 @@ impl Connections {
     }
 
     /// The connection that an emission uses next: the first of its sender and signal that was made later than the last
-    /// one used, and not later than the last one that was made when the emission began.
+    /// one used, and not later than the last one that was made when the emission began. An emission keeps one hint for
+    /// all its calls and so searches for its signal once. The answer is the same whatever the hint holds, and nothing is
+    /// said of what it holds afterwards.
     pub fn next_due(
         &self,
         sender: ObjectId,
         signal: usize,
         used: u64,
         made: u64,
+        hint: &mut SignalHint,
     ) -> Option<Connection>
         ensures { result ≡ find (is_due sender signal used made) self.now.connected.connections }
     {
-        let places = self.lists.of_signal(sender, signal);
+        let places = self.lists.of_signal_near(sender, signal, hint);
         let next = next_above(&self.cells, places, used);
         not_above(next, made)
     }

@@ -1,14 +1,15 @@
 //! Lists of places by key: one for each sender and signal, one for each pair of ends, one for each object.
 
-ghost use Rattle.std.specs.Prelude.{◌≡◌, ◌∷◌, [], ◌++◌, ◌<◌, false, if◌then◌else◌, OnOk, IsSomeAnd};
+ghost use Rattle.std.specs.Prelude.{◌≡◌, ◌∷◌, [], ◌++◌, ◌<◌, false, if◌then◌else◌, OnOk, IfSome, IsSomeAnd};
 ghost use Rattle.std.specs.Vec.{vec_len};
 ghost use Rattle.connections.specs.Groups.{list_of, HasRoom, Keeps, Pushes, KeepsRoom, KeepsOtherRoom, TidiesGroup, SameGroups, HasPlaces};
-ghost use Rattle.connections.specs.Lists.{of_signal, of_ends, of_object, IsEmpty};
+ghost use Rattle.connections.specs.Lists.{same_pair, of_signal, of_ends, of_object, IsEmpty};
 ghost use Rattle.connections.specs.Places.{Tidies};
 ghost use Rattle.connections.specs.Rooms.{ends_of};
 
 use crate::cell::Cell;
 use crate::connection::Connection;
+use crate::hint::SignalHint;
 use crate::place::{CellPlace, Places};
 use indexmap::IndexMap;
 use signatures::ObjectId;
@@ -44,6 +45,28 @@ impl Lists {
         ensures { result.now ≡ of_signal self.now sender signal }
     {
         places_of(&self.by_signal, (sender.number(), signal))
+    }
+
+    /// The same, found with no search where the hint leads to them. A hint that doesn't is set to where they were found.
+    pub fn of_signal_near(
+        &self,
+        sender: ObjectId,
+        signal: usize,
+        hint: &mut SignalHint,
+    ) -> &[CellPlace]
+        ensures { result.now ≡ of_signal self.now sender signal }
+    {
+        let pair = (sender.number(), signal);
+        if let Some(places) = places_at(&self.by_signal, hint.index, pair) {
+            return places;
+        }
+        match self.by_signal.get_full(&pair) {
+            None => &[],
+            Some((index, _, places)) => {
+                hint.index = index;
+                &places.items
+            }
+        }
     }
 
     /// The places of the connections from this signal of the sender to this method of the receiver.
@@ -84,6 +107,20 @@ where
     match groups.get(&group) {
         None => &[],
         Some(places) => &places.items,
+    }
+}
+
+/// The places at this index, if they are those of this sender and signal.
+fn places_at(
+    groups: &IndexMap<(usize, usize), Places>,
+    index: usize,
+    pair: (usize, usize),
+) -> Option<&[CellPlace]>
+    ensures { IfSome result (λ places. places.now ≡ list_of same_pair groups.now pair) }
+{
+    match groups.get_index(index) {
+        Some((found, places)) if *found == pair => Some(&places.items),
+        _ => None,
     }
 }
 

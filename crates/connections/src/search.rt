@@ -24,15 +24,15 @@ fn from_number(places: &[CellPlace], number: u64) -> usize
     }
 }
 
-/// Where the place of this number stands, if it stands where it does among places whose numbers follow one another, as
-/// those of connections that were made one after the other do.
+/// How many places have lower numbers, where that needs no search: none does, or the place of this number stands where it
+/// does among places whose numbers follow one another, as those of connections that were made one after the other do.
 fn guess(places: &[CellPlace], number: u64) -> Option<usize>
     requires { AreRising places.now }
     ensures { IfSome result (λ at. (at < length places.now) × SplitsAt places.now number at) }
 {
     let (first, _) = places.split_first()?;
-    if number < first.number {
-        return None;
+    if number <= first.number {
+        return Some(0);
     }
     let ahead = number - first.number;
     if ahead >= places.len() as u64 {
@@ -77,8 +77,8 @@ fn first_above(cells: &Slab<Cell>, places: &[CellPlace], number: u64) -> Option<
     ensures { result ≡ first_above number (live cells.now places.now) }
 {
     for place in places {
-        if let Some(c) = live_at(cells, place) {
-            if number < c.number {
+        if number < place.number {
+            if let Some(c) = live_at(cells, place) {
                 return Some(c);
             }
         }

@@ -3,7 +3,7 @@ ghost use Rattle.std.specs.List.{find};
 ghost use Rattle.connections.specs.Connected.{unconnected, joins, is_due, is_numbered, touches, are_connected, connected_by, removed, Rises};
 ghost use Rattle.connections.specs.declared.fault.ConnectFault.TheVariants.{Exists};
 
-use connections::{ConnectFault, Connection, Connections, DisconnectFault};
+use connections::{ConnectFault, Connection, Connections, DisconnectFault, SignalHint};
 use signatures::{Kind, ObjectId};
 use std::alloc::Global;
 use std::marker::Model;
@@ -53,17 +53,19 @@ impl LiveConnections {
     }
 
     /// The connection that an emission uses next: the first of its sender and signal that was made later than the last
-    /// one used, and not later than the last one that was made when the emission began.
+    /// one used, and not later than the last one that was made when the emission began. The hint is as
+    /// [`Connections::next_due`] takes it: the answer is the same whatever it holds.
     pub fn next_due(
         &self,
         sender: ObjectId,
         signal: usize,
         used: u64,
         made: u64,
+        hint: &mut SignalHint,
     ) -> Option<Connection>
         ensures { result ≡ find (is_due sender signal used made) self.now.connections }
     {
-        self.held.next_due(sender, signal, used, made)
+        self.held.next_due(sender, signal, used, made, hint)
     }
 
     /// Whether this signal of the sender is connected to this method of the receiver, in whatever way.

@@ -6,3 +6,4 @@ pub mod Changed
 pub mod Told
 pub mod Ahead
 pub mod Bound
+pub mod Trying

@@ -8,6 +8,7 @@ ghost use Rattle.prop_bindings.specs.Changes.{once, one, places_in};
 ghost use Rattle.prop_bindings.specs.Fits.{Agree, FitsAt};
 ghost use Rattle.prop_bindings.specs.Plans.{after};
 ghost use Rattle.trace_entries.specs.declared.fault.Fault.TheVariants.{Memory};
+ghost use Rattle.machine_state.specs.code.Trying.{fault_of, IsUnplanned, TriesWrite};
 ghost use Rattle.machine_state.specs.Telling.{Alone, AreTold, Grouped, IsGroupTold, writes_of};
 ghost use Rattle.machine_state.specs.Worlds.{noted, accepting_entries, with_bound, WritesIn, BindsIn};
 ghost use Rattle.machine_state.specs.code.Planned.{CanBeTold, WillWrite, WillWriteOne, WillWriteAll};
@@ -27,7 +28,8 @@ use trace_entries::{Entry, Fault};
 impl World {
     /// A rule that writes a property of a living object, which ends its binding; what follows from it changes with it, and
     /// all this is written down at this depth. It answers the properties that no longer read as they did: this one, if it
-    /// changed, then the others in the order in which their bindings were installed. Without memory nothing changes.
+    /// changed, then the others in the order in which their bindings were installed. `BadType` where no such object lives, it
+    /// has no such property, or the value isn't of its type. Then, and without memory, nothing changes.
     pub fn write(
         &mut self,
         meta: &Meta,
@@ -37,9 +39,7 @@ impl World {
     ) -> Result<Items<Place>, Fault>
         requires left { 0 < self.old.left }
         requires agree { Agree meta.now self.old.store.tree self.old.store.bindings }
-        requires fits { FitsAt meta.now self.old.store.tree place.now value }
-        ensures value { WritesIn meta.now depth (Alone place.now value) self.old
-            (noted self.old) result self.new }
+        ensures value { TriesWrite meta.now depth place.now value self.old result self.new }
         ensures agree { Agree meta.now self.new.store.tree self.new.store.bindings }
     {
         let planned = self.plan_write(meta, place, value)?;
@@ -139,19 +139,20 @@ impl World {
         }
     }
 
-    /// Plans a write of a property of a living object; `Memory` only where a growth was refused.
+    /// Plans a write of a property of a living object; `BadType` where no such object lives, it has no such property, or the
+    /// value isn't of its type, and `Memory` only where a growth was refused.
+    #[inline(always)]
     fn plan_write(&self, meta: &Meta, place: &Place, value: Value) -> Result<PlannedWrite, Fault>
         requires agree { Agree meta.now self.now.store.tree self.now.store.bindings }
-        requires fits { FitsAt meta.now self.now.store.tree place.now value }
+        ensures fits { IfOk result (λ plan. FitsAt meta.now self.now.store.tree place.now value) }
         ensures ok { IfOk result (WillWriteOne meta.now self.now.store.tree self.now.store.bindings
             place.now value) }
-        ensures err { IfErr result (λ fault. fault ≡ Memory) }
+        ensures err { IfErr result (IsUnplanned meta.now self.now.store.tree place.now value) }
     {
         let store = &self.store;
         match store.bindings.plan_write(meta, &store.tree, place, value) {
             Ok(planned) => Ok(planned),
-            Err(WriteFault::Memory) => Err(Fault::Memory),
-            Err(WriteFault::BadType) => unreachable!(),
+            Err(fault) => Err(fault_of(fault)),
         }
     }
 
@@ -236,6 +237,16 @@ impl World {
     {
         let Store { tree, bindings, .. } = &mut self.store;
         bindings.carry_out_group(tree, planned)
+    }
+}
+
+/// The fault of a run for one of a write.
+fn fault_of(fault: WriteFault) -> Fault
+    ensures { result ≡ fault_of fault }
+{
+    match fault {
+        WriteFault::BadType => Fault::BadType,
+        WriteFault::Memory => Fault::Memory,
     }
 }
 

@@ -44,6 +44,7 @@ pub struct Telling<'w> {
 impl<'w> Telling<'w> {
     /// The lines of the property that is written or bound, whether it reads as it did or not, and of each other one that
     /// changes, with the values that they will have.
+    #[inline(never)]
     pub fn change(
         &self,
         alloc: Global,
@@ -65,6 +66,7 @@ impl<'w> Telling<'w> {
 
     /// Adds the lines of a change, as `change` gives them, to the trace; without memory the trace stays as it was. A property
     /// with which no other changes needs no list for its one line.
+    #[inline(always)]
     pub fn note(&self, trace: &mut Trace, cause: Cause, first: &Place) -> Result<(), AllocError>
         requires can { CanBeTold self.now.meta.now self.now.tree.now (first.now ∷ [])
             self.now.planned.now }
@@ -127,6 +129,7 @@ impl<'w> Telling<'w> {
     }
 
     /// The properties that change but for those that are written or bound, which stand before them.
+    #[inline(always)]
     fn followers(&self, written: &[Place]) -> &'w [Place]
         requires first { StandFirst (others written.now self.now.planned.now.changed) written.now
             self.now.planned.now.changed }
@@ -157,6 +160,7 @@ impl<'w> Telling<'w> {
     }
 
     /// The line of a property with the value that it will have.
+    #[inline(always)]
     fn line(&self, cause: Cause, place: &Place) -> Result<Entry, AllocError>
         requires has { HasValue self.now.meta.now self.now.tree.now place.now }
         requires will_have { HasValue self.now.meta.now
@@ -173,6 +177,7 @@ impl<'w> Telling<'w> {
     }
 
     /// The line of a property with this value.
+    #[inline(always)]
     fn line_with(&self, cause: Cause, place: &Place, value: &Value) -> Result<Entry, AllocError>
         requires has { HasValue self.now.meta.now self.now.tree.now place.now }
         requires will_have { HasValue self.now.meta.now
@@ -198,6 +203,7 @@ impl<'w> Telling<'w> {
     }
 
     /// The value that a property will have.
+    #[inline(always)]
     fn value(&self, place: &Place) -> Option<&Value>
         ensures { option_copied result ≡
             values_in (after self.now.planned.now self.now.tree.now) place.now }
@@ -212,6 +218,7 @@ impl<'w> Telling<'w> {
 }
 
 /// What is left of properties behind this one, if it stands first.
+#[inline(always)]
 fn behind<'p>(places: &'p [Place], place: &Place) -> &'p [Place]
     ensures { result.now ≡ behind place.now places.now }
 {
@@ -222,6 +229,7 @@ fn behind<'p>(places: &'p [Place], place: &Place) -> &'p [Place]
 }
 
 /// What happens where a property comes to a value so.
+#[inline(always)]
 fn entry_kind(cause: Cause, object: Name, property: Name, value: Shown) -> EntryKind
     ensures { result ≡ entry_kind_of cause object property value }
 {

@@ -25,6 +25,7 @@ pub struct Turn {
 
 impl World {
     /// The loop in which a living object lives.
+    #[inline(always)]
     pub fn home(&self, object: ObjectId) -> Option<LoopId>
         ensures { result ≡ home_of self.now.store.tree object }
     {
@@ -32,6 +33,7 @@ impl World {
     }
 
     /// The loop that runs: that of the turn that goes on, and outside a turn `main`.
+    #[inline(always)]
     pub fn running(&self) -> LoopId
         ensures { result ≡ running self.now.turn }
     {
@@ -43,6 +45,7 @@ impl World {
 
     /// A rule that uses a connection, so that a single-shot one is removed, posts an item to an event loop, and writes this
     /// entry down; without memory nothing changes.
+    #[inline(always)]
     pub fn post(
         &mut self,
         entry: Entry,
@@ -75,6 +78,7 @@ impl World {
 
     /// A rule that takes the first item of an event loop that was posted before the one of this number, gives it, and
     /// writes this entry down; without memory nothing changes.
+    #[inline(always)]
     pub fn take_before(
         &mut self,
         entry: Entry,
@@ -110,6 +114,7 @@ impl World {
 
 /// Whether a connection of this kind calls its receiver at once, where the receiver lives in the loop `home`: a direct
 /// one does, a queued one doesn't, and one of kind auto does where this is the loop that runs.
+#[inline(always)]
 pub fn reaches_at_once(kind: Kind, home: LoopId, running: LoopId) -> bool
     ensures { result ≡ reaches_at_once kind home running }
 {

@@ -9,7 +9,7 @@ ghost use Rattle.machine_state.specs.Worlds.{untouched, Ticks, IsLeft, GoesTo, n
 
 use crate::turn::Turn;
 use class_outlines::DESTROYED;
-use connections::Connection;
+use connections::{Connection, SignalHint};
 use delete_later::Store;
 use object_tree::{Life, Object};
 use signatures::{Name, ObjectId};
@@ -67,13 +67,15 @@ impl World {
 
     /// The connection that an emission uses next: the first of this sender and signal that was made later than the one
     /// of the number `used`, and not later than that of `last`, and whose receiver lives; none where the sender lives and
-    /// is blocked, unless the signal is `destroyed`.
+    /// is blocked, unless the signal is `destroyed`. An emission keeps one hint for all its calls; the answer is the same
+    /// whatever it holds.
     pub fn next_used(
         &self,
         sender: ObjectId,
         signal: usize,
         used: u64,
         last: u64,
+        hint: &mut SignalHint,
     ) -> Option<Connection>
         ensures value { let connections = self.now.store.connections.connections in
             result ≡ next_used self.now.store.tree connections sender signal used last }
@@ -82,7 +84,7 @@ impl World {
         if self.is_silent(sender, signal) {
             None
         } else {
-            self.first_to_living(sender, signal, used, last)
+            self.first_to_living(sender, signal, used, last, hint)
         }
     }
 
@@ -93,6 +95,7 @@ impl World {
         signal: usize,
         used: u64,
         last: u64,
+        hint: &mut SignalHint,
     ) -> Option<Connection>
         ensures { let can_be_used = can_be_used self.now.store.tree sender signal used last in
             result ≡ find can_be_used self.now.store.connections.connections }
@@ -100,7 +103,10 @@ impl World {
         let store = &self.store;
         store.connections.numbers_rise();
         let mut passed = used;
-        while let Some(connection) = store.connections.next_due(sender, signal, passed, last) {
+        while let Some(connection) = store
+            .connections
+            .next_due(sender, signal, passed, last, hint)
+        {
             if store.tree.life(connection.receiver).is_some() {
                 return Some(connection);
             }
@@ -117,6 +123,7 @@ impl World {
     }
 
     /// A rule that writes nothing down.
+    #[inline(always)]
     pub fn tick(&mut self) -> Result<(), Fault>
         ensures { Ticks self.old self.new result }
     {
@@ -128,6 +135,7 @@ impl World {
     }
 
     /// `Steps` where no rule is left; nothing changes.
+    #[inline(always)]
     pub fn require_rule(&self) -> Result<(), Fault>
         ensures { IsLeft self.now result }
     {
@@ -139,6 +147,7 @@ impl World {
     }
 
     /// A rule that writes this entry down; without memory nothing changes.
+    #[inline(always)]
     pub fn note(&mut self, entry: Entry) -> Result<(), Fault>
         requires left { 0 < self.old.left }
         ensures { GoesTo self.old (noted self.old (entry ∷ [])) self.new result }
@@ -150,6 +159,7 @@ impl World {
 
     /// A rule that uses a connection, so that a single-shot one is removed, and writes this entry down; without memory
     /// nothing changes.
+    #[inline(always)]
     pub fn use_connection(&mut self, entry: Entry, connection: &Connection) -> Result<(), Fault>
         requires left { 0 < self.old.left }
         ensures { GoesTo self.old (using self.old (entry ∷ []) connection.now) self.new result }

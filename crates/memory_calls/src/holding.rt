@@ -1,7 +1,7 @@
 //! What stores hold, part by part.
 
 use crate::holds::Holds;
-use connections::{Connection, Connections};
+use connections::{Connection, Connections, SignalHint};
 use delete_later::Store;
 use event_loops::{Item, Loops};
 use memory_trials::Told;
@@ -163,7 +163,11 @@ impl Holds for Store {
         self.tree.tell(told);
         told.number("connections numbered ", self.connections.last());
         told.end();
-        if let Some(connection) = self.connections.next_due(ObjectId::new(0), 4, 0, u64::MAX) {
+        let mut hint = SignalHint::new();
+        let due = self
+            .connections
+            .next_due(ObjectId::new(0), 4, 0, u64::MAX, &mut hint);
+        if let Some(connection) = due {
             tell_connection(&connection, told);
         }
         self.loops.tell(told);

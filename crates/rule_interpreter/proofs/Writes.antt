@@ -1,24 +1,31 @@
 -- How properties are written.
-use Rattle.std.proofs.Common.{◌≡◌, ℕ, zero, suc, ◌+◌, ◌-◌, ◌<◌, List, [], ◌∷◌, ◌++◌, length, take, drop, slice_get, Bool, true, false, Result, Ok, Err, Option, None, Some, refl, sym, ap, ◌∙◌, subst, arith, length-append}
+use Rattle.std.proofs.Common.{◌≡◌, IsErrAnd, inl, inr, ℕ, zero, suc, ◌+◌, ◌-◌, ◌<◌, List, [], ◌∷◌, ◌++◌, length, take, drop, slice_get, Bool, true, false, Result, Ok, Err, Option, None, Some, refl, sym, ap, ◌∙◌, subst, arith, length-append}
 use Rattle.std.specs.Prelude.{◌↔◌, IfOk, IfErr, IfSome, IsTrue}
 use Rattle.std.specs.List.{AllByRecursion, Contains}
 use Rattle.std.proofs.lemmas.List.Elements.{All-contains, All-from_recursion, Contains-append_right}
 use Rattle.signatures.specs.declared.value.Value.{Value}
+use Rattle.meta_model.specs.declared.object.MetaObject.{MetaObject}
 use Rattle.meta_model.specs.declared.object.MetaProperty.{MetaProperty}
 use Rattle.meta_model.specs.Loaded.{Loaded}
+use Rattle.meta_model.specs.Members.{IsClass}
+use Rattle.object_tree.specs.declared.life.Life.{Life}
 use Rattle.object_tree.specs.declared.object.Object.{Object}
+use Rattle.object_tree.specs.Objects.{Lives, life_of}
+use Rattle.object_tree.proofs.Changing.{life-of-lives, lives-of-life}
 use Rattle.object_tree.specs.Typed.{ReadsAs}
 use Rattle.binding_graph.specs.declared.binding.Binding.{Binding}
 use Rattle.binding_graph.specs.declared.place.Place.{Place}
 use Rattle.prop_bindings.specs.declared.assignment.Assignment.{Assignment}
 use Rattle.binding_graph.specs.Bindings.{without_all}
 use Rattle.prop_bindings.specs.Calls.{AllFit}
-use Rattle.prop_bindings.specs.Changes.{IsWritten, places_in}
+use Rattle.prop_bindings.specs.Changes.{IsWritten, one, places_in}
 use Rattle.prop_bindings.specs.Fits.{FitsAt}
 use Rattle.trace_entries.specs.declared.fault.Fault.{Fault}
+use Rattle.trace_entries.specs.declared.fault.Fault.TheVariants.{BadType}
+use Rattle.machine_state.specs.code.Trying.{IsUnplanned}
 use Rattle.machine_state.specs.declared.world.World.{World}
 use Rattle.machine_state.specs.State.{Step, State, Activation, Body, Update}
-use Rattle.machine_state.specs.Telling.{Assigning, Grouped, IsAssigningTold, writes_of}
+use Rattle.machine_state.specs.Telling.{Assigning, Alone, Grouped, IsAssigningTold, writes_of}
 use Rattle.std.proofs.lemmas.Option.{same_Some}
 use Rattle.machine_state.specs.Worlds.{at, noted, HasWritten}
 use Rattle.statement_meaning.specs.Operations.{Operation, Write, TakeAnswer, operation_of_step}
@@ -31,8 +38,8 @@ use Rattle.machine_rules.specs.There.{HasField, IsField, LacksField}
 use Rattle.rule_interpreter.specs.code.Writing.{MayWrite, IsUnfit, FitsOrNot, IsUnwritten, missing, ill, unfit, deep}
 use Rattle.rule_interpreter.proofs.Beginning.{one-more, not-true}
 use Rattle.machine_rules.proofs.Differing.{differ-spared}
-use Rattle.machine_rules.proofs.Fields.{field-property}
-use Rattle.rule_interpreter.proofs.Reaching.{none-spared, reaches-high, ends-after, ends-lifted, stops-stuck, stops-ill-write, stops-deep-write}
+use Rattle.machine_rules.proofs.Fields.{field-at, field-property, life-unique}
+use Rattle.rule_interpreter.proofs.Reaching.{none-spared, reaches-high, ends-after, ends-left, ends-lifted, ends-unchanged, stops-as, stops-stuck, stops-ill-write, stops-deep-write}
 use Rattle.machine_rules.specs.Natives.{NativeAnswers}
 use Rattle.machine_rules.specs.Good.{shows}
 
@@ -160,6 +167,38 @@ stops-unwritten {p} {natives} {d} {active = active} {what = what} {w = w} {from 
       deep = omega (arith, high, one-more to below over e, length-append from below, length-append to below, sets.as_high);
     } in
     is)
+
+-- what doesn't fit has no such property, or isn't of its type
+pub unfit-at : (p : Loaded) (objects : List Object) (at : Place) (v : Value) → (¬ FitsAt p objects at v) → IsUnfit p objects (record { place = at; value = v })
+unfit-at p objects at v not = by_life (life_of objects at.object) refl
+  where
+    by_property : (x : Object) (l : Life) (class : MetaObject) → Lives objects at.object x l → IsClass p l.class class → (found : Option MetaProperty) → slice_get class.properties at.property ≡ found → IsUnfit p objects (record { place = at; value = v })
+    by_property x l class lives is_class None none = missing (λ y property f. let both : None ≡ Some property = sym none ∙ field-at class lives is_class f in absurd (cc both))
+    by_property x l class lives is_class (Some property) found =
+        let field : IsField p objects at.object at.property x property = record { life = l; lives = lives; class = class; is_class = is_class; is_property = found } in
+        ill field (λ reads. not (record { object = x; life = l; lives = lives; property = property; is_property = record { class = class; is_class = is_class; is = found }; reads = reads }))
+
+    by_class : (x : Object) (l : Life) → Lives objects at.object x l → (found : Option MetaObject) → slice_get p.classes l.class ≡ found → IsUnfit p objects (record { place = at; value = v })
+    by_class x l lives None none = missing (λ y property f.
+        let same : f.life ≡ l = life-unique f.lives lives in
+        let both : None ≡ Some f.class = sym none ∙ ap (λ (k : Life). slice_get p.classes k.class) (sym same) ∙ f.is_class.is in
+        absurd (cc both))
+    by_class x l lives (Some class) found = by_property x l class lives (record { is = found }) (slice_get class.properties at.property) refl
+
+    by_life : (found : Option Life) → life_of objects at.object ≡ found → IsUnfit p objects (record { place = at; value = v })
+    by_life None none = missing (λ y property f. let both : None ≡ Some f.life = sym none ∙ life-of-lives f.lives in absurd (cc both))
+    by_life (Some l) found = let there = lives-of-life objects at.object l found in by_class there.0 l there.1 (slice_get p.classes l.class) refl
+
+-- .. and isn't written
+pub ends-unplanned : {p : Loaded} {natives : NativeAnswers} {d : ℕ} {h active : List (Option ℕ)} {at : Place} {v : Value} {w u : World} {from to : List Activation} {f : Fault} (r : Result (Unit {0}) Fault) →
+    active ≡ shows to ++ h → Sets p natives w from to (Alone at v) → 0 < w.left → IsUnplanned p w.store.tree at v f × (u ≡ w) → IsErrAnd r (λ y. y ≡ f) → RunsTo p natives d h w from u to r
+ends-unplanned {p} {natives} {d} {h} {active} {at} {v} {w} {u} {from} {to} {f} r over sets some why failed = elim why.0 [
+  | inl wrong ↦
+      let Stopped : World → Type 0 = λ z. StopsIn p natives d h w from z f in
+      let unwritten : IsUnwritten p d active w.store.tree (one at v) BadType = unfit (record { front = []; back = []; are = refl; fit = tt }) (unfit-at p w.store.tree at v wrong.1) in
+      ends-left r (subst Stopped (sym why.1) (stops-as wrong.0 (stops-unwritten over sets some unwritten))) failed
+  | inr short ↦ ends-unchanged r sets.goes_on some (short, why.1) failed
+]
 
 -- ---- whether a value may be a property's
 

@@ -48,6 +48,7 @@ impl<N: Answering> Interpreter<N> {
 
     /// Carries out what a statement does, over what is left of its body.
     #[cycle(machine)]
+    #[inline(always)]
     fn carry_out<'p>(
         &self,
         world: &mut World,
@@ -89,6 +90,7 @@ impl<N: Answering> Interpreter<N> {
     }
 
     /// What the body of a call reads.
+    #[inline(always)]
     fn scope<'w>(&self, world: &'w World, call: &'w MethodCall<'_>) -> Scope<'w>
         ensures objects { objects_in result ≡ world.now.store.tree }
         ensures outside { option_copied result.written ≡ None }

@@ -20,6 +20,7 @@ impl<N: Answering> Interpreter<N> {
     /// Connects by a statement, where `depth` activations are on the stack, or writes down why that is refused: the first
     /// of `NotWired`, `Incompatible` and `Exists` that holds. `BadType` where an object or its method isn't there, and
     /// `Memory`; then nothing changes.
+    #[inline(never)]
     pub fn connect(
         &self,
         world: &mut World,
@@ -45,6 +46,7 @@ impl<N: Answering> Interpreter<N> {
 
     /// Disconnects by a statement, where `depth` activations are on the stack, or writes down that nothing is connected.
     /// `BadType` where an object or its method isn't there, and `Memory`; then nothing changes.
+    #[inline(never)]
     pub fn disconnect(&self, world: &mut World, depth: usize, ends: Endpoints) -> Result<(), Fault>
         requires left { 0 < world.old.left }
         ensures { DisconnectsIn self.now.meta world.old depth ends world.new result }

@@ -21,6 +21,7 @@ use trace_entries::{Entry, EntryKind, Fault, Shown, ShownValues};
 impl<N: Answering> Interpreter<N> {
     /// Deletes an object, over what is left of the top of the stack.
     #[cycle(machine)]
+    #[inline(never)]
     pub fn delete(
         &self,
         world: &mut World,
@@ -154,6 +155,7 @@ impl<N: Answering> Interpreter<N> {
 
     /// Schedules an object for deletion by a statement, where `depth` activations are on the stack. An object that is
     /// scheduled already, or doesn't live, changes nothing; nor does running out of memory.
+    #[inline(never)]
     pub fn schedule(&self, world: &mut World, depth: usize, object: ObjectId) -> Result<(), Fault>
         requires sound { IsSoundWorld self.now.meta world.old }
         requires left { 0 < world.old.left }

@@ -5,19 +5,19 @@ ghost use Rattle.machine_rules.specs.code.Sound.{IsSoundWorld, SendsThese, IsDel
 ghost use Rattle.machine_state.specs.State.{Emit};
 ghost use Rattle.rule_interpreter.specs.code.Calls.{Finishes, UsesNext, RunsCall, RunsUse, RunsOnlyCall};
 ghost use Rattle.machine_rules.specs.Rules.{top_of};
-ghost use Rattle.rule_interpreter.specs.code.Reaches.{CallFits, DoesWork};
+ghost use Rattle.rule_interpreter.specs.code.Reaches.{CallFits, DoesWork, IsActivated};
 ghost use Rattle.machine_rules.specs.code.Keeps.{KeepsWorld};
 ghost use Rattle.machine_rules.specs.Natives.{KeepPromises};
 
 use crate::active::Active;
 use crate::interpreter::{Callee, Interpreter};
 use crate::method_call::{MethodCall, front};
-use connections::Connection;
+use connections::{Connection, SignalHint};
 use machine_state::{World, reaches_at_once};
 use meta_objects::Work;
 use native_slots::Answering;
 use signatures::Value;
-use trace_entries::Fault;
+use trace_entries::{Entry, Fault};
 
 impl<N: Answering> Interpreter<N> {
     /// Uses the connections of an emission one after the other, and ends it.
@@ -41,8 +41,15 @@ impl<N: Answering> Interpreter<N> {
         ensures keeps { OnOk result (KeepsWorld self.now.meta world.old world.new) }
         ensures sound { OnOk result (IsSoundWorld self.now.meta world.new) }
     {
+        let mut hint = SignalHint::new();
         let mut used = 0;
-        while let Some(connection) = world.next_used(call.object, call.method, used, last) {
+        while let Some(connection) = world.next_used(
+            call.object,
+            call.method,
+            used,
+            last,
+            &mut hint,
+        ) {
             used = connection.number;
             self.deliver(world, active, connection, call.arguments)?;
         }
@@ -67,7 +74,7 @@ impl<N: Answering> Interpreter<N> {
     {
         world.require_rule()?;
         let (to, number) = (connection.receiver, connection.method);
-        let Some((_, method)) = self.member(world, to, number) else {
+        let Some((receiver, method)) = self.member(world, to, number) else {
             unreachable!()
         };
         let Some(home) = world.home(to) else {
@@ -81,13 +88,14 @@ impl<N: Answering> Interpreter<N> {
         };
         if reaches_at_once(connection.kind, home, world.running()) {
             let over = (&*active).over(None);
-            self.begin_used(world, &over, &connection, &call)
+            let (line, callee) = self.activate_found(world, &over, &call, receiver, method)?;
+            self.begin_used(world, &over, &connection, &call, line, &callee)
         } else {
             self.post(world, active.count() + 1, &connection, &call)
         }
     }
 
-    /// Uses a connection and begins its method, over what is left of the top of the stack.
+    /// Uses a connection and begins its method, of which this is found, over what is left of the top of the stack.
     #[cycle(machine)]
     fn begin_used(
         &self,
@@ -95,17 +103,21 @@ impl<N: Answering> Interpreter<N> {
         active: &Active<'_>,
         connection: &Connection,
         call: &MethodCall<'_>,
+        line: Entry,
+        callee: &Callee<'_>,
     ) -> Result<(), Fault>
         requires promises { KeepPromises N.takes N.gives self.now.meta self.now.natives }
         requires sound { IsSoundWorld self.now.meta world.old }
         requires left { 0 < world.old.left }
         requires fit { CallFits self.now.meta world.old.store.tree call.now }
+        requires begun { IsActivated self.now.meta self.now.depth active.now world.old
+            call.now.object call.now.method call.now.arguments.now
+            line callee.now.work.now callee.now.last }
         ensures ends { RunsUse self.now.meta (N.gives self.now.natives) self.now.depth active.now
             connection.now call.now world.old world.new result }
     {
-        let (line, callee) = self.activate(world, active, call)?;
         world.use_connection(line, connection)?;
-        self.run_callee(world, active, call, &callee)
+        self.run_callee(world, active, call, callee)
     }
 
     /// Begins a method whose arguments an expression gave, over what is left of the top of the stack; `BadType` where the
@@ -123,7 +135,7 @@ impl<N: Answering> Interpreter<N> {
         ensures ends { RunsOnlyCall self.now.meta (N.gives self.now.natives)
             self.now.depth active.now call.now world.old world.new result }
     {
-        let Some((_, declared)) = self.member(world, call.object, call.method) else {
+        let Some((found, declared)) = self.member(world, call.object, call.method) else {
             return Err(Fault::BadType);
         };
         if !world
@@ -133,7 +145,8 @@ impl<N: Answering> Interpreter<N> {
         {
             return Err(Fault::BadType);
         }
-        self.begin(world, active, call)
+        let (line, callee) = self.activate_found(world, active, call, found, declared)?;
+        self.begin_found(world, active, call, line, &callee)
     }
 
     /// Begins a method, over what is left of the top of the stack.
@@ -152,8 +165,32 @@ impl<N: Answering> Interpreter<N> {
             call.now world.old world.new result }
     {
         let (line, callee) = self.activate(world, active, call)?;
+        self.begin_found(world, active, call, line, &callee)
+    }
+
+    /// Begins a method, of which this is found, over what is left of the top of the stack.
+    #[cycle(machine)]
+    #[inline(always)]
+    fn begin_found(
+        &self,
+        world: &mut World,
+        active: &Active<'_>,
+        call: &MethodCall<'_>,
+        line: Entry,
+        callee: &Callee<'_>,
+    ) -> Result<(), Fault>
+        requires promises { KeepPromises N.takes N.gives self.now.meta self.now.natives }
+        requires sound { IsSoundWorld self.now.meta world.old }
+        requires left { 0 < world.old.left }
+        requires fit { CallFits self.now.meta world.old.store.tree call.now }
+        requires begun { IsActivated self.now.meta self.now.depth active.now world.old
+            call.now.object call.now.method call.now.arguments.now
+            line callee.now.work.now callee.now.last }
+        ensures ends { RunsCall self.now.meta (N.gives self.now.natives) self.now.depth active.now
+            call.now world.old world.new result }
+    {
         world.note(line)?;
-        self.run_callee(world, active, call, &callee)
+        self.run_callee(world, active, call, callee)
     }
 
     /// Runs a method that has begun to its end.

@@ -55,6 +55,7 @@ impl<N: Answering> Interpreter<N> {
     }
 
     /// A living object and one of its methods, or `None` where either isn't there.
+    #[inline(always)]
     pub fn member<'s, 'w>(
         &'s self,
         world: &'w World,
@@ -97,6 +98,7 @@ impl<N: Answering> Interpreter<N> {
     }
 
     /// `TooDeep` where no activation may stand over these.
+    #[inline(always)]
     pub fn may_nest(&self, active: &Active<'_>) -> Result<(), Fault>
         ensures { MayNest self.now.depth active.now result }
     {
@@ -108,6 +110,7 @@ impl<N: Answering> Interpreter<N> {
     }
 
     /// The line that is written down as a method begins, and what is found of it before; or why it doesn't begin.
+    #[inline(always)]
     pub fn activate<'s>(
         &'s self,
         world: &World,
@@ -123,8 +126,28 @@ impl<N: Answering> Interpreter<N> {
         let Some((found, declared)) = self.member(world, call.object, call.method) else {
             unreachable!()
         };
+        self.activate_found(world, active, call, found, declared)
+    }
+
+    /// The same of a method that is found already, with its living object.
+    #[inline(always)]
+    pub fn activate_found<'s>(
+        &self,
+        world: &World,
+        active: &Active<'_>,
+        call: &MethodCall<'_>,
+        object: &Object,
+        declared: &'s MetaMethod,
+    ) -> Result<(Entry, Callee<'s>), Fault>
+        requires found { IsMember self.now.meta world.now.store.tree
+            call.now.object call.now.method object.now declared.now }
+        ensures ok { IfOk result (λ b. IsActivated self.now.meta self.now.depth active.now world.now
+            call.now.object call.now.method call.now.arguments.now
+            b.0 b.1.work.now b.1.last) }
+        ensures err { IfErr result (IsBarred self.now.depth active.now) }
+    {
         self.may_nest(active)?;
-        let line = self.begin_entry(world, active.count() + 1, found, declared, call)?;
+        let line = self.begin_entry(world, active.count() + 1, object, declared, call)?;
         let callee = Callee {
             work: &declared.work,
             last: world.store.connections.last(),
@@ -133,6 +156,7 @@ impl<N: Answering> Interpreter<N> {
     }
 
     /// The entry of a call of a method of an object that begins.
+    #[inline(always)]
     fn begin_entry(
         &self,
         world: &World,

@@ -22,6 +22,7 @@ impl<N: Answering> Interpreter<N> {
     /// Takes the answer of a native, carries its actions out, and ends its body. A native that was refused memory stops the
     /// run, as running out of memory elsewhere does.
     #[cycle(machine)]
+    #[inline(never)]
     pub fn run_native(
         &self,
         world: &mut World,

@@ -19,6 +19,7 @@ use trace_entries::{Entry, EntryKind, Fault};
 impl<N: Answering> Interpreter<N> {
     /// Uses a connection and posts its call to the event loop in which the object that is called lives, where `depth`
     /// activations are on the stack; without memory nothing changes.
+    #[inline(never)]
     pub fn post(
         &self,
         world: &mut World,

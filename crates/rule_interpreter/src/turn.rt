@@ -121,6 +121,7 @@ impl<N: Answering> Interpreter<N> {
 
 /// Takes the first item of a turn, which is a call of a living object, writes this entry down, and gives the call's
 /// arguments; without memory nothing changes.
+#[inline(always)]
 fn take_call(world: &mut World, line: Entry, turn: Turn) -> Result<Arguments, Fault>
     requires left { 0 < world.old.left }
     requires first { IsCalled world.old turn }

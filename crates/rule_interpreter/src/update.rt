@@ -38,7 +38,7 @@ impl<N: Answering> Interpreter<N> {
         ensures ends { RunsWrite self.now.meta (N.gives self.now.natives) self.now.depth active.now
             (Alone place.now value) world.old world.new result }
     {
-        self.may_write(world, active, place, &value)?;
+        self.may_begin_write(world, active, place, &value)?;
         let changed = world.write(&self.meta, active.count() + 1, place, value)?;
         self.run_update(world, active, changed.as_slice())
     }
@@ -46,6 +46,7 @@ impl<N: Answering> Interpreter<N> {
     /// Does the sets of a group, over what is left of the top of the stack, and notifies what changes with the properties
     /// that they write; `BadType` where one of them has no such property, or its value isn't of the type.
     #[cycle(machine)]
+    #[inline(never)]
     pub fn write_group(
         &self,
         world: &mut World,
@@ -63,9 +64,31 @@ impl<N: Answering> Interpreter<N> {
         self.run_update(world, active, changed.as_slice())
     }
 
+    /// Whether an activation may stand over these, for a write; where none may, `BadType` if the object has no such property,
+    /// or the value isn't of its type, and else `TooDeep`.
+    #[inline(always)]
+    fn may_begin_write(
+        &self,
+        world: &World,
+        active: &Active<'_>,
+        place: &Place,
+        value: &Value,
+    ) -> Result<(), Fault>
+        ensures ok { IfOk result (λ may. length active.now < self.now.depth) }
+        ensures err { IfErr result (IsUnwritten self.now.meta self.now.depth active.now
+            world.now.store.tree (one place.now value.now)) }
+    {
+        if active.count() < self.depth {
+            return Ok(());
+        }
+        self.may_write(world, active, place, value)
+    }
+
     /// Whether a property may be written over these activations: `BadType` where the object has no such property, or the
     /// value isn't of its type; `TooDeep` where no activation may stand over these.
-    pub fn may_write(
+    #[cold]
+    #[inline(never)]
+    fn may_write(
         &self,
         world: &World,
         active: &Active<'_>,

@@ -7,16 +7,17 @@ use crate::fault::Fault;
 use crate::pair::Pair;
 use crate::random::Random;
 use call::{Call, Link, MEMBERS, OBJECTS, Wanted, some_number, some_object};
-use connections::{ConnectFault, Connection, Connections, DisconnectFault};
+use connections::{ConnectFault, Connection, Connections, DisconnectFault, SignalHint};
 use plain::PlainConnections;
 use signatures::ObjectId;
 use std::alloc::{AllocError, Global};
 
-/// The connections, and a plain list of them.
+/// The connections, and a plain list of them, and a hint that is kept through all calls, so that it is often stale.
 #[derive(Drop)]
 pub struct ConnectionPair {
     store: Connections,
     plain: PlainConnections,
+    kept: SignalHint,
 }
 
 /// How many connections are made at most; a list of calls makes fewer.
@@ -27,6 +28,7 @@ impl Pair for ConnectionPair {
         Ok(ConnectionPair {
             store: Connections::new(alloc),
             plain: PlainConnections::new(alloc),
+            kept: SignalHint::new(),
         })
     }
 
@@ -83,17 +85,35 @@ impl ConnectionPair {
             .disconnect(link.sender, link.signal, link.receiver, link.method)
     }
 
-    /// Asks both which connection an emission uses next, and whether a link is there: whether they answer alike.
-    fn asks_alike(&self, random: &mut Random) -> bool {
+    /// Asks both which connection an emission uses next, by a new hint and by the kept one, and whether a link is there:
+    /// whether they answer alike.
+    fn asks_alike(&mut self, random: &mut Random) -> bool {
         let sender = some_object(random);
         let signal = random.below(MEMBERS);
         let used = some_number(random, self.plain.last);
         let made = some_number(random, self.plain.last);
         let link = Link::random(random);
+        let mut new = SignalHint::new();
+        let mut kept = self.kept;
+        let is_due = self.is_due_alike(sender, signal, used, made, &mut new)
+            && self.is_due_alike(sender, signal, used, made, &mut kept);
+        self.kept = kept;
+        is_due && self.are_connected(&link) == self.plain.are_connected(&link)
+    }
+
+    /// Whether an emission uses the same connection next in both, where the store is asked by this hint.
+    fn is_due_alike(
+        &self,
+        sender: ObjectId,
+        signal: usize,
+        used: u64,
+        made: u64,
+        hint: &mut SignalHint,
+    ) -> bool {
         are_same(
-            self.store.next_due(sender, signal, used, made),
+            self.store.next_due(sender, signal, used, made, hint),
             self.plain.next_due(sender, signal, used, made),
-        ) && self.are_connected(&link) == self.plain.are_connected(&link)
+        )
     }
 
     fn are_connected(&self, link: &Link) -> bool {

@@ -6,12 +6,18 @@ use Rattle.machine_state.specs.Telling.{Alone}
 use Rattle.machine_state.specs.Worlds.{accepting_entries}
 use Rattle.machine_state.proofs.Bound.{has-written, written-agrees, counted-over}
 use Rattle.machine_state.proofs.Changed.{written-ahead}
+use Rattle.machine_state.proofs.Trying.{writes-not}
 use Rattle.machine_state.proofs.world.World.accept_write.Goals as goal
 
 pub lines-requires : goal.lines-requires
 lines-requires c =
     let store = c.args.self.now.store in
     record { can = written-ahead c.args.meta.now store.tree store.bindings (one c.args.place.now c.args.value) c.in_ok-planned.planned.planned c.requires.agree (c.requires.fits, tt) c.in_ok-planned.ensures.ok.will }
+
+pub returns-in_err-planned-clause-value : goal.returns-in_err-planned-clause-value
+returns-in_err-planned-clause-value c =
+    let w = c.args.self.now in
+    writes-not c.args.meta.now 1 (Alone c.args.place.now c.args.value) c.args.place.now c.args.value w (accepting_entries w) c.from_residual.result c.requires.fits c.in_err-planned.ensures.err c.from_residual.ensures.1
 
 pub returns-clause-value : goal.returns-clause-value
 returns-clause-value c =

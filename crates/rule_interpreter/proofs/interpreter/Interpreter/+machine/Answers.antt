@@ -16,7 +16,7 @@ use Rattle.rule_interpreter.proofs.Keeps.{keeps-same, keeps-then, reaches-keeps}
 use Rattle.machine_rules.proofs.Declared.{fit-sends}
 use Rattle.rule_interpreter.proofs.Soundness.{emitted-still, reaches-sound, sound-used, sound-noted, sound-set}
 use Rattle.rule_interpreter.proofs.Beginning.{begun-work, work-at, ends-begun, stops-barred, stops-no-member, stops-ill-typed, fit-of, next-delivered, delivered-fits, delivery-calls, begun-used, ends-posted, no-home, not-true}
-use Rattle.rule_interpreter.proofs.Writes.{ends-written, stops-unwritten}
+use Rattle.rule_interpreter.proofs.Writes.{ends-written, ends-unplanned, stops-unwritten}
 use Rattle.rule_interpreter.proofs.Notifying.{no-places, all-notified, all-may-still, announces-signal, dead-rule, announced-member, announced-value, announced-fits, announcement-calls}
 use Rattle.rule_interpreter.proofs.Bodies.{does-call, does-call-alone, does-set, does-answer, does-nothing, does-connect, does-disconnect, does-delete, does-schedule, does-choose, lacks-read, advances-one, advances-ticked, advances-left}
 use Rattle.rule_interpreter.proofs.Deleting.{ends-deleting, stops-deleting, reaches-died, stops-in-use, stops-announcing, living-name, died-as, died-emits, died-gone, dead-after, kills-first, kills-next, reaches-latest, reaches-next, stops-forgetting, forgets-fewer, nonempty, none-left}
@@ -80,13 +80,19 @@ pub deliver-unreachable-requires-in_default-home : goal.deliver-unreachable-requ
 deliver-unreachable-requires-in_default-home g t c = no-home c.in-Some.ensures c.in_default-home.ensures
 
 pub deliver-begin_used-requires : goal.deliver-begin_used-requires
-deliver-begin_used-requires g t c = λ κs lives. (omega arith, (lives, (c.requires.promises, (c.requires.sound, (c.in_ok-require_rule.ensures, delivered-fits c.requires.takes c.in-Some.ensures c.front-taken.ensures c.len.ensures)))))
+deliver-begin_used-requires g t c = λ κs lives. (omega arith, (lives, (c.requires.promises, (c.requires.sound, (c.in_ok-require_rule.ensures, (delivered-fits c.requires.takes c.in-Some.ensures c.front-taken.ensures c.len.ensures, c.in_ok-line.ensures.ok))))))
+
+pub deliver-returns-in_err-line : goal.deliver-returns-in_err-line
+deliver-returns-in_err-line g t c =
+    let now = rw c.running.ensures at c.reaches_at_once.ensures in
+    let fit = delivered-fits c.requires.takes c.in-Some.ensures c.front-taken.ensures c.len.ensures in
+    record { ends = λ o g used last found. ends-left _ (stops-barred c.over-over.ensures (delivery-calls o g used last found c.in-Some.ensures c.front-taken.ensures c.len.ensures (sym c.in-Some-home.ensures) (sym now ∙ c.if-reaches_at_once.true)) fit c.requires.sound.is.agree c.in_ok-require_rule.ensures c.in_err-line.ensures.err) c.from_residual-in_err-line.ensures.1 }
 
 pub deliver-post-requires-clause-fit : goal.deliver-post-requires-clause-fit
 deliver-post-requires-clause-fit g t c = delivered-fits c.requires.takes c.in-Some.ensures c.front-taken.ensures c.len.ensures
 
-pub deliver-returns-then-reaches_at_once : goal.deliver-returns-then-reaches_at_once
-deliver-returns-then-reaches_at_once g t c =
+pub deliver-returns-in_ok-line : goal.deliver-returns-in_ok-line
+deliver-returns-in_ok-line g t c =
     let now = rw c.running.ensures at c.reaches_at_once.ensures in
     record { ends = λ o g used last found. c.begin_used.ensures.ends _ _ _ c.over-over.ensures (delivery-calls o g used last found c.in-Some.ensures c.front-taken.ensures c.len.ensures (sym c.in-Some-home.ensures) (sym now ∙ c.if-reaches_at_once.true)) }
 
@@ -98,24 +104,19 @@ deliver-returns-else-reaches_at_once g t c =
           ends-posted o g used last _ _ found c.in-Some.ensures c.front-taken.ensures c.len.ensures (sym c.in-Some-home.ensures) (sym later ∙ c.if-reaches_at_once.false) c.requires.room c.requires.sound.is.agree c.in_ok-require_rule.ensures (omega (arith, c.count.ensures)) c.post.ensures;
     }
 
-pub begin_used-returns-in_err-line : goal.begin_used-returns-in_err-line
-begin_used-returns-in_err-line g t c = record {
-  ends = λ from to shown over calls. ends-left _ (stops-barred over calls c.requires.fit c.requires.sound.is.agree c.requires.left c.in_err-line.ensures.err) c.from_residual.ensures.1;
-}
-
 pub begin_used-returns-in_err-use_connection : goal.begin_used-returns-in_err-use_connection
-begin_used-returns-in_err-use_connection g t c = record { ends = λ from to shown over calls. ends-unchanged _ calls.goes_on c.requires.left c.in_err-use_connection.ensures c.from_residual-in_err-use_connection.ensures.1 }
+begin_used-returns-in_err-use_connection g t c = record { ends = λ from to shown over calls. ends-unchanged _ calls.goes_on c.requires.left c.in_err-use_connection.ensures c.from_residual.ensures.1 }
 
 pub begin_used-run_callee-requires : goal.begin_used-run_callee-requires
 begin_used-run_callee-requires g t c = λ κs lives.
     let went = c.in_ok-use_connection.ensures in
     let Fit : World → Type 0 = λ v. ArgumentsFit c.args.self.now.meta v.store.tree c.args.call.now.object c.args.call.now.method c.args.call.now.arguments.now in
-    (omega (arith, ap (λ (w : World). w.left) went, c.requires.left), (lives, (c.requires.promises, (c.in_ok-line.ensures.ok.room, (sound-used c.args.world.now _ c.args.connection.now went c.requires.sound, (subst Fit (sym went) c.requires.fit, work-at (ap (λ (u : World). u.store.tree) went) (begun-work c.in_ok-line.ensures.ok)))))))
+    (omega (arith, ap (λ (w : World). w.left) went, c.requires.left), (lives, (c.requires.promises, (c.requires.begun.room, (sound-used c.args.world.now _ c.args.connection.now went c.requires.sound, (subst Fit (sym went) c.requires.fit, work-at (ap (λ (u : World). u.store.tree) went) (begun-work c.requires.begun)))))))
 
 pub begin_used-returns : goal.begin_used-returns
 begin_used-returns g t c = record {
   ends = λ from to shown over calls.
-      ends-begun over calls (begun-used c.args.connection.now c.in_ok-line.ensures.ok) c.requires.fit c.requires.sound.is.agree c.requires.left refl c.in_ok-use_connection.ensures c.run_callee.ensures.ends;
+      ends-begun over calls (begun-used c.args.connection.now c.requires.begun) c.requires.fit c.requires.sound.is.agree c.requires.left refl c.in_ok-use_connection.ensures c.run_callee.ensures.ends;
 }
 
 -- ---- the beginning of methods
@@ -130,31 +131,44 @@ begin_typed-returns-then-not-have_types g t c = record {
       record { cases = stops-ill-typed calls c.in-Some.ensures (λ h. not-true _ c.if-not-have_types.true (typed.1 h)) c.requires.left };
 }
 
-pub begin_typed-begin-requires : goal.begin_typed-begin-requires
-begin_typed-begin-requires g t c = λ κs lives. let typed = rw c.as_slice.ensures at c.have_types.ensures in
-    (omega arith, (lives, (c.requires.promises, (c.requires.sound, (c.requires.left, fit-of c.in-Some.ensures (typed.0 c.if-not-have_types.false))))))
+pub begin_typed-returns-in_err-line : goal.begin_typed-returns-in_err-line
+begin_typed-returns-in_err-line g t c = record {
+  ends = λ from to shown over calls only.
+      let typed = rw c.as_slice.ensures at c.have_types.ensures in
+      ends-left _ (stops-barred over calls (fit-of c.in-Some.ensures (typed.0 c.if-not-have_types.false)) c.requires.sound.is.agree c.requires.left c.in_err-line.ensures.err) c.from_residual.ensures.1;
+}
+
+pub begin_typed-begin_found-requires : goal.begin_typed-begin_found-requires
+begin_typed-begin_found-requires g t c = λ κs lives. let typed = rw c.as_slice.ensures at c.have_types.ensures in
+    (omega arith, (lives, (c.requires.promises, (c.requires.sound, (c.requires.left, (fit-of c.in-Some.ensures (typed.0 c.if-not-have_types.false), c.in_ok-line.ensures.ok))))))
 
 pub begin_typed-returns : goal.begin_typed-returns
-begin_typed-returns g t c = record { ends = λ from to shown over calls only. c.begin.ensures.ends from to shown over calls }
+begin_typed-returns g t c = record { ends = λ from to shown over calls only. c.begin_found.ensures.ends from to shown over calls }
 
 pub begin-returns-in_err-line : goal.begin-returns-in_err-line
 begin-returns-in_err-line g t c = record {
   ends = λ from to shown over calls. ends-left _ (stops-barred over calls c.requires.fit c.requires.sound.is.agree c.requires.left c.in_err-line.ensures.err) c.from_residual.ensures.1;
 }
 
-pub begin-returns-in_err-note : goal.begin-returns-in_err-note
-begin-returns-in_err-note g t c = record { ends = λ from to shown over calls. ends-unchanged _ calls.goes_on c.requires.left c.in_err-note.ensures c.from_residual-in_err-note.ensures.1 }
-
-pub begin-run_callee-requires : goal.begin-run_callee-requires
-begin-run_callee-requires g t c = λ κs lives.
-    let went = c.in_ok-note.ensures in
-    let Fit : World → Type 0 = λ v. ArgumentsFit c.args.self.now.meta v.store.tree c.args.call.now.object c.args.call.now.method c.args.call.now.arguments.now in
-    (omega (arith, ap (λ (w : World). w.left) went, c.requires.left), (lives, (c.requires.promises, (c.in_ok-line.ensures.ok.room, (sound-noted c.args.world.now _ went c.requires.sound, (subst Fit (sym went) c.requires.fit, work-at (ap (λ (u : World). u.store.tree) went) (begun-work c.in_ok-line.ensures.ok)))))))
+pub begin-begin_found-requires : goal.begin-begin_found-requires
+begin-begin_found-requires g t c = λ κs lives. (omega arith, (lives, (c.requires.promises, (c.requires.sound, (c.requires.left, (c.requires.fit, c.in_ok-line.ensures.ok))))))
 
 pub begin-returns : goal.begin-returns
-begin-returns g t c = record {
+begin-returns g t c = record { ends = λ from to shown over calls. c.begin_found.ensures.ends from to shown over calls }
+
+pub begin_found-returns-in_err-note : goal.begin_found-returns-in_err-note
+begin_found-returns-in_err-note g t c = record { ends = λ from to shown over calls. ends-unchanged _ calls.goes_on c.requires.left c.in_err-note.ensures c.from_residual.ensures.1 }
+
+pub begin_found-run_callee-requires : goal.begin_found-run_callee-requires
+begin_found-run_callee-requires g t c = λ κs lives.
+    let went = c.in_ok-note.ensures in
+    let Fit : World → Type 0 = λ v. ArgumentsFit c.args.self.now.meta v.store.tree c.args.call.now.object c.args.call.now.method c.args.call.now.arguments.now in
+    (omega (arith, ap (λ (w : World). w.left) went, c.requires.left), (lives, (c.requires.promises, (c.requires.begun.room, (sound-noted c.args.world.now _ went c.requires.sound, (subst Fit (sym went) c.requires.fit, work-at (ap (λ (u : World). u.store.tree) went) (begun-work c.requires.begun)))))))
+
+pub begin_found-returns : goal.begin_found-returns
+begin_found-returns g t c = record {
   ends = λ from to shown over calls.
-      ends-begun over calls c.in_ok-line.ensures.ok c.requires.fit c.requires.sound.is.agree c.requires.left refl c.in_ok-note.ensures c.run_callee.ensures.ends;
+      ends-begun over calls c.requires.begun c.requires.fit c.requires.sound.is.agree c.requires.left refl c.in_ok-note.ensures c.run_callee.ensures.ends;
 }
 
 -- ---- bodies
@@ -245,27 +259,24 @@ carry_out-returns-in-Disconnect g t c = record {
 
 -- ---- writes
 
-pub write-returns-in_err-may_write : goal.write-returns-in_err-may_write
-write-returns-in_err-may_write g t c = record {
-  ends = λ from to shown over sets. ends-left _ (stops-unwritten over sets c.requires.left c.in_err-may_write.ensures.err) c.from_residual.ensures.1;
+pub write-returns-in_err-may_begin_write : goal.write-returns-in_err-may_begin_write
+write-returns-in_err-may_begin_write g t c = record {
+  ends = λ from to shown over sets. ends-left _ (stops-unwritten over sets c.requires.left c.in_err-may_begin_write.ensures.err) c.from_residual.ensures.1;
 }
 
-pub write-write-requires-clause-fits : goal.write-write-requires-clause-fits
-write-write-requires-clause-fits g t c = (c.in_ok-may_write.ensures.ok).fit.0
-
 pub write-returns-in_err-changed : goal.write-returns-in_err-changed
-write-returns-in_err-changed g t c = record { ends = λ from to shown over sets. ends-unchanged _ sets.goes_on c.requires.left c.in_err-changed.ensures.value c.from_residual-in_err-changed.ensures.1 }
+write-returns-in_err-changed g t c = record { ends = λ from to shown over sets. ends-unplanned _ over sets c.requires.left c.in_err-changed.ensures.value c.from_residual-in_err-changed.ensures.1 }
 
 pub write-run_update-requires : goal.write-run_update-requires
 write-run_update-requires g t c = λ κs lives.
-    let went = c.in_ok-changed.ensures.value in
-    (omega (arith, ap (λ (w : World). w.left) went.gives, c.requires.left), (lives, (c.requires.promises, (c.in_ok-may_write.ensures.ok.room, sound-set c.args.world.now went c.in_ok-changed.ensures.agree c.requires.sound))))
+    let went = c.in_ok-changed.ensures.value.1 in
+    (omega (arith, ap (λ (w : World). w.left) went.gives, c.requires.left), (lives, (c.requires.promises, (c.in_ok-may_begin_write.ensures.ok, sound-set c.args.world.now went c.in_ok-changed.ensures.agree c.requires.sound))))
 
 pub write-returns : goal.write-returns
 write-returns g t c = record {
   ends = λ from to shown over sets.
       let went = rw c.count.ensures at c.in_ok-changed.ensures.value in
-      ends-written over sets c.requires.left c.in_ok-may_write.ensures.ok went c.in_ok-changed.ensures.agree (rw c.as_slice.ensures at c.run_update.ensures.ends);
+      ends-written over sets c.requires.left (record { fit = (went.0, tt); room = c.in_ok-may_begin_write.ensures.ok }) went.1 c.in_ok-changed.ensures.agree (rw c.as_slice.ensures at c.run_update.ensures.ends);
 }
 
 pub write_group-returns-in_err-may_write_group : goal.write_group-returns-in_err-may_write_group

@@ -24,7 +24,10 @@ abbrev pub decreases-begin_typed : goal.decreases-begin_typed
 decreases-begin_typed g l = 6 * l.world.now.left + 1
 
 abbrev pub decreases-begin : goal.decreases-begin
-decreases-begin g l = 6 * l.world.now.left + 0
+decreases-begin g l = 6 * l.world.now.left + 1
+
+abbrev pub decreases-begin_found : goal.decreases-begin_found
+decreases-begin_found g l = 6 * l.world.now.left + 0
 
 abbrev pub decreases-run_callee : goal.decreases-run_callee
 decreases-run_callee g l = 6 * l.world.now.left + 5
@@ -48,13 +51,13 @@ abbrev pub decreases-write_group : goal.decreases-write_group
 decreases-write_group g l = 6 * l.world.now.left + 0
 
 abbrev pub decreases-run_update : goal.decreases-run_update
-decreases-run_update g l = 6 * l.world.now.left + 3
+decreases-run_update g l = 6 * l.world.now.left + 4
 
 abbrev pub decreases-notify : goal.decreases-notify
-decreases-notify g l = 6 * l.world.now.left + 2
+decreases-notify g l = 6 * l.world.now.left + 3
 
 abbrev pub decreases-emit_change : goal.decreases-emit_change
-decreases-emit_change g l = 6 * l.world.now.left + 1
+decreases-emit_change g l = 6 * l.world.now.left + 2
 
 abbrev pub decreases-delete : goal.decreases-delete
 decreases-delete g l = 6 * l.world.now.left + 0
