@@ -17,7 +17,7 @@ impl<W: Write> Output<'_, W> {
     pub fn certificate(&mut self, certificate: &Certificate)
         ensures { Puts W.contents self.old self.new (certificate_text certificate.now) }
     {
-        self.put(b"certificate 2\n");
+        self.put_word(b"certificate 2\n");
         self.numbered(b"bound ", certificate.bound);
         self.node_lines(certificate.lines.as_slice());
     }
@@ -38,14 +38,14 @@ impl<W: Write> Output<'_, W> {
         self.node(&line.node);
         self.rank(line.rank);
         self.destroyed(line.destroys.as_slice());
-        self.put(b"\n");
+        self.put_byte(b'\n');
     }
 
     /// Adds a rank, a blank in front of it.
     fn rank(&mut self, rank: u32)
         ensures { Puts W.contents self.old self.new (codes " " ++ decimal rank) }
     {
-        self.put(b" ");
+        self.put_byte(b' ');
         self.number(rank);
     }
 
@@ -64,7 +64,7 @@ impl<W: Write> Output<'_, W> {
     fn tilde_name(&mut self, class: &Name)
         ensures { Puts W.contents self.old self.new (codes "~" ++ class.now) }
     {
-        self.put(b"~");
+        self.put_byte(b'~');
         self.name(class);
     }
 
@@ -73,7 +73,7 @@ impl<W: Write> Output<'_, W> {
         ensures { Puts W.contents self.old self.new (member_text class.now (text_of_sig sig.now)) }
     {
         self.name(class);
-        self.put(b".");
+        self.put_byte(b'.');
         self.sig(sig);
     }
 
@@ -82,7 +82,7 @@ impl<W: Write> Output<'_, W> {
         ensures { Puts W.contents self.old self.new (flat_map listed_text items.now) }
     {
         for item in items {
-            self.put(b" ");
+            self.put_byte(b' ');
             self.set_item(item);
         }
     }

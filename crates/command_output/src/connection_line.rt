@@ -14,9 +14,9 @@ impl<W: Write> Output<'_, W> {
     pub fn connected(&mut self, ends: &Endpoints<Name>, how: ConnectionType)
         ensures { Puts W.contents self.old self.new (connected_text ends.now how) }
     {
-        self.put(b"connect ");
+        self.put_word(b"connect ");
         self.ends(ends);
-        self.put(b" ");
+        self.put_byte(b' ');
         self.connection_type(how);
     }
 
@@ -24,7 +24,7 @@ impl<W: Write> Output<'_, W> {
     pub fn disconnected(&mut self, ends: &Endpoints<Name>)
         ensures { Puts W.contents self.old self.new (codes "disconnect " ++ ends_text ends.now) }
     {
-        self.put(b"disconnect ");
+        self.put_word(b"disconnect ");
         self.ends(ends);
     }
 
@@ -33,7 +33,7 @@ impl<W: Write> Output<'_, W> {
         ensures { Puts W.contents self.old self.new (ends_text ends.now) }
     {
         self.end(&ends.sender, &ends.signal);
-        self.put(b" ");
+        self.put_byte(b' ');
         self.end(&ends.receiver, &ends.method);
     }
 
@@ -42,7 +42,7 @@ impl<W: Write> Output<'_, W> {
         ensures { Puts W.contents self.old self.new (end_text object.now sig.now) }
     {
         self.name(object);
-        self.put(b" ");
+        self.put_byte(b' ');
         self.sig(sig);
     }
 
@@ -60,7 +60,7 @@ impl<W: Write> Output<'_, W> {
         ensures { Puts W.contents self.old self.new (given_text given word.now) }
     {
         if given {
-            self.put(b" ");
+            self.put_byte(b' ');
             self.put(word);
         }
     }

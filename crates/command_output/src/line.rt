@@ -1,6 +1,7 @@
 //! The text of the output's lines.
 
 ghost use Rattle.std.specs.Prelude.{◌++◌, codes, decimal};
+ghost use Rattle.std.specs.Fmt.{signed_decimal};
 ghost use Rattle.command_output.specs.Lines.{newline, value_text, bare_call_text, action_text, actions_text, arguments_text, member_text, call_text, blocked_text, emitted_text, called_text, property_text, entry_kind_text, depth_line, refused_event_line, entry_line, trace_text, post_text, posted_text, scheduled_text, died_text};
 ghost use Rattle.command_output.specs.Sent.{Puts};
 
@@ -31,12 +32,23 @@ impl<W: Write> Output<'_, W> {
         ensures { Puts W.contents self.old self.new (value_text value.now) }
     {
         match value {
-            Shown::Int(number) => self.number(*number),
-            Shown::Bool(true) => self.put(b"true"),
-            Shown::Bool(false) => self.put(b"false"),
+            Shown::Int(number) => self.int(*number),
+            Shown::Bool(true) => self.put_word(b"true"),
+            Shown::Bool(false) => self.put_word(b"false"),
             Shown::Text(text) => self.quoted(text),
             Shown::Object(name) => self.name(name),
-            Shown::Null => self.put(b"null"),
+            Shown::Null => self.put_word(b"null"),
+        }
+    }
+
+    /// Adds a whole number. Most have one digit.
+    fn int(&mut self, number: i32)
+        ensures { Puts W.contents self.old self.new (signed_decimal number) }
+    {
+        if 0 <= number && number < 10 {
+            self.put_byte(b'0' + number as u8);
+        } else {
+            self.number(number);
         }
     }
 
@@ -44,9 +56,9 @@ impl<W: Write> Output<'_, W> {
     fn quoted(&mut self, text: &Text)
         ensures { Puts W.contents self.old self.new (codes "\"" ++ text.now ++ codes "\"") }
     {
-        self.put(b"\"");
+        self.put_byte(b'"');
         self.put(text.bytes());
-        self.put(b"\"");
+        self.put_byte(b'"');
     }
 
     /// Adds values, separated by commas.
@@ -58,7 +70,7 @@ impl<W: Write> Output<'_, W> {
         };
         self.value(first);
         for value in rest {
-            self.put(b",");
+            self.put_byte(b',');
             self.value(value);
         }
     }
@@ -68,7 +80,7 @@ impl<W: Write> Output<'_, W> {
         ensures { Puts W.contents self.old self.new (member_text object.now member.now) }
     {
         self.name(object);
-        self.put(b".");
+        self.put_byte(b'.');
         self.name(member);
     }
 
@@ -77,16 +89,16 @@ impl<W: Write> Output<'_, W> {
         ensures { Puts W.contents self.old self.new (call_text object.now method.now arguments.now) }
     {
         self.member(object, method);
-        self.put(b"(");
+        self.put_byte(b'(');
         self.arguments(arguments);
-        self.put(b")");
+        self.put_byte(b')');
     }
 
     /// Adds an emission, and whether the object is blocked.
     fn emitted(&mut self, object: &Name, signal: &Name, arguments: &[Shown], blocked: bool)
         ensures { Puts W.contents self.old self.new (emitted_text object.now signal.now arguments.now blocked) }
     {
-        self.put(b"emit ");
+        self.put_word(b"emit ");
         self.call(object, signal, arguments);
         self.blocked(blocked);
     }
@@ -96,7 +108,7 @@ impl<W: Write> Output<'_, W> {
         ensures { Puts W.contents self.old self.new (blocked_text blocked) }
     {
         if blocked {
-            self.put(b" blocked");
+            self.put_word(b" blocked");
         }
     }
 
@@ -104,7 +116,7 @@ impl<W: Write> Output<'_, W> {
     fn called(&mut self, object: &Name, slot: &Name, arguments: &[Shown])
         ensures { Puts W.contents self.old self.new (called_text object.now slot.now arguments.now) }
     {
-        self.put(b"call ");
+        self.put_word(b"call ");
         self.call(object, slot, arguments);
     }
 
@@ -112,7 +124,7 @@ impl<W: Write> Output<'_, W> {
     fn answered(&mut self, actions: &[ShownAction])
         ensures { Puts W.contents self.old self.new (codes "native" ++ actions_text actions.now) }
     {
-        self.put(b"native");
+        self.put_word(b"native");
         self.actions(actions);
     }
 
@@ -123,10 +135,10 @@ impl<W: Write> Output<'_, W> {
         let Some((first, rest)) = actions.split_first() else {
             return;
         };
-        self.put(b" ");
+        self.put_byte(b' ');
         self.action(first);
         for action in rest {
-            self.put(b", ");
+            self.put_word(b", ");
             self.action(action);
         }
     }
@@ -147,9 +159,9 @@ impl<W: Write> Output<'_, W> {
     fn set_action(&mut self, property: &Name, value: &Shown)
         ensures { Puts W.contents self.old self.new (codes "set " ++ property.now ++ codes " " ++ value_text value.now) }
     {
-        self.put(b"set ");
+        self.put_word(b"set ");
         self.name(property);
-        self.put(b" ");
+        self.put_byte(b' ');
         self.value(value);
     }
 
@@ -157,11 +169,11 @@ impl<W: Write> Output<'_, W> {
     fn emit_action(&mut self, signal: &Name, arguments: &[Shown])
         ensures { Puts W.contents self.old self.new (codes "emit " ++ bare_call_text signal.now arguments.now) }
     {
-        self.put(b"emit ");
+        self.put_word(b"emit ");
         self.name(signal);
-        self.put(b"(");
+        self.put_byte(b'(');
         self.arguments(arguments);
-        self.put(b")");
+        self.put_byte(b')');
     }
 
     /// Adds a call that is posted to an event loop.
@@ -177,7 +189,7 @@ impl<W: Write> Output<'_, W> {
         ensures { Puts W.contents self.old self.new (scheduled_text event_loop.now object.now) }
     {
         self.post(event_loop);
-        self.put(b"~");
+        self.put_byte(b'~');
         self.name(object);
     }
 
@@ -185,27 +197,33 @@ impl<W: Write> Output<'_, W> {
     fn post(&mut self, event_loop: &Name)
         ensures { Puts W.contents self.old self.new (post_text event_loop.now) }
     {
-        self.put(b"post ");
+        self.put_word(b"post ");
         self.name(event_loop);
-        self.put(b" ");
+        self.put_byte(b' ');
     }
 
     /// Adds that an object dies.
     fn died(&mut self, object: &Name)
         ensures { Puts W.contents self.old self.new (died_text object.now) }
     {
-        self.put(b"dead ");
+        self.put_word(b"dead ");
         self.name(object);
     }
 
     /// Adds a property and its new value, after a word that says how it came by it.
     #[inline(always)]
-    fn changed(&mut self, word: &[u8], object: &Name, property: &Name, value: &Shown)
+    fn changed<const N: usize>(
+        &mut self,
+        word: &[u8; N],
+        object: &Name,
+        property: &Name,
+        value: &Shown,
+    )
         ensures { Puts W.contents self.old self.new (property_text word.now object.now property.now value.now) }
     {
-        self.put(word);
+        self.put_word(word);
         self.member(object, property);
-        self.put(b" ");
+        self.put_byte(b' ');
         self.value(value);
     }
 
@@ -249,8 +267,8 @@ impl<W: Write> Output<'_, W> {
                 property,
                 value,
             } => self.changed(b"follow ", object, property, value),
-            EntryKind::OnNull => self.put(b"null"),
-            EntryKind::Grouped => self.put(b"group"),
+            EntryKind::OnNull => self.put_word(b"null"),
+            EntryKind::Grouped => self.put_word(b"group"),
             EntryKind::Connected(ends, how) => self.connected(ends, *how),
             EntryKind::Disconnected(ends) => self.disconnected(ends),
             EntryKind::Refused(refusal) => self.refused_statement(*refusal),
@@ -262,9 +280,9 @@ impl<W: Write> Output<'_, W> {
         ensures { Puts W.contents self.old self.new (depth_line depth entry_kind.now) }
     {
         self.depth(depth);
-        self.put(b" ");
+        self.put_byte(b' ');
         self.entry_kind(entry_kind);
-        self.put(b"\n");
+        self.put_byte(b'\n');
     }
 
     /// Adds a depth in decimal digits. Each line has one, and most have one digit.
@@ -272,7 +290,7 @@ impl<W: Write> Output<'_, W> {
         ensures { Puts W.contents self.old self.new (decimal depth) }
     {
         if depth < 10 {
-            self.put(&[b'0' + depth as u8]);
+            self.put_byte(b'0' + depth as u8);
         } else {
             self.number(depth);
         }
@@ -282,15 +300,24 @@ impl<W: Write> Output<'_, W> {
     fn refused_statement(&mut self, refusal: u8)
         ensures { Puts W.contents self.old self.new (codes "refused " ++ decimal refusal) }
     {
-        self.put(b"refused ");
+        self.put_word(b"refused ");
         self.number(refusal);
+    }
+
+    /// Adds the line of an accepted event.
+    fn accepted(&mut self, event: u64)
+        ensures { Puts W.contents self.old self.new (codes "event " ++ decimal event ++ newline) }
+    {
+        self.put_word(b"event ");
+        self.number(event);
+        self.put_byte(b'\n');
     }
 
     /// Adds the line of a refused event.
     fn refused_event(&mut self, event: u64, refusal: u8)
         ensures { Puts W.contents self.old self.new (refused_event_line event refusal) }
     {
-        self.put(b"event ");
+        self.put_word(b"event ");
         self.number(event);
         self.numbered(b" refused ", refusal);
     }
@@ -301,7 +328,7 @@ impl<W: Write> Output<'_, W> {
     {
         self.put(words);
         self.number(number);
-        self.put(b"\n");
+        self.put_byte(b'\n');
     }
 
     /// Adds an entry's line.
@@ -309,7 +336,7 @@ impl<W: Write> Output<'_, W> {
         ensures { Puts W.contents self.old self.new (entry_line entry.now) }
     {
         match entry {
-            Entry::Accepted(event) => self.numbered(b"event ", *event),
+            Entry::Accepted(event) => self.accepted(*event),
             Entry::Refused(event, refusal) => self.refused_event(*event, *refusal),
             Entry::At(depth, entry_kind) => self.at_depth(*depth, entry_kind),
         }

@@ -39,7 +39,7 @@ impl<W: Write> Output<'_, W> {
     {
         let mut left = kinds;
         while let Some((kind, after)) = left.split_first() {
-            self.put(b",");
+            self.put_byte(b',');
             self.kind(kind);
             left = after;
         }
@@ -50,9 +50,9 @@ impl<W: Write> Output<'_, W> {
         ensures { Puts W.contents self.old self.new (text_of_sig sig.now) }
     {
         self.name(&sig.name);
-        self.put(b"(");
+        self.put_byte(b'(');
         self.kinds(sig.types.as_slice());
-        self.put(b")");
+        self.put_byte(b')');
     }
 
     /// Adds the line of a method.
@@ -62,19 +62,19 @@ impl<W: Write> Output<'_, W> {
         self.number(number);
         self.put(work_text(&method.work));
         self.sig(&method.sig);
-        self.put(b"\n");
+        self.put_byte(b'\n');
     }
 
     /// Adds the line of a property of the class.
     fn property(&mut self, class: &MetaObject, property: &MetaProperty)
         ensures { Puts W.contents self.old self.new (property_line class.now property.now) }
     {
-        self.put(b"property ");
+        self.put_word(b"property ");
         self.name(&property.name);
-        self.put(b" ");
+        self.put_byte(b' ');
         self.kind(&property.declared);
         self.notify(class, property.notify);
-        self.put(b"\n");
+        self.put_byte(b'\n');
     }
 
     /// Adds what notifies of a property of the class.
@@ -85,7 +85,7 @@ impl<W: Write> Output<'_, W> {
             return;
         };
         if let Some(signal) = class.methods.get(number) {
-            self.put(b" notify ");
+            self.put_word(b" notify ");
             self.sig(&signal.sig);
         }
     }
@@ -140,14 +140,14 @@ impl<W: Write> Output<'_, W> {
     fn head(&mut self, class: &MetaObject, base: Option<&MetaObject>)
         ensures { Puts W.contents self.old self.new (class_line class.now (option_copied base.entry)) }
     {
-        self.put(b"class ");
+        self.put_word(b"class ");
         self.name(&class.name);
         self.under(base);
-        self.put(b" ");
+        self.put_byte(b' ');
         self.number(method_offset(base));
-        self.put(b" ");
+        self.put_byte(b' ');
         self.number(class.methods.len());
-        self.put(b"\n");
+        self.put_byte(b'\n');
     }
 
     /// Adds what a class stands under.
@@ -155,7 +155,7 @@ impl<W: Write> Output<'_, W> {
         ensures { Puts W.contents self.old self.new (base_text (option_copied base.entry)) }
     {
         if let Some(base) = base {
-            self.put(b" : ");
+            self.put_word(b" : ");
             self.name(&base.name);
         }
     }

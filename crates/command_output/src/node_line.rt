@@ -17,7 +17,7 @@ impl<W: Write> Output<'_, W> {
         ensures { Puts W.contents self.old self.new (text_of_nodes meta.now nodes.now) }
     {
         for node in nodes {
-            self.put(b" ");
+            self.put_byte(b' ');
             self.node_of(meta, *node);
         }
     }
@@ -44,7 +44,7 @@ impl<W: Write> Output<'_, W> {
                 self.property_in(&class.name, class.properties.get(number));
             }
             Member::Destruction => {
-                self.put(b"~");
+                self.put_byte(b'~');
                 self.name(&class.name);
             }
         }
@@ -55,7 +55,7 @@ impl<W: Write> Output<'_, W> {
         ensures { Puts W.contents self.old self.new (member_text class.now (method_text (option_copied method.entry))) }
     {
         self.name(class);
-        self.put(b".");
+        self.put_byte(b'.');
         if let Some(method) = method {
             self.sig(&method.sig);
         }
@@ -66,7 +66,7 @@ impl<W: Write> Output<'_, W> {
         ensures { Puts W.contents self.old self.new (member_text class.now (name_text (option_copied property.entry))) }
     {
         self.name(class);
-        self.put(b".");
+        self.put_byte(b'.');
         if let Some(property) = property {
             self.name(&property.name);
         }

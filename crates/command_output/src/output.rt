@@ -1,4 +1,4 @@
-ghost use Rattle.std.specs.Prelude.{◌≡◌, [], None};
+ghost use Rattle.std.specs.Prelude.{◌≡◌, [], ◌∷◌, None};
 ghost use Rattle.std.specs.Io.{WritesAtMost};
 ghost use Rattle.std.specs.Io.KnownBytes.{WriteAppends};
 ghost use Rattle.command_output.specs.Sent.{Puts, Ends, IsBegun, Takes};
@@ -50,6 +50,26 @@ impl<'w, W: Write> Output<'w, W> {
     {
         if !self.pending.add(bytes) {
             self.pass_on(bytes);
+        }
+    }
+
+    /// Adds a byte to the output.
+    #[inline(always)]
+    pub fn put_byte(&mut self, byte: u8)
+        ensures { Puts W.contents self.old self.new (byte ∷ []) }
+    {
+        if !self.pending.add_byte(byte) {
+            self.pass_on(&[byte]);
+        }
+    }
+
+    /// Adds a word, as `put` does. Its length is known where it is called, and it isn't copied in a loop.
+    #[inline(always)]
+    pub fn put_word<const N: usize>(&mut self, word: &[u8; N])
+        ensures { Puts W.contents self.old self.new word.now }
+    {
+        if !self.pending.add_word(word) {
+            self.pass_on(word);
         }
     }
 

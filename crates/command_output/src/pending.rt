@@ -1,6 +1,6 @@
 //! Bytes that are kept back until they are worth a write.
 
-ghost use Rattle.std.specs.Prelude.{◌≡◌, [], ◌++◌};
+ghost use Rattle.std.specs.Prelude.{◌≡◌, [], ◌∷◌, ◌++◌, ◌+◌, ◌≤◌, length, take};
 ghost use Rattle.std.specs.Bool.{OnTrue, OnFalse};
 
 use std::alloc::Global;
@@ -56,9 +56,38 @@ impl Pending {
         if bytes.len() > room.len() - self.len {
             return false;
         }
-        let end = self.len + bytes.len();
-        room[self.len..end].copy_from_slice(bytes);
-        self.len = end;
+        write_bytes(room, self.len, bytes);
+        self.len += bytes.len();
+        true
+    }
+
+    /// Adds a byte, and answers whether there was room for it; if there wasn't, nothing is added.
+    #[inline(always)]
+    pub fn add_byte(&mut self, byte: u8) -> bool
+        ensures added { OnTrue result (self.new ≡ self.old ++ byte ∷ []) }
+        ensures full { OnFalse result (self.new ≡ self.old) }
+    {
+        let room = self.room.as_mut_slice();
+        if self.len >= room.len() {
+            return false;
+        }
+        room[self.len] = byte;
+        self.len += 1;
+        true
+    }
+
+    /// Adds a word, and answers whether there was room for it; if there wasn't, nothing is added.
+    #[inline(always)]
+    pub fn add_word<const N: usize>(&mut self, word: &[u8; N]) -> bool
+        ensures added { OnTrue result (self.new ≡ self.old ++ word.now) }
+        ensures full { OnFalse result (self.new ≡ self.old) }
+    {
+        let room = self.room.as_mut_slice();
+        if N > room.len() - self.len {
+            return false;
+        }
+        write_word(room, self.len, word);
+        self.len += N;
         true
     }
 
@@ -68,4 +97,55 @@ impl Pending {
     {
         self.len = 0;
     }
+}
+
+/// Writes a word over the bytes from a place on. Its length is known where it is called, so this is a store or two.
+#[inline(always)]
+fn write_word<const N: usize>(room: &mut [u8], at: usize, word: &[u8; N])
+    requires { at + N ≤ length room.old }
+    ensures len { length room.new ≡ length room.old }
+    ensures written { take (at + N) room.new ≡ take at room.old ++ word.now }
+{
+    for i in 0..N {
+        room[at + i] = word[i];
+    }
+}
+
+/// Writes bytes over those from a place on. Names are short, and most are two words that meet or overlap.
+fn write_bytes(room: &mut [u8], at: usize, bytes: &[u8])
+    requires { at + length bytes.now ≤ length room.old }
+    ensures len { length room.new ≡ length room.old }
+    ensures written { take (at + length bytes.now) room.new ≡ take at room.old ++ bytes.now }
+{
+    let len = bytes.len();
+    if len >= 8 && len <= 16 {
+        write_ends::<8>(room, at, bytes);
+    } else if len >= 4 && len < 8 {
+        write_ends::<4>(room, at, bytes);
+    } else if len == 2 || len == 3 {
+        write_ends::<2>(room, at, bytes);
+    } else if len == 1 {
+        write_ends::<1>(room, at, bytes);
+    } else {
+        room[at..at + len].copy_from_slice(bytes);
+    }
+}
+
+/// Writes bytes over those from a place on, by a word at their front and one at their end.
+#[inline(always)]
+fn write_ends<const N: usize>(room: &mut [u8], at: usize, bytes: &[u8])
+    requires two_words { (N ≤ length bytes.now) × (length bytes.now ≤ N + N) }
+    requires fits { at + length bytes.now ≤ length room.old }
+    ensures len { length room.new ≡ length room.old }
+    ensures written { take (at + length bytes.now) room.new ≡ take at room.old ++ bytes.now }
+{
+    let Some(front) = bytes.first_chunk::<N>() else {
+        return;
+    };
+    let Some(end) = bytes.last_chunk::<N>() else {
+        return;
+    };
+    let (front, end) = (*front, *end);
+    write_word(room, at, &front);
+    write_word(room, at + bytes.len() - N, &end);
 }

@@ -5,7 +5,7 @@ use Rattle.command_output.proofs.Sending.{sent, one_item}
 use Rattle.command_output.proofs.line.Output+W.arguments.Goals as goal
 
 pub loop-value-preserved : goal.loop-value-preserved
-loop-value-preserved g c = one_item (λ v. codes "," ++ value_text v) _ _ _ c.value-item.result c.loop-value-test.true c.value-item.is c.loop-value.invariant (sent c.put.ensures c.value-in-loop-value.ensures)
+loop-value-preserved g c = one_item (λ v. codes "," ++ value_text v) _ _ _ c.value-item.result c.loop-value-test.true c.value-item.is c.loop-value.invariant (sent c.put_byte.ensures c.value-in-loop-value.ensures)
 
 pub returns : goal.returns
 returns g c =

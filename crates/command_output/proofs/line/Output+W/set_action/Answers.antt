@@ -2,4 +2,4 @@ use Rattle.command_output.proofs.Sending.{sent}
 use Rattle.command_output.proofs.line.Output+W.set_action.Goals as goal
 
 pub returns : goal.returns
-returns g c = sent (sent (sent c.put.ensures c.name.ensures) c.put-2.ensures) c.value.ensures
+returns g c = sent (sent (sent c.put_word.ensures c.name.ensures) c.put_byte.ensures) c.value.ensures

@@ -3,5 +3,5 @@ use Rattle.command_output.proofs.meta_line.Output+W.head.Goals as goal
 
 pub returns : goal.returns
 returns g c =
-    sent (sent (sent (sent (sent (sent (sent c.put.ensures c.name.ensures) c.under.ensures) c.put-2.ensures)
-    (rw c.method_offset.ensures at c.number.ensures)) c.put-3.ensures) (rw c.len.ensures at c.number-2.ensures)) c.put-4.ensures
+    sent (sent (sent (sent (sent (sent (sent c.put_word.ensures c.name.ensures) c.under.ensures) c.put_byte.ensures)
+    (rw c.method_offset.ensures at c.number.ensures)) c.put_byte-2.ensures) (rw c.len.ensures at c.number-2.ensures)) c.put_byte-3.ensures

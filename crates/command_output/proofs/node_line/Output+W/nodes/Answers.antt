@@ -9,4 +9,4 @@ pub loop-node-preserved : goal.loop-node-preserved
 loop-node-preserved g c =
     let none : Node = record { class = 0; member = Method 0 } in
     let node = get_or c.args.nodes.now c.loop-node.node-index none in
-    one_item (after_blank c.args.meta.now) c.args.nodes.now c.loop-node.node-index none node c.loop-node-test.true refl c.loop-node.invariant (sent c.put.ensures c.node_of.ensures)
+    one_item (after_blank c.args.meta.now) c.args.nodes.now c.loop-node.node-index none node c.loop-node-test.true refl c.loop-node.invariant (sent c.put_byte.ensures c.node_of.ensures)
