@@ -2,6 +2,7 @@
 
 use crate::sentence::{Piece, push_pieces};
 use class_outlines::{Declaration, Member};
+use signatures::Name;
 use std::alloc::{AllocError, Global};
 use syntax_trees::{Class, Owns, Parameter, Program, Property, Signal, Site, Slot, SlotWork, Wire};
 
@@ -55,43 +56,67 @@ impl<'a> Declared<'a> {
     /// Adds which declaration it is.
     pub fn push_heading(&self, text: &mut String, alloc: Global) -> Result<(), AllocError> {
         match self {
-            Declared::Class(class) => push_pieces(text, alloc, &of_class(class)),
+            Declared::Class(class) => push_named(text, alloc, "class ", &class.name),
             Declared::Property(class, property) => {
-                push_pieces(text, alloc, &of_class(class))?;
-                let pieces = [Piece::Words(", property "), Piece::Name(&property.name)];
-                push_pieces(text, alloc, &pieces)
+                push_member(
+                    text,
+                    alloc,
+                    class,
+                    ", property ",
+                    Piece::Name(&property.name),
+                )
             }
             Declared::Signal(class, signal) => {
-                push_pieces(text, alloc, &of_class(class))?;
                 let method = Piece::Method(&signal.name, signal.parameters.as_slice());
-                push_pieces(text, alloc, &[Piece::Words(", signal "), method])
+                push_member(text, alloc, class, ", signal ", method)
             }
             Declared::Slot(class, slot) => {
-                push_pieces(text, alloc, &of_class(class))?;
                 let method = Piece::Method(&slot.name, slot.parameters.as_slice());
-                push_pieces(text, alloc, &[Piece::Words(sort_of(slot)), method])
+                push_member(text, alloc, class, sort_of(slot), method)
             }
-            Declared::Wire(wire) => {
-                let pieces = [
-                    Piece::Words("wire from "),
-                    Piece::Name(&wire.sender),
-                    Piece::Words(" to "),
-                    Piece::Name(&wire.receiver),
-                ];
-                push_pieces(text, alloc, &pieces)
-            }
+            Declared::Wire(wire) => push_wire(text, alloc, wire),
             Declared::Owns(_) => text.push_str("owns"),
-            Declared::Site(site) => {
-                let pieces = [Piece::Words("binding "), Piece::Name(&site.name)];
-                push_pieces(text, alloc, &pieces)
-            }
+            Declared::Site(site) => push_named(text, alloc, "binding ", &site.name),
         }
     }
 }
 
-/// Which class it is.
-fn of_class<'a>(class: &'a Class) -> [Piece<'a>; 2] {
-    [Piece::Words("class "), Piece::Name(&class.name)]
+/// Adds which declaration of this sort it is, by its name.
+fn push_named(
+    text: &mut String,
+    alloc: Global,
+    sort: &'static str,
+    name: &Name,
+) -> Result<(), AllocError> {
+    push_pieces(text, alloc, &[Piece::Words(sort), Piece::Name(name)])
+}
+
+/// Adds which member of this sort it is, behind its class.
+fn push_member<'a>(
+    text: &mut String,
+    alloc: Global,
+    class: &'a Class,
+    sort: &'static str,
+    member: Piece<'a>,
+) -> Result<(), AllocError> {
+    let pieces = [
+        Piece::Words("class "),
+        Piece::Name(&class.name),
+        Piece::Words(sort),
+        member,
+    ];
+    push_pieces(text, alloc, &pieces)
+}
+
+/// Adds which wire it is.
+fn push_wire(text: &mut String, alloc: Global, wire: &Wire) -> Result<(), AllocError> {
+    let pieces = [
+        Piece::Words("wire from "),
+        Piece::Name(&wire.sender),
+        Piece::Words(" to "),
+        Piece::Name(&wire.receiver),
+    ];
+    push_pieces(text, alloc, &pieces)
 }
 
 /// Whether it is a slot or a native, in the words of a heading.

@@ -61,18 +61,30 @@ fn of_offence(
     tokens: &[PlacedToken],
     offence: &Offence,
 ) -> Result<Option<Flaw>, AllocError> {
-    let Some(told) = told_at(alloc, program, tokens, offence.declaration, offence.name) else {
-        return Ok(None);
-    };
+    match told_at(alloc, program, tokens, offence.declaration, offence.name) {
+        Some(told) => Ok(Some(told_flaw(&told, offence)?)),
+        None => Ok(None),
+    }
+}
+
+/// The flaw, in words.
+fn told_flaw(told: &Told, offence: &Offence) -> Result<Flaw, AllocError> {
     let finding = told.finding(offence)?;
-    let number = offence.number();
-    let advice = match (finding.advice, number) {
-        (Some(advice), _) => Some(String::from_str(alloc, advice)?),
-        (None, 11 | 13..=15) => likely(alloc, program, told.name)?,
-        (None, _) => None,
-    };
-    let flaw = told.flaw(finding.sentence.as_str(), advice)?;
-    Ok(Some(flaw))
+    let advice = advice_on(told, offence, finding.advice)?;
+    told.flaw(finding.sentence.as_str(), advice)
+}
+
+/// What to write instead: this where it is known, else a name that is like the one that is wrong.
+fn advice_on(
+    told: &Told,
+    offence: &Offence,
+    known: Option<&'static str>,
+) -> Result<Option<String>, AllocError> {
+    match (known, offence.number()) {
+        (Some(advice), _) => Ok(Some(String::from_str(told.alloc, advice)?)),
+        (None, 11 | 13..=15) => likely(told.alloc, told.program, told.name),
+        (None, _) => Ok(None),
+    }
 }
 
 /// The declaration, with its name of this number.

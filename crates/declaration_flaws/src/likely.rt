@@ -1,35 +1,46 @@
 //! Declared names that are like one that isn't there.
 
-use diagnostics::nearest;
+use diagnostics::{Printed, nearest};
 use signatures::Name;
 use std::alloc::{AllocError, Global};
-use syntax_trees::{Class, Parameter, Program};
+use syntax_trees::{Class, Formal, Parameter, Program};
 
 /// What to write in place of a name that the program declares nowhere: one that it declares, if they differ in few letters.
 pub fn likely(alloc: Global, program: &Program, name: &Name) -> Result<Option<String>, AllocError> {
+    let names = declared_names(alloc, program)?;
+    if names.iter().any(|other| *other == name.bytes()) {
+        return Ok(None);
+    }
+    match nearest(alloc, name.bytes(), names.as_slice())? {
+        Some(other) => Ok(Some(meant(alloc, other)?)),
+        None => Ok(None),
+    }
+}
+
+/// That this name may be meant.
+fn meant(alloc: Global, name: &[u8]) -> Result<String, AllocError> {
+    let name = Printed(name);
+    format!(in alloc; "did you mean `{name}`?")
+}
+
+/// The names that the program declares.
+fn declared_names<'a>(alloc: Global, program: &'a Program) -> Result<Vec<&'a [u8]>, AllocError> {
     let mut names = Vec::new(alloc);
     for class in program.classes.as_slice() {
         add_names(&mut names, class)?;
     }
     for site in program.sites.as_slice() {
-        for formal in site.formals.as_slice() {
-            names.push(formal.name.bytes())?;
-        }
+        add_formals(&mut names, site.formals.as_slice())?;
     }
-    if names.iter().any(|other| *other == name.bytes()) {
-        return Ok(None);
+    Ok(names)
+}
+
+/// Adds the names of the formal sources.
+fn add_formals<'a>(names: &mut Vec<&'a [u8]>, formals: &'a [Formal]) -> Result<(), AllocError> {
+    for formal in formals {
+        names.push(formal.name.bytes())?;
     }
-    match nearest(alloc, name.bytes(), names.as_slice())? {
-        Some(other) => {
-            let mut advice = String::from_str(alloc, "did you mean `")?;
-            for byte in other {
-                advice.push(char::from(*byte))?;
-            }
-            advice.push_str("`?")?;
-            Ok(Some(advice))
-        }
-        None => Ok(None),
-    }
+    Ok(())
 }
 
 /// Adds the name of the class and those of its members and their parameters.

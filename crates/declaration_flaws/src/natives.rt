@@ -28,12 +28,21 @@ pub fn native_flaw(alloc: Global, text: &[u8], misfit: Misfit) -> Result<Option<
 
 /// The same of this program.
 fn misfit_flaw(alloc: Global, source: &Source, misfit: Misfit) -> Result<Option<Flaw>, AllocError> {
-    let meta = match Meta::load(alloc, &source.program) {
-        Ok(meta) => meta,
-        Err(LoadFault::Offence(_)) => return Ok(None),
-        Err(LoadFault::Memory) => return Err(AllocError),
-    };
-    let Some((declaration, slot)) = declared_native(&source.program, &meta, misfit.place()) else {
+    match Meta::load(alloc, &source.program) {
+        Ok(meta) => loaded_flaw(alloc, source, &meta, misfit),
+        Err(LoadFault::Offence(_)) => Ok(None),
+        Err(LoadFault::Memory) => Err(AllocError),
+    }
+}
+
+/// The same of this program, which loads so.
+fn loaded_flaw(
+    alloc: Global,
+    source: &Source,
+    meta: &Meta,
+    misfit: Misfit,
+) -> Result<Option<Flaw>, AllocError> {
+    let Some((declaration, slot)) = declared_native(&source.program, meta, misfit.place()) else {
         return Ok(None);
     };
     let wrong = wrong_in(slot, misfit);
@@ -42,8 +51,7 @@ fn misfit_flaw(alloc: Global, source: &Source, misfit: Misfit) -> Result<Option<
         return Ok(None);
     };
     let advice = String::from_str(alloc, wrong.advice)?;
-    let flaw = told.flaw(wrong.words, Some(advice))?;
-    Ok(Some(flaw))
+    Ok(Some(told.flaw(wrong.words, Some(advice))?))
 }
 
 /// The declaration of the native at this place.

@@ -41,18 +41,24 @@ fn push_piece(text: &mut String, alloc: Global, piece: Piece) -> Result<(), Allo
         Piece::Words(words) => text.push_str(words),
         Piece::Name(name) => push_quoted(text, name.bytes()),
         Piece::Known(name) => push_quoted(text, name),
-        Piece::Type(kind) => {
-            let bytes = kind.text(alloc)?;
-            push_quoted(text, bytes.as_slice())
-        }
-        Piece::Sig(sig) => {
-            let bytes = sig.text(alloc)?;
-            push_quoted(text, bytes.as_slice())
-        }
+        Piece::Type(kind) => push_type(text, alloc, kind),
+        Piece::Sig(sig) => push_sig(text, alloc, sig),
         Piece::Method(name, parameters) => push_method(text, alloc, name, parameters),
         Piece::Parameters(1) => text.push_str("1 parameter"),
         Piece::Parameters(many) => write!(text, "{many} parameters"),
     }
+}
+
+/// Adds a type between backquotes.
+fn push_type(text: &mut String, alloc: Global, kind: &QType) -> Result<(), AllocError> {
+    let bytes = kind.text(alloc)?;
+    push_quoted(text, bytes.as_slice())
+}
+
+/// Adds a signature between backquotes.
+fn push_sig(text: &mut String, alloc: Global, sig: &Sig) -> Result<(), AllocError> {
+    let bytes = sig.text(alloc)?;
+    push_quoted(text, bytes.as_slice())
 }
 
 /// Adds bytes between backquotes.
@@ -72,14 +78,17 @@ fn push_method(
     text.push('`')?;
     push_printed(text, name.bytes())?;
     text.push('(')?;
-    let mut is_first = true;
-    for parameter in parameters {
-        if !is_first {
+    for (place, parameter) in parameters.iter().enumerate() {
+        if place > 0 {
             text.push(',')?;
         }
-        let kind = parameter.kind.text(alloc)?;
-        push_printed(text, kind.as_slice())?;
-        is_first = false;
+        push_kind(text, alloc, &parameter.kind)?;
     }
     text.push_str(")`")
+}
+
+/// Adds a type.
+fn push_kind(text: &mut String, alloc: Global, kind: &QType) -> Result<(), AllocError> {
+    let bytes = kind.text(alloc)?;
+    push_printed(text, bytes.as_slice())
 }

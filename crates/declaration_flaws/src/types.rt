@@ -8,6 +8,29 @@ use class_outlines::{Unfit, names_before_parameter};
 use signatures::{Name, QType};
 use std::alloc::AllocError;
 
+const NO_FRACTIONS: &str = "there are no fractions: write `int`";
+
+const A_TEXT: &str = "a text is a `QString`";
+
+const A_NUMBER: &str = "a number is an `int`";
+
+/// Types that C++ or Qt has, and what to write in place of each.
+const FOREIGN_KINDS: &[(&[u8], &str)] = &[
+    (b"double", NO_FRACTIONS),
+    (b"float", NO_FRACTIONS),
+    (b"qreal", NO_FRACTIONS),
+    (b"string", A_TEXT),
+    (b"char", A_TEXT),
+    (b"QChar", A_TEXT),
+    (b"QByteArray", A_TEXT),
+    (b"long", A_NUMBER),
+    (b"short", A_NUMBER),
+    (b"unsigned", A_NUMBER),
+    (b"uint", A_NUMBER),
+    (b"qint64", A_NUMBER),
+    (b"void", "a signal or slot without parameters has `()`"),
+];
+
 /// What is wrong with the type, or the property, of this name among the declaration's.
 pub fn unfit_type(told: &Told, unfit: &Unfit, name: usize) -> Result<Finding, AllocError> {
     match unfit {
@@ -89,11 +112,10 @@ fn kind_at(declared: Declared<'_>, name: usize) -> Option<&QType> {
 
 /// What to write in place of a type that C++ or Qt has.
 fn kind_advice(name: &Name) -> Option<&'static str> {
-    match name.bytes() {
-        b"double" | b"float" | b"qreal" => Some("there are no fractions: write `int`"),
-        b"string" | b"char" | b"QChar" | b"QByteArray" => Some("a text is a `QString`"),
-        b"long" | b"short" | b"unsigned" | b"uint" | b"qint64" => Some("a number is an `int`"),
-        b"void" => Some("a signal or slot without parameters has `()`"),
-        _ => Some("a type is `int`, `bool`, `QString`, or a pointer to a class"),
+    for (kind, advice) in FOREIGN_KINDS {
+        if name.bytes() == *kind {
+            return Some(*advice);
+        }
     }
+    Some("a type is `int`, `bool`, `QString`, or a pointer to a class")
 }

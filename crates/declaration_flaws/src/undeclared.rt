@@ -28,10 +28,13 @@ pub fn undeclared(told: &Told, missing: &Missing) -> Result<Finding, AllocError>
 }
 
 fn no_parameter(told: &Told, is_property: bool) -> Result<Finding, AllocError> {
-    let advice = match told.name.bytes() {
-        b"nullptr" | b"NULL" => Some("write `null`"),
-        _ if is_property => Some("a property of the object itself is written `this.p`"),
-        _ => None,
+    let name = told.name.bytes();
+    let advice = if name == b"nullptr".as_slice() || name == b"NULL".as_slice() {
+        Some("write `null`")
+    } else if is_property {
+        Some("a property of the object itself is written `this.p`")
+    } else {
+        None
     };
     told.around("", " is no parameter of the slot", advice)
 }

@@ -39,15 +39,25 @@ impl<'a> Told<'a> {
 
     /// The flaw with this sentence, behind which declaration it is of.
     pub fn flaw(&self, sentence: &str, advice: Option<String>) -> Result<Flaw, AllocError> {
-        let mut text = String::new(self.alloc);
-        self.declared.push_heading(&mut text, self.alloc)?;
-        text.push_str(": ")?;
-        text.push_str(sentence)?;
+        let sentence = self.headed(sentence)?;
         Ok(Flaw {
             at: self.at,
-            sentence: text,
+            sentence,
             advice,
         })
+    }
+
+    /// This sentence, behind which declaration it is of.
+    fn headed(&self, sentence: &str) -> Result<String, AllocError> {
+        let mut text = String::new(self.alloc);
+        self.push_headed(&mut text, sentence)?;
+        Ok(text)
+    }
+
+    fn push_headed(&self, text: &mut String, sentence: &str) -> Result<(), AllocError> {
+        self.declared.push_heading(text, self.alloc)?;
+        text.push_str(": ")?;
+        text.push_str(sentence)
     }
 
     fn class_clash(&self, clash: ClassClash) -> Result<Finding, AllocError> {

@@ -45,12 +45,14 @@ pub fn bad_byte(alloc: Global, text: &[u8], at: usize) -> Result<Flaw, AllocErro
 
 /// What to write in place of what begins with these bytes.
 fn advice(left: &[u8]) -> Option<&'static str> {
-    match HABITS.iter().find(|habit| left.starts_with(habit.0)) {
-        Some((_, advice)) => Some(*advice),
-        None => match left {
-            [128..=255, ..] => Some("texts are ASCII: other characters stand in comments alone"),
-            _ => None,
-        },
+    for (front, advice) in HABITS {
+        if left.starts_with(front) {
+            return Some(*advice);
+        }
+    }
+    match left {
+        [128..=255, ..] => Some("texts are ASCII: other characters stand in comments alone"),
+        _ => None,
     }
 }
 
@@ -78,43 +80,52 @@ fn bad_text(alloc: Global, text: &[u8], at: usize, inner: &[u8]) -> Result<Flaw,
 
 /// What to write where a text that begins at this byte isn't closed.
 fn advice_on_quotes(text: &[u8], at: usize) -> &'static str {
-    let before = text.get(..at).unwrap_or(&[]);
-    let line = before
-        .iter()
-        .rev()
-        .take_while(|byte| **byte != b'\n')
-        .count();
-    let line = before
-        .get(before.len().saturating_sub(line)..)
-        .unwrap_or(&[]);
-    if line.windows(2).any(|pair| pair == b"\\\"".as_slice()) {
+    if is_behind_escape(text, at) {
         "a text has no escapes: a `\\` in it stands for itself, and the `\"` behind it closes the text"
     } else {
         "a text is closed by `\"` in its line, without escapes, and holds the characters from blank to `~` alone"
     }
 }
 
+/// Whether `\"` stands in front of this byte in its line.
+fn is_behind_escape(text: &[u8], at: usize) -> bool {
+    let mut behind = b'\n';
+    for byte in text.get(..at).unwrap_or(&[]).iter().rev() {
+        match (*byte, behind) {
+            (b'\n', _) => return false,
+            (b'\\', b'"') => return true,
+            (other, _) => behind = other,
+        }
+    }
+    false
+}
+
 /// The character with which bytes begin, with its number where it isn't ASCII, or the byte.
 #[derive(Clone, Copy)]
 struct Character<'a>(&'a [u8]);
 
+impl Character<'_> {
+    /// The character; `None` where the bytes begin with none.
+    fn decoded(self) -> Option<char> {
+        let chunk = self.0.utf8_chunks().next()?;
+        chunk.valid().chars().next()
+    }
+}
+
 impl fmt::Display for Character<'_> {
     fn fmt<W: fmt::Write>(&self, f: &mut fmt::Formatter<W>) -> fmt::Result {
-        let first = self.0.utf8_chunks().next();
-        let character = first.and_then(|chunk| chunk.valid().chars().next());
-        match (character, self.0.first()) {
-            (Some('!'..='~'), Some(byte)) => {
-                let byte = char::from(*byte);
-                write!(f, "`{byte}`")
-            }
-            (Some('\u{feff}'), _) => write!(f, "a byte order mark (U+FEFF)"),
-            (Some(character), _) if !character.is_ascii() => {
+        match self.decoded() {
+            Some('\u{feff}') => write!(f, "a byte order mark (U+FEFF)"),
+            Some(character @ '!'..='~') => write!(f, "`{character}`"),
+            Some(character) if !character.is_ascii() => {
                 let number = u32::from(character);
                 let shown = Printed(self.0.get(..character.len_utf8()).unwrap_or(&[]));
                 write!(f, "`{shown}` (U+{number:04X})")
             }
-            (_, Some(byte)) => write!(f, "the byte {byte}"),
-            (_, None) => Ok(()),
+            _ => match self.0.first() {
+                Some(byte) => write!(f, "the byte {byte}"),
+                None => Ok(()),
+            },
         }
     }
 }

@@ -1,16 +1,11 @@
-//! What is wrong with a text, where, and what to write instead: from what its reader looked for where it stopped.
+//! What is wrong with a text, and where: a token that can't stand where it does, a byte or a limit.
 #![tactic(auto)]
 
-mod advice;
 mod bytes;
-mod habits;
 mod limits;
 mod lines;
-mod misfit;
-mod pattern;
+mod parts;
 mod program;
-mod source;
-mod wanted;
 
 pub use limits::size_flaw;
 pub use lines::{certificate_flaw, script_flaw};

@@ -2,11 +2,12 @@
 
 ghost use Rattle.std.specs.Prelude.{◌≤◌, length, IfOk, IfSome};
 
-use crate::source::{Source, within};
+use crate::parts::within;
 use diagnostics::Flaw;
 use std::alloc::{AllocError, Global};
 use texts::{MOST_BYTES, Symbol, Token, Word};
 use token_reading::Trail;
+use unexpected_tokens::Source;
 
 /// A limit of how many declarations there may be.
 struct Limit {
@@ -107,19 +108,28 @@ fn excess_flaw(
     limit: &Limit,
     excess: &Excess,
 ) -> Result<Flaw, AllocError> {
-    let Excess { at, total, class } = *excess;
-    let (most, name) = (limit.most, limit.name);
-    let class = source.shown(class);
-    let sentence = if limit.in_class {
-        format!(in alloc;
-            "class `{class}` has {total} {name}: at most {most} may be, and this is the first one too many"
-        )?
+    let sentence = excess_sentence(alloc, source, limit, excess)?;
+    Flaw::with_advice(alloc, source.place(excess.at), sentence, None)
+}
+
+fn excess_sentence(
+    alloc: Global,
+    source: Source,
+    limit: &Limit,
+    excess: &Excess,
+) -> Result<String, AllocError> {
+    let (most, name, total) = (limit.most, limit.name, excess.total);
+    let mut sentence = if limit.in_class {
+        let class = source.shown(excess.class);
+        format!(in alloc; "class `{class}`")?
     } else {
-        format!(in alloc;
-            "the program has {total} {name}: at most {most} may be, and this is the first one too many"
-        )?
+        String::from_str(alloc, "the program")?
     };
-    Flaw::with_advice(alloc, source.place(at), sentence, None)
+    write!(
+        sentence,
+        " has {total} {name}: at most {most} may be, and this is the first one too many"
+    )?;
+    Ok(sentence)
 }
 
 /// A text of this name, a program or a script, with more bytes than it may have.
@@ -164,20 +174,26 @@ pub fn depth_flaw(alloc: Global, source: Source) -> Result<Option<Flaw>, AllocEr
 
 /// The first reference that isn't const.
 pub fn reference_flaw(alloc: Global, source: Source) -> Result<Option<Flaw>, AllocError> {
-    let found = (1..source.tokens.len()).find(|at| is_plain_reference(source, *at));
-    let Some(at) = found else {
-        return Ok(None);
-    };
+    for at in 1..source.tokens.len() {
+        if is_plain_reference(source, at) {
+            return Ok(Some(plain_reference(alloc, source, at)?));
+        }
+    }
+    Ok(None)
+}
+
+/// The reference with this `&`, which isn't const.
+fn plain_reference(alloc: Global, source: Source, at: usize) -> Result<Flaw, AllocError> {
     let name = source.shown(at.saturating_sub(1));
     let sentence = format!(in alloc; "the reference `{name} &` isn't `const`")?;
     let advice = format!(in alloc;
         "write `const {name} &` or `{name}`, which are the same type: values are copied"
     )?;
-    Ok(Some(Flaw {
+    Ok(Flaw {
         at: source.place(at),
         sentence,
         advice: Some(advice),
-    }))
+    })
 }
 
 /// Whether the token is the `&` of a reference without `const`.
@@ -228,21 +244,57 @@ fn is_of_binding(source: Source, at: usize) -> bool {
 
 /// A list that begins with this `(`, and has more than eight parts.
 fn long_list(alloc: Global, source: Source, at: usize) -> Result<Option<Flaw>, AllocError> {
-    let close = (at..source.tokens.len()).find(|inner| source.is(*inner, Symbol::Close));
-    let end = close.unwrap_or(source.tokens.len());
-    let commas = (at..end).filter(|inner| source.is(*inner, Symbol::Comma));
-    let total = commas.count().saturating_add(1);
-    let mut commas = (at..end).filter(|inner| source.is(*inner, Symbol::Comma));
-    let Some(eighth) = commas.nth(7) else {
+    let list = List::of(source, at);
+    let Some(ninth) = list.ninth else {
         return Ok(None);
     };
-    let place = source.place(eighth.saturating_add(1));
-    let sentence = if is_of_binding(source, at) {
+    let sentence = long_sentence(alloc, source, at, list.total)?;
+    Ok(Some(Flaw::with_advice(alloc, source.place(ninth), sentence, None)?))
+}
+
+/// That the list which begins with this `(` has so many parts.
+fn long_sentence(
+    alloc: Global,
+    source: Source,
+    at: usize,
+    total: usize,
+) -> Result<String, AllocError> {
+    if is_of_binding(source, at) {
         let name = source.shown(at.saturating_sub(4));
-        format!(in alloc; "binding `{name}` has {total} formal sources: at most 8 may be")?
+        format!(in alloc; "binding `{name}` has {total} formal sources: at most 8 may be")
     } else {
         let name = source.shown(at.saturating_sub(1));
-        format!(in alloc; "`{name}` has {total} parameters: at most 8 may be")?
-    };
-    Ok(Some(Flaw::with_advice(alloc, place, sentence, None)?))
+        format!(in alloc; "`{name}` has {total} parameters: at most 8 may be")
+    }
+}
+
+/// The parts of a list.
+#[derive(Clone, Copy)]
+struct List {
+    /// How many there are.
+    total: usize,
+    /// The first token of the ninth one.
+    ninth: Option<usize>,
+}
+
+impl List {
+    /// The list that begins with this `(`.
+    fn of(source: Source, at: usize) -> List {
+        let mut list = List {
+            total: 1,
+            ninth: None,
+        };
+        for inner in at..source.tokens.len() {
+            if source.is(inner, Symbol::Close) {
+                break;
+            }
+            if source.is(inner, Symbol::Comma) {
+                list.total = list.total.saturating_add(1);
+                if list.total == 9 {
+                    list.ninth = Some(inner.saturating_add(1));
+                }
+            }
+        }
+        list
+    }
 }

@@ -5,8 +5,7 @@ ghost use Rattle.text_flaws.specs.LinePlaces.{IsInLine};
 
 use crate::bytes::bad_byte;
 use crate::limits::{parameters_flaw, reference_flaw};
-use crate::misfit::Misfit;
-use crate::source::{Source, plain_tokens, whole, within};
+use crate::parts::{plain_tokens, whole, within};
 use certificate_lang::{Row, Version, row_trail};
 use diagnostics::Flaw;
 use script_lang::event_trail;
@@ -14,6 +13,7 @@ use sqlite_items::Items;
 use std::alloc::{AllocError, Global};
 use texts::{PlaceFault, PlacedToken, Token, number, placed_tokens, split_line};
 use token_reading::{Trail, Wanted};
+use unexpected_tokens::{Source, Unexpected, is_among};
 
 /// What is wrong with this line of a script, counted from 1: its place is in that line.
 pub fn script_flaw(alloc: Global, text: &[u8], line: usize) -> Result<Option<Flaw>, AllocError>
@@ -40,13 +40,18 @@ fn event_flaw(alloc: Global, line: &[u8]) -> Result<Option<Flaw>, AllocError> {
         Ok(placed) => placed,
         Err(flaw) => return Ok(Some(flaw)),
     };
-    let tokens = plain_tokens(alloc, line)?;
-    let trail = whole(event_trail(alloc, tokens.as_slice()))?;
     let source = Source {
         text: line,
         tokens: placed.as_slice(),
     };
+    let trail = trail_of_event(alloc, line)?;
     line_flaw(alloc, source, &trail, false)
+}
+
+/// The way of the reader of events through the line.
+fn trail_of_event(alloc: Global, line: &[u8]) -> Result<Trail, AllocError> {
+    let tokens = plain_tokens(alloc, line)?;
+    whole(event_trail(alloc, tokens.as_slice()))
 }
 
 /// What is wrong with the first line of a certificate that is none of its lines.
@@ -57,23 +62,15 @@ pub fn certificate_flaw(alloc: Global, text: &[u8]) -> Result<Option<Flaw>, Allo
     let mut row = Row::Version;
     let mut version = Version::Two;
     while let Some((line, rest)) = split_line(left) {
-        let begin = text.len().saturating_sub(left.len());
-        let placed = match placed_line(alloc, line)? {
-            Ok(placed) => placed,
-            Err(flaw) => return Ok(within(begin, text.len(), Some(flaw))),
-        };
-        if !placed.is_empty() {
-            let source = Source {
-                text: line,
-                tokens: placed.as_slice(),
-            };
-            if let Some(flaw) = row_flaw(alloc, source, row)? {
+        match row_behind(alloc, line, row, version)? {
+            Ok((next, named)) => {
+                row = next;
+                version = named;
+            }
+            Err(flaw) => {
+                let begin = text.len().saturating_sub(left.len());
                 return Ok(within(begin, text.len(), Some(flaw)));
             }
-            if row == Row::Version {
-                version = version_of(source).unwrap_or(version);
-            }
-            row = row_after(row, version);
         }
         left = rest;
     }
@@ -82,6 +79,41 @@ pub fn certificate_flaw(alloc: Global, text: &[u8]) -> Result<Option<Flaw>, Allo
         Row::Version | Row::Bound => Some(ends_early(alloc, text.len())?),
     };
     Ok(within(0, text.len(), flaw))
+}
+
+/// What follows this line of a certificate, in which version; or what is wrong with it.
+fn row_behind(
+    alloc: Global,
+    line: &[u8],
+    row: Row,
+    version: Version,
+) -> Result<Result<(Row, Version), Flaw>, AllocError> {
+    let placed = match placed_line(alloc, line)? {
+        Ok(placed) => placed,
+        Err(flaw) => return Ok(Err(flaw)),
+    };
+    if placed.is_empty() {
+        return Ok(Ok((row, version)));
+    }
+    let source = Source {
+        text: line,
+        tokens: placed.as_slice(),
+    };
+    match row_flaw(alloc, source, row)? {
+        Some(flaw) => Ok(Err(flaw)),
+        None => {
+            let version = version_behind(source, row, version);
+            Ok(Ok((row_after(row, version), version)))
+        }
+    }
+}
+
+/// The version that is known behind these tokens of a line of a certificate.
+fn version_behind(source: Source, row: Row, version: Version) -> Version {
+    match row {
+        Row::Version => version_of(source).unwrap_or(version),
+        Row::Bound | Row::Node(_) => version,
+    }
 }
 
 /// What follows a line of a certificate in this version.
@@ -94,18 +126,28 @@ fn row_after(row: Row, version: Version) -> Row {
 
 /// What is wrong with a line of a certificate.
 fn row_flaw(alloc: Global, source: Source, row: Row) -> Result<Option<Flaw>, AllocError> {
-    let tokens = plain_tokens(alloc, source.text)?;
-    let trail = whole(row_trail(alloc, tokens.as_slice(), row))?;
+    let trail = trail_of_row(alloc, source.text, row)?;
     match line_flaw(alloc, source, &trail, true)? {
         Some(flaw) => Ok(Some(flaw)),
         None if row == Row::Version && version_of(source).is_none() => {
-            let number = source.shown(1);
-            let sentence = format!(in alloc; "there is no version {number} of certificates")?;
-            let advice = "write `certificate 2`; `certificate 1` is read too";
-            Ok(Some(Flaw::with_advice(alloc, source.place(1), sentence, Some(advice))?))
+            Ok(Some(no_version(alloc, source)?))
         }
         None => Ok(None),
     }
+}
+
+/// The way of the reader of certificates through the line.
+fn trail_of_row(alloc: Global, line: &[u8], row: Row) -> Result<Trail, AllocError> {
+    let tokens = plain_tokens(alloc, line)?;
+    whole(row_trail(alloc, tokens.as_slice(), row))
+}
+
+/// A first line that names no version of certificates.
+fn no_version(alloc: Global, source: Source) -> Result<Flaw, AllocError> {
+    let number = source.shown(1);
+    let sentence = format!(in alloc; "there is no version {number} of certificates")?;
+    let advice = "write `certificate 2`; `certificate 1` is read too";
+    Flaw::with_advice(alloc, source.place(1), sentence, Some(advice))
 }
 
 /// The version that the tokens of a certificate's first line name.
@@ -133,8 +175,8 @@ fn line_flaw(
     trail: &Trail,
     is_certificate: bool,
 ) -> Result<Option<Flaw>, AllocError> {
-    if trail.farthest() < source.tokens.len() || !trail.wanted().contains(&Wanted::End) {
-        return Ok(Some(Misfit::new(source, trail).flaw(alloc)?));
+    if trail.farthest() < source.tokens.len() || !is_among(&Wanted::End, trail.wanted()) {
+        return Ok(Some(Unexpected::new(source, trail).flaw(alloc)?));
     }
     match reference_flaw(alloc, source)? {
         Some(flaw) => Ok(Some(flaw)),

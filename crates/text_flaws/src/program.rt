@@ -4,13 +4,13 @@ ghost use Rattle.std.specs.Prelude.{◌≤◌, length, IfOk, IfSome};
 
 use crate::bytes::bad_byte;
 use crate::limits::{count_flaw, depth_flaw, parameters_flaw, reference_flaw, size_flaw};
-use crate::misfit::Misfit;
-use crate::source::{Source, plain_tokens, whole, within};
+use crate::parts::{plain_tokens, whole, within};
 use class_lang::program_trail;
 use diagnostics::{Flaw, meaning};
 use std::alloc::{AllocError, Global};
-use texts::{PlaceFault, Token, Word, placed_tokens};
+use texts::{PlaceFault, PlacedToken, Token, Word, placed_tokens};
 use token_reading::Trail;
+use unexpected_tokens::{Source, Unexpected};
 
 /// What is wrong with a program that is refused for the reason of this number, where that has a place in its text: a
 /// byte that begins no token (4), the first token that can't stand where it does (5), one that nests too deep (6), a
@@ -28,24 +28,30 @@ fn flaw_of(alloc: Global, text: &[u8], number: u8) -> Result<Option<Flaw>, Alloc
     {
         return Ok(Some(flaw));
     }
-    let placed = match placed_tokens(alloc, text) {
-        Ok(placed) => placed,
-        Err(PlaceFault::BadByte(at)) => return Ok(Some(bad_byte(alloc, text, at)?)),
-        Err(PlaceFault::Memory) => return Err(AllocError),
-    };
-    let source = Source {
-        text,
-        tokens: placed.as_slice(),
-    };
+    match placed_tokens(alloc, text) {
+        Ok(placed) => {
+            let tokens = placed.as_slice();
+            flaw_in(alloc, Source { text, tokens }, number)
+        }
+        Err(PlaceFault::BadByte(at)) => Ok(Some(bad_byte(alloc, text, at)?)),
+        Err(PlaceFault::Memory) => Err(AllocError),
+    }
+}
+
+/// What is wrong with a program of these tokens.
+fn flaw_in(alloc: Global, source: Source, number: u8) -> Result<Option<Flaw>, AllocError> {
     match number {
         2 => reference_flaw(alloc, source),
         3 => parameters_flaw(alloc, source, false),
         5 => {
-            let trail = trail_of(alloc, text)?;
-            Ok(Some(Misfit::new(source, &trail).flaw(alloc)?))
+            let trail = trail_of(alloc, source.text)?;
+            Ok(Some(Unexpected::new(source, &trail).flaw(alloc)?))
         }
         6 => depth_flaw(alloc, source),
-        7 => count_flaw(alloc, source, &trail_of(alloc, text)?),
+        7 => {
+            let trail = trail_of(alloc, source.text)?;
+            count_flaw(alloc, source, &trail)
+        }
         _ => Ok(None),
     }
 }
@@ -60,21 +66,35 @@ fn trail_of(alloc: Global, text: &[u8]) -> Result<Trail, AllocError> {
 pub fn wire_flaw(alloc: Global, text: &[u8], number: usize) -> Result<Option<Flaw>, AllocError>
     ensures { IfOk result (λ flaw. IfSome flaw (λ f. f.at ≤ length text.now)) }
 {
-    let placed = match placed_tokens(alloc, text) {
-        Ok(placed) => placed,
-        Err(PlaceFault::BadByte(_)) => return Ok(None),
+    let wire = match placed_tokens(alloc, text) {
+        Ok(placed) => wire_place(placed.as_slice(), number),
+        Err(PlaceFault::BadByte(_)) => None,
         Err(PlaceFault::Memory) => return Err(AllocError),
     };
-    let mut wires = placed
-        .as_slice()
-        .iter()
-        .filter(|placed| is_wire(&placed.token));
-    let Some(wire) = wires.nth(number.saturating_sub(1)) else {
-        return Ok(None);
-    };
+    match wire {
+        Some(at) => Ok(within(0, text.len(), Some(unfit_wire(alloc, at)?))),
+        None => Ok(None),
+    }
+}
+
+/// The wire at this place, as one that doesn't fit.
+fn unfit_wire(alloc: Global, at: usize) -> Result<Flaw, AllocError> {
     let sentence = String::from_str(alloc, meaning(70).unwrap_or(""))?;
-    let flaw = Flaw::with_advice(alloc, wire.at, sentence, None)?;
-    Ok(within(0, text.len(), Some(flaw)))
+    Flaw::with_advice(alloc, at, sentence, None)
+}
+
+/// Where the wire of this number, counted from 1, begins.
+fn wire_place(tokens: &[PlacedToken], number: usize) -> Option<usize> {
+    let mut left = number.saturating_sub(1);
+    for placed in tokens {
+        if is_wire(&placed.token) {
+            if left == 0 {
+                return Some(placed.at);
+            }
+            left -= 1;
+        }
+    }
+    None
 }
 
 /// Whether a wire begins with the token.

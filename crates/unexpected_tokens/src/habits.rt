@@ -2,15 +2,15 @@
 //!
 //! To add a habit, write a line: where it is met, its tokens ("Patterns", `pattern.rt`), and what to write instead, in which
 //! `@0@` stands for what the first word behind `^` fits, `@1@` for the next one, `@2..@` for what begins with the one after it,
-//! up to the next `;` or brace, `@-1@` for the token in front of the misfit, and `@part@` for those of the innermost part in
-//! front of the misfit, without its first one. The first line that fits counts.
+//! up to the next `;` or brace, `@-1@` for the token in front of the unexpected token, and `@part@` for those of the innermost part in
+//! front of the unexpected token, without its first one. The first line that fits counts.
 
-use crate::misfit::Misfit;
+use crate::unexpected::Unexpected;
 use texts::{Symbol, Word};
 use token_reading::Wanted;
 
 /// Where a habit is met: by what could come there.
-#[derive(Clone, Copy, Debug, PartialEq, Eq)]
+#[derive(Clone, Copy)]
 enum Spot {
     /// Anywhere.
     Any,
@@ -51,7 +51,7 @@ enum Spot {
 /// A habit.
 pub struct Habit {
     spot: Spot,
-    /// The tokens around the misfit.
+    /// The tokens around the unexpected token.
     pub pattern: &'static str,
     /// What to write instead.
     pub advice: &'static str,
@@ -290,41 +290,72 @@ pub fn others() -> &'static [Habit] {
 }
 
 impl Habit {
-    /// Whether a misfit stands where the habit is met.
-    pub fn is_at(&self, misfit: Misfit) -> bool {
-        self.spot.holds(misfit)
+    /// Whether an unexpected token stands where the habit is met.
+    pub fn is_at(&self, unexpected: Unexpected) -> bool {
+        self.spot.holds(unexpected)
     }
 }
 
 impl Spot {
-    /// Whether a misfit is at such a spot.
-    fn holds(self, misfit: Misfit) -> bool {
-        let word = |word| misfit.wants_word(word);
-        let symbol = |symbol| misfit.wants_symbol(symbol);
+    /// Whether an unexpected token is at such a spot.
+    fn holds(self, unexpected: Unexpected) -> bool {
+        let comes = match self.wanted() {
+            Some(wanted) => unexpected.wants(wanted),
+            None => true,
+        };
+        let stays_away = match self.unwanted() {
+            Some(unwanted) => !unexpected.wants(unwanted),
+            None => true,
+        };
+        comes && stays_away && self.is_around(unexpected)
+    }
+
+    /// What could come there, if that is one thing.
+    fn wanted(self) -> Option<Wanted> {
+        let wanted = match self {
+            Spot::Any | Spot::Setting | Spot::Line | Spot::Number => return None,
+            Spot::Declaration => Wanted::Word(Word::Wire),
+            Spot::Member => Wanted::Word(Word::Property),
+            Spot::Statement => Wanted::Word(Word::Emit),
+            Spot::Set => Wanted::Word(Word::Set),
+            Spot::Operand => Wanted::Symbol(Symbol::Not),
+            Spot::Operator => Wanted::Symbol(Symbol::Or),
+            Spot::Literal => Wanted::Text,
+            Spot::Kind => Wanted::Word(Word::Auto),
+            Spot::Event => Wanted::Verb,
+            Spot::Name => Wanted::Name,
+            Spot::Object => Wanted::Word(Word::This),
+            Spot::Type => Wanted::Symbol(Symbol::Ampersand),
+            Spot::Brace => Wanted::Symbol(Symbol::OpenBrace),
+            Spot::Open => Wanted::Symbol(Symbol::Open),
+            Spot::Comma => Wanted::Symbol(Symbol::Comma),
+            Spot::Semicolon => Wanted::Symbol(Symbol::Semicolon),
+            Spot::Arrow => Wanted::Symbol(Symbol::Arrow),
+            Spot::Assign => Wanted::Symbol(Symbol::Assign),
+            Spot::Dot => Wanted::Symbol(Symbol::Dot),
+        };
+        Some(wanted)
+    }
+
+    /// What couldn't come there, and could at another spot that is like it.
+    fn unwanted(self) -> Option<Wanted> {
         match self {
-            Spot::Any => true,
-            Spot::Declaration => word(Word::Wire),
-            Spot::Member => word(Word::Property),
-            Spot::Statement => word(Word::Emit),
-            Spot::Set => word(Word::Set) && !word(Word::Emit),
-            Spot::Operand => symbol(Symbol::Not),
-            Spot::Operator => symbol(Symbol::Or),
-            Spot::Literal => misfit.wants(Wanted::Text) && !symbol(Symbol::Not),
-            Spot::Kind => word(Word::Auto),
-            Spot::Event => misfit.wants(Wanted::Verb),
-            Spot::Setting => misfit.is_in_line() && misfit.wants_spelled(),
-            Spot::Line => misfit.is_in_line() && !word(Word::Wire),
-            Spot::Name => misfit.wants(Wanted::Name) && !misfit.wants(Wanted::Text),
-            Spot::Object => word(Word::This) && !misfit.wants(Wanted::Text),
-            Spot::Type => symbol(Symbol::Ampersand),
-            Spot::Brace => symbol(Symbol::OpenBrace),
-            Spot::Open => symbol(Symbol::Open) && !symbol(Symbol::Not),
-            Spot::Comma => symbol(Symbol::Comma) && !symbol(Symbol::Semicolon),
-            Spot::Semicolon => symbol(Symbol::Semicolon),
-            Spot::Arrow => symbol(Symbol::Arrow),
-            Spot::Assign => symbol(Symbol::Assign) && !symbol(Symbol::Semicolon),
-            Spot::Dot => symbol(Symbol::Dot),
-            Spot::Number => misfit.wants_number() && !misfit.wants(Wanted::Text),
+            Spot::Set => Some(Wanted::Word(Word::Emit)),
+            Spot::Line => Some(Wanted::Word(Word::Wire)),
+            Spot::Literal | Spot::Open => Some(Wanted::Symbol(Symbol::Not)),
+            Spot::Comma | Spot::Assign => Some(Wanted::Symbol(Symbol::Semicolon)),
+            Spot::Name | Spot::Object | Spot::Number => Some(Wanted::Text),
+            _ => None,
+        }
+    }
+
+    /// Whether the unexpected token stands where this spot alone can be.
+    fn is_around(self, unexpected: Unexpected) -> bool {
+        match self {
+            Spot::Setting => unexpected.is_in_line() && unexpected.wants_spelled(),
+            Spot::Line => unexpected.is_in_line(),
+            Spot::Number => unexpected.wants_number(),
+            _ => true,
         }
     }
 }

@@ -1,50 +1,59 @@
-//! Patterns of tokens around a misfit.
+//! Patterns of tokens around an unexpected token.
 //!
-//! A pattern is words with blanks between them: what comes before the misfit, `^`, and what comes from it on. In front
-//! of ` .. ` it may say with which token the innermost part begins in which the misfit is. A word is a token as it
+//! A pattern is words with blanks between them: what comes before the unexpected token, `^`, and what comes from it on. In front
+//! of ` .. ` it may say with which token the innermost part begins in which the unexpected token is. A word is a token as it
 //! is spelled, or one of several with `/` between them, or a kind of tokens: `$name`, `$word` (a reserved word),
 //! `$number`, `$text`, `$any`, `$tail` (a name right behind the token before it), `$path` (`this` or a name, and names
 //! behind dots or arrows, as far as they go), `$end` (the end of the text).
 
-use crate::misfit::Misfit;
 use crate::source::Source;
+use crate::unexpected::Unexpected;
 use texts::{Symbol, Token};
 
-/// Whether the tokens around a misfit are of this pattern.
-pub fn fits(pattern: &str, misfit: Misfit) -> bool {
-    let source = misfit.source;
+/// Whether the tokens around an unexpected token are of this pattern.
+pub fn fits(pattern: &str, unexpected: Unexpected) -> bool {
     let (head, around) = match pattern.split_once(" .. ") {
         Some((head, around)) => (head, around),
         None => ("", pattern),
     };
+    let is_headed = head.is_empty() || is_one_of(unexpected.source, unexpected.head(), head);
+    is_headed && fits_around(around, unexpected)
+}
+
+/// Whether the tokens right in front of an unexpected token, and those from it on, are of this pattern.
+fn fits_around(around: &str, unexpected: Unexpected) -> bool {
     let Some((front, from)) = around.split_once('^') else {
         return false;
     };
     let behind = front.split_whitespace().count();
-    let is_headed = head.is_empty() || is_one_of(source, misfit.head(), head);
-    if !is_headed || behind > misfit.at {
+    if behind > unexpected.at {
         return false;
     }
-    let mut at = misfit.at - behind;
-    for word in front.split_whitespace().chain(from.split_whitespace()) {
-        match after(source, at, word) {
-            Some(next) => at = next,
-            None => return false,
-        }
+    match after_words(unexpected.source, unexpected.at - behind, front) {
+        Some(at) => after_words(unexpected.source, at, from).is_some(),
+        None => false,
     }
-    true
+}
+
+/// What follows the words, if they fit the tokens from this one on.
+fn after_words(source: Source, at: usize, words: &str) -> Option<usize> {
+    let mut at = at;
+    for word in words.split_whitespace() {
+        at = after(source, at, word)?;
+    }
+    Some(at)
 }
 
 /// The token with which what fits the word of this number behind `^` begins, counted from 0, or what follows them.
-pub fn start_of(pattern: &str, misfit: Misfit, number: usize) -> usize {
+pub fn start_of(pattern: &str, unexpected: Unexpected, number: usize) -> usize {
     let from = match pattern.split_once('^') {
         Some((_, from)) => from,
         None => "",
     };
-    let mut at = misfit.at;
+    let mut at = unexpected.at;
     let mut left = number;
     for word in from.split_whitespace().take(number) {
-        at = after(misfit.source, at, word).unwrap_or(at);
+        at = after(unexpected.source, at, word).unwrap_or(at);
         left = left.saturating_sub(1);
     }
     at.saturating_add(left)

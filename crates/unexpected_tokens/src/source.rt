@@ -1,13 +1,8 @@
 //! A text with its tokens.
 
-ghost use Rattle.std.specs.Prelude.{◌≤◌, IfSome};
-
-use diagnostics::{Flaw, Printed};
-use sqlite_items::Items;
-use std::alloc::{AllocError, Global};
+use diagnostics::Printed;
 use std::fmt;
-use texts::{LexFault, PlacedToken, Symbol, Token, tokens};
-use token_reading::Trail;
+use texts::{PlacedToken, Symbol, Token};
 
 /// So many tokens are shown at most.
 const MOST_SHOWN: usize = 40;
@@ -63,12 +58,9 @@ impl<'a> Source<'a> {
 
     /// Whether the token is parted from the one in front of it.
     fn is_apart(self, number: usize) -> bool {
-        match (
-            self.tokens.get(number.saturating_sub(1)),
-            self.tokens.get(number),
-        ) {
-            (Some(before), Some(placed)) => before.end < placed.at,
-            _ => false,
+        match self.tokens.get(number.saturating_sub(1)) {
+            Some(before) => before.end < self.place(number),
+            None => false,
         }
     }
 
@@ -136,34 +128,5 @@ fn ends(token: &Token) -> bool {
             _ => false,
         },
         _ => false,
-    }
-}
-
-/// The tokens of a text that is cut into them.
-pub fn plain_tokens(alloc: Global, text: &[u8]) -> Result<Items<Token>, AllocError> {
-    match tokens(alloc, text) {
-        Ok(tokens) => Ok(tokens),
-        Err(LexFault::BadByte) => Ok(Items::new(alloc)),
-        Err(LexFault::Memory) => Err(AllocError),
-    }
-}
-
-/// The trail, if all was noted.
-pub fn whole(trail: Option<Trail>) -> Result<Trail, AllocError> {
-    match trail {
-        Some(trail) if trail.is_whole() => Ok(trail),
-        _ => Err(AllocError),
-    }
-}
-
-/// The flaw of a part of a text, which goes from one byte to another, as one of the text, if there is one.
-pub fn within(begin: usize, end: usize, flaw: Option<Flaw>) -> Option<Flaw>
-    requires { begin ≤ end }
-    ensures begun { IfSome result (λ f. begin ≤ f.at) }
-    ensures ended { IfSome result (λ f. f.at ≤ end) }
-{
-    match flaw {
-        Some(flaw) => Some(flaw.within(begin, end)),
-        None => None,
     }
 }

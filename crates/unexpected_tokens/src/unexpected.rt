@@ -2,7 +2,7 @@
 
 use crate::advice::advice;
 use crate::source::Source;
-use crate::wanted::push_wanted;
+use crate::wanted::{is_among, push_wanted};
 use diagnostics::Flaw;
 use signatures::LONGEST_TEXT;
 use std::alloc::{AllocError, Global};
@@ -11,7 +11,7 @@ use token_reading::{Trail, Wanted};
 
 /// A token that can't stand where it does, or the end where it comes too early.
 #[derive(Clone, Copy)]
-pub struct Misfit<'a> {
+pub struct Unexpected<'a> {
     /// The text, which may be a line of one.
     pub source: Source<'a>,
     /// How many tokens come before it.
@@ -19,10 +19,10 @@ pub struct Misfit<'a> {
     trail: &'a Trail,
 }
 
-impl<'a> Misfit<'a> {
+impl<'a> Unexpected<'a> {
     /// Where a reader stopped that went so through a text.
-    pub fn new(source: Source<'a>, trail: &'a Trail) -> Misfit<'a> {
-        Misfit {
+    pub fn new(source: Source<'a>, trail: &'a Trail) -> Unexpected<'a> {
+        Unexpected {
             source,
             at: trail.farthest(),
             trail,
@@ -31,7 +31,7 @@ impl<'a> Misfit<'a> {
 
     /// Whether this could come.
     pub fn wants(self, wanted: Wanted) -> bool {
-        self.trail.wanted().contains(&wanted)
+        is_among(&wanted, self.trail.wanted())
     }
 
     /// Whether this symbol could come.
@@ -76,17 +76,27 @@ impl<'a> Misfit<'a> {
 
     /// The first token of the innermost part in which it is: a statement, a member, a declaration or a line.
     pub fn head(self) -> usize {
-        let begun = self.trail.begun().iter().filter(|begun| begun.at < self.at);
-        begun.last().map_or(0, |begun| begun.at)
+        let mut head = 0;
+        for begun in self.trail.begun() {
+            if begun.at < self.at {
+                head = begun.at;
+            }
+        }
+        head
     }
 
     /// The first token of the last part in front of it that begins with one of these words.
     pub fn last_begun(self, words: &[Word]) -> Option<usize> {
-        let begun = self.trail.begun().iter().filter(|begun| match self.source.token(begun.at) {
-            Some(Token::Word(word)) => begun.at < self.at && words.contains(word),
-            _ => false,
-        });
-        begun.last().map(|begun| begun.at)
+        let mut last = None;
+        for begun in self.trail.begun() {
+            if let Some(Token::Word(word)) = self.source.token(begun.at)
+                && begun.at < self.at
+                && words.contains(word)
+            {
+                last = Some(begun.at);
+            }
+        }
+        last
     }
 
     /// What is wrong, and what to write instead.
@@ -104,24 +114,31 @@ impl<'a> Misfit<'a> {
     /// What is wrong.
     fn sentence(self, alloc: Global) -> Result<String, AllocError> {
         let spelled = self.source.shown(self.at);
-        let mut sentence = match (self.source.token(self.at), self.greatest()) {
+        match (self.source.token(self.at), self.greatest()) {
             (Some(Token::Text(bytes)), _) if self.wants(Wanted::Text) => {
                 let size = bytes.len();
-                return format!(in alloc;
-                    "the text has {size} bytes: at most {LONGEST_TEXT} may be"
-                );
+                format!(in alloc; "the text has {size} bytes: at most {LONGEST_TEXT} may be")
             }
             (Some(Token::Number(_)), Some(most)) => {
-                return format!(in alloc;
-                    "the number `{spelled}` is too great: at most {most} may be"
-                );
+                format!(in alloc; "the number `{spelled}` is too great: at most {most} may be")
             }
             (Some(_), _) if self.wants(Wanted::Verb) => {
-                return format!(in alloc; "`{spelled}` begins no event");
+                format!(in alloc; "`{spelled}` begins no event")
             }
-            (Some(_), _) => format!(in alloc; "`{spelled}` can't stand here: ")?,
-            (None, _) => format!(in alloc; "this ends too early: ")?,
-        };
+            (Some(_), _) => {
+                let begin = format!(in alloc; "`{spelled}` can't stand here: ")?;
+                self.with_wanted(alloc, begin)
+            }
+            (None, _) => {
+                let begin = String::from_str(alloc, "this ends too early: ")?;
+                self.with_wanted(alloc, begin)
+            }
+        }
+    }
+
+    /// The sentence that begins so, and says what could come.
+    fn with_wanted(self, alloc: Global, begin: String) -> Result<String, AllocError> {
+        let mut sentence = begin;
         push_wanted(&mut sentence, alloc, self.wanted())?;
         Ok(sentence)
     }
@@ -139,7 +156,7 @@ impl<'a> Misfit<'a> {
     fn is_foreign(self, at: usize) -> bool {
         let source = self.source;
         match source.token(at) {
-            Some(Token::Word(word)) => *word == Word::This || *word == Word::Null,
+            Some(Token::Word(Word::This | Word::Null)) => true,
             Some(Token::Name(_)) => {
                 !source.is(at.saturating_sub(1), Symbol::Dot)
                     && !source.is(at.saturating_add(1), Symbol::Dot)
