@@ -4,7 +4,7 @@ ghost use Rattle.std.specs.Prelude.{◌↔◌, map, IsTrue};
 ghost use Rattle.explained_commands.specs.Judged.{IsUnjudged};
 
 use native_slots::Answering;
-use program_warnings::{Yes, told_beside};
+use program_warnings::{Ranked, Yes, told_beside};
 use std::alloc::{AllocError, Global};
 use texts::split_at_line;
 use trace_tool::{Outcome, ProgramOutcome};
@@ -45,10 +45,13 @@ pub fn remarks_on<N: Answering + Drop>(
 /// The yes that this is, if it is one.
 fn yes_of<N: Answering + Drop>(outcome: &Outcome<N>) -> Option<Yes<'_>> {
     match outcome {
-        Outcome::Program(ProgramOutcome::Certificate(certificate)) => {
-            Some(Yes::Certified(certificate))
+        Outcome::Program(ProgramOutcome::Certificate(certified)) => {
+            Some(Yes::Certified(Ranked {
+                meta: certified.meta(),
+                ranks: certified.ranks(),
+            }))
         }
-        Outcome::Program(ProgramOutcome::Valid) => Some(Yes::Valid),
+        Outcome::Program(ProgramOutcome::Valid(checked)) => Some(Yes::Valid(checked.meta())),
         Outcome::Ran(_) => Some(Yes::Ran),
         _ => None,
     }

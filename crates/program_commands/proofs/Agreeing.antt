@@ -11,9 +11,9 @@ use Rattle.program_commands.specs.declared.outcome.Outcome.{Outcome}
 use Rattle.program_commands.specs.declared.outcome.Outcome.TheVariants.{Valid, Uncertified, Certificate as Certified}
 use Rattle.program_commands.specs.declared.refusal.Refusal.{Refusal}
 use Rattle.program_commands.specs.declared.refusal.Refusal.TheVariants as refusal
-use Rattle.program_commands.specs.Commands.{CertifyComesTo, CheckComesTo, CertifiedIsAgreed}
-use Rattle.program_commands.specs.Loading.{LoadsProgram}
-use Rattle.program_commands.specs.Outcomes.{outcome_text, outcome_status}
+use Rattle.program_commands.specs.Commands.{CertifyComesTo, CheckComesTo, IsAgreed, CertifiedIsAgreed}
+use Rattle.program_commands.specs.Loading.{LoadsProgram, with_certificate}
+use Rattle.program_commands.specs.Outcomes.{outcome_status}
 use Rattle.program_commands.specs.Reasons.{reason_status}
 use Rattle.program_commands.specs.Refusals.{refusal_status, status_of}
 use Rattle.program_commands.specs.Steps.{First, Is, fails, goes_on}
@@ -40,25 +40,24 @@ reason_some (why.TooHigh nodes) e = omega arith
 reason_some why.Memory e = omega arith
 
 agreed : (program : List ℕ) (loaded : Loaded) (certificate : Certificate) → LoadsProgram program (Ok loaded) → Makes loaded (Ok certificate) →
-    CheckComesTo program (certificate_text certificate) Valid
+    CheckComesTo program (certificate_text certificate) (Valid (with_certificate loaded certificate))
 agreed program loaded certificate steps makes =
     let loads = loads_of steps in
     let read = made_is_read program loads.program loaded certificate loads.reads loads.builds makes in
     let certified = goes_on loaded (Ok (loaded, certificate)) steps (goes_on certificate (Ok (loaded, certificate)) read refl) in
-    goes_on (record { program = loaded; certificate = certificate }) Valid
-    (goes_on (loaded, certificate) (Ok (record { program = loaded; certificate = certificate })) certified
-    (goes_on (record { program = loaded; certificate = certificate }) (Ok (record { program = loaded; certificate = certificate })) (refl, refl, makes.valid) refl))
+    let checked = with_certificate loaded certificate in
+    goes_on checked (Valid checked)
+    (goes_on (loaded, certificate) (Ok checked) certified (goes_on checked (Ok checked) (refl, refl, makes.valid) refl))
     refl
 
 made_agreed : {program : List ℕ} {loaded : Loaded} {outcome : Outcome} → LoadsProgram program (Ok loaded) →
-    First (Makes loaded) (Uncertified loaded) (λ certificate. Is (Certified certificate)) outcome → outcome_status outcome ≡ 0 →
-    CheckComesTo program (outcome_text outcome) Valid
+    First (Makes loaded) (Uncertified loaded) (λ certificate. Is (Certified (with_certificate loaded certificate))) outcome → outcome_status outcome ≡ 0 →
+    IsAgreed program outcome
 made_agreed steps (fails w reason) zero = absurd (reason_some w zero)
 made_agreed {program} {loaded} steps (goes_on certificate end makes is) zero =
-    subst (λ (o : Outcome). CheckComesTo program (outcome_text o) Valid) (sym is) (agreed program loaded certificate steps makes)
+    subst (λ (o : Outcome). IsAgreed program o) (sym is) (with_certificate loaded certificate, refl, agreed program loaded certificate steps makes)
 
-certified_at : {program : List ℕ} {outcome : Outcome} → CertifyComesTo program outcome → outcome_status outcome ≡ 0 →
-    CheckComesTo program (outcome_text outcome) Valid
+certified_at : {program : List ℕ} {outcome : Outcome} → CertifyComesTo program outcome → outcome_status outcome ≡ 0 → IsAgreed program outcome
 certified_at (fails r bad) zero = absurd (refused_some r zero)
 certified_at (goes_on loaded end steps made) zero = made_agreed steps made zero
 

@@ -33,7 +33,7 @@ use Rattle.program_commands.specs.declared.outcome.Outcome.{Outcome}
 use Rattle.program_commands.specs.declared.outcome.Outcome.TheVariants.{Refused, Uncertified, Certificate as Certified}
 use Rattle.program_commands.specs.declared.refusal.Refusal.{Refusal}
 use Rattle.program_commands.specs.declared.refusal.Refusal.TheVariants as refusal
-use Rattle.program_commands.specs.Loading.{LoadsProgram, LoadsCertified, LoadsValid}
+use Rattle.program_commands.specs.Loading.{LoadsProgram, LoadsCertified, LoadsValid, with_certificate}
 use Rattle.program_commands.specs.Outcomes.{IsShort}
 use Rattle.program_commands.specs.Refusals.{refusal_number, line_of, status_of}
 use Rattle.program_commands.specs.Steps.{First, Is, fails, goes_on}
@@ -238,11 +238,12 @@ short_reason : (loaded : Loaded) (w : Why) → w ≡ why.Memory → IsShort (Unc
 short_reason loaded w is = subst (λ (v : Why). IsShort (Uncertified loaded v)) (sym is) (record { line = refl; status_is = refl })
 
 abbrev MakesAs : Loaded → Outcome → Type 0
-MakesAs loaded = First (Makes loaded) (Uncertified loaded) (λ certificate. Is (Certified certificate))
+MakesAs loaded = First (Makes loaded) (Uncertified loaded) (λ certificate. Is (Certified (with_certificate loaded certificate)))
 
-made_same : {c d : Certificate} {a b : Outcome} → a ≡ Certified c → b ≡ Certified d → c ≡ d → IsSameOutcome a b
-made_same {c} {d} {a} {b} is also same =
-    subst (λ (o : Outcome). IsSameOutcome o b) (sym is) (subst (λ (o : Outcome). IsSameOutcome (Certified c) o) (sym also) (ap (λ (x : Certificate). Certified x) same))
+made_same : (loaded : Loaded) (c d : Certificate) {a b : Outcome} → a ≡ Certified (with_certificate loaded c) → b ≡ Certified (with_certificate loaded d) → c ≡ d → IsSameOutcome a b
+made_same loaded c d {a} {b} is also same =
+    subst (λ (o : Outcome). IsSameOutcome o b) (sym is)
+    (subst (λ (o : Outcome). IsSameOutcome (Certified (with_certificate loaded c)) o) (sym also) (ap (λ (x : Certificate). Certified (with_certificate loaded x)) same))
 
 one_made : (loaded : Loaded) → IsSound loaded → (a b : Outcome) → MakesAs loaded a → MakesAs loaded b → IsShort a ⊎ IsShort b ⊎ IsSameOutcome a b
 one_made loaded is a b (fails v h) (fails w k) = elim (one_making loaded is (Err v) (Err w) h k) [
@@ -270,7 +271,7 @@ one_made loaded is a b (goes_on c end h so) (goes_on d other k also) = elim (one
   | inl s ↦ absurd (cc s)
   | inr rest ↦ elim rest [
     | inl s ↦ absurd (cc s)
-    | inr same ↦ inr (inr (made_same so also same))
+    | inr same ↦ inr (inr (made_same loaded c d so also same))
   ]
 ]
 

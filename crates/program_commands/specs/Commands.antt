@@ -2,10 +2,11 @@
 -- comes only where a growth of memory was refused is not stated here.
 use Rattle.std.specs.Prelude.{◌≡◌, ◌⊎◌, ℕ, List}
 use Rattle.certificate_laws.specs.Laws.{IsSameReason}
+use Rattle.rank_check.specs.Checks.{Checking}
 use Rattle.rank_make.specs.Makes.{Makes}
 use Rattle.program_commands.specs.declared.outcome.Outcome.{Outcome}
 use Rattle.program_commands.specs.declared.outcome.Outcome.TheVariants.{Refused, Classes, Certificate as Certified, Uncertified, Valid}
-use Rattle.program_commands.specs.Loading.{LoadsProgram, LoadsValid}
+use Rattle.program_commands.specs.Loading.{LoadsProgram, LoadsValid, with_certificate}
 use Rattle.program_commands.specs.Outcomes.{outcome_text, outcome_status, IsShort}
 use Rattle.program_commands.specs.Steps.{First, Is}
 
@@ -17,19 +18,22 @@ MetaComesTo program = First (LoadsProgram program) Refused (λ loaded. Is (Class
 abbrev pub CertifyComesTo : List ℕ → Outcome → Type 0
 CertifyComesTo program =
     First (LoadsProgram program) Refused (λ loaded.
-    First (Makes loaded) (Uncertified loaded) (λ certificate. Is (Certified certificate)))
+    First (Makes loaded) (Uncertified loaded) (λ certificate. Is (Certified (with_certificate loaded certificate))))
 
 -- `check`, from the texts of the program and the certificate
 abbrev pub CheckComesTo : List ℕ → List ℕ → Outcome → Type 0
-CheckComesTo program certificate = First (LoadsValid program certificate) Refused (λ checked. Is Valid)
+CheckComesTo program certificate = First (LoadsValid program certificate) Refused (λ checked. Is (Valid checked))
 
 -- ---- laws
+
+-- the outcome is a program with its certificate, and `check` comes to these from the outcome's text
+abbrev pub IsAgreed : List ℕ → Outcome → Type 0
+IsAgreed program outcome = (checked : Checking) × (outcome ≡ Certified checked) × CheckComesTo program (outcome_text outcome) (Valid checked)
 
 -- what `certify` writes of a program with status 0, `check` says yes to, byte for byte
 abbrev pub CertifiedIsAgreed : Type 0
 CertifiedIsAgreed =
-    (program : List ℕ) (outcome : Outcome) → CertifyComesTo program outcome → outcome_status outcome ≡ 0 →
-    CheckComesTo program (outcome_text outcome) Valid
+    (program : List ℕ) (outcome : Outcome) → CertifyComesTo program outcome → outcome_status outcome ≡ 0 → IsAgreed program outcome
 
 -- Unless memory runs out, `meta` comes to one thing, and so writes one thing.
 abbrev pub OneDescription : Type 0

@@ -10,6 +10,7 @@ pub use Rattle.native_slots.specs.FaultNumbers as NativeSlotsFaultNumbers
 pub use Rattle.native_slots.specs.Misfits
 pub use Rattle.certificate_lang.specs.Reads as CertificateLangReads
 pub use Rattle.rank_check.specs.Checks
+pub use Rattle.rank_make.specs.Ranked
 pub use Rattle.certificate_texts.specs.Texts as CertificateTexts
 pub use Rattle.command_output.specs.MetaLines
 pub use Rattle.command_output.specs.Sent

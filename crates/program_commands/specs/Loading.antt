@@ -10,6 +10,10 @@ use Rattle.program_commands.specs.declared.refusal.Refusal.{Refusal}
 use Rattle.program_commands.specs.declared.refusal.Refusal.TheVariants.{Text, Loading, Certificate as OfCertificate, Check}
 use Rattle.program_commands.specs.Steps.{First, Gives}
 
+-- the program, and this certificate
+abbrev pub with_certificate : Loaded → Certificate → Checking
+with_certificate p certificate = record { program = p; certificate = certificate }
+
 -- the program's text is read, and the program is loaded
 abbrev pub LoadsProgram : List ℕ → Result Loaded Refusal → Type 0
 LoadsProgram program =

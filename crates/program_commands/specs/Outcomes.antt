@@ -12,17 +12,17 @@ use Rattle.program_commands.specs.Refusals.{yes_line, memory_line, refusal_line,
 abbrev pub outcome_text : Outcome → List ℕ
 outcome_text (Refused refusal) = refusal_line refusal
 outcome_text (Classes p) = meta_text p
-outcome_text (Certificate certificate) = certificate_text certificate
+outcome_text (Certificate certified) = certificate_text certified.certificate
 outcome_text (Uncertified p why) = reason_line p why
-outcome_text Valid = yes_line
+outcome_text (Valid checked) = yes_line
 
 -- the exit status of an outcome
 abbrev pub outcome_status : Outcome → ℕ
 outcome_status (Refused refusal) = refusal_status refusal
 outcome_status (Classes p) = 0
-outcome_status (Certificate certificate) = 0
+outcome_status (Certificate certified) = 0
 outcome_status (Uncertified p why) = reason_status why
-outcome_status Valid = 0
+outcome_status (Valid checked) = 0
 
 -- A writer took the bytes of what a command comes to, all of them where the exit status is the answer, and the first ones
 -- where a write failed.

@@ -3,10 +3,11 @@
 ghost use Rattle.program_commands.specs.Commands.{MetaComesTo, CertifyComesTo, CheckComesTo};
 ghost use Rattle.program_commands.specs.Outcomes.{Writes};
 
+use crate::certified::Certified;
 use crate::loading::{load_program, load_valid};
 use crate::outcome::Outcome;
 use command_output::WriteFault;
-use rank_make::make;
+use rank_make::make_ranked;
 use std::alloc::Global;
 use std::io::Write;
 
@@ -40,8 +41,10 @@ pub fn certify_outcome(alloc: Global, program: &[u8]) -> Outcome
         Ok(meta) => meta,
         Err(refusal) => return Outcome::Refused(refusal),
     };
-    match make(alloc, &meta) {
-        Ok(certificate) => Outcome::Certificate(certificate),
+    match make_ranked(alloc, &meta) {
+        Ok((certificate, ranks)) => {
+            Outcome::Certificate(Certified::new(meta, certificate, ranks))
+        }
         Err(why) => Outcome::Uncertified(meta, why),
     }
 }
@@ -57,14 +60,14 @@ pub fn certify<W: Write>(alloc: Global, program: &[u8], w: &mut W) -> Result<u8,
     certify_outcome(alloc, program).write(alloc, w)
 }
 
-/// What `check` comes to: that the certificate is valid for the program, or why it isn't.
+/// What `check` comes to: the program with its certificate, where that is valid for it, or why it isn't.
 pub fn check_outcome(alloc: Global, program: &[u8], certificate: &[u8]) -> Outcome
     ensures { CheckComesTo program.now certificate.now result }
 {
-    if let Err(refusal) = load_valid(alloc, program, certificate) {
-        return Outcome::Refused(refusal);
+    match load_valid(alloc, program, certificate) {
+        Ok(checked) => Outcome::Valid(checked),
+        Err(refusal) => Outcome::Refused(refusal),
     }
-    Outcome::Valid
 }
 
 /// Checks a program with its certificate, and writes `yes`, or why there is none.

@@ -2,6 +2,7 @@
 //! bytes of the texts to what they come to, and to the bytes that are written and an exit status.
 #![tactic(auto)]
 
+mod certified;
 mod commands;
 mod laws;
 mod loading;
@@ -9,10 +10,12 @@ mod outcome;
 mod reasons;
 mod refusal;
 
+pub use certified::Certified;
 pub use command_output::WriteFault;
 pub use commands::{certify, certify_outcome, check, check_outcome, meta, meta_outcome};
 pub use laws::{certified_is_agreed, one_outcome};
 pub use loading::{load_certified, load_program, load_valid};
 pub use outcome::Outcome;
-pub use rank_make::Why;
+pub use rank_check::Checked;
+pub use rank_make::{Ranks, Why};
 pub use refusal::Refusal;

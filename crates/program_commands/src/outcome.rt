@@ -4,11 +4,12 @@ ghost use Rattle.std.specs.Prelude.{◌≡◌};
 ghost use Rattle.command_output.specs.Sent.{Puts, TakesWith};
 ghost use Rattle.program_commands.specs.Outcomes.{outcome_text, outcome_status};
 
+use crate::certified::Certified;
 use crate::reasons::{put_reason, status_of_reason};
 use crate::refusal::Refusal;
-use certificate_lang::Certificate;
 use command_output::{Output, WriteFault};
 use meta_objects::Meta;
+use rank_check::Checked;
 use rank_make::Why;
 use std::alloc::Global;
 use std::io::Write;
@@ -23,12 +24,12 @@ pub enum Outcome {
     Refused(Refusal),
     /// The program loads, and these are its classes.
     Classes(Meta),
-    /// The program's least valid certificate.
-    Certificate(Certificate),
+    /// The program has this certificate, its least valid one.
+    Certificate(Certified),
     /// No certificate is valid for this program, for this reason.
     Uncertified(Meta, Why),
     /// The certificate is valid for the program.
-    Valid,
+    Valid(Checked),
 }
 
 impl Outcome {
@@ -40,7 +41,7 @@ impl Outcome {
         match self {
             Outcome::Refused(refusal) => refusal.status(),
             Outcome::Uncertified(_, why) => status_of_reason(why),
-            Outcome::Classes(_) | Outcome::Certificate(_) | Outcome::Valid => DONE,
+            Outcome::Classes(_) | Outcome::Certificate(_) | Outcome::Valid(_) => DONE,
         }
     }
 
@@ -51,9 +52,9 @@ impl Outcome {
         match self {
             Outcome::Refused(refusal) => refusal.put(output),
             Outcome::Classes(meta) => output.classes(meta),
-            Outcome::Certificate(certificate) => output.certificate(certificate),
+            Outcome::Certificate(certified) => output.certificate(certified.certificate()),
             Outcome::Uncertified(meta, why) => put_reason(output, meta, why),
-            Outcome::Valid => output.put(b"yes\n"),
+            Outcome::Valid(_) => output.put(b"yes\n"),
         }
     }
 

@@ -15,5 +15,5 @@ pub use edge::push_edge;
 pub use ill_typed::{flaw_text, untyped_text};
 pub use names::{class_text, node_text, property_text, sig_text, text_of};
 pub use reasons::{breaking, missing_certificate};
-pub use source::{Source, declarations_of, meta_of};
+pub use source::{Source, declarations_of, declaring_class, meta_of};
 pub use wire::{unfit_text, wire_text};

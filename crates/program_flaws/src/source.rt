@@ -20,14 +20,7 @@ pub struct Source<'s> {
 impl<'s> Source<'s> {
     /// The class that declares the method which the class of this number has.
     pub fn declaring(&self, class: usize, method: usize) -> usize {
-        let mut declaring = class;
-        while method < self.meta.method_offset(declaring) {
-            match self.meta.base(declaring) {
-                Some(base) => declaring = base,
-                None => return declaring,
-            }
-        }
-        declaring
+        declaring_class(self.meta, class, method)
     }
 
     /// The declaration of the slot or native of this number, which the class of this number has; `None` for a signal and for
@@ -38,6 +31,18 @@ impl<'s> Source<'s> {
         let own = method.checked_sub(self.meta.method_offset(declaring))?;
         declared.slots.get(own.checked_sub(declared.signals.len())?)
     }
+}
+
+/// The class that declares the method which the class of this number has.
+pub fn declaring_class(meta: &Meta, class: usize, method: usize) -> usize {
+    let mut declaring = class;
+    while method < meta.method_offset(declaring) {
+        match meta.base(declaring) {
+            Some(base) => declaring = base,
+            None => return declaring,
+        }
+    }
+    declaring
 }
 
 /// The declarations of a program, if they can be read.

@@ -1,33 +1,32 @@
-//! A program with the ranks and the destroy sets of its least certificate.
+//! A program with its ranks.
 
-use effect_scan::{Member, Node, Scan, row_at};
+use effect_scan::{Member, Node, row_at};
 use meta_objects::Meta;
-use rank_check::SetItem;
-use rank_make::Certificate;
+use rank_make::Ranks;
 use std::alloc::{AllocError, Global};
 
-/// A program that has a certificate, with the least one, whose lines are in the order of nodes.
+/// A program that has a certificate, with its ranks.
 #[derive(Clone, Copy)]
 pub struct Ranked<'p> {
     /// The program.
     pub meta: &'p Meta,
-    /// Its nodes and edges.
-    pub scan: &'p Scan,
-    /// Its least certificate.
-    pub certificate: &'p Certificate,
+    /// Its ranks: those of its least certificate.
+    pub ranks: &'p Ranks,
 }
 
 impl Ranked<'_> {
     /// The nodes of the longest chain, by their numbers; of several chains the one whose nodes come first.
     pub fn deepest_chain(&self, alloc: Global) -> Result<Vec<usize>, AllocError> {
         let mut chain = Vec::new(alloc);
-        for rank in (0..self.certificate.bound).rev() {
-            let next = match chain.last() {
-                Some(node) => self.target_of_rank(*node, rank),
-                None => self.first_of_rank(rank),
-            };
-            if let Some(node) = next {
+        let Some(first) = self.highest_node() else {
+            return Ok(chain);
+        };
+        chain.push(first)?;
+        let mut last = first;
+        for rank in (0..self.ranks.solution.rank(first)).rev() {
+            if let Some(node) = self.target_of_rank(last, rank) {
                 chain.push(node)?;
+                last = node;
             }
         }
         Ok(chain)
@@ -43,8 +42,8 @@ impl Ranked<'_> {
     ) -> Result<Vec<usize>, AllocError> {
         let mut chain = Vec::new(alloc);
         let mut next = Some(from);
-        // No chain has more nodes than the bound says.
-        for _ in 0..self.certificate.bound {
+        // No chain from a node has more edges than its rank says.
+        for _ in 0..self.ranks.solution.rank(from).saturating_add(1) {
             let Some(node) = next else {
                 break;
             };
@@ -60,55 +59,40 @@ impl Ranked<'_> {
 
     /// Whether the destroy set of the node holds the class.
     pub fn destroys(&self, node: usize, class: usize) -> bool {
-        match self.certificate.lines.get(node) {
-            Some(line) => line
-                .destroys
-                .as_slice()
-                .iter()
-                .any(|item| self.stands_for(item, class)),
-            None => false,
-        }
-    }
-
-    /// Whether the item stands for the class, and maybe for others.
-    fn stands_for(&self, item: &SetItem, class: usize) -> bool {
-        match item {
-            SetItem::Class(name) => self.meta.class(name) == Some(class),
-            SetItem::Closure(name) => match self.meta.class(name) {
-                Some(parent) => row_at(self.scan.destroys(), parent).contains(&class),
-                None => false,
-            },
-        }
+        self.ranks.solution.leads_to(node, class)
     }
 
     /// Whether objects of the class may be destroyed at once with the node.
     fn is_destruction_of(&self, node: usize, class: usize) -> bool {
-        match self.scan.nodes().get(node) {
+        match self.ranks.scan.nodes().get(node) {
             Some(
                 Node {
                     class: parent,
                     member: Member::Destruction,
                 },
-            ) => row_at(self.scan.destroys(), *parent).contains(&class),
+            ) => row_at(self.ranks.scan.destroys(), *parent).contains(&class),
             _ => false,
         }
     }
 
-    /// The first node of this rank.
-    fn first_of_rank(&self, rank: u32) -> Option<usize> {
-        self.certificate
-            .lines
-            .as_slice()
-            .iter()
-            .position(|line| line.rank == rank)
+    /// The first of the nodes whose rank is the greatest.
+    fn highest_node(&self) -> Option<usize> {
+        let mut highest: Option<usize> = None;
+        let mut most = 0usize;
+        for node in 0..self.ranks.scan.nodes().len() {
+            let rank = self.ranks.solution.rank(node);
+            if highest.is_none() || rank > most {
+                highest = Some(node);
+                most = rank;
+            }
+        }
+        highest
     }
 
     /// The first node of this rank to which an edge leads from the node.
-    fn target_of_rank(&self, node: usize, rank: u32) -> Option<usize> {
-        for target in self.scan.targets(node) {
-            if let Some(line) = self.certificate.lines.get(*target)
-                && line.rank == rank
-            {
+    fn target_of_rank(&self, node: usize, rank: usize) -> Option<usize> {
+        for target in self.ranks.scan.targets(node) {
+            if self.ranks.solution.rank(*target) == rank {
                 return Some(*target);
             }
         }
@@ -117,7 +101,7 @@ impl Ranked<'_> {
 
     /// The first node to which an edge leads from the node, and whose destroy set holds the class.
     fn target_destroying(&self, node: usize, class: usize) -> Option<usize> {
-        for target in self.scan.targets(node) {
+        for target in self.ranks.scan.targets(node) {
             if self.destroys(*target, class) {
                 return Some(*target);
             }

@@ -12,45 +12,32 @@ use crate::ranked::Ranked;
 use crate::senders::{add_lost_senders, has_deletion};
 use crate::telling::Subject;
 use crate::warning::Warning;
-use effect_scan::Scan;
 use meta_objects::Meta;
-use program_flaws::{Source, declarations_of, meta_of};
-use rank_make::{Certificate, Why, make};
+use program_flaws::{declarations_of, meta_of};
+use rank_make::{Ranks, Why, rank};
 use std::alloc::{AllocError, Global};
 use texts::{PlaceFault, placed_tokens};
 
 /// A yes to a program.
 #[derive(Clone, Copy)]
 pub enum Yes<'a> {
-    /// It has a certificate, of which this is the least one.
-    Certified(&'a Certificate),
-    /// The certificate that is given with it is valid.
-    Valid,
+    /// It has a certificate; the program with its ranks.
+    Certified(Ranked<'a>),
+    /// The certificate that is given with this program is valid.
+    Valid(&'a Meta),
     /// The certificate that is given with it is valid, and the program ran.
     Ran,
 }
 
-/// What is reported of a program beside a yes to it: a line for each of the first warnings, and where it didn't run a
-/// line that says how many members it has, and which chain of them is the longest. `None` where there is nothing to
-/// tell, or the text is no program that has a certificate.
+/// What is reported beside a yes to the program of this text: a line for each of the first warnings, and where it didn't run
+/// a line that says how many members it has, and which chain of them is the longest. `None` where there is nothing to
+/// tell. The text is read for the places of warnings, and after a run for the program, which a machine doesn't show.
 pub fn told_beside(alloc: Global, text: &[u8], yes: Yes<'_>) -> Result<Option<String>, AllocError> {
-    let Some(program) = declarations_of(alloc, text)? else {
-        return Ok(None);
-    };
-    let Some(meta) = meta_of(alloc, &program)? else {
-        return Ok(None);
-    };
-    let source = Source {
-        alloc,
-        program: &program,
-        meta: &meta,
-    };
     let mut told = String::new(alloc);
     match yes {
-        Yes::Certified(certificate) => push_ranked(&mut told, source, text, certificate, true)?,
-        Yes::Valid => push_made(&mut told, source, text, true)?,
-        Yes::Ran if has_deletion(&meta) => push_made(&mut told, source, text, false)?,
-        Yes::Ran => push_warnings(&mut told, source, text, None)?,
+        Yes::Certified(ranked) => push_ranked(&mut told, alloc, text, ranked)?,
+        Yes::Valid(meta) => push_checked(&mut told, alloc, text, meta)?,
+        Yes::Ran => push_run(&mut told, alloc, text)?,
     }
     if told.is_empty() {
         Ok(None)
@@ -59,57 +46,93 @@ pub fn told_beside(alloc: Global, text: &[u8], yes: Yes<'_>) -> Result<Option<St
     }
 }
 
-/// Adds what is reported of a program with the least certificate, if there is one.
-fn push_made(
-    told: &mut String,
-    source: Source<'_>,
-    text: &[u8],
-    tells_depth: bool,
-) -> Result<(), AllocError> {
-    match make(source.alloc, source.meta) {
-        Ok(certificate) => push_ranked(told, source, text, &certificate, tells_depth),
-        Err(Why::Memory) => Err(AllocError),
-        Err(_) => Ok(()),
-    }
-}
-
-/// Adds what is reported of a program with its least certificate.
+/// Adds what is reported of a program with its ranks.
 fn push_ranked(
     told: &mut String,
-    source: Source<'_>,
+    alloc: Global,
     text: &[u8],
-    certificate: &Certificate,
-    tells_depth: bool,
+    ranked: Ranked<'_>,
 ) -> Result<(), AllocError> {
-    let scan = Scan::of(source.alloc, source.meta)?;
-    let ranked = Ranked {
-        meta: source.meta,
-        scan: &scan,
-        certificate,
-    };
-    push_warnings(told, source, text, Some(ranked))?;
-    if tells_depth {
-        ranked.push_depth(told, source.alloc)
-    } else {
-        Ok(())
+    push_warnings(told, alloc, text, ranked.meta, Some(ranked))?;
+    ranked.push_depth(told, alloc)
+}
+
+/// Adds what is reported of a program with a valid certificate, whose ranks and sets may be greater than the program's own.
+fn push_checked(
+    told: &mut String,
+    alloc: Global,
+    text: &[u8],
+    meta: &Meta,
+) -> Result<(), AllocError> {
+    match ranks_of(alloc, meta)? {
+        Some(ranks) => push_ranked(
+            told,
+            alloc,
+            text,
+            Ranked {
+                meta,
+                ranks: &ranks,
+            },
+        ),
+        None => Ok(()),
     }
 }
 
-/// Adds the warnings of a program.
+/// Adds what is reported of the program of this text after a run. Its ranks tell something only where a slot destroys an
+/// object at once.
+fn push_run(told: &mut String, alloc: Global, text: &[u8]) -> Result<(), AllocError> {
+    let Some(meta) = program_of(alloc, text)? else {
+        return Ok(());
+    };
+    if !has_deletion(&meta) {
+        return push_warnings(told, alloc, text, &meta, None);
+    }
+    match ranks_of(alloc, &meta)? {
+        Some(ranks) => {
+            let ranked = Ranked {
+                meta: &meta,
+                ranks: &ranks,
+            };
+            push_warnings(told, alloc, text, &meta, Some(ranked))
+        }
+        None => Ok(()),
+    }
+}
+
+/// The program of this text, if it can be read and loads.
+fn program_of(alloc: Global, text: &[u8]) -> Result<Option<Meta>, AllocError> {
+    match declarations_of(alloc, text)? {
+        Some(program) => meta_of(alloc, &program),
+        None => Ok(None),
+    }
+}
+
+/// The ranks of the program, if no edges lead back to a node.
+fn ranks_of(alloc: Global, meta: &Meta) -> Result<Option<Ranks>, AllocError> {
+    match rank(alloc, meta) {
+        Ok(ranks) => Ok(Some(ranks)),
+        Err(Why::Memory) => Err(AllocError),
+        Err(_) => Ok(None),
+    }
+}
+
+/// Adds the warnings of the program of this text. The text is read only where there are some.
 fn push_warnings(
     told: &mut String,
-    source: Source<'_>,
+    alloc: Global,
     text: &[u8],
+    meta: &Meta,
     ranked: Option<Ranked<'_>>,
 ) -> Result<(), AllocError> {
-    let found = warnings(source.alloc, source.meta, ranked)?;
+    let found = warnings(alloc, meta, ranked)?;
     if found.is_empty() {
         return Ok(());
     }
-    match placed_tokens(source.alloc, text) {
+    match placed_tokens(alloc, text) {
         Ok(tokens) => {
             let subject = Subject {
-                source,
+                alloc,
+                meta,
                 text,
                 tokens: tokens.as_slice(),
                 ranked,

@@ -1,7 +1,8 @@
 //! Where in a program's text a warning points.
 
 use crate::warning::Warning;
-use program_flaws::Source;
+use meta_objects::{Meta, Work};
+use program_flaws::declaring_class;
 use texts::{PlacedToken, Token, Word};
 
 /// A place in a program's text.
@@ -17,13 +18,13 @@ pub enum Spot {
 
 impl Spot {
     /// Where the warning points: to the declaration of the wire or of the signal, or to the statement.
-    pub fn of(source: Source<'_>, warning: &Warning) -> Spot {
+    pub fn of(meta: &Meta, warning: &Warning) -> Spot {
         match warning {
             Warning::Empty => Spot::Begin,
             Warning::IdleWire { wire, .. } => Spot::Word(Word::Wire, *wire),
             Warning::Unwired { connect, .. } => Spot::Word(Word::Connect, *connect),
             Warning::NotifiedTwice { emit, .. } => Spot::Word(Word::Emit, *emit),
-            Warning::LostSender { class, signal } => signal_spot(source, *class, *signal),
+            Warning::LostSender { class, signal } => signal_spot(meta, *class, *signal),
         }
     }
 
@@ -38,16 +39,30 @@ impl Spot {
 }
 
 /// The declaration of the signal, which the class has, in that class or in one above; those of `QObject` have none.
-fn signal_spot(source: Source<'_>, class: usize, signal: usize) -> Spot {
-    let declaring = source.declaring(class, signal);
-    let Some(place) = declaring.checked_sub(1) else {
+fn signal_spot(meta: &Meta, class: usize, signal: usize) -> Spot {
+    let declaring = declaring_class(meta, class, signal);
+    if declaring == 0 {
         return Spot::Nowhere;
-    };
-    let mut number = signal.saturating_sub(source.meta.method_offset(declaring));
-    for before in source.program.classes.as_slice().iter().take(place) {
-        number = number.saturating_add(before.signals.len());
+    }
+    // A class's signals come before its slots, and the classes behind `QObject` are in the order of the text.
+    let mut number = signal.saturating_sub(meta.method_offset(declaring));
+    for before in 1..declaring {
+        number = number.saturating_add(count_signals(meta, before));
     }
     Spot::Word(Word::Signal, number)
+}
+
+/// How many signals the class declares.
+fn count_signals(meta: &Meta, class: usize) -> usize {
+    let mut count = 0usize;
+    for method in meta.method_offset(class)..meta.method_count(class) {
+        if let Some(found) = meta.method_at(class, method)
+            && matches!(found.work, Work::Signal)
+        {
+            count = count.saturating_add(1);
+        }
+    }
+    count
 }
 
 /// The byte at which the word stands for the time of this number, counted from 0.

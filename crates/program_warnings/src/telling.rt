@@ -5,9 +5,9 @@ use crate::spot::Spot;
 use crate::warning::Warning;
 use diagnostics::TextPlace;
 use effect_scan::{Member, Node};
-use meta_objects::MetaWire;
-use program_flaws::{Source, node_text, property_text, wire_text};
-use std::alloc::AllocError;
+use meta_objects::{Meta, MetaWire};
+use program_flaws::{node_text, property_text, wire_text};
+use std::alloc::{AllocError, Global};
 use texts::PlacedToken;
 
 /// So many warnings are reported.
@@ -16,11 +16,13 @@ const MOST_TOLD: usize = 20;
 /// A program that warnings are about.
 #[derive(Clone, Copy)]
 pub struct Subject<'s> {
+    /// What memory is taken from.
+    pub alloc: Global,
     /// The program.
-    pub source: Source<'s>,
+    pub meta: &'s Meta,
     /// Its text.
     pub text: &'s [u8],
-    /// The tokens of its text, where there are warnings.
+    /// The tokens of its text.
     pub tokens: &'s [PlacedToken],
     /// What is known of its nodes, where that is asked for.
     pub ranked: Option<Ranked<'s>>,
@@ -42,7 +44,7 @@ impl Subject<'_> {
     /// Adds the warning's line, with its place in the program, which is the input's first text, where it has one.
     fn push_warning(&self, told: &mut String, warning: &Warning) -> Result<(), AllocError> {
         told.push_str("<stdin>:")?;
-        if let Some(at) = Spot::of(self.source, warning).find(self.tokens) {
+        if let Some(at) = Spot::of(self.meta, warning).find(self.tokens) {
             let TextPlace { line, column } = TextPlace::of(self.text, at.min(self.text.len()));
             write!(told, "{line}:{column}:")?;
         }
@@ -66,7 +68,8 @@ impl Subject<'_> {
 
     /// Adds what is said of a wire that is idle beside this one.
     fn push_idle_wire(&self, told: &mut String, other: usize) -> Result<(), AllocError> {
-        let Source { alloc, meta, .. } = self.source;
+        let alloc = self.alloc;
+        let meta = self.meta;
         if let Some(wider) = meta.wires().get(other) {
             let wider = wire_text(alloc, meta, wider)?;
             write!(
@@ -79,7 +82,8 @@ impl Subject<'_> {
 
     /// Adds what is said of a `connect` that lacks this wire.
     fn push_unwired(&self, told: &mut String, wanted: &MetaWire) -> Result<(), AllocError> {
-        let Source { alloc, meta, .. } = self.source;
+        let alloc = self.alloc;
+        let meta = self.meta;
         let wanted = wire_text(alloc, meta, wanted)?;
         write!(
             told,
@@ -95,7 +99,8 @@ impl Subject<'_> {
         method: usize,
         property: usize,
     ) -> Result<(), AllocError> {
-        let Source { alloc, meta, .. } = self.source;
+        let alloc = self.alloc;
+        let meta = self.meta;
         let slot = node_text(
             alloc,
             meta,
@@ -118,7 +123,8 @@ impl Subject<'_> {
         class: usize,
         signal: usize,
     ) -> Result<(), AllocError> {
-        let Source { alloc, meta, .. } = self.source;
+        let alloc = self.alloc;
+        let meta = self.meta;
         let node = Node {
             class,
             member: Member::Method(signal),
@@ -131,7 +137,7 @@ impl Subject<'_> {
         let Some(ranked) = self.ranked else {
             return Ok(());
         };
-        if let Some(number) = ranked.scan.number(node) {
+        if let Some(number) = ranked.ranks.scan.number(node) {
             let chain = ranked.chain_to_destruction(alloc, number, class)?;
             told.push_str(" (")?;
             ranked.push_chain(told, alloc, chain.as_slice())?;

@@ -4,3 +4,4 @@ pub mod Numbers
 pub mod Lined
 pub mod Steps
 pub mod Told
+pub mod Unranked

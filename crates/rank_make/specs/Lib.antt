@@ -2,6 +2,7 @@ pub mod Walks
 pub mod Least
 pub mod Makes
 pub mod Solved
+pub mod Ranked
 pub use Rattle.meta_model.specs.Loaded
 pub use Rattle.meta_model.specs.Members
 pub use Rattle.effect_scan.specs.Laws

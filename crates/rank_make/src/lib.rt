@@ -4,13 +4,15 @@
 mod bounds;
 mod making;
 mod naming;
+mod ranking;
 mod reasons;
 mod rows;
 mod why;
 
 pub use certificate_lang::{Certificate, Line, MemberName, NodeName};
 pub use effect_scan::{Member, Node};
-pub use making::make;
+pub use making::{make, make_ranked};
 pub use naming::node_name;
+pub use ranking::{Ranks, rank};
 pub use type_check::Spot;
 pub use why::Why;

@@ -1,22 +1,21 @@
 //! The maker of certificates.
 
-ghost use Rattle.std.specs.Prelude.{◌≡◌, length, IfOk};
 ghost use Rattle.effect_scan.specs.Scans.{IsScan};
 ghost use Rattle.rank_check.specs.Entries.{IsReady};
 ghost use Rattle.rank_graph.specs.Solutions.{rank_of, leads_of};
 ghost use Rattle.rank_make.specs.Makes.{Makes, ReadyOrReason};
-ghost use Rattle.rank_make.specs.Solved.{own_rows, IsSolved};
+ghost use Rattle.rank_make.specs.Ranked.{MakesRanked, RanksReady};
+ghost use Rattle.rank_make.specs.Solved.{IsSolved};
 
 use crate::bounds::bound_of;
 use crate::naming::lines;
+use crate::ranking::{Ranks, rank};
 use crate::reasons::{destroy_path, high_chain};
-use crate::rows::{nodes_at, own_rows};
 use crate::why::Why;
 use effect_scan::{Scan, edges_join_nodes};
 use meta_objects::Meta;
 use rank_check::Certificate;
-use rank_graph::{Solution, Unranked, solve};
-use sqlite_items::Items;
+use rank_graph::Solution;
 use std::alloc::Global;
 use type_check::{unfit_wire, untyped};
 
@@ -33,10 +32,29 @@ use type_check::{unfit_wire, untyped};
 pub fn make(alloc: Global, meta: &Meta) -> Result<Certificate, Why>
     ensures { Makes meta.now result }
 {
+    let (certificate, _ranks) = make_ranked(alloc, meta)?;
+    Ok(certificate)
+}
+
+/// The same, with the program's ranks, of which the certificate was made.
+pub fn make_ranked(alloc: Global, meta: &Meta) -> Result<(Certificate, Ranks), Why>
+    ensures { MakesRanked meta.now result }
+{
+    let ranks = rank_ready(alloc, meta)?;
+    let certificate = make_solved(alloc, meta, &ranks.scan, &ranks.solution)?;
+    Ok((certificate, ranks))
+}
+
+/// The ranks of a program whose wires, literals, bodies and bindings are as they should be, or the first reason of these and
+/// of cycles.
+fn rank_ready(alloc: Global, meta: &Meta) -> Result<Ranks, Why>
+    ensures { RanksReady meta.now result }
+{
     judge_program(alloc, meta)?;
-    let scan = Scan::of(alloc, meta)?;
-    let own = own_rows(alloc, &scan)?;
-    make_scanned(alloc, meta, &scan, own.as_slice())
+    match rank(alloc, meta) {
+        Ok(ranks) => Ok(ranks),
+        Err(why) => Err(why),
+    }
 }
 
 /// The reasons that the program's wires, literals, bodies and bindings give.
@@ -52,48 +70,22 @@ fn judge_program(alloc: Global, meta: &Meta) -> Result<(), Why>
     }
 }
 
-/// The certificate, or the reason that edges give.
-fn make_scanned(
-    alloc: Global,
-    meta: &Meta,
-    scan: &Scan,
-    own: &[Items<usize>],
-) -> Result<Certificate, Why>
-    requires scan { IsScan meta.now scan.now }
-    requires ready { IsReady meta.now }
-    requires own { own.now ≡ own_rows scan.now }
-    ensures { Makes meta.now result }
-{
-    // All edges are between nodes.
-    edges_join_nodes(meta);
-    match solve(alloc, scan.rows(), own, meta.classes().len()) {
-        Ok(solution) => make_solved(alloc, meta, scan, own, &solution),
-        Err(Unranked::Cycle(numbers)) => {
-            let nodes = nodes_at(alloc, scan, numbers.as_slice())?;
-            Err(Why::Cycle(nodes))
-        }
-        Err(Unranked::Memory) => Err(Why::Memory),
-    }
-}
-
 /// The certificate, or the reason that ranks and sets give.
 fn make_solved(
     alloc: Global,
     meta: &Meta,
     scan: &Scan,
-    own: &[Items<usize>],
     solution: &Solution,
 ) -> Result<Certificate, Why>
     requires scan { IsScan meta.now scan.now }
     requires ready { IsReady meta.now }
-    requires own { own.now ≡ own_rows scan.now }
     requires solved { IsSolved scan.now (rank_of solution.now) (leads_of solution.now) }
     ensures { Makes meta.now result }
 {
     // All edges are between nodes, and names are those of one member.
     edges_join_nodes(meta);
     let _classes = meta.classes();
-    if let Some(nodes) = destroy_path(alloc, meta, scan, own, solution)? {
+    if let Some(nodes) = destroy_path(alloc, meta, scan, solution)? {
         return Err(Why::DestroyPath(nodes));
     }
     if let Some(nodes) = high_chain(alloc, meta, scan, solution)? {

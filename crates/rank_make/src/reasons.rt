@@ -6,10 +6,10 @@ ghost use Rattle.effect_scan.specs.declared.node.Node.{Node};
 ghost use Rattle.rank_check.specs.Valid.{HasBody};
 ghost use Rattle.rank_graph.specs.Solutions.{rank_of, leads_of};
 ghost use Rattle.rank_make.specs.Walks.{IsDestroyPath, IsHighChain};
-ghost use Rattle.rank_make.specs.Solved.{own_rows, IsSolved, EndsItself, NoneEnds, AreLow};
+ghost use Rattle.rank_make.specs.Solved.{IsSolved, EndsItself, NoneEnds, AreLow};
 
 use crate::bounds::first_high;
-use crate::rows::nodes_at;
+use crate::rows::{nodes_at, own_rows};
 use effect_scan::{Member, Node, Scan};
 use meta_model::Work;
 use meta_objects::Meta;
@@ -24,11 +24,9 @@ pub fn destroy_path(
     alloc: Global,
     meta: &Meta,
     scan: &Scan,
-    own: &[Items<usize>],
     solution: &Solution,
 ) -> Result<Option<Items<Node>>, AllocError>
     requires scan { IsScan meta.now scan.now }
-    requires own { own.now ≡ own_rows scan.now }
     requires solved { IsSolved scan.now (rank_of solution.now) (leads_of solution.now) }
     ensures { IfOk result (λ found. MatchOption found (NoneEnds meta.now (leads_of solution.now)) (IsDestroyPath meta.now)) }
 {
@@ -36,7 +34,8 @@ pub fn destroy_path(
         return Ok(None);
     };
     let class = scan.nodes()[from].class;
-    let numbers = path_to(alloc, scan.rows(), own, solution, from, class)?;
+    let own = own_rows(alloc, scan)?;
+    let numbers = path_to(alloc, scan.rows(), own.as_slice(), solution, from, class)?;
     let nodes = nodes_at(alloc, scan, numbers.as_slice())?;
     Ok(Some(nodes))
 }

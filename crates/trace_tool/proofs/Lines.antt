@@ -48,9 +48,9 @@ reason_memory p why.Memory is = refl
 told_memory : (o : ProgramOutcome) → program_status o ≡ 1 → program_text o ≡ memory_line
 told_memory (told.Refused r) is = refusal_memory r is
 told_memory (told.Classes p) is = absurd (omega (arith, is))
-told_memory (told.Certificate certificate) is = absurd (omega (arith, is))
+told_memory (told.Certificate certified) is = absurd (omega (arith, is))
 told_memory (told.Uncertified p w) is = reason_memory p w is
-told_memory told.Valid is = absurd (omega (arith, is))
+told_memory (told.Valid checked) is = absurd (omega (arith, is))
 
 run_goes : (ended : Result (Unit {0}) Fault) → ¬ (run_status ended ≡ 1)
 run_goes (Ok _) is = omega (arith, is)

@@ -133,7 +133,7 @@ same-or-short (of_program.Uncertified p (why.Cycle nodes)) = inr (refl, tt)
 same-or-short (of_program.Uncertified p (why.DestroyPath nodes)) = inr (refl, tt)
 same-or-short (of_program.Uncertified p (why.TooHigh nodes)) = inr (refl, tt)
 same-or-short (of_program.Uncertified p why.Memory) = inl (record { line = refl; status_is = refl })
-same-or-short of_program.Valid = inr refl
+same-or-short (of_program.Valid checked) = inr refl
 
 abbrev OneProgram : (ProgramOutcome → Type 0) → Type 0
 OneProgram ComesTo = (a b : ProgramOutcome) → ComesTo a → ComesTo b → IsShortOfProgram a ⊎ IsShortOfProgram b ⊎ IsSameOfProgram a b

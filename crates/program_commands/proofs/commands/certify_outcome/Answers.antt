@@ -5,8 +5,12 @@ use Rattle.program_commands.proofs.commands.certify_outcome.Goals as goal
 pub returns-in-Err : goal.returns-in-Err
 returns-in-Err c = fails c.in-Err.refusal c.in-Err.ensures
 
-pub returns-in-Ok-make : goal.returns-in-Ok-make
-returns-in-Ok-make c = goes_on c.in-Ok.meta _ c.in-Ok.ensures (goes_on c.in-Ok-make.certificate _ c.in-Ok-make.ensures refl)
+pub new-requires : goal.new-requires
+new-requires c = c.in-Ok-make_ranked.ensures.1
 
-pub returns-in-Err-make : goal.returns-in-Err-make
-returns-in-Err-make c = goes_on c.in-Ok.meta _ c.in-Ok.ensures (fails c.in-Err-make.why c.in-Err-make.ensures)
+pub returns-in-Ok-make_ranked : goal.returns-in-Ok-make_ranked
+returns-in-Ok-make_ranked c =
+    rw c.new.ensures (goes_on c.in-Ok.meta _ c.in-Ok.ensures (goes_on c.in-Ok-make_ranked.certificate _ c.in-Ok-make_ranked.ensures.0 refl))
+
+pub returns-in-Err-make_ranked : goal.returns-in-Err-make_ranked
+returns-in-Err-make_ranked c = goes_on c.in-Ok.meta _ c.in-Ok.ensures (fails c.in-Err-make_ranked.why c.in-Err-make_ranked.ensures)

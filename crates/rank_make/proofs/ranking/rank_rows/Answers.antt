@@ -4,7 +4,7 @@ use Rattle.rank_make.proofs.Barred.{cycle_bars}
 use Rattle.rank_make.proofs.Numbers.{own_is}
 use Rattle.rank_make.proofs.Told.{cycle_inside, cycle_told}
 use Rattle.std.proofs.Common.{length}
-use Rattle.rank_make.proofs.making.make_scanned.Goals as goal
+use Rattle.rank_make.proofs.ranking.rank_rows.Goals as goal
 
 pub solve-requires-clause-inside : goal.solve-requires-clause-inside
 solve-requires-clause-inside c = rw c.rows.ensures (λ a b edge. edges_inside c.args.meta.now c.args.scan.now c.requires.scan (length c.args.scan.now.rows) c.requires.scan.edges.count a b edge)
@@ -23,4 +23,10 @@ pub returns-in_ok-nodes-in-Err-Cycle : goal.returns-in_ok-nodes-in-Err-Cycle
 returns-in_ok-nodes-in-Err-Cycle c =
     let by_number = rw (c.rows.ensures, c.in-Err-Cycle.field-0-is) at c.in-Err-Cycle.ensures.err in
     let told = cycle_told c.args.meta.now c.args.scan.now c.requires.scan c.in-Err-Cycle.numbers by_number _ c.in_ok-nodes-in-Err-Cycle.nodes c.as_slice.ensures c.in_ok-nodes-in-Err-Cycle.ensures in
-    (c.requires.ready, told, cycle_bars c.args.meta.now c.edges_join_nodes.ensures c.in_ok-nodes-in-Err-Cycle.nodes told)
+    (told, cycle_bars c.args.meta.now c.edges_join_nodes.ensures c.in_ok-nodes-in-Err-Cycle.nodes told)
+
+pub returns-in-Ok : goal.returns-in-Ok
+returns-in-Ok c = record {
+  ranks = rw c.rows.ensures at c.in-Ok.ensures.ranks;
+  classes = rw (c.rows.ensures, c.requires.own) at c.in-Ok.ensures.classes;
+}
