@@ -1,7 +1,7 @@
 -- Keys that a map takes for the same are the same.
 use Rattle.std.proofs.Common.{◌≡◌, ℕ, ◌&&◌, Bool, true, false, cond, refl, ap, ◌∙◌, eqb}
-use Rattle.std.proofs.lemmas.Bool.{eqb-true, and_parts}
-use Rattle.connections.specs.Lists.{same_pair, Ends, same_ends}
+use Rattle.std.proofs.lemmas.Bool.{eqb-true, eq-eqb, and_parts}
+use Rattle.connections.specs.code.Store.{same_pair, Ends, same_ends}
 
 pub pair-same : (p q : ℕ × ℕ) → same_pair p q ≡ true → p ≡ q
 pair-same p q h = ap (λ x. (x, p.1)) (eqb-true _ _ (and_parts _ _ h).0) ∙ ap (λ y. (q.0, y)) (eqb-true _ _ (and_parts _ _ h).1)
@@ -41,3 +41,10 @@ at_number f p q = by_test (eqb p q) refl
     by_test : (b : Bool) → eqb p q ≡ b → cond b (f p) (f q) ≡ f q
     by_test true h = ap f (eqb-true p q h)
     by_test false h = refl
+
+pub same-self : (e : Ends) → same_ends e e ≡ true
+same-self e =
+    ap (λ b. ((b && eqb e.1 e.1) && eqb e.2 e.2) && eqb e.3 e.3) (eq-eqb e.0 e.0 refl)
+    ∙ ap (λ b. ((true && b) && eqb e.2 e.2) && eqb e.3 e.3) (eq-eqb e.1 e.1 refl)
+    ∙ ap (λ b. ((true && true) && b) && eqb e.3 e.3) (eq-eqb e.2 e.2 refl)
+    ∙ eq-eqb e.3 e.3 refl

@@ -1,31 +1,57 @@
 -- The connections' numbers rise, so the first of a signal that is numbered above is the next one of it.
-use Rattle.std.proofs.Common.{◌≡◌, ℕ, ◌<◌, ◌≤◌, ◌&&◌, nat_lt, nat_le, Bool, true, false, cond, List, [], ◌∷◌, Option, None, Some, refl, arith, eqb}
-use Rattle.std.specs.List.{find, cons_option}
-use Rattle.std.proofs.lemmas.Bool.{eqb-true, leb-false}
-use Rattle.slab.specs.Slab.{Slab, get}
+use Rattle.std.proofs.Common.{◌≡◌, ℕ, ◌+◌, ◌<◌, ◌&&◌, ◌||◌, not, nat_lt, nat_le, Bool, true, false, cond, List, [], ◌∷◌, None, refl, arith, ap, sym, ◌∙◌, filter, count_by, Contains}
+use Rattle.std.specs.List.{find, list_any}
+use Rattle.std.proofs.lemmas.Bool.{false≢true, or_parts, leb-false}
+use Rattle.std.proofs.lemmas.List.Sums.{sum_by-cons}
 use Rattle.connections.specs.declared.connection.Connection.{Connection}
-use Rattle.connections.specs.declared.cell.Cell.{Cell}
-use Rattle.connections.specs.declared.place.CellPlace.{CellPlace}
-use Rattle.connections.specs.Connected.{Rises, not_above}
-use Rattle.connections.specs.Places.{connection_in, live, Rising}
+use Rattle.connections.specs.Connected.{Held, Rises, not_above, removed_in}
+use Rattle.connections.proofs.Basics.{filter-all, any-member}
 
-Rises-lower : (low less last : ℕ) (cs : List Connection) → less ≤ low → Rises low cs last → Rises less cs last
-Rises-lower low less last [] h r = omega (arith, h, r)
-Rises-lower low less last (c ∷ cs) h r = (omega (arith, h, r.0), r.1)
-
-Rises-cons : (low number last : ℕ) (x : Option Cell) (cs : List Connection) → low < number → Rises number cs last → Rises low (cons_option (connection_in number x) cs) last
-Rises-cons low number last None cs h r = Rises-lower number low last cs (omega (arith, h)) r
-Rises-cons low number last (Some cell) cs h r = by_tests cell.live (eqb cell.connection.number number) refl
+-- a search for two tests is a search for one in what passes the other
+pub find_both : (p q : Connection → Bool) (cs : List Connection) → find (λ c. p c && q c) cs ≡ find q (filter p cs)
+find_both p q [] = refl
+find_both p q (c ∷ cs) = by_tests (p c) (q c) refl refl (find_both p q cs)
   where
-    by_tests : (a b : Bool) → eqb cell.connection.number number ≡ b → Rises low (cons_option (cond (a && b) (Some cell.connection) None) cs) last
-    by_tests true true e = let same : cell.connection.number ≡ number = eqb-true _ _ e in (omega (arith, same, h), rw same r)
-    by_tests true false e = Rises-lower number low last cs (omega (arith, h)) r
-    by_tests false b e = Rises-lower number low last cs (omega (arith, h)) r
+    by_tests : (a b : Bool) → p c ≡ a → q c ≡ b → find (λ d. p d && q d) cs ≡ find q (filter p cs) → find (λ d. p d && q d) (c ∷ cs) ≡ find q (filter p (c ∷ cs))
+    by_tests true true e f h = grind (arith, h)
+    by_tests true false e f h = grind (arith, h)
+    by_tests false b e f h = grind (arith, h)
 
--- what rising places lead to rises
-pub Rises-live : (cells : Slab Cell) (low last : ℕ) (places : List CellPlace) → Rising low places last → Rises low (live cells places) last
-Rises-live cells low last [] r = r
-Rises-live cells low last (p ∷ places) r = Rises-cons low p.number last (get cells p.key) (live cells places) r.0 (Rises-live cells p.number last places r.1)
+-- where none is counted, none passes the test
+pub none-counted : (p : Connection → Bool) (cs : List Connection) → count_by p cs ≡ 0 → list_any p cs ≡ false
+none-counted p [] h = refl
+none-counted p (c ∷ cs) h = by_test (p c) refl (λ i. none-counted p cs i)
+  where
+    by_test : (b : Bool) → p c ≡ b → (count_by p cs ≡ 0 → list_any p cs ≡ false) → (b || list_any p cs) ≡ false
+    by_test true e r = let one : (cond {A = ℕ} (p c) 1 0) ≡ 1 = ap (λ b. cond {A = ℕ} b 1 0) e in absurd (omega (arith, one, h, sum_by-cons (λ z. cond (p z) 1 0) c cs))
+    by_test false e r = let one : (cond {A = ℕ} (p c) 1 0) ≡ 0 = ap (λ b. cond {A = ℕ} b 1 0) e in r (omega (arith, one, h, sum_by-cons (λ z. cond (p z) 1 0) c cs))
+
+counted-none : (p : Connection → Bool) (cs : List Connection) → list_any p cs ≡ false → count_by p cs ≡ 0
+counted-none p [] h = refl
+counted-none p (c ∷ cs) h =
+    let both = or_parts (p c) (list_any p cs) h in
+    let one : (cond {A = ℕ} (p c) 1 0) ≡ 0 = ap (λ b. cond {A = ℕ} b 1 0) both.0 in
+    omega (arith, one, counted-none p cs both.1, sum_by-cons (λ z. cond (p z) 1 0) c cs)
+
+pub some-counted : (p : Connection → Bool) (cs : List Connection) → (count_by p cs ≡ 0 → ⊥) → list_any p cs ≡ true
+some-counted p cs h = by_test (list_any p cs) refl
+  where
+    by_test : (b : Bool) → list_any p cs ≡ b → b ≡ true
+    by_test true e = refl
+    by_test false e = absurd (h (counted-none p cs e))
+
+-- and none is removed
+pub none-removed : (p : Connection → Bool) (h : Held) → count_by p h.connected.connections ≡ 0 → removed_in p h ≡ h
+none-removed p h none =
+    let with : List Connection → ℕ → Held = λ cs n. record { connected = record { connections = cs; last = h.connected.last }; marked = n } in
+    let stays : (c : Connection) → Contains h.connected.connections c → not (p c) ≡ true = λ c m. fails c m (p c) refl in
+    let same : h.marked + count_by p h.connected.connections ≡ h.marked = omega (arith, none) in
+    ap (λ (cs : List Connection). with cs (h.marked + count_by p h.connected.connections)) (filter-all (λ c. not (p c)) h.connected.connections stays)
+    ∙ ap (with h.connected.connections) same
+  where
+    fails : (c : Connection) → Contains h.connected.connections c → (b : Bool) → p c ≡ b → not b ≡ true
+    fails c m true e = absurd (false≢true (sym (none-counted p h.connected.connections none) ∙ any-member p h.connected.connections c m e))
+    fails c m false e = refl
 
 module _ (p : Connection → Bool) (used made : ℕ) where
   abbrev due : Connection → Bool

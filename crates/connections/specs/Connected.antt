@@ -66,7 +66,7 @@ connected_by s sender signal receiver method kind single = record {
 abbrev pub removed : (Connection → Bool) → Connected → Connected
 removed test s = record s { connections = without test s.connections }
 
--- the connections, and how many that were removed still take up a cell: they are marked, until they are swept
+-- the connections, and how many were removed since the last sweep: these are marked
 pub record Held : Type 0 where
   pub connected : Connected
   pub marked : ℕ

@@ -1,66 +1,81 @@
-//! A new connection, in a cell and in each list that it belongs to.
+//! A new connection, in each list that it belongs to.
 
-ghost use Rattle.std.specs.Prelude.{◌≡◌, ℕ, ◌∷◌, [], ◌++◌, ◌+◌, ◌≤◌, eqb, if◌then◌else◌, OnOk};
-ghost use Rattle.std.specs.Vec.{vec_capacity};
-ghost use Rattle.slab.specs.Slab.{slab_len};
-ghost use Rattle.connections.specs.Connected.{touches};
-ghost use Rattle.connections.specs.Groups.{list_of};
-ghost use Rattle.connections.specs.Lists.{same_pair, all_of};
-ghost use Rattle.connections.specs.Rooms.{Rooms, IsKept, Adds, placed_at, PushesBySignal, PushesByEnds, PushesByObject};
+ghost use Rattle.std.specs.Prelude.{◌≡◌, ◌⊎◌, true, OnOk, OnErr};
+ghost use Rattle.connections.specs.code.Links.{connection_of};
+ghost use Rattle.connections.specs.code.Listed.{AddsItem, KeepsOthers, SameItems};
+ghost use Rattle.connections.specs.code.Store.{Gains, Grows, IsNoted, Stays, ends_in, has_pair, same_ends};
 
-use crate::cell::Cell;
-use crate::connection::Connection;
-use crate::groups::{Lists, ends_of, make_room, push_place};
-use crate::place::CellPlace;
-use slab::Slab;
+use crate::link::Link;
+use crate::listed::{Listed, add_item, insert_first, push};
+use crate::lists::{Lists, ends_between};
+use crate::place::Place;
+use indexmap::IndexMap;
+use signatures::ObjectId;
 use std::alloc::{AllocError, Global};
 
-/// Makes room for one more connection, or changes nothing that is seen.
-pub fn make_rooms(
+/// Adds a link of a sender and signal, whose number is the next one. Without memory nothing changes that is seen.
+pub fn add(
     alloc: Global,
-    cells: &mut Slab<Cell>,
     lists: &mut Lists,
-    marked: &mut Vec<usize>,
-    c: &Connection,
+    objects: &mut IndexMap<usize, Listed<(usize, usize, usize, usize)>>,
+    sender: ObjectId,
+    signal: usize,
+    link: Link,
 ) -> Result<(), AllocError>
-    ensures rooms { OnOk result (Rooms cells.new lists.new c.now) }
-    ensures mark { OnOk result (slab_len cells.new + 1 ≤ vec_capacity marked.new) }
-    ensures kept { IsKept cells.old lists.old marked.old cells.new lists.new marked.new }
+    requires { link.live ≡ true }
+    ensures made { OnOk result
+        (Gains (ends_in objects.old) (ends_in objects.new) (connection_of sender signal link) lists.old lists.new) }
+    ensures err { OnErr result (Stays (ends_in objects.old) (ends_in objects.new) lists.old lists.new) }
 {
-    cells.reserve(1)?;
-    marked.reserve(cells.capacity())?;
-    lists.all.reserve()?;
-    make_room(alloc, &mut lists.by_signal, (c.sender.number(), c.signal))?;
-    make_room(alloc, &mut lists.by_ends, ends_of(c))?;
-    make_room(alloc, &mut lists.by_object, c.sender.number())?;
-    make_room(alloc, &mut lists.by_object, c.receiver.number())?;
+    let number = link.number;
+    let ends = ends_between(sender, signal, link.receiver, link.method);
+    lists.all.reserve(1)?;
+    note(alloc, &mut lists.pairs, objects, ends, number)?;
+    add_item(alloc, &mut lists.groups, (ends.0, ends.1), link)?;
+    lists.all.push_reserved(Place {
+        number,
+        sender,
+        signal,
+    });
     Ok(())
 }
 
-/// Puts a connection, for which there is room, into a cell and into its lists.
-pub fn put(cells: &mut Slab<Cell>, lists: &mut Lists, c: Connection) -> usize
-    requires { Rooms cells.old lists.old c }
-    ensures cell { Adds cells.old cells.new result c }
-    ensures len { slab_len cells.new ≡ slab_len cells.old + 1 }
-    ensures all { all_of lists.new ≡ all_of lists.old ++ placed_at c result ∷ [] }
-    ensures signals { PushesBySignal lists.old lists.new c (placed_at c result) }
-    ensures ends { PushesByEnds lists.old lists.new c (placed_at c result) }
-    ensures objects { PushesByObject lists.old lists.new c (placed_at c result) }
+/// Notes a number under the ends of its connection, and ends that are new under both their objects.
+fn note(
+    alloc: Global,
+    pairs: &mut IndexMap<(usize, usize, usize, usize), Listed<u64>>,
+    objects: &mut IndexMap<usize, Listed<(usize, usize, usize, usize)>>,
+    ends: (usize, usize, usize, usize),
+    number: u64,
+) -> Result<(), AllocError>
+    ensures added { OnOk result (AddsItem same_ends pairs.old pairs.new ends number) }
+    ensures err { OnErr result (SameItems same_ends pairs.old pairs.new) }
+    ensures others { KeepsOthers same_ends pairs.old pairs.new ends }
+    ensures noted { has_pair pairs.new ends ≡ true → (has_pair pairs.old ends ≡ true) ⊎ IsNoted (ends_in objects.new) ends }
+    ensures grown { Grows (ends_in objects.old) (ends_in objects.new) }
 {
-    let key = cells.insert_reserved(Cell {
-        connection: c,
-        live: true,
-    });
-    let place = CellPlace {
-        number: c.number,
-        key,
-    };
-    lists.all.push(place);
-    push_place(&mut lists.by_signal, (c.sender.number(), c.signal), place);
-    push_place(&mut lists.by_ends, ends_of(&c), place);
-    push_place(&mut lists.by_object, c.sender.number(), place);
-    if c.receiver != c.sender {
-        push_place(&mut lists.by_object, c.receiver.number(), place);
+    match pairs.get_mut(&ends) {
+        None => {}
+        Some(pair) => {
+            push(pair, number)?;
+            return Ok(());
+        }
     }
-    key
+    note_ends(alloc, objects, ends)?;
+    insert_first(alloc, pairs, ends, number)?;
+    Ok(())
+}
+
+/// Notes ends under both their objects.
+fn note_ends(
+    alloc: Global,
+    objects: &mut IndexMap<usize, Listed<(usize, usize, usize, usize)>>,
+    ends: (usize, usize, usize, usize),
+) -> Result<(), AllocError>
+    ensures noted { OnOk result (IsNoted (ends_in objects.new) ends) }
+    ensures grown { Grows (ends_in objects.old) (ends_in objects.new) }
+{
+    add_item(alloc, objects, ends.0, ends)?;
+    add_item(alloc, objects, ends.2, ends)?;
+    Ok(())
 }

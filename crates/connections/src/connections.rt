@@ -1,35 +1,40 @@
-ghost use Rattle.std.specs.Prelude.{◌≡◌, ◌↔◌, ℕ, ◌+◌, ◌^◌, ◌<◌, ◌-◌, ◌≤◌, ◌&&◌, Err, [], ◌∷◌, ◌++◌, IsTrue, IsOk, OnOk, OnErr, IfSome};
-ghost use Rattle.std.specs.List.{find};
+ghost use Rattle.std.specs.Prelude.{◌≡◌, ◌↔◌, ℕ, ◌+◌, ◌^◌, ◌<◌, ◌-◌, ◌≤◌, ◌&&◌, true, Err, [], ◌∷◌, ◌++◌, IsTrue, IsOk, OnOk, OnErr, count_by};
+ghost use Rattle.std.specs.List.{find, list_any};
 ghost use Rattle.connections.specs.Connected.{unconnected, joins, is_later, is_due, is_numbered, touches, are_connected, connected_by, removed_in, not_above, Rises};
-ghost use Rattle.connections.specs.Cells.{fits};
+ghost use Rattle.connections.specs.code.Links.{connection_of, is_due as is_due_link};
+ghost use Rattle.connections.specs.code.Store.{EachRises, fits, links_in, numbers_in};
 ghost use Rattle.connections.specs.declared.fault.ConnectFault.TheVariants.{Exists};
 
-use crate::adding::{make_rooms, put};
-use crate::cell::Cell;
+use crate::adding::add;
 use crate::connection::Connection;
 use crate::fault::{ConnectFault, DisconnectFault};
-use crate::groups::Lists;
+use crate::groups::{links_near, links_of};
 use crate::hint::SignalHint;
+use crate::link::Link;
+use crate::listed::{Listed, items_of};
+use crate::lists::{Lists, ends_between};
 use crate::removing::{Removal, remove};
 use crate::search::{lead_to_any, next_above};
 use crate::sweeping::sweep;
+use indexmap::IndexMap;
 use signatures::{Kind, ObjectId};
-use slab::Slab;
 use std::alloc::{AllocError, Global};
 use std::marker::Model;
 
 /// The connections that were made and not removed, in the order in which they were made, and the last number given.
 ///
-/// They are in cells, to which lists lead: one of all, one for each sender and signal, one for each signal and method
-/// that are joined, one for each object. So an emission costs what is connected to its signal, and a disconnect what it
-/// breaks, and not what is connected in all. A connection that is removed is marked and its cell stays until the next
-/// [`Connections::sweep`], since emissions below may stand on it: whoever uses the connections sweeps where none goes on.
-/// Only `new`, which takes no memory yet, and `connect` ever take memory.
+/// Each stands among the links of its sender and signal, where an emission reads it. Beside these there is the place of
+/// each, in the order of the numbers, the numbers of those with the same ends, and for each object the ends that lead
+/// from or to it. So an emission costs what is connected to its signal, and a disconnect what it breaks, and not what is
+/// connected in all, and both look up few keys. A connection that is removed is marked, and its place stays until the
+/// next [`Connections::sweep`]; emissions below may stand on its number. Lists and keys are tidied once more than half of
+/// what they hold is left over. Only `new`, which takes no memory yet, and `connect` ever take memory.
 pub struct Connections {
     alloc: Global,
-    cells: Slab<Cell>,
     lists: Lists,
-    marked: Vec<usize>,
+    objects: IndexMap<usize, Listed<(usize, usize, usize, usize)>>,
+    marked: usize,
+    stale: usize,
     last: u64,
 }
 
@@ -37,9 +42,10 @@ impl Drop for Connections {
     fn drop(self) {
         let Connections {
             alloc: _,
-            cells: _,
             lists: _,
+            objects: _,
             marked: _,
+            stale: _,
             last: _,
         } = self;
     }
@@ -50,15 +56,14 @@ impl Model for Connections {
 
     ghost Value = { Held };
 
-    ghost use Rattle.std.specs.Vec.{vec_len};
-    ghost use Rattle.connections.specs.Lists.{shown_in, Tied};
+    ghost use Rattle.connections.specs.code.Store.{connections_in, ends_in, Whole};
 
     ghost view = { λ c. record {
-      connected = record { connections = shown_in c.cells c.lists; last = c.last };
-      marked = vec_len c.marked;
+      connected = record { connections = connections_in c.lists; last = c.last };
+      marked = c.marked;
     } };
 
-    ghost invariant = { λ c. Tied c.cells c.lists c.marked c.last };
+    ghost invariant = { λ c. Whole c.lists (ends_in c.objects) c.marked c.last };
 }
 
 impl Connections {
@@ -69,9 +74,10 @@ impl Connections {
     {
         Connections {
             alloc,
-            cells: Slab::new(alloc),
             lists: Lists::new(alloc),
-            marked: Vec::new(alloc),
+            objects: IndexMap::new(alloc),
+            marked: 0,
+            stale: 0,
             last: 0,
         }
     }
@@ -83,11 +89,11 @@ impl Connections {
         self.last
     }
 
-    /// How many removed connections are marked, and so still take up a cell.
+    /// How many connections were removed since the last sweep: they are marked, and their places are still taken.
     pub fn marked(&self) -> usize
         ensures { result ≡ self.now.marked }
     {
-        self.marked.len()
+        self.marked
     }
 
     /// The numbers rise in the order of the connections, from 1 on, and none is above the last one given.
@@ -102,8 +108,8 @@ impl Connections {
     pub fn next_after(&self, sender: ObjectId, signal: usize, number: u64) -> Option<Connection>
         ensures { result ≡ find (is_later sender signal number) self.now.connected.connections }
     {
-        let places = self.lists.of_signal(sender, signal);
-        next_above(&self.cells, places, number)
+        let links = links_of(&self.lists.groups, sender, signal);
+        next_above(links, sender, signal, number)
     }
 
     /// The connection that an emission uses next: the first of its sender and signal that was made later than the last
@@ -120,8 +126,8 @@ impl Connections {
     ) -> Option<Connection>
         ensures { result ≡ find (is_due sender signal used made) self.now.connected.connections }
     {
-        let places = self.lists.of_signal_near(sender, signal, hint);
-        let next = next_above(&self.cells, places, used);
+        let links = links_near(&self.lists.groups, sender, signal, hint);
+        let next = next_above(links, sender, signal, used);
         not_above(next, made)
     }
 
@@ -135,9 +141,7 @@ impl Connections {
     ) -> bool
         ensures { result ≡ are_connected sender signal receiver method self.now.connected }
     {
-        let places = self.lists.of_ends(sender, signal, receiver, method);
-        let same = Removal::Between(sender, signal, receiver, method);
-        lead_to_any(&self.cells, places, &same)
+        have_ends(&self.lists, ends_between(sender, signal, receiver, method))
     }
 
     /// Makes a connection with the next number, unless a `unique` one exists; without memory nothing changes.
@@ -163,37 +167,39 @@ impl Connections {
         if unique && self.are_connected(sender, signal, receiver, method) {
             return Err(ConnectFault::Exists);
         }
-        let connection = Connection {
+        let link = Link {
             number: self.last + 1,
-            sender,
-            signal,
             receiver,
             method,
             kind,
             single,
+            live: true,
         };
-        self.append(connection)?;
+        self.append(sender, signal, link)?;
         Ok(())
     }
 
-    /// Adds a connection that has the next number.
-    fn append(&mut self, connection: Connection) -> Result<(), AllocError>
-        requires number { connection.number ≡ self.old.connected.last + 1 }
+    /// Adds a link of a sender and signal, which has the next number.
+    fn append(&mut self, sender: ObjectId, signal: usize, link: Link) -> Result<(), AllocError>
+        requires number { link.number ≡ self.old.connected.last + 1 }
+        requires live { link.live ≡ true }
         ensures made { OnOk result
-            (self.new.connected.connections ≡ self.old.connected.connections ++ connection ∷ []) }
+            (self.new.connected.connections
+            ≡ self.old.connected.connections ++ connection_of sender signal link ∷ []) }
         ensures numbered { OnOk result (self.new.connected.last ≡ self.old.connected.last + 1) }
         ensures marked { self.new.marked ≡ self.old.marked }
         ensures err { OnErr result (self.new ≡ self.old) }
     {
-        make_rooms(
+        let number = link.number;
+        add(
             self.alloc,
-            &mut self.cells,
             &mut self.lists,
-            &mut self.marked,
-            &connection,
+            &mut self.objects,
+            sender,
+            signal,
+            link,
         )?;
-        put(&mut self.cells, &mut self.lists, connection);
-        self.last = connection.number;
+        self.last = number;
         Ok(())
     }
 
@@ -211,10 +217,10 @@ impl Connections {
             ↔ IsTrue (are_connected sender signal receiver method self.old.connected) }
         ensures err { OnErr result (self.new ≡ self.old) }
     {
-        if !self.are_connected(sender, signal, receiver, method) {
+        let count = self.remove(Removal::Between(sender, signal, receiver, method));
+        if count == 0 {
             return Err(DisconnectFault::NoConnection);
         }
-        self.remove(Removal::Between(sender, signal, receiver, method));
         Ok(())
     }
 
@@ -232,19 +238,36 @@ impl Connections {
         self.remove(Removal::Numbered(number));
     }
 
-    fn remove(&mut self, removal: Removal)
-        ensures { self.new ≡ removed_in (fits removal) self.old }
+    /// Removes the connections that are to be removed, and marks each: so many.
+    fn remove(&mut self, removal: Removal) -> usize
+        ensures removed { self.new ≡ removed_in (fits removal) self.old }
+        ensures count { result ≡ count_by (fits removal) self.old.connected.connections }
     {
-        remove(&mut self.cells, &self.lists, &mut self.marked, &removal);
+        let count = remove(&mut self.lists, &self.objects, &removal);
+        self.marked += count;
+        count
     }
 
-    /// Gives back the cells of the connections that were removed. No emission may go on that stands on one of them.
+    /// Forgets the marks, and in time gives back what the connections that were removed take up. No emission may go on
+    /// that stands on one of them.
     pub fn sweep(&mut self)
         ensures connected { self.new.connected ≡ self.old.connected }
         ensures marked { self.new.marked ≡ 0 }
     {
-        sweep(&mut self.cells, &mut self.lists, &mut self.marked);
+        let stale = self.stale.saturating_add(self.marked);
+        self.stale = sweep(&mut self.lists, &mut self.objects, stale);
+        self.marked = 0;
     }
+}
+
+/// Whether there is a connection with these ends.
+fn have_ends(lists: &Lists, ends: (usize, usize, usize, usize)) -> bool
+    requires { EachRises (links_in lists.now.groups) }
+    ensures { result ≡ list_any (λ n. list_any (is_due_link n ends.2 ends.3) (links_in lists.now.groups ends.0 ends.1)) (numbers_in lists.now.pairs ends) }
+{
+    let numbers = items_of(&lists.pairs, ends);
+    let links = items_of(&lists.groups, (ends.0, ends.1));
+    lead_to_any(links, numbers, ends.2, ends.3)
 }
 
 /// The connection, unless it was made later than the one of this number.

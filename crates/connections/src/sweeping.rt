@@ -1,82 +1,135 @@
-//! Removed connections leave their cells, and in time the lists.
+//! Removed connections leave the list of all, and in time keys with no connections are dropped.
 
-ghost use Rattle.std.specs.Prelude.{◌≡◌, ℕ, ◌≤◌, IfNone, IfSome, Some, None, false, if◌then◌else◌, eqb};
-ghost use Rattle.std.specs.Vec.{vec_len};
-ghost use Rattle.slab.specs.Slab.{get, slab_len};
-ghost use Rattle.std.specs.List.{Contains};
-ghost use Rattle.connections.specs.declared.cell.Cell.{Cell as ACell};
-ghost use Rattle.connections.specs.Cells.{Marked, HoldDead, Sweeps, SweepsAt, swept};
-ghost use Rattle.connections.specs.Lists.{StayLed, StayShown, TidiesLists};
+ghost use Rattle.std.specs.Prelude.{◌≡◌, ℕ, List, filter, if◌then◌else◌, eqb};
+ghost use Rattle.connections.specs.code.Store.{EachRises, Ends, KeepsPaired, Stays, ends_in, has_pair, is_shown, links_in};
 
-use crate::cell::Cell;
-use crate::connection::Connection;
-use crate::groups::{Lists, ends_of, forget_place};
-use slab::Slab;
+use crate::groups::links_of;
+use crate::link::Link;
+use crate::listed::{Listed, drop_idle, give_back};
+use crate::lists::Lists;
+use crate::pairs::is_held;
+use crate::place::Place;
+use indexmap::IndexMap;
 
-/// Empties each cell whose connection was removed.
-pub fn sweep(cells: &mut Slab<Cell>, lists: &mut Lists, marked: &mut Vec<usize>)
-    requires { Marked cells.old marked.old }
-    ensures marked { Marked cells.new marked.new }
-    ensures none { vec_len marked.new ≡ 0 }
-    ensures cells { Sweeps cells.old cells.new }
-    ensures lists { StayLed cells.old lists.old cells.new lists.new }
-    ensures shown { StayShown cells.old lists.old cells.new lists.new }
+/// The places of this many removed connections wait, so that few are not tidied time and again.
+const FEW: usize = 64;
+
+/// The keys of this many pairs that have no connections stay, since most that were connected once are so again.
+const SPARE: usize = 512;
+
+/// Tidies the lists, where the places of so many connections that were removed are among all: how many are left.
+pub fn sweep(
+    lists: &mut Lists,
+    objects: &mut IndexMap<usize, Listed<(usize, usize, usize, usize)>>,
+    stale: usize,
+) -> usize
+    ensures { Stays (ends_in objects.old) (ends_in objects.new) lists.old lists.new }
 {
-    sweep_keys(cells, lists, marked);
-    marked.clear();
+    let left = tidy_places(lists, stale);
+    tidy_keys(lists, objects);
+    left
 }
 
-/// Empties the cells of these keys whose connections were removed.
-fn sweep_keys(cells: &mut Slab<Cell>, lists: &mut Lists, keys: &[usize])
-    requires { HoldDead cells.old keys.now }
-    ensures cells { Sweeps cells.old cells.new }
-    ensures len { slab_len cells.new ≤ slab_len cells.old }
-    ensures lists { StayLed cells.old lists.old cells.new lists.new }
-    ensures shown { StayShown cells.old lists.old cells.new lists.new }
+/// Once more than half of the places are stale, these leave: how many are left.
+fn tidy_places(lists: &mut Lists, stale: usize) -> usize
+    ensures { (each : ℕ → List Ends) → Stays each each lists.old lists.new }
 {
-    for key in keys {
-        sweep_one(cells, lists, *key);
+    if stale <= FEW || stale <= lists.all.len() / 2 {
+        return stale;
+    }
+    keep_shown(&lists.groups, &mut lists.all);
+    0
+}
+
+/// Keeps the places of the connections that are there.
+fn keep_shown(groups: &IndexMap<(usize, usize), Listed<Link>>, all: &mut Vec<Place>)
+    ensures { EachRises (links_in groups.now) → all.new.items ≡ filter (is_shown (links_in groups.now)) all.old.items }
+{
+    all.retain(|place| is_shown(groups, place));
+    give_back(all);
+}
+
+/// Whether the connection of a place is there.
+fn is_shown(groups: &IndexMap<(usize, usize), Listed<Link>>, place: &Place) -> bool
+    ensures { EachRises (links_in groups.now) → result ≡ is_shown (links_in groups.now) place.now }
+{
+    is_held(links_of(groups, place.sender, place.signal), place.number)
+}
+
+/// Once many pairs have no connections, their keys are dropped, and those of signals and objects with none.
+fn tidy_keys(lists: &mut Lists, objects: &mut IndexMap<usize, Listed<(usize, usize, usize, usize)>>)
+    ensures { Stays (ends_in objects.old) (ends_in objects.new) lists.old lists.new }
+{
+    if lists.pairs.len() / 2 > lists.all.len().saturating_add(SPARE) {
+        drop_keys(lists, objects);
     }
 }
 
-/// Empties the cell of this key, if its connection was removed.
-fn sweep_one(cells: &mut Slab<Cell>, lists: &mut Lists, key: usize)
-    ensures cells { SweepsAt key cells.old cells.new }
-    ensures len { slab_len cells.new ≤ slab_len cells.old }
-    ensures lists { TidiesLists cells.new lists.old lists.new }
+fn drop_keys(lists: &mut Lists, objects: &mut IndexMap<usize, Listed<(usize, usize, usize, usize)>>)
+    ensures { Stays (ends_in objects.old) (ends_in objects.new) lists.old lists.new }
 {
-    if let Some(c) = removed_at(cells, key) {
-        cells.try_remove(key);
-        forget(cells, lists, &c);
+    drop_idle(&mut lists.groups);
+    drop_idle(&mut lists.pairs);
+    keep_paired(&lists.pairs, objects);
+    drop_idle(objects);
+}
+
+/// Of the ends of each object, those stay that have a list of numbers.
+fn keep_paired(
+    pairs: &IndexMap<(usize, usize, usize, usize), Listed<u64>>,
+    objects: &mut IndexMap<usize, Listed<(usize, usize, usize, usize)>>,
+)
+    ensures { (object : ℕ) → KeepsPaired (has_pair pairs.now) (ends_in objects.old object) (ends_in objects.new object) }
+{
+    for index in 0..objects.len() {
+        keep_paired_at(pairs, objects, index);
     }
 }
 
-/// The connection in a cell, if it was removed.
-fn removed_at(cells: &Slab<Cell>, key: usize) -> Option<Connection>
-    ensures none { IfNone result (swept (get cells.now key) ≡ get cells.now key) }
-    ensures some { IfSome result (λ _. swept (get cells.now key) ≡ None) }
+fn keep_paired_at(
+    pairs: &IndexMap<(usize, usize, usize, usize), Listed<u64>>,
+    objects: &mut IndexMap<usize, Listed<(usize, usize, usize, usize)>>,
+    index: usize,
+)
+    ensures { (object : ℕ) → KeepsPaired (has_pair pairs.now) (ends_in objects.old object) (ends_in objects.new object) }
 {
-    match cells.get(key) {
+    match key_at(objects, index) {
+        None => {}
+        Some(object) => keep_paired_of(pairs, objects, object),
+    }
+}
+
+/// The object at an index.
+fn key_at(
+    objects: &IndexMap<usize, Listed<(usize, usize, usize, usize)>>,
+    index: usize,
+) -> Option<usize> {
+    match objects.get_index(index) {
         None => None,
-        Some(cell) => {
-            if cell.live {
-                None
-            } else {
-                Some(cell.connection)
-            }
-        }
+        Some((object, _)) => Some(*object),
     }
 }
 
-/// The places of a connection lead nowhere any more.
-fn forget(cells: &Slab<Cell>, lists: &mut Lists, c: &Connection)
-    ensures { TidiesLists cells.now lists.old lists.new }
+fn keep_paired_of(
+    pairs: &IndexMap<(usize, usize, usize, usize), Listed<u64>>,
+    objects: &mut IndexMap<usize, Listed<(usize, usize, usize, usize)>>,
+    object: usize,
+)
+    ensures { (q : ℕ) → KeepsPaired (has_pair pairs.now) (if eqb object q then ends_in objects.old object else ends_in objects.old q) (ends_in objects.new q) }
 {
-    lists.all.forget(cells);
-    forget_place(&mut lists.by_signal, (c.sender.number(), c.signal), cells);
-    forget_place(&mut lists.by_ends, ends_of(c), cells);
-    forget_place(&mut lists.by_object, c.sender.number(), cells);
-    if c.receiver != c.sender {
-        forget_place(&mut lists.by_object, c.receiver.number(), cells);
+    match objects.get_mut(&object) {
+        None => {}
+        Some(each) => keep_known(pairs, &mut each.items),
     }
+}
+
+/// Keeps the ends that have a list of numbers.
+fn keep_known(
+    pairs: &IndexMap<(usize, usize, usize, usize), Listed<u64>>,
+    each: &mut Vec<(usize, usize, usize, usize)>,
+)
+    ensures { each.new.items ≡ filter (has_pair pairs.now) each.old.items }
+{
+    each.retain(|ends| pairs.contains_key(ends));
+    give_back(each);
 }

@@ -1,15 +1,16 @@
 use Rattle.std.proofs.Common.{◌∙◌, ap}
 use Rattle.std.specs.List.{list_any}
-use Rattle.connections.specs.Connected.{Held, joins, are_connected}
-use Rattle.connections.specs.Places.{live}
-use Rattle.connections.specs.Lists.{shown_in}
-use Rattle.connections.proofs.Removed.{any_filtered}
+use Rattle.connections.specs.Connected.{Held, are_connected}
+use Rattle.connections.specs.code.Store.{links_in, numbers_in, connections_in, has_ends}
+use Rattle.connections.proofs.Asked.{asked}
 use Rattle.connections.proofs.connections.Connections.are_connected.Goals as goal
+
+pub have_ends-requires : goal.have_ends-requires
+have_ends-requires c = λ s g. (c.self.inside.last, c.self.invariant.tied.rise s g)
 
 pub returns : goal.returns
 returns c =
-    c.lead_to_any.ensures
-    ∙ ap (λ ps. list_any (joins c.args.sender c.args.signal c.args.receiver c.args.method) (live c.self.inside.cells ps)) c.of_ends-places.ensures
-    ∙ ap (list_any (joins c.args.sender c.args.signal c.args.receiver c.args.method)) (c.self.invariant.leads.by_ends c.args.sender c.args.signal c.args.receiver c.args.method).exact
-    ∙ any_filtered (joins c.args.sender c.args.signal c.args.receiver c.args.method) (shown_in c.self.inside.cells c.self.inside.lists)
+    c.have_ends.ensures
+    ∙ asked (links_in c.self.inside.lists.groups) (numbers_in c.self.inside.lists.pairs) c.self.inside.lists.all.items c.self.inside.marked c.self.inside.last c.ends_between.result c.self.invariant.tied
+    ∙ ap (λ e. list_any (has_ends e) (connections_in c.self.inside.lists)) c.ends_between.ensures
     ∙ ap (λ (h : Held). are_connected c.args.sender c.args.signal c.args.receiver c.args.method h.connected) c.self.view_is

@@ -1,27 +1,26 @@
-use Rattle.std.proofs.Common.{◌∙◌, ap, List, ℕ}
-use Rattle.std.specs.Vec.{vec_len}
+use Rattle.std.proofs.Common.{◌+◌, ◌∙◌, ap, List, ℕ, arith, count_by}
 use Rattle.connections.specs.Connected.{Held, removed_in, without}
-use Rattle.connections.specs.Cells.{fits}
-use Rattle.connections.specs.Lists.{all_of, shown_in}
+use Rattle.connections.specs.code.Store.{fits, connections_in}
 use Rattle.connections.specs.declared.connection.Connection.{Connection}
-use Rattle.connections.proofs.Indexed.{live-retired}
-use Rattle.connections.proofs.Removed.{ListsLead-retired}
-use Rattle.connections.proofs.Many.{many-retired, more_marked}
 use Rattle.connections.proofs.connections.Connections.remove.Goals as goal
 
-pub remove-requires-clause-led : goal.remove-requires-clause-led
-remove-requires-clause-led c = (c.self.inside.last, c.self.invariant.leads)
+pub remove-count-requires : goal.remove-count-requires
+remove-count-requires c = record { marks = c.self.inside.marked; last = c.self.inside.last; whole = c.self.invariant; below = omega arith }
 
 pub invariant_of-self : goal.invariant_of-self
-invariant_of-self c = record {
-  leads = ListsLead-retired c.self.inside.cells c.remove.new.cells c.self.inside.lists c.self.inside.last c.args.removal c.remove.ensures.cells c.self.invariant.leads;
-  marks = c.remove.ensures.marked;
-  many = many-retired c.self.inside.cells c.remove.new.cells c.self.inside.lists c.args.removal c.remove.ensures.cells c.self.invariant.many;
-}
+invariant_of-self c = c.remove-count.ensures.whole c.self.inside.marked c.self.inside.last c.self.invariant
 
-pub returns : goal.returns
-returns c =
+pub overflow_add-self : goal.overflow_add-self
+overflow_add-self c = omega (arith, (c.remove-count.ensures.whole c.self.inside.marked c.self.inside.last c.self.invariant).tied.room)
+
+pub returns-clause-removed : goal.returns-clause-removed
+returns-clause-removed c =
     let with : List Connection → ℕ → Held = λ cs n. record { connected = record { connections = cs; last = c.self.inside.last }; marked = n } in
-    ap (λ (cs : List Connection). with cs (vec_len c.remove.new.marked)) (live-retired c.self.inside.cells c.remove.new.cells c.args.removal (all_of c.self.inside.lists) c.remove.ensures.cells)
-    ∙ ap (λ (n : ℕ). with (without (fits c.args.removal) (shown_in c.self.inside.cells c.self.inside.lists)) n) (more_marked c.self.inside.cells c.remove.new.cells c.self.inside.lists c.args.removal c.remove.ensures.cells c.self.inside.marked c.remove.new.marked c.self.inside.last c.self.invariant c.remove.ensures.marked)
+    ap (λ (cs : List Connection). with cs (c.self.inside.marked + c.remove-count.result)) (c.remove-count.ensures.shows c.self.inside.marked c.self.inside.last c.self.invariant)
+    ∙ ap (λ (n : ℕ). with (without (fits c.args.removal) (connections_in c.self.inside.lists)) (c.self.inside.marked + n)) (c.remove-count.ensures.counts c.self.inside.marked c.self.inside.last c.self.invariant)
     ∙ ap (removed_in (fits c.args.removal)) c.self.view_is
+
+pub returns-clause-count : goal.returns-clause-count
+returns-clause-count c =
+    c.remove-count.ensures.counts c.self.inside.marked c.self.inside.last c.self.invariant
+    ∙ ap (λ (h : Held). count_by (fits c.args.removal) h.connected.connections) c.self.view_is

@@ -1,0 +1,4 @@
+pub mod Rising
+pub mod Links
+pub mod Listed
+pub mod Store

@@ -1,0 +1,42 @@
+ghost use Rattle.std.specs.Prelude.{◌≡◌};
+ghost use Rattle.connections.specs.code.Store.{IsEmpty};
+
+use crate::link::Link;
+use crate::listed::Listed;
+use crate::place::Place;
+use indexmap::IndexMap;
+use signatures::ObjectId;
+use std::alloc::Global;
+
+/// The places of all connections, the links of each sender and signal, and the numbers of those with the same ends.
+#[derive(Drop)]
+pub struct Lists {
+    pub all: Vec<Place>,
+    pub groups: IndexMap<(usize, usize), Listed<Link>>,
+    pub pairs: IndexMap<(usize, usize, usize, usize), Listed<u64>>,
+}
+
+impl Lists {
+    /// No connections.
+    pub fn new(alloc: Global) -> Lists
+        ensures { IsEmpty result }
+    {
+        Lists {
+            all: Vec::new(alloc),
+            groups: IndexMap::new(alloc),
+            pairs: IndexMap::new(alloc),
+        }
+    }
+}
+
+/// What connections join: a sender, its signal, a receiver and its method.
+pub fn ends_between(
+    sender: ObjectId,
+    signal: usize,
+    receiver: ObjectId,
+    method: usize,
+) -> (usize, usize, usize, usize)
+    ensures { result ≡ (sender, signal, receiver, method) }
+{
+    (sender.number(), signal, receiver.number(), method)
+}
