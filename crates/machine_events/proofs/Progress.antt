@@ -13,7 +13,7 @@ use Rattle.syntax_trees.specs.declared.connection.ConnectionType.{ConnectionType
 use Rattle.machine_rules.specs.Natives.{NativeAnswers}
 use Rattle.machine_rules.specs.Connecting.{AreThere}
 use Rattle.machine_rules.specs.Judgement.{Check, Then, holds, fails, goes_on as next_is, ends as ends_so}
-use Rattle.rule_interpreter.proofs.Linking.{kept-there}
+use Rattle.run_context.proofs.Linking.{kept-there}
 use Rattle.meta_model.specs.Sound.{IsSound}
 use Rattle.connections.specs.declared.connection.Connection.{Connection}
 use Rattle.trace_entries.specs.declared.fault.Fault.{Fault}

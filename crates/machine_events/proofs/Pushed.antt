@@ -20,7 +20,8 @@ use Rattle.machine_state.specs.Accepting.{accepted}
 use Rattle.machine_state.specs.Worlds.{at, accepting_entries, accepting_turn, with_bound, HasWritten, HasBound}
 use Rattle.machine_events.specs.Takes.{judged, accepts}
 use Rattle.machine_rules.specs.Natives.{NativeAnswers}
-use Rattle.rule_interpreter.specs.code.Reaches.{RunsTo, IsActivated, IsBarred}
+use Rattle.run_context.specs.code.Activating.{IsActivated, IsBarred}
+use Rattle.rule_interpreter.specs.code.Reaches.{RunsTo}
 use Rattle.binding_graph.specs.declared.binding.Binding.{Binding}
 use Rattle.binding_graph.specs.declared.place.Place.{Place}
 use Rattle.prop_bindings.specs.Calls.{new_binding}
@@ -45,7 +46,7 @@ begun-here w o x m method values (Slot statements) = refl
 begun-here w o x m method values (Native effects) = refl
 
 -- a method begins
-pub judged-begun : {p : Loaded} {d o m : ℕ} {v : World} {values : List Value} {line : Entry} {work : Work} {last : ℕ} (w : World) (e : Event) → AsksFor p w o m values e → IsActivated p d [] w o m values line work last → v ≡ accepting_entries w (line ∷ []) → judged p (at w []) e (Ok (at v (top_of o m values last work ∷ [])))
+pub judged-begun : {p : Loaded} {d o m : ℕ} {v : World} {values : List Value} {line : Entry} {work : Work} {last : ℕ} (w : World) (e : Event) → AsksFor p w o m values e → IsActivated p d 0 w o m values line work last → v ≡ accepting_entries w (line ∷ []) → judged p (at w []) e (Ok (at v (top_of o m values last work ∷ [])))
 judged-begun {p} {d} {o} {m} {v} {values} {line} {work} {last} w e asks is v_is =
     let noted : Entry → World = λ y. accepting_entries w (y ∷ []) in
     let entry : Entry = begin_entry 1 is.object m is.method.sig.name (all_shown w.store.tree values) is.method.work in
@@ -99,7 +100,7 @@ installed {p} {v} {changed = changed} w has =
 
 -- ---- .. and it runs to its end, or stops on the way
 
-pub began : {p : Loaded} {natives : NativeAnswers} {d o m : ℕ} {w v u : World} {values : List Value} {line : Entry} {work : Work} {last : ℕ} {r : Result (Unit {0}) Fault} (e : Event) → IsSoundWorld p w → ArgumentsFit p w.store.tree o m values → Ready w → AsksFor p w o m values e → IsActivated p d [] w o m values line work last → v ≡ accepting_entries w (line ∷ []) → RunsTo p natives d [] v (top_of o m values last work ∷ []) u [] r →
+pub began : {p : Loaded} {natives : NativeAnswers} {d o m : ℕ} {w v u : World} {values : List Value} {line : Entry} {work : Work} {last : ℕ} {r : Result (Unit {0}) Fault} (e : Event) → IsSoundWorld p w → ArgumentsFit p w.store.tree o m values → Ready w → AsksFor p w o m values e → IsActivated p d 0 w o m values line work last → v ≡ accepting_entries w (line ∷ []) → RunsTo p natives d [] v (top_of o m values last work ∷ []) u [] r →
     MatchResult r (λ _. Took p natives d w e u (Ok Done)) (λ f. Halts p natives d w (e ∷ []) f u)
 began {p} {natives} {d} {o} {m} {w} {v} {u} {values = values} {work = work} {last = last} {r = r} e sound fit some asks is v_is ends =
     let Agrees : World → Type 0 = λ z. Agree p z.store.tree z.store.bindings in
@@ -113,7 +114,7 @@ began {p} {natives} {d} {o} {m} {w} {v} {u} {values = values} {work = work} {las
     took-run e sound (accepts (idle w some.no_turn) begun) (good-pushed w v agree_after fits (omega (arith, room))) some.some less none ends
 
 -- a method that fits begins, unless memory is refused
-pub barred-short : {p : Loaded} {natives : NativeAnswers} {d : ℕ} {w : World} {f : Fault} (e : Event) (r : Result Answer Fault) → 0 < d → Ready w → IsBarred d [] f → IsErrAnd r (λ y. y ≡ f) → Took p natives d w e w r
+pub barred-short : {p : Loaded} {natives : NativeAnswers} {d : ℕ} {w : World} {f : Fault} (e : Event) (r : Result Answer Fault) → 0 < d → Ready w → IsBarred d 0 f → IsErrAnd r (λ y. y ≡ f) → Took p natives d w e w r
 barred-short e r room some why is = elim why [
   | inl high ↦ absurd (omega (arith, room, high.0))
   | inr memory ↦ took-unchanged e r some (memory, refl) is

@@ -30,10 +30,11 @@ pub fn take_event<N: Answering>(
     world: &mut World,
     event: &Event,
 ) -> Result<Answer, Fault>
-    requires depth { 0 < interpreter.now.depth }
-    requires promises { KeepPromises N.takes N.gives interpreter.now.meta interpreter.now.natives }
+    requires depth { 0 < interpreter.now.context.depth }
+    requires promises { KeepPromises N.takes N.gives
+        interpreter.now.context.meta interpreter.now.natives }
     requires idle { world.old.turn ≡ None }
-    requires keeps { WorldInvariant interpreter.now.meta world.old }
+    requires keeps { WorldInvariant interpreter.now.context.meta world.old }
     ensures { TookBy N.gives interpreter.now event.now world.old world.new result }
 {
     let result = run_event(interpreter, world, event);
@@ -47,10 +48,11 @@ fn run_event<N: Answering>(
     world: &mut World,
     event: &Event,
 ) -> Result<Answer, Fault>
-    requires depth { 0 < interpreter.now.depth }
-    requires promises { KeepPromises N.takes N.gives interpreter.now.meta interpreter.now.natives }
+    requires depth { 0 < interpreter.now.context.depth }
+    requires promises { KeepPromises N.takes N.gives
+        interpreter.now.context.meta interpreter.now.natives }
     requires idle { world.old.turn ≡ None }
-    requires keeps { WorldInvariant interpreter.now.meta world.old }
+    requires keeps { WorldInvariant interpreter.now.context.meta world.old }
     ensures { TookBy N.gives interpreter.now event.now world.old world.new result }
 {
     if world.left == 0 {

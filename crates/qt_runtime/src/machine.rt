@@ -49,15 +49,15 @@ impl<N> Model for Machine<N> {
         (codes, statement.the_row.coded, (expr.the_row source.the_row).coded) };
 
     ghost view = { λ m. record {
-      program = m.interpreter.meta;
+      program = m.interpreter.context.meta;
       natives = m.interpreter.natives;
-      depth = m.interpreter.depth;
+      depth = m.interpreter.context.depth;
       world = m.world;
       stopped = m.stopped;
     } };
 
     ghost invariant = { λ m.
-        MachineInvariant m.interpreter.meta m.interpreter.depth m.world m.stopped };
+        MachineInvariant m.interpreter.context.meta m.interpreter.context.depth m.world m.stopped };
 }
 
 impl<N: Answering + Drop> Machine<N> {
@@ -135,7 +135,7 @@ impl<N: Answering + Drop> Machine<N> {
         ensures claims { IsChecked N.gives self.old → Claims N.gives self.old }
     {
         // The contract of `classes` says that the numbers in bodies are those of members.
-        let _ = self.interpreter.meta.classes();
+        let _ = self.interpreter.context.meta.classes();
         if self.stopped {
             return Err(Fault::Stopped);
         }
@@ -171,7 +171,7 @@ impl<N: Answering + Drop> Machine<N> {
             → Claims N.gives self.now }
     {
         // The contract of `classes` says that the numbers in bodies are those of members.
-        let _ = self.interpreter.meta.classes();
+        let _ = self.interpreter.context.meta.classes();
         self.stopped
     }
 

@@ -1,7 +1,6 @@
 -- How methods begin.
 use Rattle.std.proofs.Common.{◌≡◌, ℕ, suc, ◌+◌, ◌-◌, ◌<◌, ◌≤◌, inl, inr, Bool, true, false, IsTrue, List, [], ◌∷◌, ◌++◌, length, take, Result, Option, None, Some, refl, sym, ap, ◌∙◌, subst, arith, length-append, Ok, Err, ◌≢◌}
 use Rattle.std.specs.List.{AllByRecursion}
-use Rattle.std.specs.Result.{IsErrAnd}
 use Rattle.signatures.specs.declared.value.Value.{Value}
 use Rattle.meta_model.specs.declared.object.MetaMethod.{MetaMethod}
 use Rattle.meta_model.specs.declared.object.ValueType.{ValueType}
@@ -14,7 +13,6 @@ use Rattle.trace_entries.specs.declared.entry.Entry.{Entry}
 use Rattle.trace_entries.specs.declared.fault.Fault.{Fault}
 use Rattle.trace_entries.specs.declared.fault.Fault.TheVariants.{BadType, TooDeep, Memory}
 use Rattle.event_loops.specs.declared.item.Item.TheVariants.{Call}
-use Rattle.std.specs.Option.{option_map}
 use Rattle.std.specs.Prelude.{is_some}
 use Rattle.class_outlines.specs.declared.qobject.TheConstants.{DESTROYED}
 use Rattle.object_tree.specs.Objects.{Lives, life_of, home_of}
@@ -32,7 +30,9 @@ use Rattle.object_tree.specs.Typed.{ReadAs}
 use Rattle.machine_rules.specs.Good.{ArgumentsFit, EmissionFits, of_living, of_dead, TopFits, IsWell, shows}
 use Rattle.machine_rules.specs.code.Sound.{Sends, SendsThese, Joined, IsDelivered, AgreeIn, MayBeHeard}
 use Rattle.machine_state.specs.Worlds.{at, noted, having_used, posting, GoesTo}
-use Rattle.rule_interpreter.specs.code.Reaches.{Reaches, StopsIn, RunsTo, CallsIn, Calls, OnlyCalls, entry_of_post, DoesWork, IsActivated, IsBarred, PostsCall}
+use Rattle.run_context.specs.code.Activating.{IsActivated, IsBarred}
+use Rattle.run_context.specs.code.Posting.{entry_of_post, PostsCall}
+use Rattle.rule_interpreter.specs.code.Reaches.{Reaches, StopsIn, RunsTo, CallsIn, Calls, OnlyCalls, DoesWork}
 use Rattle.rule_interpreter.proofs.Frames.{high, shows-over}
 use Rattle.machine_rules.specs.There.{IsMember, IsDead}
 use Rattle.machine_rules.proofs.Dying.{lives-not-dead, lives-or-dead}
@@ -88,7 +88,7 @@ fits-top last (Slot statements) below is fit = fit
 fits-top last (Native effects) below is fit = fit
 
 reaches-begun : {p : Loaded} {natives : NativeAnswers} {d o m : ℕ} {h active : List (Option ℕ)} {w u v : World} {from to : List Activation} {arguments : List Value} {line : Entry} {work : Work} {last : ℕ} →
-    active ≡ shows to ++ h → CallsIn p natives w u from to o m arguments → IsActivated p d active u o m arguments line work last → ArgumentsFit p u.store.tree o m arguments → AgreeIn p u → 0 < w.left → u.left ≡ w.left → v ≡ noted u (line ∷ []) →
+    active ≡ shows to ++ h → CallsIn p natives w u from to o m arguments → IsActivated p d (length active) u o m arguments line work last → ArgumentsFit p u.store.tree o m arguments → AgreeIn p u → 0 < w.left → u.left ≡ w.left → v ≡ noted u (line ∷ []) →
     Reaches p natives d h w from v (top_of o m arguments last work ∷ to)
 reaches-begun {p} {natives} {d} {o} {m} {h} {active} {w} {u} {v} {from} {to} {arguments} {line} {work} {last} over calls is fit agree some same v_is =
     let Pushed : World → Work → ℕ → Type 0 = λ z k l. Reaches p natives d h w from z (top_of o m arguments l k ∷ to) in
@@ -100,7 +100,7 @@ reaches-begun {p} {natives} {d} {o} {m} {h} {active} {w} {u} {v} {from} {to} {ar
 
 -- a method begins, and what it pushed runs
 pub ends-begun : {p : Loaded} {natives : NativeAnswers} {d o m : ℕ} {h active : List (Option ℕ)} {w u v z : World} {from to : List Activation} {arguments : List Value} {line : Entry} {work : Work} {last : ℕ} {r : Result (Unit {0}) Fault} →
-    active ≡ shows to ++ h → CallsIn p natives w u from to o m arguments → IsActivated p d active u o m arguments line work last → ArgumentsFit p u.store.tree o m arguments → AgreeIn p u → 0 < w.left → u.left ≡ w.left → v ≡ noted u (line ∷ []) →
+    active ≡ shows to ++ h → CallsIn p natives w u from to o m arguments → IsActivated p d (length active) u o m arguments line work last → ArgumentsFit p u.store.tree o m arguments → AgreeIn p u → 0 < w.left → u.left ≡ w.left → v ≡ noted u (line ∷ []) →
     RunsTo p natives d active v (top_of o m arguments last work ∷ []) z [] r → RunsTo p natives d h w from z to r
 ends-begun over calls is fit agree some same v_is x = ends-after (reaches-begun over calls is fit agree some same v_is) (ends-lifted over x)
 
@@ -120,7 +120,7 @@ stops-begin {o = o} {m = m} {active = active} {w = w} {u = u} {from = from} {to 
 
 -- a method that fits doesn't begin
 pub stops-barred : {p : Loaded} {natives : NativeAnswers} {d o m : ℕ} {h active : List (Option ℕ)} {w u : World} {from to : List Activation} {arguments : List Value} {f : Fault} →
-    active ≡ shows to ++ h → CallsIn p natives w u from to o m arguments → ArgumentsFit p u.store.tree o m arguments → AgreeIn p u → 0 < w.left → IsBarred d active f → StopsIn p natives d h w from w f
+    active ≡ shows to ++ h → CallsIn p natives w u from to o m arguments → ArgumentsFit p u.store.tree o m arguments → AgreeIn p u → 0 < w.left → IsBarred d (length active) f → StopsIn p natives d h w from w f
 stops-barred over calls fit agree some why = elim why [
   | inl deep ↦ stops-as deep.1 (stops-begin over calls fit agree some deep.0)
   | inr short ↦ stops-as short (stops-memory calls.goes_on some)
@@ -206,20 +206,8 @@ delivered-fits {p} {objects} {c} {x} {method} {arguments} {taken} d is cut count
 -- ---- a connection is used
 
 -- what is found of a method before the connection is used holds after it
-pub begun-used : {p : Loaded} {d o m : ℕ} {active : List (Option ℕ)} {w : World} {arguments : List Value} {line : Entry} {work : Work} {last : ℕ} (c : Connection) → IsActivated p d active w o m arguments line work last → IsActivated p d active (having_used w c) o m arguments line work last
+pub begun-used : {p : Loaded} {d n o m : ℕ} {w : World} {arguments : List Value} {line : Entry} {work : Work} {last : ℕ} (c : Connection) → IsActivated p d n w o m arguments line work last → IsActivated p d n (having_used w c) o m arguments line work last
 begun-used {w = w} c x = record { room = x.room; object = x.object; method = x.method; is = x.is; is_line = x.is_line; is_work = x.is_work; is_last = x.is_last ∙ sym (last-used c w.store.connections) }
-
--- memory was refused, behind a `?`
-pub becomes-short : (w target : World) (r : Result (Unit {0}) Fault) → IsErrAnd r (λ y. y ≡ Memory) → GoesTo w target w r
-becomes-short w target (Ok _) is = absurd is
-becomes-short w target (Err f) is = (is, refl)
-
--- an object with a method lives in a loop
-pub no-home : {p : Loaded} {objects : List Object} {o m : ℕ} {x : Object} {method : MetaMethod} → IsMember p objects o m x method → None ≡ home_of objects o → ⊥
-no-home {objects = objects} {o = o} is none =
-    let lives : home_of objects o ≡ Some is.life.home = ap (λ (there : Option Life). option_map (λ (l : Life). l.home) there) (life-of-lives is.lives) in
-    let no : None ≡ Some is.life.home = none ∙ lives in
-    absurd (cc no)
 
 -- a connection that comes next begins its method, where it reaches its receiver at once
 pub delivery-calls : {p : Loaded} {natives : NativeAnswers} {w : World} {c : Connection} {x : Object} {method : MetaMethod} {arguments taken : List Value} {count : ℕ} (o g used last : ℕ) → next_used w.store.tree w.store.connections.connections o g used last ≡ Some c → IsMember p w.store.tree c.receiver c.method x method → taken ≡ take count arguments → count ≡ length method.kinds → {home : ℕ} → home_of w.store.tree c.receiver ≡ Some home → reaches_at_once c.kind home (running w.turn) ≡ true → CallsIn p natives w (having_used w c) (Emit o g arguments used last ∷ []) (Emit o g arguments c.number last ∷ []) c.receiver c.method taken
@@ -276,14 +264,10 @@ ends-posted {p} {natives} {w = w} {v = v} {c = c} {x = x} {method = method} {arg
     subst Next (sym found) uses)
     (λ o gone. gone) room agree refl some posts.becomes
 
--- ---- tests
-
-pub not-true : (b : Bool) → b ≡ false → ¬ IsTrue b
-not-true true e h = absurd (cc e)
-not-true false e h = absurd (cc h)
+-- ---- what a method does
 
 -- what is found of a method that may begin is what it does
-pub begun-work : {p : Loaded} {d o m : ℕ} {active : List (Option ℕ)} {w : World} {arguments : List Value} {line : Entry} {work : Work} {last : ℕ} → IsActivated p d active w o m arguments line work last → DoesWork p w.store.tree o m work
+pub begun-work : {p : Loaded} {d n o m : ℕ} {w : World} {arguments : List Value} {line : Entry} {work : Work} {last : ℕ} → IsActivated p d n w o m arguments line work last → DoesWork p w.store.tree o m work
 begun-work x = record { object = x.object; method = x.method; is = x.is; is_work = x.is_work }
 
 -- .. also in a world with the same objects

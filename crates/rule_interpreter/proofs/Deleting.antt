@@ -30,7 +30,8 @@ use Rattle.rule_interpreter.specs.code.Active.{shows_body}
 use Rattle.machine_rules.specs.Destroying.{deleting, Dies, NextRule, ChildRule}
 use Rattle.machine_rules.specs.Good.{EmissionFits, of_dead, has_body, IsWell, Spares, shows}
 use Rattle.machine_rules.specs.code.Keeps.{KeepsWorld}
-use Rattle.rule_interpreter.specs.code.Reaches.{Reaches, StopsIn, RunsTo, Deletes, Kills, entry_of_destroyed, Forgets}
+use Rattle.run_context.specs.code.Activating.{entry_of_destroyed}
+use Rattle.rule_interpreter.specs.code.Reaches.{Reaches, StopsIn, RunsTo, Deletes, Kills, Forgets}
 use Rattle.machine_rules.specs.Rules.{Rule}
 use Rattle.machine_rules.specs.There.{IsDead}
 use Rattle.machine_rules.proofs.Dying.{dead-no-life, died-dead, other-seen}
@@ -142,13 +143,12 @@ living-name objects o lives =
     (there.0.name, ap (option_map (λ (x : Object). x.name)) there.2.is)
 
 -- the lines that are written down where it dies
-pub died-as : {v : World} {n m k : ℕ} {name a : List ℕ} {line : Entry} (w : World) (x : ℕ) → v ≡ dying w (At n (Died a) ∷ line ∷ []) x → a ≡ name → line ≡ entry_of_destroyed (m + 1) name → n ≡ k → m ≡ k → v ≡ died_world w k x name
-died-as {v} {n} {m} {k} {name} {a} {line} w x v_is a_is line_is n_is m_is =
+pub died-as : {v : World} {n k : ℕ} {name a : List ℕ} {line : Entry} (w : World) (x : ℕ) → v ≡ dying w (At n (Died a) ∷ line ∷ []) x → a ≡ name → line ≡ entry_of_destroyed (n + 1) name → n ≡ k → v ≡ died_world w k x name
+died-as {v} {n} {k} {name} {a} {line} w x v_is a_is line_is n_is =
     v_is
     ∙ ap (λ (l : List ℕ). dying w (At n (Died l) ∷ line ∷ []) x) a_is
     ∙ ap (λ (e : Entry). dying w (At n (Died name) ∷ e ∷ []) x) line_is
-    ∙ ap (λ (i : ℕ). dying w (At i (Died name) ∷ entry_of_destroyed (m + 1) name ∷ []) x) n_is
-    ∙ ap (λ (i : ℕ). dying w (At k (Died name) ∷ entry_of_destroyed (i + 1) name ∷ []) x) m_is
+    ∙ ap (λ (i : ℕ). dying w (At i (Died name) ∷ entry_of_destroyed (i + 1) name ∷ []) x) n_is
 
 -- .. in a world that is known to be that one
 pub died-emits : {p : Loaded} {v : World} (w : World) (n x : ℕ) {name : List ℕ} → IsSound p → name_of w.store.tree x ≡ Some name → v ≡ died_world w n x name → SendsThese p v.store.tree x DESTROYED (value.Ref None ∷ [])

@@ -4,7 +4,6 @@ pub mod Reaching
 pub mod Beginning
 pub mod Writes
 pub mod Notifying
-pub mod Linking
 pub mod Bodies
 pub mod Hearing
 pub mod Blocks

@@ -208,18 +208,3 @@ reads-there {p} {effects = effects} sound typed does is declared is_class =
 pub answer-told : {p : Loaded} {objects : List Object} {o m number : ℕ} {x : Object} {method : MetaMethod} {class : MetaObject} (effects : MetaEffects) → IsSound p → AreTyped p objects → (is : IsMember p objects o m x method) → DeclaredBy p m is.life.class number → IsClass p number class → (actions : List Action) → IsTrue (are_declared class effects actions) → AreTellable p objects o effects actions
 answer-told effects sound typed is declared is_class actions within =
     all-declared sound typed is.lives (declared-at sound declared is.is_method).0 is_class effects actions within
-
--- the property and the signal of an action that can be written down are there
-pub field-told : {p : Loaded} {objects : List Object} {o : ℕ} {effects : MetaEffects} (a : Action) (line : ShownAction) (k q : ℕ) (v : Value) → IsShownAs p objects o effects a line → a ≡ action.Set k v → Some q ≡ slice_get effects.sets k → LacksField p objects o q → ⊥
-field-told {p} {objects} {o} {effects} a line k q v (set_shown {k = j} {q = r} {x = x} {property = f} at field) e is lacks =
-    let place : j ≡ k = cc e in
-    let number : r ≡ q = some-is at (ap (slice_get effects.sets) place ∙ sym is) in
-    lacks x f (subst (λ (n : ℕ). IsField p objects o n x f) number field)
-field-told a line k q v (emit_shown at member) e is lacks = absurd (cc e)
-
-pub member-told : {p : Loaded} {objects : List Object} {o : ℕ} {effects : MetaEffects} (a : Action) (line : ShownAction) (k g : ℕ) (vs : List Value) → IsShownAs p objects o effects a line → a ≡ action.Emit k vs → Some g ≡ slice_get effects.emits k → LacksMember p objects o g → ⊥
-member-told a line k g vs (set_shown at field) e is lacks = absurd (cc e)
-member-told {p} {objects} {o} {effects} a line k g vs (emit_shown {k = j} {g = r} {x = x} {signal = f} at member) e is lacks =
-    let place : j ≡ k = cc e in
-    let number : r ≡ g = some-is at (ap (slice_get effects.emits) place ∙ sym is) in
-    lacks x f (subst (λ (n : ℕ). IsMember p objects o n x f) number member)

@@ -1,6 +1,5 @@
 -- How turns of event loops are carried out.
-use Rattle.std.proofs.Common.{◌≡◌, ℕ, ◌+◌, ◌-◌, ◌<◌, List, [], ◌∷◌, length, Result, Ok, Err, Option, Some, None, inl, inr, refl, sym, ap, ◌∙◌, subst, arith}
-use Rattle.std.specs.List.{find}
+use Rattle.std.proofs.Common.{◌≡◌, ℕ, ◌+◌, ◌-◌, ◌<◌, List, [], ◌∷◌, Result, Ok, Err, Option, Some, None, true, inl, inr, refl, sym, ap, ◌∙◌, subst, arith}
 use Rattle.std.specs.Result.{IsErrAnd}
 use Rattle.signatures.specs.declared.value.Value.{Value}
 use Rattle.meta_model.specs.declared.object.Work.{Work}
@@ -11,7 +10,7 @@ use Rattle.object_tree.specs.declared.life.Life.{Life}
 use Rattle.object_tree.specs.Objects.{life_of}
 use Rattle.object_tree.proofs.Changing.{life-of-lives}
 use Rattle.event_loops.specs.declared.item.Posted.{Posted}
-use Rattle.event_loops.specs.Queues.{items_at, is_before, taken_before}
+use Rattle.event_loops.specs.Queues.{taken_before}
 use Rattle.trace_entries.specs.declared.entry.Entry.{Entry}
 use Rattle.trace_entries.specs.declared.fault.Fault.{Fault}
 use Rattle.trace_entries.specs.declared.fault.Fault.TheVariants.{Steps, Memory}
@@ -20,7 +19,9 @@ use Rattle.machine_state.specs.declared.world.World.{World}
 use Rattle.machine_state.specs.State.{State, Activation, Destroy, IsIdle}
 use Rattle.machine_state.specs.Worlds.{at, with_queues, taking, taking_unwritten, turn_ended}
 use Rattle.machine_rules.specs.Good.{ArgumentsFit, shows}
-use Rattle.rule_interpreter.specs.code.Reaches.{IsCalled, DoesWork, Reaches, StopsIn, RunsTo, Advances, IsActivated, IsBarred}
+use Rattle.run_context.specs.code.Activating.{IsActivated, IsBarred}
+use Rattle.rule_interpreter.specs.code.Reaches.{DoesWork, Reaches, StopsIn, RunsTo, Advances}
+use Rattle.rule_interpreter.specs.code.Delivering.{first_due, IsFirst, IsCalled}
 use Rattle.machine_rules.specs.Rules.{Rule, TurnRule, Serves, Delivers, Begins, BeginsIf, top_of}
 use Rattle.machine_rules.specs.code.Going.{done}
 use Rattle.machine_rules.specs.code.Sound.{Waits, IsSoundWorld, AgreeIn}
@@ -45,9 +46,9 @@ pub stops-turn : {p : Loaded} {natives : NativeAnswers} {d : ℕ} {w : World} {t
 stops-turn {w = w} is none = record { stops = λ below e. (below, done, (none, turn-goes-on w is below)) }
 
 -- .. or its next call doesn't begin
-pub advances-barred : {p : Loaded} {natives : NativeAnswers} {d : ℕ} {active : List (Option ℕ)} {w : World} {turn : Turn} {f : Fault} (r : Result (Unit {0}) Fault) → w.turn ≡ Some turn → active ≡ [] → 0 < d → 0 < w.left → IsBarred d active f → IsErrAnd r (λ y. y ≡ f) → Advances p natives d [] w [] w [] r
-advances-barred {p} {natives} {d} {w = w} {f = f} r is none room some why barred = elim why [
-  | inl deep ↦ let none_active = ap (λ (l : List (Option ℕ)). length l) none in absurd (omega (arith, deep.0, none_active, room))
+pub advances-barred : {p : Loaded} {natives : NativeAnswers} {d : ℕ} {w : World} {turn : Turn} {f : Fault} (r : Result (Unit {0}) Fault) → w.turn ≡ Some turn → 0 < d → 0 < w.left → IsBarred d 0 f → IsErrAnd r (λ y. y ≡ f) → Advances p natives d [] w [] w [] r
+advances-barred {w = w} {f = f} r is room some why barred = elim why [
+  | inl deep ↦ absurd (omega (arith, deep.0, room))
   | inr short ↦ advances-left f r (ends-unchanged r (turn-goes-on w is) some (short, refl) barred) barred
 ]
 
@@ -61,7 +62,7 @@ none-below [] e = refl
 none-below (a ∷ below) e = absurd (cc e)
 
 -- what the turn does is the rule of an empty stack
-turn-rule : (p : Loaded) (natives : NativeAnswers) (w : World) (t : State) {turn : Turn} (first : Option Posted) → w.turn ≡ Some turn → first ≡ find (is_before turn.limit) (items_at w.store.loops.loops turn.home) → Serves p (at w []) t turn first → Rule p natives (at w []) t
+turn-rule : (p : Loaded) (natives : NativeAnswers) (w : World) (t : State) {turn : Turn} (first : Option Posted) → w.turn ≡ Some turn → first ≡ first_due w turn → Serves p (at w []) t turn first → Rule p natives (at w []) t
 turn-rule p natives w t {turn} first is found serves =
     let Next : Option Turn → Type 0 = λ x. TurnRule p (at w []) t x in
     let First : Option Posted → Type 0 = λ f. Serves p (at w []) t turn f in
@@ -70,7 +71,7 @@ turn-rule p natives w t {turn} first is found serves =
 -- ---- its rules
 
 -- with nothing left the turn ends
-pub reaches-ended : {p : Loaded} {natives : NativeAnswers} {d : ℕ} {w v : World} {turn : Turn} → w.turn ≡ Some turn → None ≡ find (is_before turn.limit) (items_at w.store.loops.loops turn.home) → AgreeIn p w → 0 < w.left → v ≡ turn_ended w → Reaches p natives d [] w [] v []
+pub reaches-ended : {p : Loaded} {natives : NativeAnswers} {d : ℕ} {w v : World} {turn : Turn} → w.turn ≡ Some turn → None ≡ first_due w turn → AgreeIn p w → 0 < w.left → v ≡ turn_ended w → Reaches p natives d [] w [] v []
 reaches-ended {p} {natives} {d} {w} {v} is none agree some v_is =
     let target : World = turn_ended w in
     let Over : List Activation → Type 0 = λ l. Rule p natives (at w l) (at target l) in
@@ -79,45 +80,43 @@ reaches-ended {p} {natives} {d} {w} {v} is none agree some v_is =
     subst Family (sym v_is) (reaches-low {a = []} {b = []} (λ below e. subst Over (sym (none-below below e)) ends) (λ o gone. gone) (omega arith) (omega arith) agree refl some)
 
 -- the first item that the turn may deliver is taken, and its call begins
-pub reaches-served : {p : Loaded} {natives : NativeAnswers} {d o m : ℕ} {active : List (Option ℕ)} {w v : World} {turn : Turn} {q : Posted} {arguments : List Value} {line : Entry} {work : Work} {last : ℕ} →
-    w.turn ≡ Some turn → Some q ≡ find (is_before turn.limit) (items_at w.store.loops.loops turn.home) → q.item ≡ Call o m arguments → active ≡ [] → IsActivated p d active w o m arguments line work last → ArgumentsFit p w.store.tree o m arguments → AgreeIn p w → 0 < w.left → v ≡ taking w (line ∷ []) turn.home turn.limit →
+pub reaches-served : {p : Loaded} {natives : NativeAnswers} {d o m : ℕ} {w v : World} {turn : Turn} {arguments : List Value} {line : Entry} {work : Work} {last : ℕ} →
+    w.turn ≡ Some turn → IsFirst w turn (Call o m arguments) → IsActivated p d 0 w o m arguments line work last → ArgumentsFit p w.store.tree o m arguments → AgreeIn p w → 0 < w.left → v ≡ taking w (line ∷ []) turn.home turn.limit →
     Reaches p natives d [] w [] v (top_of o m arguments last work ∷ [])
-reaches-served {p} {natives} {d} {o} {m} {active} {w} {v} {turn} {q} {arguments} {line} {work} {last} is found item_is none begun fit agree some v_is =
-    let none_active : length active ≡ 0 = ap (λ (l : List (Option ℕ)). length l) none in
+reaches-served {p} {natives} {d} {o} {m} {w} {v} {turn} {arguments} {line} {work} {last} is first begun fit agree some v_is =
     let took : World = with_queues w (taken_before turn.home turn.limit w.store.loops) in
-    let target : World = begun_world took (length active + 1) begun.object m begun.method arguments in
+    let target : World = begun_world took (0 + 1) begun.object m begun.method arguments in
     let stack : List Activation = top_of o m arguments w.store.connections.last begun.method.work ∷ [] in
-    let begins : Begins p (at took []) [] o m arguments (at target stack) = begins-there took arguments [] [] begun.is (omega (arith, none_active)) in
+    let begins : Begins p (at took []) [] o m arguments (at target stack) = begins-there took arguments [] [] begun.is (omega arith) in
     let Of : Item → Type 0 = λ i. Delivers p (at took []) (at target stack) i in
     let If : Option Life → Type 0 = λ life. BeginsIf p (at took []) o m arguments (at target stack) life in
-    let rule : Rule p natives (at w []) (at target stack) = turn-rule p natives w (at target stack) (Some q) is found (subst Of (sym item_is) (subst If (sym (life-of-lives begun.is.lives)) begins)) in
+    let rule : Rule p natives (at w []) (at target stack) = turn-rule p natives w (at target stack) (Some first.posted) is first.found (subst Of (sym first.is) (subst If (sym (life-of-lives begun.is.lives)) begins)) in
     let Over : List Activation → Type 0 = λ l. Rule p natives (at w l) (at target (top_of o m arguments w.store.connections.last begun.method.work ∷ l)) in
-    let room : 0 < d = omega (arith, none_active, begun.room) in
-    let went : Reaches p natives d [] w [] target stack = reaches-pushed {active = []} {from = []} {to = []} refl (λ places. top-other o m w.store.connections.last arguments places begun.method.work) (λ below e. subst Over (sym (none-below below e)) rule) (λ below e. none-spared w.store.tree w.store.tree below (λ k gone. gone)) (λ below. top-fits w.store.connections.last begun.method.work below fit) room agree refl some in
+    let went : Reaches p natives d [] w [] target stack = reaches-pushed {active = []} {from = []} {to = []} refl (λ places. top-other o m w.store.connections.last arguments places begun.method.work) (λ below e. subst Over (sym (none-below below e)) rule) (λ below e. none-spared w.store.tree w.store.tree below (λ k gone. gone)) (λ below. top-fits w.store.connections.last begun.method.work below fit) begun.room agree refl some in
     let Pushed : World → Work → ℕ → Type 0 = λ u k l. Reaches p natives d [] w [] u (top_of o m arguments l k ∷ []) in
     let target_is : v ≡ target = v_is ∙ ap (λ (y : Entry). taking w (y ∷ []) turn.home turn.limit) begun.is_line in
     subst (λ (u : World). Pushed u work last) (sym target_is) (subst (λ (k : Work). Pushed target k last) (sym begun.is_work) (subst (λ (l : ℕ). Pushed target begun.method.work l) (sym begun.is_last) went))
 
 -- .. a call of a dead object begins nothing
-pub reaches-passed : {p : Loaded} {natives : NativeAnswers} {d o m : ℕ} {w v : World} {turn : Turn} {q : Posted} {arguments : List Value} → w.turn ≡ Some turn → Some q ≡ find (is_before turn.limit) (items_at w.store.loops.loops turn.home) → q.item ≡ Call o m arguments → None ≡ life_of w.store.tree o → AgreeIn p w → 0 < w.left → v ≡ taking_unwritten w turn.home turn.limit → Reaches p natives d [] w [] v []
-reaches-passed {p} {natives} {d} {o} {m} {w} {v} {turn} {q} {arguments} is found item_is gone agree some v_is =
+pub reaches-passed : {p : Loaded} {natives : NativeAnswers} {d o m : ℕ} {w v : World} {turn : Turn} {arguments : List Value} → w.turn ≡ Some turn → IsFirst w turn (Call o m arguments) → None ≡ life_of w.store.tree o → AgreeIn p w → 0 < w.left → v ≡ taking_unwritten w turn.home turn.limit → Reaches p natives d [] w [] v []
+reaches-passed {p} {natives} {d} {o} {m} {w} {v} {turn} {arguments} is first gone agree some v_is =
     let took : World = with_queues w (taken_before turn.home turn.limit w.store.loops) in
     let target : World = taking_unwritten w turn.home turn.limit in
     let If : Option Life → Type 0 = λ life. BeginsIf p (at took []) o m arguments (at target []) life in
     let Of : Item → Type 0 = λ i. Delivers p (at took []) (at target []) i in
-    let rule : Rule p natives (at w []) (at target []) = turn-rule p natives w (at target []) (Some q) is found (subst Of (sym item_is) (subst If gone refl)) in
+    let rule : Rule p natives (at w []) (at target []) = turn-rule p natives w (at target []) (Some first.posted) is first.found (subst Of (sym first.is) (subst If gone refl)) in
     let Over : List Activation → Type 0 = λ l. Rule p natives (at w l) (at target l) in
     let Family : World → Type 0 = λ u. Reaches p natives d [] w [] u [] in
     subst Family (sym v_is) (reaches-low {a = []} {b = []} (λ below e. subst Over (sym (none-below below e)) rule) (λ k gone. gone) (omega arith) (omega arith) agree refl some)
 
 -- .. a deletion begins
-pub reaches-deleting : {p : Loaded} {natives : NativeAnswers} {d o : ℕ} {w v : World} {turn : Turn} {q : Posted} → w.turn ≡ Some turn → Some q ≡ find (is_before turn.limit) (items_at w.store.loops.loops turn.home) → q.item ≡ Deletion o → 0 < d → AgreeIn p w → 0 < w.left → v ≡ taking_unwritten w turn.home turn.limit → Reaches p natives d [] w [] v (Destroy (Some o) [] ∷ [])
-reaches-deleting {p} {natives} {d} {o} {w} {v} {turn} {q} is found item_is room agree some v_is =
+pub reaches-deleting : {p : Loaded} {natives : NativeAnswers} {d o : ℕ} {w v : World} {turn : Turn} → w.turn ≡ Some turn → IsFirst w turn (Deletion o) → 0 < d → AgreeIn p w → 0 < w.left → v ≡ taking_unwritten w turn.home turn.limit → Reaches p natives d [] w [] v (Destroy (Some o) [] ∷ [])
+reaches-deleting {p} {natives} {d} {o} {w} {v} {turn} is first room agree some v_is =
     let took : World = with_queues w (taken_before turn.home turn.limit w.store.loops) in
     let target : World = taking_unwritten w turn.home turn.limit in
     let stack : List Activation = Destroy (Some o) [] ∷ [] in
     let Of : Item → Type 0 = λ i. Delivers p (at took []) (at target stack) i in
-    let rule : Rule p natives (at w []) (at target stack) = turn-rule p natives w (at target stack) (Some q) is found (subst Of (sym item_is) refl) in
+    let rule : Rule p natives (at w []) (at target stack) = turn-rule p natives w (at target stack) (Some first.posted) is first.found (subst Of (sym first.is) refl) in
     let Over : List Activation → Type 0 = λ l. Rule p natives (at w l) (at target (Destroy (Some o) [] ∷ l)) in
     let Family : World → Type 0 = λ u. Reaches p natives d [] w [] u (Destroy (Some o) [] ∷ []) in
     subst Family (sym v_is) (reaches-pushed {active = []} {from = []} {to = []} refl (λ places is. cc is) (λ below e. subst Over (sym (none-below below e)) rule) (λ below e. none-spared w.store.tree w.store.tree below (λ k gone. gone)) (λ below. tt) room agree refl some)
@@ -135,37 +134,32 @@ advances-served {p} {natives} {d} {v = v} {u = u} {from = from} (Err f) none wen
 -- ---- what is delivered
 
 -- what waits first fits
-pub first-fits : {p : Loaded} {w : World} {q : Posted} (home number : ℕ) (item : Item) → IsSoundWorld p w → Some q ≡ find (is_before number) (items_at w.store.loops.loops home) → q.item ≡ item → Waits p w.store.tree item
-first-fits {p} {w} {q} home number item sound found item_is =
+first-fits : {p : Loaded} {w : World} {turn : Turn} {what : Item} → IsSoundWorld p w → IsFirst w turn what → Waits p w.store.tree what
+first-fits {p} {w} {turn} sound first =
     let Fit : Item → Type 0 = λ i. Waits p w.store.tree i in
-    subst Fit item_is (first-waits p w.store.tree w.store.loops.loops home number q sound.is.waiting (sym found))
+    subst Fit first.is (first-waits p w.store.tree w.store.loops.loops turn.home turn.limit first.posted sound.is.waiting (sym first.found))
 
 -- .. which is a call of a living object
-same-first : {w : World} {turn : Turn} {q : Posted} (called : IsCalled w turn) → Some q ≡ find (is_before turn.limit) (items_at w.store.loops.loops turn.home) → q ≡ called.first
-same-first {q = q} called found = let both : Some q ≡ Some called.first = found ∙ called.found in cc both
+same-item : {w : World} {turn : Turn} {a b : Item} → IsFirst w turn a → IsFirst w turn b → a ≡ b
+same-item first other =
+    let both : Some first.posted ≡ Some other.posted = first.found ∙ sym other.found in
+    let same : first.posted ≡ other.posted = cc both in
+    sym first.is ∙ ap (λ (q : Posted). q.item) same ∙ other.is
 
-pub called-there : {w : World} {turn : Turn} → IsCalled w turn → None ≡ find (is_before turn.limit) (items_at w.store.loops.loops turn.home) → ⊥
-called-there called none = let both : None ≡ Some called.first = none ∙ called.found in absurd (cc both)
+pub called-there : {w : World} {turn : Turn} → IsCalled w turn → None ≡ first_due w turn → ⊥
+called-there called none = let both : None ≡ Some called.first.posted = none ∙ sym called.first.found in absurd (cc both)
 
-called-item : {w : World} {turn : Turn} {q : Posted} {item : Item} (called : IsCalled w turn) → Some q ≡ find (is_before turn.limit) (items_at w.store.loops.loops turn.home) → q.item ≡ item → item ≡ Call called.object called.method called.arguments
-called-item called found item_is = sym item_is ∙ ap (λ (r : Posted). r.item) (same-first called found) ∙ called.is
-
-pub called-is : {w : World} {turn : Turn} {q : Posted} {o : ℕ} → IsCalled w turn → Some q ≡ find (is_before turn.limit) (items_at w.store.loops.loops turn.home) → q.item ≡ Deletion o → ⊥
-called-is {o = o} called found item_is =
-    let both : Deletion o ≡ Call called.object called.method called.arguments = called-item called found item_is in
+pub called-is : {w : World} {turn : Turn} {o : ℕ} → IsCalled w turn → IsFirst w turn (Deletion o) → ⊥
+called-is {o = o} called first =
+    let both : Deletion o ≡ Call called.object called.method called.arguments = same-item first called.first in
     absurd (cc both)
 
-pub called-arguments : {w : World} {turn : Turn} {q : Posted} {o m : ℕ} {arguments : List Value} (called : IsCalled w turn) → Some q ≡ find (is_before turn.limit) (items_at w.store.loops.loops turn.home) → q.item ≡ Call o m arguments → called.arguments ≡ arguments
-called-arguments {o = o} {m = m} {arguments = arguments} called found item_is =
-    let both : Call o m arguments ≡ Call called.object called.method called.arguments = called-item called found item_is in
-    cc both
-
-pub called-fits : {p : Loaded} {w : World} {turn : Turn} {q : Posted} {o m : ℕ} {arguments : List Value} → IsCalled w turn → IsSoundWorld p w → Some q ≡ find (is_before turn.limit) (items_at w.store.loops.loops turn.home) → q.item ≡ Call o m arguments → ArgumentsFit p w.store.tree o m arguments
-called-fits {w = w} {turn = turn} {o = o} {m = m} {arguments = arguments} called sound found item_is =
-    let both : Call o m arguments ≡ Call called.object called.method called.arguments = called-item called found item_is in
+pub called-fits : {p : Loaded} {w : World} {turn : Turn} {o m : ℕ} {arguments : List Value} → IsCalled w turn → IsSoundWorld p w → IsFirst w turn (Call o m arguments) → ArgumentsFit p w.store.tree o m arguments
+called-fits {w = w} {o = o} {m = m} {arguments = arguments} called sound first =
+    let both : Call o m arguments ≡ Call called.object called.method called.arguments = same-item first called.first in
     let same : o ≡ called.object = cc both in
     let there = has-life w.store.tree o (ap (is_living w.store.tree) same ∙ called.lives) in
-    living-fits there.2 (first-fits turn.home turn.limit (Call o m arguments) sound found item_is)
+    living-fits there.2 (first-fits sound first)
 
 -- the world without the first item stays sound
 pub taken-sound : {p : Loaded} {v : World} (w : World) (entries : List Entry) (home number : ℕ) → v ≡ taking w entries home number → IsSoundWorld p w → IsSoundWorld p v

@@ -29,14 +29,16 @@ use Rattle.machine_state.specs.Telling.{Assigning, Alone, Grouped, IsAssigningTo
 use Rattle.std.proofs.lemmas.Option.{same_Some}
 use Rattle.machine_state.specs.Worlds.{at, noted, HasWritten}
 use Rattle.statement_meaning.specs.Operations.{Operation, Write, TakeAnswer, operation_of_step}
-use Rattle.rule_interpreter.specs.code.Reaches.{Reaches, StopsIn, RunsTo, MayNest, Sets}
+use Rattle.run_context.specs.code.Activating.{MayNest}
+use Rattle.rule_interpreter.specs.code.Reaches.{Reaches, StopsIn, RunsTo, Sets}
 use Rattle.machine_rules.specs.Faults.{IsAfterFit, LacksFirst, WritesDeep}
 use Rattle.machine_rules.specs.Next.{DoesNext, WritesIll}
 use Rattle.machine_rules.specs.Settling.{Settles, Writes, notified}
 use Rattle.machine_rules.specs.code.Sound.{AgreeIn}
 use Rattle.machine_rules.specs.There.{HasField, IsField, LacksField}
 use Rattle.rule_interpreter.specs.code.Writing.{MayWrite, IsUnfit, FitsOrNot, IsUnwritten, missing, ill, unfit, deep}
-use Rattle.rule_interpreter.proofs.Beginning.{one-more, not-true}
+use Rattle.run_context.proofs.Linking.{not-true}
+use Rattle.rule_interpreter.proofs.Beginning.{one-more}
 use Rattle.machine_rules.proofs.Differing.{differ-spared}
 use Rattle.machine_rules.proofs.Fields.{field-at, field-property, life-unique}
 use Rattle.rule_interpreter.proofs.Reaching.{none-spared, reaches-high, ends-after, ends-left, ends-lifted, ends-unchanged, stops-as, stops-stuck, stops-ill-write, stops-deep-write}
@@ -221,11 +223,11 @@ pub unfit-one : {p : Loaded} {objects : List Object} {at : Place} {v : Value} {b
 unfit-one {p} {objects} {at} {v} fits is = subst (FitsOrNot p objects at v) is fits
 
 -- whether the activations may nest decides
-pub written-may : (p : Loaded) (d : ℕ) (active : List (Option ℕ)) (objects : List Object) (writes : List Assignment) (r : Result (Unit {0}) Fault) → AllFit p objects writes → MayNest d active r → IfOk r (λ _. MayWrite p d active objects writes)
+pub written-may : (p : Loaded) (d : ℕ) (active : List (Option ℕ)) (objects : List Object) (writes : List Assignment) (r : Result (Unit {0}) Fault) → AllFit p objects writes → MayNest d (length active) r → IfOk r (λ _. MayWrite p d active objects writes)
 written-may p d active objects writes (Ok _) fit nests = record { fit = fit; room = nests }
 written-may p d active objects writes (Err k) fit nests = tt
 
-pub unwritten-deep : (p : Loaded) (d : ℕ) (active : List (Option ℕ)) (objects : List Object) (writes : List Assignment) (r : Result (Unit {0}) Fault) → AllFit p objects writes → MayNest d active r → IfErr r (λ k. IsUnwritten p d active objects writes k)
+pub unwritten-deep : (p : Loaded) (d : ℕ) (active : List (Option ℕ)) (objects : List Object) (writes : List Assignment) (r : Result (Unit {0}) Fault) → AllFit p objects writes → MayNest d (length active) r → IfErr r (λ k. IsUnwritten p d active objects writes k)
 unwritten-deep p d active objects writes (Ok _) fit nests = tt
 unwritten-deep p d active objects writes (Err k) fit nests =
     let Named : Fault → Type 0 = λ y. IsUnwritten p d active objects writes y in

@@ -1,5 +1,4 @@
 pub mod code
 pub use Rattle.machine_rules.specs.Natives
-pub use Rattle.machine_rules.specs.Connecting
 pub use Rattle.machine_state.specs.State
-pub use Rattle.trace_entries.specs.Refusals
+pub use Rattle.run_context.specs.code.Activating

@@ -2,5 +2,6 @@
 pub mod Remaining
 pub mod Active
 pub mod Reaches
+pub mod Delivering
 pub mod Writing
 pub mod Calls

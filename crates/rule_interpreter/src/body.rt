@@ -11,11 +11,11 @@ ghost use Rattle.machine_rules.specs.Natives.{KeepPromises};
 
 use crate::active::Active;
 use crate::interpreter::Interpreter;
-use crate::method_call::MethodCall;
 use crate::remaining::Remaining;
 use machine_state::World;
 use meta_objects::Statement;
 use native_slots::Answering;
+use run_context::MethodCall;
 use signatures::ObjectId;
 use statement_meaning::{Operation, Scope};
 use trace_entries::{Entry, EntryKind, Fault};
@@ -30,14 +30,15 @@ impl<N: Answering> Interpreter<N> {
         call: &MethodCall<'_>,
         statements: &[Statement],
     ) -> Result<(), Fault>
-        requires promises { KeepPromises N.takes N.gives self.now.meta self.now.natives }
-        requires room { length active.now < self.now.depth }
-        requires sound { IsSoundWorld self.now.meta world.old }
-        ensures ends { Finishes self.now.meta (N.gives self.now.natives) self.now.depth active.now
+        requires promises { KeepPromises N.takes N.gives self.now.context.meta self.now.natives }
+        requires room { length active.now < self.now.context.depth }
+        requires sound { IsSoundWorld self.now.context.meta world.old }
+        ensures ends { Finishes self.now.context.meta (N.gives self.now.natives)
+            self.now.context.depth active.now
             (Body call.now.object call.now.method call.now.arguments.now (map Run statements.now))
             world.old world.new result }
     {
-        let mut left = Remaining::all(self.alloc, statements);
+        let mut left = Remaining::all(self.context.alloc, statements);
         while let Some(statement) = left.next() {
             world.require_rule()?;
             let operation = self.scope(world, &*call).operation_of(statement)?;
@@ -57,12 +58,12 @@ impl<N: Answering> Interpreter<N> {
         done: Operation<'p>,
         left: &mut Remaining<'p>,
     ) -> Result<(), Fault>
-        requires promises { KeepPromises N.takes N.gives self.now.meta self.now.natives }
-        requires room { length active.now < self.now.depth }
-        requires sound { IsSoundWorld self.now.meta world.old }
+        requires promises { KeepPromises N.takes N.gives self.now.context.meta self.now.natives }
+        requires room { length active.now < self.now.context.depth }
+        requires sound { IsSoundWorld self.now.context.meta world.old }
         requires due { 0 < world.old.left }
-        ensures advances { CarriesOut self.now.meta (N.gives self.now.natives)
-            self.now.depth active.now
+        ensures advances { CarriesOut self.now.context.meta (N.gives self.now.natives)
+            self.now.context.depth active.now
             object (meant done.entry) left.old left.new world.old world.new result }
     {
         let over = (&*active).over(Some(object));
@@ -81,10 +82,10 @@ impl<N: Answering> Interpreter<N> {
                 left.put(block)?;
                 world.tick()
             }
-            Operation::Connect(ends, how) => self.connect(world, over.count(), ends, how),
-            Operation::Disconnect(ends) => self.disconnect(world, over.count(), ends),
+            Operation::Connect(ends, how) => self.context.connect(world, over.count(), ends, how),
+            Operation::Disconnect(ends) => self.context.disconnect(world, over.count(), ends),
             Operation::Delete(target) => self.delete(world, &over, target),
-            Operation::Schedule(target) => self.schedule(world, over.count(), target),
+            Operation::Schedule(target) => self.context.schedule(world, over.count(), target),
             Operation::Nothing => world.note(Entry::At(over.count(), EntryKind::OnNull)),
         }
     }
@@ -98,7 +99,7 @@ impl<N: Answering> Interpreter<N> {
         ensures arguments { result.arguments.now ≡ call.now.arguments.now }
     {
         Scope {
-            alloc: self.alloc,
+            alloc: self.context.alloc,
             objects: &world.store.tree,
             written: None,
             this: call.object,

@@ -1,8 +1,8 @@
 //! Deletions of objects.
 
-ghost use Rattle.std.specs.Prelude.{◌≡◌, ◌<◌, true, false, [], length, Some, IfOk, OnOk};
+ghost use Rattle.std.specs.Prelude.{◌≡◌, ◌<◌, true, false, [], length, Some, OnOk};
 ghost use Rattle.rule_interpreter.specs.code.Calls.{Finishes, TurnsInto, RunsDeath, RunsDeletion};
-ghost use Rattle.rule_interpreter.specs.code.Reaches.{entry_of_destroyed, Forgets, SchedulesIn};
+ghost use Rattle.rule_interpreter.specs.code.Reaches.{Forgets};
 ghost use Rattle.machine_rules.specs.code.Sound.{IsSoundWorld};
 ghost use Rattle.machine_state.specs.Connections.{is_living};
 ghost use Rattle.machine_state.specs.State.{Destroy};
@@ -10,13 +10,12 @@ ghost use Rattle.machine_rules.specs.Natives.{KeepPromises};
 
 use crate::active::Active;
 use crate::interpreter::Interpreter;
-use crate::method_call::MethodCall;
 use class_outlines::DESTROYED;
 use machine_state::World;
 use native_slots::Answering;
-use signatures::{Name, ObjectId, Value};
-use std::alloc::AllocError;
-use trace_entries::{Entry, EntryKind, Fault, Shown, ShownValues};
+use run_context::MethodCall;
+use signatures::{ObjectId, Value};
+use trace_entries::{Entry, EntryKind, Fault};
 
 impl<N: Answering> Interpreter<N> {
     /// Deletes an object, over what is left of the top of the stack.
@@ -28,13 +27,13 @@ impl<N: Answering> Interpreter<N> {
         active: &Active<'_>,
         object: ObjectId,
     ) -> Result<(), Fault>
-        requires promises { KeepPromises N.takes N.gives self.now.meta self.now.natives }
-        requires sound { IsSoundWorld self.now.meta world.old }
+        requires promises { KeepPromises N.takes N.gives self.now.context.meta self.now.natives }
+        requires sound { IsSoundWorld self.now.context.meta world.old }
         requires left { 0 < world.old.left }
-        ensures ends { RunsDeletion self.now.meta (N.gives self.now.natives)
-            self.now.depth active.now object world.old world.new result }
+        ensures ends { RunsDeletion self.now.context.meta (N.gives self.now.natives)
+            self.now.context.depth active.now object world.old world.new result }
     {
-        self.may_nest(active)?;
+        self.context.may_nest(active.count())?;
         world.tick()?;
         self.run_deletion(world, active, object)
     }
@@ -48,15 +47,15 @@ impl<N: Answering> Interpreter<N> {
         active: &Active<'_>,
         object: ObjectId,
     ) -> Result<(), Fault>
-        requires promises { KeepPromises N.takes N.gives self.now.meta self.now.natives }
-        requires room { length active.now < self.now.depth }
-        requires sound { IsSoundWorld self.now.meta world.old }
-        ensures ends { Finishes self.now.meta (N.gives self.now.natives) self.now.depth active.now
-            (Destroy (Some object) [])
+        requires promises { KeepPromises N.takes N.gives self.now.context.meta self.now.natives }
+        requires room { length active.now < self.now.context.depth }
+        requires sound { IsSoundWorld self.now.context.meta world.old }
+        ensures ends { Finishes self.now.context.meta (N.gives self.now.natives)
+            self.now.context.depth active.now (Destroy (Some object) [])
             world.old world.new result }
     {
         self.announce_living(world, active, object)?;
-        let mut torn = Vec::new(self.alloc);
+        let mut torn = Vec::new(self.context.alloc);
         forget(world, &mut torn, object)?;
         while !torn.is_empty() {
             match world.store.next_to_end(torn.as_slice()) {
@@ -81,11 +80,11 @@ impl<N: Answering> Interpreter<N> {
         active: &Active<'_>,
         object: ObjectId,
     ) -> Result<(), Fault>
-        requires promises { KeepPromises N.takes N.gives self.now.meta self.now.natives }
-        requires room { length active.now < self.now.depth }
-        requires sound { IsSoundWorld self.now.meta world.old }
-        ensures ends { TurnsInto self.now.meta (N.gives self.now.natives) self.now.depth active.now
-            (Destroy (Some object) []) (Destroy (Some object) [])
+        requires promises { KeepPromises N.takes N.gives self.now.context.meta self.now.natives }
+        requires room { length active.now < self.now.context.depth }
+        requires sound { IsSoundWorld self.now.context.meta world.old }
+        ensures ends { TurnsInto self.now.context.meta (N.gives self.now.natives)
+            self.now.context.depth active.now (Destroy (Some object) []) (Destroy (Some object) [])
             world.old world.new result }
         ensures dead { OnOk result (is_living world.new.store.tree object ≡ false) }
     {
@@ -104,12 +103,12 @@ impl<N: Answering> Interpreter<N> {
         active: &Active<'_>,
         object: ObjectId,
     ) -> Result<(), Fault>
-        requires promises { KeepPromises N.takes N.gives self.now.meta self.now.natives }
-        requires room { length active.now < self.now.depth }
-        requires sound { IsSoundWorld self.now.meta world.old }
+        requires promises { KeepPromises N.takes N.gives self.now.context.meta self.now.natives }
+        requires room { length active.now < self.now.context.depth }
+        requires sound { IsSoundWorld self.now.context.meta world.old }
         requires lives { is_living world.old.store.tree object ≡ true }
-        ensures ends { RunsDeath self.now.meta (N.gives self.now.natives) self.now.depth active.now
-            object world.old world.new result }
+        ensures ends { RunsDeath self.now.context.meta (N.gives self.now.natives)
+            self.now.context.depth active.now object world.old world.new result }
         ensures dead { OnOk result (is_living world.new.store.tree object ≡ false) }
     {
         world.require_rule()?;
@@ -117,17 +116,18 @@ impl<N: Answering> Interpreter<N> {
             return Err(Fault::InUse);
         }
         let over = (&*active).over(None);
-        self.may_nest(&over)?;
+        let depth = over.count();
+        self.context.may_nest(depth)?;
         let Some(name) = world.store.tree.name(object) else {
             unreachable!()
         };
         let died = Entry::At(
-            over.count(),
+            depth,
             EntryKind::Died {
                 object: name.copy()?,
             },
         );
-        let emitted = self.destroyed_entry(over.count() + 1, name)?;
+        let emitted = self.context.destroyed_entry(depth + 1, name)?;
         let last = world.store.connections.last();
         world.mark_dead([died, emitted], object)?;
         let call = MethodCall {
@@ -136,45 +136,6 @@ impl<N: Answering> Interpreter<N> {
             arguments: &[Value::Ref(None)],
         };
         self.run_emission(world, &over, &call, last)
-    }
-
-    /// The entry of the `destroyed` of an object of this name.
-    fn destroyed_entry(&self, depth: usize, name: &Name) -> Result<Entry, AllocError>
-        ensures { IfOk result (λ entry. entry ≡ entry_of_destroyed depth name.now) }
-    {
-        let mut arguments = ShownValues::new(self.alloc);
-        arguments.push(Shown::Null)?;
-        let emitted = EntryKind::Emitted {
-            object: name.copy()?,
-            signal: Name::new(self.alloc, b"destroyed")?,
-            arguments,
-            blocked: false,
-        };
-        Ok(Entry::At(depth, emitted))
-    }
-
-    /// Schedules an object for deletion by a statement, where `depth` activations are on the stack. An object that is
-    /// scheduled already, or doesn't live, changes nothing; nor does running out of memory.
-    #[inline(never)]
-    pub fn schedule(&self, world: &mut World, depth: usize, object: ObjectId) -> Result<(), Fault>
-        requires sound { IsSoundWorld self.now.meta world.old }
-        requires left { 0 < world.old.left }
-        ensures { SchedulesIn world.old depth object world.new result }
-    {
-        let Some((found, life)) = world.store.tree.get(object) else {
-            return world.tick();
-        };
-        if life.scheduled {
-            return world.tick();
-        }
-        let Some(event_loop) = world.store.loops.name(life.home) else {
-            unreachable!()
-        };
-        let scheduled = EntryKind::Scheduled {
-            event_loop: event_loop.copy()?,
-            object: found.name.copy()?,
-        };
-        world.schedule(Entry::At(depth, scheduled), object)
     }
 }
 

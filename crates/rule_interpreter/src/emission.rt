@@ -5,17 +5,18 @@ ghost use Rattle.machine_rules.specs.code.Sound.{IsSoundWorld, SendsThese, IsDel
 ghost use Rattle.machine_state.specs.State.{Emit};
 ghost use Rattle.rule_interpreter.specs.code.Calls.{Finishes, UsesNext, RunsCall, RunsUse, RunsOnlyCall};
 ghost use Rattle.machine_rules.specs.Rules.{top_of};
-ghost use Rattle.rule_interpreter.specs.code.Reaches.{CallFits, DoesWork, IsActivated};
+ghost use Rattle.rule_interpreter.specs.code.Reaches.{DoesWork};
+ghost use Rattle.run_context.specs.code.Activating.{CallFits, IsActivated};
 ghost use Rattle.machine_rules.specs.code.Keeps.{KeepsWorld};
 ghost use Rattle.machine_rules.specs.Natives.{KeepPromises};
 
 use crate::active::Active;
-use crate::interpreter::{Callee, Interpreter};
-use crate::method_call::{MethodCall, front};
+use crate::interpreter::Interpreter;
 use connections::{Connection, SignalHint};
 use machine_state::{World, reaches_at_once};
 use meta_objects::Work;
 use native_slots::Answering;
+use run_context::{Callee, MethodCall, front};
 use signatures::Value;
 use trace_entries::{Entry, Fault};
 
@@ -29,17 +30,18 @@ impl<N: Answering> Interpreter<N> {
         call: &MethodCall<'_>,
         last: u64,
     ) -> Result<(), Fault>
-        requires promises { KeepPromises N.takes N.gives self.now.meta self.now.natives }
-        requires room { length active.now < self.now.depth }
-        requires sound { IsSoundWorld self.now.meta world.old }
-        requires emitted { SendsThese self.now.meta world.old.store.tree
+        requires promises { KeepPromises N.takes N.gives self.now.context.meta self.now.natives }
+        requires room { length active.now < self.now.context.depth }
+        requires sound { IsSoundWorld self.now.context.meta world.old }
+        requires emitted { SendsThese self.now.context.meta world.old.store.tree
             call.now.object call.now.method call.now.arguments.now }
         requires heard { MayBeHeardIn world.old call.now.object call.now.method }
-        ensures ends { Finishes self.now.meta (N.gives self.now.natives) self.now.depth active.now
+        ensures ends { Finishes self.now.context.meta (N.gives self.now.natives)
+            self.now.context.depth active.now
             (Emit call.now.object call.now.method call.now.arguments.now 0 last)
             world.old world.new result }
-        ensures keeps { OnOk result (KeepsWorld self.now.meta world.old world.new) }
-        ensures sound { OnOk result (IsSoundWorld self.now.meta world.new) }
+        ensures keeps { OnOk result (KeepsWorld self.now.context.meta world.old world.new) }
+        ensures sound { OnOk result (IsSoundWorld self.now.context.meta world.new) }
     {
         let mut hint = SignalHint::new();
         let mut used = 0;
@@ -65,16 +67,17 @@ impl<N: Answering> Interpreter<N> {
         connection: Connection,
         arguments: &[Value],
     ) -> Result<(), Fault>
-        requires promises { KeepPromises N.takes N.gives self.now.meta self.now.natives }
-        requires room { length active.now < self.now.depth }
-        requires sound { IsSoundWorld self.now.meta world.old }
-        requires takes { IsDelivered self.now.meta world.old.store.tree connection arguments.now }
-        ensures ends { UsesNext self.now.meta (N.gives self.now.natives) self.now.depth active.now
-            connection arguments.now world.old world.new result }
+        requires promises { KeepPromises N.takes N.gives self.now.context.meta self.now.natives }
+        requires room { length active.now < self.now.context.depth }
+        requires sound { IsSoundWorld self.now.context.meta world.old }
+        requires takes { IsDelivered self.now.context.meta world.old.store.tree
+            connection arguments.now }
+        ensures ends { UsesNext self.now.context.meta (N.gives self.now.natives)
+            self.now.context.depth active.now connection arguments.now world.old world.new result }
     {
         world.require_rule()?;
         let (to, number) = (connection.receiver, connection.method);
-        let Some((receiver, method)) = self.member(world, to, number) else {
+        let Some((receiver, method)) = self.context.member(world, to, number) else {
             unreachable!()
         };
         let Some(home) = world.home(to) else {
@@ -88,10 +91,13 @@ impl<N: Answering> Interpreter<N> {
         };
         if reaches_at_once(connection.kind, home, world.running()) {
             let over = (&*active).over(None);
-            let (line, callee) = self.activate_found(world, &over, &call, receiver, method)?;
+            let (line, callee) = self
+                .context
+                .activate_found(world, over.count(), &call, receiver, method)?;
             self.begin_used(world, &over, &connection, &call, line, &callee)
         } else {
-            self.post(world, active.count() + 1, &connection, &call)
+            self.context
+                .post(world, active.count() + 1, &connection, &call)
         }
     }
 
@@ -106,15 +112,16 @@ impl<N: Answering> Interpreter<N> {
         line: Entry,
         callee: &Callee<'_>,
     ) -> Result<(), Fault>
-        requires promises { KeepPromises N.takes N.gives self.now.meta self.now.natives }
-        requires sound { IsSoundWorld self.now.meta world.old }
+        requires promises { KeepPromises N.takes N.gives self.now.context.meta self.now.natives }
+        requires sound { IsSoundWorld self.now.context.meta world.old }
         requires left { 0 < world.old.left }
-        requires fit { CallFits self.now.meta world.old.store.tree call.now }
-        requires begun { IsActivated self.now.meta self.now.depth active.now world.old
+        requires fit { CallFits self.now.context.meta world.old.store.tree call.now }
+        requires begun { IsActivated self.now.context.meta
+            self.now.context.depth (length active.now) world.old
             call.now.object call.now.method call.now.arguments.now
             line callee.now.work.now callee.now.last }
-        ensures ends { RunsUse self.now.meta (N.gives self.now.natives) self.now.depth active.now
-            connection.now call.now world.old world.new result }
+        ensures ends { RunsUse self.now.context.meta (N.gives self.now.natives)
+            self.now.context.depth active.now connection.now call.now world.old world.new result }
     {
         world.use_connection(line, connection)?;
         self.run_callee(world, active, call, callee)
@@ -129,23 +136,25 @@ impl<N: Answering> Interpreter<N> {
         active: &Active<'_>,
         call: &MethodCall<'_>,
     ) -> Result<(), Fault>
-        requires promises { KeepPromises N.takes N.gives self.now.meta self.now.natives }
-        requires sound { IsSoundWorld self.now.meta world.old }
+        requires promises { KeepPromises N.takes N.gives self.now.context.meta self.now.natives }
+        requires sound { IsSoundWorld self.now.context.meta world.old }
         requires left { 0 < world.old.left }
-        ensures ends { RunsOnlyCall self.now.meta (N.gives self.now.natives)
-            self.now.depth active.now call.now world.old world.new result }
+        ensures ends { RunsOnlyCall self.now.context.meta (N.gives self.now.natives)
+            self.now.context.depth active.now call.now world.old world.new result }
     {
-        let Some((found, declared)) = self.member(world, call.object, call.method) else {
+        let Some((found, declared)) = self.context.member(world, call.object, call.method) else {
             return Err(Fault::BadType);
         };
-        if !world
-            .store
-            .tree
-            .have_types(&self.meta, call.arguments, declared.kinds.as_slice())
-        {
+        if !world.store.tree.have_types(
+            &self.context.meta,
+            call.arguments,
+            declared.kinds.as_slice(),
+        ) {
             return Err(Fault::BadType);
         }
-        let (line, callee) = self.activate_found(world, active, call, found, declared)?;
+        let (line, callee) = self
+            .context
+            .activate_found(world, active.count(), call, found, declared)?;
         self.begin_found(world, active, call, line, &callee)
     }
 
@@ -157,14 +166,14 @@ impl<N: Answering> Interpreter<N> {
         active: &Active<'_>,
         call: &MethodCall<'_>,
     ) -> Result<(), Fault>
-        requires promises { KeepPromises N.takes N.gives self.now.meta self.now.natives }
-        requires sound { IsSoundWorld self.now.meta world.old }
+        requires promises { KeepPromises N.takes N.gives self.now.context.meta self.now.natives }
+        requires sound { IsSoundWorld self.now.context.meta world.old }
         requires left { 0 < world.old.left }
-        requires fit { CallFits self.now.meta world.old.store.tree call.now }
-        ensures ends { RunsCall self.now.meta (N.gives self.now.natives) self.now.depth active.now
-            call.now world.old world.new result }
+        requires fit { CallFits self.now.context.meta world.old.store.tree call.now }
+        ensures ends { RunsCall self.now.context.meta (N.gives self.now.natives)
+            self.now.context.depth active.now call.now world.old world.new result }
     {
-        let (line, callee) = self.activate(world, active, call)?;
+        let (line, callee) = self.context.activate(world, active.count(), call)?;
         self.begin_found(world, active, call, line, &callee)
     }
 
@@ -179,15 +188,16 @@ impl<N: Answering> Interpreter<N> {
         line: Entry,
         callee: &Callee<'_>,
     ) -> Result<(), Fault>
-        requires promises { KeepPromises N.takes N.gives self.now.meta self.now.natives }
-        requires sound { IsSoundWorld self.now.meta world.old }
+        requires promises { KeepPromises N.takes N.gives self.now.context.meta self.now.natives }
+        requires sound { IsSoundWorld self.now.context.meta world.old }
         requires left { 0 < world.old.left }
-        requires fit { CallFits self.now.meta world.old.store.tree call.now }
-        requires begun { IsActivated self.now.meta self.now.depth active.now world.old
+        requires fit { CallFits self.now.context.meta world.old.store.tree call.now }
+        requires begun { IsActivated self.now.context.meta
+            self.now.context.depth (length active.now) world.old
             call.now.object call.now.method call.now.arguments.now
             line callee.now.work.now callee.now.last }
-        ensures ends { RunsCall self.now.meta (N.gives self.now.natives) self.now.depth active.now
-            call.now world.old world.new result }
+        ensures ends { RunsCall self.now.context.meta (N.gives self.now.natives)
+            self.now.context.depth active.now call.now world.old world.new result }
     {
         world.note(line)?;
         self.run_callee(world, active, call, callee)
@@ -202,13 +212,14 @@ impl<N: Answering> Interpreter<N> {
         call: &MethodCall<'_>,
         callee: &Callee<'_>,
     ) -> Result<(), Fault>
-        requires promises { KeepPromises N.takes N.gives self.now.meta self.now.natives }
-        requires room { length active.now < self.now.depth }
-        requires sound { IsSoundWorld self.now.meta world.old }
-        requires fit { CallFits self.now.meta world.old.store.tree call.now }
-        requires work { DoesWork self.now.meta world.old.store.tree
+        requires promises { KeepPromises N.takes N.gives self.now.context.meta self.now.natives }
+        requires room { length active.now < self.now.context.depth }
+        requires sound { IsSoundWorld self.now.context.meta world.old }
+        requires fit { CallFits self.now.context.meta world.old.store.tree call.now }
+        requires work { DoesWork self.now.context.meta world.old.store.tree
             call.now.object call.now.method callee.now.work.now }
-        ensures ends { Finishes self.now.meta (N.gives self.now.natives) self.now.depth active.now
+        ensures ends { Finishes self.now.context.meta (N.gives self.now.natives)
+            self.now.context.depth active.now
             (top_of call.now.object call.now.method call.now.arguments.now
             callee.now.last callee.now.work.now)
             world.old world.new result }

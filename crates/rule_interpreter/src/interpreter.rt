@@ -1,195 +1,32 @@
-//! A program with its natives, and what its numbers lead to.
+//! A run's context with its natives.
 
-ghost use Rattle.std.specs.Prelude.{◌≡◌, ◌≤◌, IfOk, IfErr, MatchOption};
-ghost use Rattle.rule_interpreter.specs.code.Reaches.{CallFits, entry_of_call, MayNest, IsActivated, IsBarred};
+ghost use Rattle.std.specs.Prelude.{◌≡◌, ◌≤◌};
 ghost use Rattle.texts.specs.Limits.{most_depth};
-ghost use Rattle.machine_rules.specs.There.{IsMember, IsField, LacksMember, LacksField};
 
-use crate::active::Active;
-use crate::method_call::MethodCall;
-use machine_state::{World, is_silent, show_all};
-use meta_objects::{Meta, MetaMethod, MetaProperty, Work};
-use native_slots::Answering;
-use object_tree::Object;
-use signatures::ObjectId;
-use std::alloc::{AllocError, Global};
-use trace_entries::{Entry, EntryKind, Fault};
+use meta_objects::Meta;
+use run_context::RunContext;
+use std::alloc::Global;
 
-/// A program with its natives, and how deep activations may nest.
+/// What a run goes by, with the natives that it asks.
 #[derive(Drop)]
 pub struct Interpreter<N> {
-    /// Where memory is asked for.
-    pub alloc: Global,
-    /// The program.
-    pub meta: Meta,
+    /// Where memory is asked for, the program, and how deep activations may nest.
+    pub context: RunContext,
     /// The program's natives.
     pub natives: N,
-    /// How many activations may nest, up to 256.
-    pub depth: usize,
-    ghost bounded: { depth ≤ most_depth },
 }
 
-/// What is found of a method that may begin.
-#[derive(Clone, Copy)]
-pub struct Callee<'s> {
-    /// What is to run.
-    pub work: &'s Work,
-    /// The last connection that was made before.
-    pub last: u64,
-}
-
-impl<N: Answering> Interpreter<N> {
+impl<N> Interpreter<N> {
     /// A program with its natives; at most `depth` activations nest, up to 256.
     pub fn new(alloc: Global, meta: Meta, natives: N, depth: usize) -> Interpreter<N>
         requires { depth ≤ most_depth }
-        ensures meta { result.meta ≡ meta }
+        ensures meta { result.context.meta ≡ meta }
         ensures natives { result.natives ≡ natives }
-        ensures depth { result.depth ≡ depth }
+        ensures depth { result.context.depth ≡ depth }
     {
         Interpreter {
-            alloc,
-            meta,
+            context: RunContext::new(alloc, meta, depth),
             natives,
-            depth,
         }
-    }
-
-    /// A living object and one of its methods, or `None` where either isn't there.
-    #[inline(always)]
-    pub fn member<'s, 'w>(
-        &'s self,
-        world: &'w World,
-        object: ObjectId,
-        method: usize,
-    ) -> Option<(&'w Object, &'s MetaMethod)>
-        ensures { MatchOption result (LacksMember self.now.meta world.now.store.tree object method)
-            (λ f. IsMember self.now.meta world.now.store.tree object method f.0.now f.1.now) }
-    {
-        let Some((found, life)) = world.store.tree.get(object) else {
-            return None;
-        };
-        let Some(declared) = self.meta.method_at(life.class, method) else {
-            return None;
-        };
-        Some((found, declared))
-    }
-
-    /// A living object and one of its properties, or `None` where either isn't there.
-    pub fn field<'s, 'w>(
-        &'s self,
-        world: &'w World,
-        object: ObjectId,
-        property: usize,
-    ) -> Option<(&'w Object, &'s MetaProperty)>
-        ensures { MatchOption result
-            (LacksField self.now.meta world.now.store.tree object property)
-            (λ f. IsField self.now.meta world.now.store.tree object property f.0.now f.1.now) }
-    {
-        let Some((found, life)) = world.store.tree.get(object) else {
-            return None;
-        };
-        let Some(class) = self.meta.object(life.class) else {
-            return None;
-        };
-        let Some(declared) = class.properties.get(property) else {
-            return None;
-        };
-        Some((found, declared))
-    }
-
-    /// `TooDeep` where no activation may stand over these.
-    #[inline(always)]
-    pub fn may_nest(&self, active: &Active<'_>) -> Result<(), Fault>
-        ensures { MayNest self.now.depth active.now result }
-    {
-        if active.count() < self.depth {
-            Ok(())
-        } else {
-            Err(Fault::TooDeep)
-        }
-    }
-
-    /// The line that is written down as a method begins, and what is found of it before; or why it doesn't begin.
-    #[inline(always)]
-    pub fn activate<'s>(
-        &'s self,
-        world: &World,
-        active: &Active<'_>,
-        call: &MethodCall<'_>,
-    ) -> Result<(Entry, Callee<'s>), Fault>
-        requires fit { CallFits self.now.meta world.now.store.tree call.now }
-        ensures ok { IfOk result (λ b. IsActivated self.now.meta self.now.depth active.now world.now
-            call.now.object call.now.method call.now.arguments.now
-            b.0 b.1.work.now b.1.last) }
-        ensures err { IfErr result (IsBarred self.now.depth active.now) }
-    {
-        let Some((found, declared)) = self.member(world, call.object, call.method) else {
-            unreachable!()
-        };
-        self.activate_found(world, active, call, found, declared)
-    }
-
-    /// The same of a method that is found already, with its living object.
-    #[inline(always)]
-    pub fn activate_found<'s>(
-        &self,
-        world: &World,
-        active: &Active<'_>,
-        call: &MethodCall<'_>,
-        object: &Object,
-        declared: &'s MetaMethod,
-    ) -> Result<(Entry, Callee<'s>), Fault>
-        requires found { IsMember self.now.meta world.now.store.tree
-            call.now.object call.now.method object.now declared.now }
-        ensures ok { IfOk result (λ b. IsActivated self.now.meta self.now.depth active.now world.now
-            call.now.object call.now.method call.now.arguments.now
-            b.0 b.1.work.now b.1.last) }
-        ensures err { IfErr result (IsBarred self.now.depth active.now) }
-    {
-        self.may_nest(active)?;
-        let line = self.begin_entry(world, active.count() + 1, object, declared, call)?;
-        let callee = Callee {
-            work: &declared.work,
-            last: world.store.connections.last(),
-        };
-        Ok((line, callee))
-    }
-
-    /// The entry of a call of a method of an object that begins.
-    #[inline(always)]
-    fn begin_entry(
-        &self,
-        world: &World,
-        depth: usize,
-        object: &Object,
-        method: &MetaMethod,
-        call: &MethodCall<'_>,
-    ) -> Result<Entry, AllocError>
-        ensures { IfOk result (λ entry. entry ≡
-            entry_of_call world.now depth object.now
-            call.now.method method.now call.now.arguments.now) }
-    {
-        let name = object.name.copy()?;
-        let called = method.sig.name.copy()?;
-        let arguments = show_all(self.alloc, &world.store.tree, call.arguments)?;
-        let entry_kind = match method.work {
-            Work::Signal => EntryKind::Emitted {
-                object: name,
-                signal: called,
-                arguments,
-                blocked: is_silent(object, call.method),
-            },
-            Work::Slot(_) => EntryKind::Called {
-                object: name,
-                slot: called,
-                arguments,
-            },
-            Work::Native(_) => EntryKind::Called {
-                object: name,
-                slot: called,
-                arguments,
-            },
-        };
-        Ok(Entry::At(depth, entry_kind))
     }
 }

@@ -4,17 +4,13 @@
 mod active;
 mod answer;
 mod body;
-mod connecting;
 mod destruction;
 mod emission;
 mod interpreter;
-mod method_call;
 mod native;
-mod posting;
 mod remaining;
 mod turn;
 mod update;
 
 pub use active::Active;
-pub use interpreter::{Callee, Interpreter};
-pub use method_call::MethodCall;
+pub use interpreter::Interpreter;

@@ -5,16 +5,17 @@ ghost use Rattle.meta_model.specs.declared.object.Work.TheVariants.{Native};
 ghost use Rattle.machine_state.specs.State.{Ask, Body};
 ghost use Rattle.rule_interpreter.specs.code.Calls.{Finishes, CarriesOutAction};
 ghost use Rattle.machine_rules.specs.Natives.{member_of_action, KeepPromises};
-ghost use Rattle.rule_interpreter.specs.code.Reaches.{CallFits, DoesWork};
+ghost use Rattle.rule_interpreter.specs.code.Reaches.{DoesWork};
+ghost use Rattle.run_context.specs.code.Activating.{CallFits};
 ghost use Rattle.machine_rules.specs.code.Sound.{IsSoundWorld};
 
 use crate::active::Active;
 use crate::interpreter::Interpreter;
-use crate::method_call::MethodCall;
 use machine_state::World;
 use meta_objects::MetaEffects;
 use native_slots::{Action, Answering};
 use prop_bindings::Place;
+use run_context::MethodCall;
 use signatures::ObjectId;
 use trace_entries::Fault;
 
@@ -30,20 +31,23 @@ impl<N: Answering> Interpreter<N> {
         call: &MethodCall<'_>,
         effects: &MetaEffects,
     ) -> Result<(), Fault>
-        requires promises { KeepPromises N.takes N.gives self.now.meta self.now.natives }
-        requires room { length active.now < self.now.depth }
-        requires sound { IsSoundWorld self.now.meta world.old }
-        requires fit { CallFits self.now.meta world.old.store.tree call.now }
-        requires native { DoesWork self.now.meta world.old.store.tree
+        requires promises { KeepPromises N.takes N.gives self.now.context.meta self.now.natives }
+        requires room { length active.now < self.now.context.depth }
+        requires sound { IsSoundWorld self.now.context.meta world.old }
+        requires fit { CallFits self.now.context.meta world.old.store.tree call.now }
+        requires native { DoesWork self.now.context.meta world.old.store.tree
             call.now.object call.now.method (Native effects.now) }
-        ensures ends { Finishes self.now.meta (N.gives self.now.natives) self.now.depth active.now
+        ensures ends { Finishes self.now.context.meta (N.gives self.now.natives)
+            self.now.context.depth active.now
             (Body call.now.object call.now.method call.now.arguments.now (Ask effects.now ∷ []))
             world.old world.new result }
     {
         world.require_rule()?;
         let actions = self.answer(world, call, effects)?;
         let depth = active.count() + 1;
-        let line = self.answer_entry(world, depth, call.object, effects, actions.as_slice())?;
+        let line = self
+            .context
+            .answer_entry(world, depth, call.object, effects, actions.as_slice())?;
         world.note(line)?;
         for action in actions {
             world.require_rule()?;
@@ -62,14 +66,13 @@ impl<N: Answering> Interpreter<N> {
         effects: &MetaEffects,
         action: Action,
     ) -> Result<(), Fault>
-        requires promises { KeepPromises N.takes N.gives self.now.meta self.now.natives }
-        requires room { length active.now < self.now.depth }
-        requires sound { IsSoundWorld self.now.meta world.old }
+        requires promises { KeepPromises N.takes N.gives self.now.context.meta self.now.natives }
+        requires room { length active.now < self.now.context.depth }
+        requires sound { IsSoundWorld self.now.context.meta world.old }
         requires due { 0 < world.old.left }
         requires within { IsTrue (is_some (member_of_action effects.now action)) }
-        ensures advances { CarriesOutAction self.now.meta (N.gives self.now.natives)
-            self.now.depth active.now
-            object effects.now action world.old world.new result }
+        ensures advances { CarriesOutAction self.now.context.meta (N.gives self.now.natives)
+            self.now.context.depth active.now object effects.now action world.old world.new result }
     {
         let over = (&*active).over(Some(object));
         match action {

@@ -12,11 +12,11 @@ ghost use Rattle.machine_rules.specs.Natives.{KeepPromises};
 
 use crate::active::Active;
 use crate::interpreter::Interpreter;
-use crate::method_call::{MethodCall, front};
 use machine_state::World;
 use native_slots::Answering;
 use object_tree::Tree;
 use prop_bindings::{Assignment, Place};
+use run_context::{MethodCall, front};
 use signatures::Value;
 use std::alloc::AllocError;
 use trace_entries::Fault;
@@ -32,14 +32,14 @@ impl<N: Answering> Interpreter<N> {
         place: &Place,
         value: Value,
     ) -> Result<(), Fault>
-        requires promises { KeepPromises N.takes N.gives self.now.meta self.now.natives }
-        requires sound { IsSoundWorld self.now.meta world.old }
+        requires promises { KeepPromises N.takes N.gives self.now.context.meta self.now.natives }
+        requires sound { IsSoundWorld self.now.context.meta world.old }
         requires left { 0 < world.old.left }
-        ensures ends { RunsWrite self.now.meta (N.gives self.now.natives) self.now.depth active.now
-            (Alone place.now value) world.old world.new result }
+        ensures ends { RunsWrite self.now.context.meta (N.gives self.now.natives)
+            self.now.context.depth active.now (Alone place.now value) world.old world.new result }
     {
         self.may_begin_write(world, active, place, &value)?;
-        let changed = world.write(&self.meta, active.count() + 1, place, value)?;
+        let changed = world.write(&self.context.meta, active.count() + 1, place, value)?;
         self.run_update(world, active, changed.as_slice())
     }
 
@@ -53,14 +53,14 @@ impl<N: Answering> Interpreter<N> {
         active: &Active<'_>,
         sets: &[Option<Assignment>],
     ) -> Result<(), Fault>
-        requires promises { KeepPromises N.takes N.gives self.now.meta self.now.natives }
-        requires sound { IsSoundWorld self.now.meta world.old }
+        requires promises { KeepPromises N.takes N.gives self.now.context.meta self.now.natives }
+        requires sound { IsSoundWorld self.now.context.meta world.old }
         requires left { 0 < world.old.left }
-        ensures ends { RunsWrite self.now.meta (N.gives self.now.natives) self.now.depth active.now
-            (Grouped sets.now) world.old world.new result }
+        ensures ends { RunsWrite self.now.context.meta (N.gives self.now.natives)
+            self.now.context.depth active.now (Grouped sets.now) world.old world.new result }
     {
         self.may_write_group(world, active, sets)?;
-        let changed = world.write_group(&self.meta, active.count() + 1, sets)?;
+        let changed = world.write_group(&self.context.meta, active.count() + 1, sets)?;
         self.run_update(world, active, changed.as_slice())
     }
 
@@ -74,11 +74,11 @@ impl<N: Answering> Interpreter<N> {
         place: &Place,
         value: &Value,
     ) -> Result<(), Fault>
-        ensures ok { IfOk result (λ may. length active.now < self.now.depth) }
-        ensures err { IfErr result (IsUnwritten self.now.meta self.now.depth active.now
-            world.now.store.tree (one place.now value.now)) }
+        ensures ok { IfOk result (λ may. length active.now < self.now.context.depth) }
+        ensures err { IfErr result (IsUnwritten self.now.context.meta
+            self.now.context.depth active.now world.now.store.tree (one place.now value.now)) }
     {
-        if active.count() < self.depth {
+        if active.count() < self.context.depth {
             return Ok(());
         }
         self.may_write(world, active, place, value)
@@ -95,15 +95,15 @@ impl<N: Answering> Interpreter<N> {
         place: &Place,
         value: &Value,
     ) -> Result<(), Fault>
-        ensures ok { IfOk result (λ may. MayWrite self.now.meta self.now.depth active.now
-            world.now.store.tree (one place.now value.now)) }
-        ensures err { IfErr result (IsUnwritten self.now.meta self.now.depth active.now
-            world.now.store.tree (one place.now value.now)) }
+        ensures ok { IfOk result (λ may. MayWrite self.now.context.meta
+            self.now.context.depth active.now world.now.store.tree (one place.now value.now)) }
+        ensures err { IfErr result (IsUnwritten self.now.context.meta
+            self.now.context.depth active.now world.now.store.tree (one place.now value.now)) }
     {
         if !self.fits(world, place, value) {
             return Err(Fault::BadType);
         }
-        self.may_nest(active)
+        self.context.may_nest(active.count())
     }
 
     /// Whether the sets of a group may be done over these activations: `BadType` where one of them writes no property of a
@@ -115,10 +115,10 @@ impl<N: Answering> Interpreter<N> {
         active: &Active<'_>,
         sets: &[Option<Assignment>],
     ) -> Result<(), Fault>
-        ensures ok { IfOk result (λ may. MayWrite self.now.meta self.now.depth active.now
-            world.now.store.tree (writes_of (Grouped sets.now))) }
-        ensures err { IfErr result (IsUnwritten self.now.meta self.now.depth active.now
-            world.now.store.tree (writes_of (Grouped sets.now))) }
+        ensures ok { IfOk result (λ may. MayWrite self.now.context.meta
+            self.now.context.depth active.now world.now.store.tree (writes_of (Grouped sets.now))) }
+        ensures err { IfErr result (IsUnwritten self.now.context.meta
+            self.now.context.depth active.now world.now.store.tree (writes_of (Grouped sets.now))) }
     {
         for set in sets {
             if let Some(set) = set {
@@ -127,15 +127,20 @@ impl<N: Answering> Interpreter<N> {
                 }
             }
         }
-        self.may_nest(active)
+        self.context.may_nest(active.count())
     }
 
     /// Whether the object lives and has the property, and the value is of its type.
     fn fits(&self, world: &World, place: &Place, value: &Value) -> bool
-        ensures { FitsOrNot self.now.meta world.now.store.tree place.now value.now result }
+        ensures { FitsOrNot self.now.context.meta world.now.store.tree place.now value.now result }
     {
-        match self.field(world, place.object, place.property) {
-            Some((_, declared)) => world.store.tree.has_type(&self.meta, value, declared.kind),
+        match self.context.field(world, place.object, place.property) {
+            Some((_, declared)) => {
+                world
+                    .store
+                    .tree
+                    .has_type(&self.context.meta, value, declared.kind)
+            }
             None => false,
         }
     }
@@ -148,11 +153,12 @@ impl<N: Answering> Interpreter<N> {
         active: &Active<'_>,
         changed: &[Place],
     ) -> Result<(), Fault>
-        requires promises { KeepPromises N.takes N.gives self.now.meta self.now.natives }
-        requires room { length active.now < self.now.depth }
-        requires sound { IsSoundWorld self.now.meta world.old }
-        ensures ends { Finishes self.now.meta (N.gives self.now.natives) self.now.depth active.now
-            (Update (notified self.now.meta world.old.store.tree changed.now))
+        requires promises { KeepPromises N.takes N.gives self.now.context.meta self.now.natives }
+        requires room { length active.now < self.now.context.depth }
+        requires sound { IsSoundWorld self.now.context.meta world.old }
+        ensures ends { Finishes self.now.context.meta (N.gives self.now.natives)
+            self.now.context.depth active.now
+            (Update (notified self.now.context.meta world.old.store.tree changed.now))
             world.old world.new result }
     {
         world.require_rule()?;
@@ -168,9 +174,9 @@ impl<N: Answering> Interpreter<N> {
     /// Those of the changed properties that have a notify signal, in their order.
     fn notified(&self, objects: &Tree, changed: &[Place]) -> Result<Vec<Place>, AllocError>
         ensures { IfOk result (λ places.
-            places.items ≡ notified self.now.meta objects.now changed.now) }
+            places.items ≡ notified self.now.context.meta objects.now changed.now) }
     {
-        let mut places = Vec::new(self.alloc);
+        let mut places = Vec::new(self.context.alloc);
         for place in changed {
             if self.signal_at(objects, place).is_some() {
                 places.push(*place)?;
@@ -181,22 +187,22 @@ impl<N: Answering> Interpreter<N> {
 
     /// The notify signal of a property of a living object, if it has one.
     fn signal_at(&self, objects: &Tree, place: &Place) -> Option<usize>
-        ensures { result ≡ signal_at self.now.meta objects.now place.now }
+        ensures { result ≡ signal_at self.now.context.meta objects.now place.now }
     {
         let life = objects.life(place.object)?;
-        let class = self.meta.object(life.class)?;
+        let class = self.context.meta.object(life.class)?;
         class.properties.get(place.property)?.notify
     }
 
     /// Notifies that a property has changed, if its object lives.
     #[cycle(machine)]
     fn notify(&self, world: &mut World, active: &Active<'_>, place: &Place) -> Result<(), Fault>
-        requires promises { KeepPromises N.takes N.gives self.now.meta self.now.natives }
-        requires room { length active.now < self.now.depth }
-        requires sound { IsSoundWorld self.now.meta world.old }
-        requires notifies { MayNotify self.now.meta world.old.store.tree place.now }
-        ensures ends { NotifiesFirst self.now.meta (N.gives self.now.natives)
-            self.now.depth active.now place.now world.old world.new result }
+        requires promises { KeepPromises N.takes N.gives self.now.context.meta self.now.natives }
+        requires room { length active.now < self.now.context.depth }
+        requires sound { IsSoundWorld self.now.context.meta world.old }
+        requires notifies { MayNotify self.now.context.meta world.old.store.tree place.now }
+        ensures ends { NotifiesFirst self.now.context.meta (N.gives self.now.natives)
+            self.now.context.depth active.now place.now world.old world.new result }
     {
         match self.signal_at(&world.store.tree, place) {
             Some(signal) => self.emit_change(world, active, place, signal),
@@ -213,15 +219,15 @@ impl<N: Answering> Interpreter<N> {
         place: &Place,
         signal: usize,
     ) -> Result<(), Fault>
-        requires promises { KeepPromises N.takes N.gives self.now.meta self.now.natives }
-        requires room { length active.now < self.now.depth }
-        requires sound { IsSoundWorld self.now.meta world.old }
-        requires announces { Announces self.now.meta world.old.store.tree place.now signal }
-        ensures ends { NotifiesFirst self.now.meta (N.gives self.now.natives)
-            self.now.depth active.now place.now world.old world.new result }
+        requires promises { KeepPromises N.takes N.gives self.now.context.meta self.now.natives }
+        requires room { length active.now < self.now.context.depth }
+        requires sound { IsSoundWorld self.now.context.meta world.old }
+        requires announces { Announces self.now.context.meta world.old.store.tree place.now signal }
+        ensures ends { NotifiesFirst self.now.context.meta (N.gives self.now.natives)
+            self.now.context.depth active.now place.now world.old world.new result }
     {
         world.require_rule()?;
-        let Some((_, declared)) = self.member(world, place.object, signal) else {
+        let Some((_, declared)) = self.context.member(world, place.object, signal) else {
             unreachable!()
         };
         let Some(value) = world.store.tree.value(place.object, place.property) else {

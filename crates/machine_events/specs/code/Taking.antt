@@ -65,7 +65,7 @@ pub record Took (p : Loaded) (natives : NativeAnswers) (depth : ℕ) (w : World)
 
 -- the event was taken so in the interpreter of a run
 abbrev pub TookBy : {N : Type 0} → (N → NativeAnswers) → Interpreter N → Event → World → World → Result Answer Fault → Type 0
-TookBy gives interpreter e w v result = Took interpreter.meta (gives interpreter.natives) interpreter.depth w e v result
+TookBy gives interpreter e w v result = Took interpreter.context.meta (gives interpreter.natives) interpreter.context.depth w e v result
 
 -- what becomes of an event that isn't accepted
 abbrev pub IsRefused : World → NotAccepted → World → Result Answer Fault → Type 0

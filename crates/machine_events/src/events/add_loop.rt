@@ -18,7 +18,7 @@ pub fn add_loop<N: Answering>(
 ) -> Result<Answer, Fault>
     requires left { 0 < world.old.left }
     requires idle { world.old.turn ≡ None }
-    requires keeps { WorldInvariant interpreter.now.meta world.old }
+    requires keeps { WorldInvariant interpreter.now.context.meta world.old }
     ensures { TookBy N.gives interpreter.now (Loop name.now) world.old world.new result }
 {
     match world.store.loops.find(name) {

@@ -23,7 +23,7 @@ pub fn adopt<N: Answering>(
 ) -> Result<Answer, Fault>
     requires left { 0 < world.old.left }
     requires idle { world.old.turn ≡ None }
-    requires keeps { WorldInvariant interpreter.now.meta world.old }
+    requires keeps { WorldInvariant interpreter.now.context.meta world.old }
     ensures { TookBy N.gives interpreter.now (Adopt parent.now child.now)
         world.old world.new result }
 {
@@ -35,7 +35,7 @@ pub fn adopt<N: Answering>(
         Ok((number, _)) => ObjectId::new(number),
         Err(reason) => return refuse(world, reason),
     };
-    match world.adopt(&interpreter.meta, parent, child) {
+    match world.adopt(&interpreter.context.meta, parent, child) {
         Ok(()) => Ok(Answer::Done),
         Err(fault) => {
             let refusal = reason(fault)?;

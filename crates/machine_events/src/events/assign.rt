@@ -31,11 +31,12 @@ pub fn assign<N: Answering>(
     property: &Name,
     input: &Input,
 ) -> Result<Answer, Fault>
-    requires depth { 0 < interpreter.now.depth }
-    requires promises { KeepPromises N.takes N.gives interpreter.now.meta interpreter.now.natives }
+    requires depth { 0 < interpreter.now.context.depth }
+    requires promises { KeepPromises N.takes N.gives
+        interpreter.now.context.meta interpreter.now.natives }
     requires left { 0 < world.old.left }
     requires idle { world.old.turn ≡ None }
-    requires keeps { WorldInvariant interpreter.now.meta world.old }
+    requires keeps { WorldInvariant interpreter.now.context.meta world.old }
     ensures { TookBy N.gives interpreter.now (Set name.now property.now input.now)
         world.old world.new result }
 {
@@ -53,22 +54,23 @@ fn judge<N: Answering>(
     property: &Name,
     input: &Input,
 ) -> Result<Assignment, NotAccepted>
-    ensures accepted { IfOk result (λ a. WritesTo interpreter.now.meta world.now
+    ensures accepted { IfOk result (λ a. WritesTo interpreter.now.context.meta world.now
         a.place a.value (Set name.now property.now input.now)) }
     ensures fits { IfOk result
-        (λ a. FitsAt interpreter.now.meta world.now.store.tree a.place a.value) }
+        (λ a. FitsAt interpreter.now.context.meta world.now.store.tree a.place a.value) }
     ensures refused { IfErr result (IsNotAccepted
-        (assign interpreter.now.meta (at world.now []) name.now property.now input.now)) }
+        (assign interpreter.now.context.meta (at world.now []) name.now property.now input.now)) }
 {
     let (object, life) = find_living(world, name)?;
-    let Some((property, declared)) = property_of(&interpreter.meta, life.class, property) else {
+    let Some((property, declared)) = property_of(&interpreter.context.meta, life.class, property)
+    else {
         return Err(NotAccepted::Refused(Refusal::NoMember));
     };
     let value = read_input(world, input)?;
     if world
         .store
         .tree
-        .has_type(&interpreter.meta, &value, declared.kind)
+        .has_type(&interpreter.context.meta, &value, declared.kind)
     {
         let place = Place {
             object: ObjectId::new(object),
@@ -100,17 +102,18 @@ fn write<N: Answering>(
     place: &Place,
     value: Value,
 ) -> Result<Answer, Fault>
-    requires depth { 0 < interpreter.now.depth }
-    requires promises { KeepPromises N.takes N.gives interpreter.now.meta interpreter.now.natives }
+    requires depth { 0 < interpreter.now.context.depth }
+    requires promises { KeepPromises N.takes N.gives
+        interpreter.now.context.meta interpreter.now.natives }
     requires left { 0 < world.old.left }
     requires idle { world.old.turn ≡ None }
-    requires keeps { WorldInvariant interpreter.now.meta world.old }
-    requires fits { FitsAt interpreter.now.meta world.old.store.tree place.now value }
+    requires keeps { WorldInvariant interpreter.now.context.meta world.old }
+    requires fits { FitsAt interpreter.now.context.meta world.old.store.tree place.now value }
     ensures { (e : AnEvent) →
-        WritesTo interpreter.now.meta world.old place.now value e →
+        WritesTo interpreter.now.context.meta world.old place.now value e →
         TookBy N.gives interpreter.now e world.old world.new result }
 {
-    let changed = world.accept_write(&interpreter.meta, place, value)?;
+    let changed = world.accept_write(&interpreter.context.meta, place, value)?;
     interpreter.run_update(world, &Active::nothing(), changed.as_slice())?;
     Ok(Answer::Done)
 }

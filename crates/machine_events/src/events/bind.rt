@@ -34,11 +34,12 @@ pub fn bind<N: Answering>(
     target: &Name,
     sources: &[Name],
 ) -> Result<Answer, Fault>
-    requires depth { 0 < interpreter.now.depth }
-    requires promises { KeepPromises N.takes N.gives interpreter.now.meta interpreter.now.natives }
+    requires depth { 0 < interpreter.now.context.depth }
+    requires promises { KeepPromises N.takes N.gives
+        interpreter.now.context.meta interpreter.now.natives }
     requires left { 0 < world.old.left }
     requires idle { world.old.turn ≡ None }
-    requires keeps { WorldInvariant interpreter.now.meta world.old }
+    requires keeps { WorldInvariant interpreter.now.context.meta world.old }
     ensures { TookBy N.gives interpreter.now (Bind site.now target.now sources.now)
         world.old world.new result }
 {
@@ -57,22 +58,22 @@ fn judge<N: Answering>(
     target: &Name,
     sources: &[Name],
 ) -> Result<Asked, NotAccepted>
-    ensures asked { IfOk result (λ a. AsksToBind interpreter.now.meta world.now
+    ensures asked { IfOk result (λ a. AsksToBind interpreter.now.context.meta world.now
         site.now target.now sources.now a.site a.target a.sources) }
     ensures refused { IfErr result (IsNotAccepted
-        (may_bind interpreter.now.meta (at world.now []) site.now target.now sources.now)) }
+        (may_bind interpreter.now.context.meta (at world.now []) site.now target.now sources.now)) }
 {
-    let Some(number) = interpreter.meta.site(site) else {
+    let Some(number) = interpreter.context.meta.site(site) else {
         return Err(NotAccepted::Refused(Refusal::BadSource));
     };
-    let Some(declared) = interpreter.meta.site_at(number) else {
+    let Some(declared) = interpreter.context.meta.site_at(number) else {
         unreachable!()
     };
     if sources.len() != declared.formals.len() {
         return Err(NotAccepted::Refused(Refusal::BadSource));
     }
     let (target, _) = find_living(world, target)?;
-    let sources = find_all_living(interpreter.alloc, world, sources)?;
+    let sources = find_all_living(interpreter.context.alloc, world, sources)?;
     Ok(Asked {
         site: number,
         target: ObjectId::new(target),
@@ -86,18 +87,19 @@ fn install<N: Answering>(
     world: &mut World,
     asked: &Asked,
 ) -> Result<Answer, Fault>
-    requires depth { 0 < interpreter.now.depth }
-    requires promises { KeepPromises N.takes N.gives interpreter.now.meta interpreter.now.natives }
+    requires depth { 0 < interpreter.now.context.depth }
+    requires promises { KeepPromises N.takes N.gives
+        interpreter.now.context.meta interpreter.now.natives }
     requires left { 0 < world.old.left }
     requires idle { world.old.turn ≡ None }
-    requires keeps { WorldInvariant interpreter.now.meta world.old }
+    requires keeps { WorldInvariant interpreter.now.context.meta world.old }
     ensures { (site target : List ℕ) (sources : List (List ℕ)) →
-        AsksToBind interpreter.now.meta world.old site target sources
+        AsksToBind interpreter.now.context.meta world.old site target sources
         asked.now.site asked.now.target asked.now.sources →
         TookBy N.gives interpreter.now (Bind site target sources) world.old world.new result }
 {
     let sources = asked.sources.as_slice();
-    match world.accept_bind(&interpreter.meta, asked.site, asked.target, sources) {
+    match world.accept_bind(&interpreter.context.meta, asked.site, asked.target, sources) {
         Ok(changed) => {
             interpreter.run_update(world, &Active::nothing(), changed.as_slice())?;
             Ok(Answer::Done)

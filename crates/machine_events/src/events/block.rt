@@ -20,7 +20,7 @@ pub fn block<N: Answering>(
 ) -> Result<Answer, Fault>
     requires left { 0 < world.old.left }
     requires idle { world.old.turn ≡ None }
-    requires keeps { WorldInvariant interpreter.now.meta world.old }
+    requires keeps { WorldInvariant interpreter.now.context.meta world.old }
     ensures { TookBy N.gives interpreter.now (blocking on name.now) world.old world.new result }
 {
     let object = match find_living(world, name) {

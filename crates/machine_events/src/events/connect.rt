@@ -25,7 +25,7 @@ pub fn connect<N: Answering>(
 ) -> Result<Answer, Fault>
     requires left { 0 < world.old.left }
     requires idle { world.old.turn ≡ None }
-    requires keeps { WorldInvariant interpreter.now.meta world.old }
+    requires keeps { WorldInvariant interpreter.now.context.meta world.old }
     ensures { TookBy N.gives interpreter.now (Connect named.now how) world.old world.new result }
 {
     match judge(interpreter, world, named, how) {
@@ -45,12 +45,15 @@ fn judge<N: Answering>(
     how: ConnectionType,
 ) -> Result<Endpoints, NotAccepted>
     ensures accepted { IfOk result
-        (ConnectsThese interpreter.now.meta world.now named.now how) }
+        (ConnectsThese interpreter.now.context.meta world.now named.now how) }
     ensures refused { IfErr result (IsNotAccepted
-        (connect interpreter.now.meta (at world.now []) named.now how)) }
+        (connect interpreter.now.context.meta (at world.now []) named.now how)) }
 {
     let found = find_ends(interpreter, world, named)?;
-    match interpreter.may_connect(world, &found, &named.signal, &named.method, how) {
+    match interpreter
+        .context
+        .may_connect(world, &found, &named.signal, &named.method, how)
+    {
         Ok(()) => Ok(found.ends),
         Err(refusal) => Err(NotAccepted::Refused(refusal)),
     }

@@ -25,7 +25,7 @@ pub fn create<N: Answering>(
 ) -> Result<Answer, Fault>
     requires left { 0 < world.old.left }
     requires idle { world.old.turn ≡ None }
-    requires keeps { WorldInvariant interpreter.now.meta world.old }
+    requires keeps { WorldInvariant interpreter.now.context.meta world.old }
     ensures { TookBy N.gives interpreter.now (New name.now class.now home.now)
         world.old world.new result }
 {
@@ -33,7 +33,7 @@ pub fn create<N: Answering>(
         let refusal = refusal_without_loop(interpreter, world, name, class);
         return world.refuse(refusal);
     };
-    match world.create(&interpreter.meta, name, class, home) {
+    match world.create(&interpreter.context.meta, name, class, home) {
         Ok(_object) => Ok(Answer::Done),
         Err(fault) => {
             let refusal = reason(fault)?;
@@ -61,11 +61,11 @@ fn refusal_without_loop<N: Answering>(
     class: &Name,
 ) -> Refusal
     ensures { (home : Option (List ℕ)) → NothingIs (IsHome world.now.store.loops.loops home) →
-        create interpreter.now.meta (at world.now []) name.now class.now home (Err result) }
+        create interpreter.now.context.meta (at world.now []) name.now class.now home (Err result) }
 {
     match world.find(name) {
         Some(_) => Refusal::NameUsed,
-        None => match interpreter.meta.class(class) {
+        None => match interpreter.context.meta.class(class) {
             Some(_) => Refusal::NoLoop,
             None => Refusal::NoClass,
         },

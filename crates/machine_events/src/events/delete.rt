@@ -19,11 +19,12 @@ pub fn delete<N: Answering>(
     world: &mut World,
     name: &Name,
 ) -> Result<Answer, Fault>
-    requires depth { 0 < interpreter.now.depth }
-    requires promises { KeepPromises N.takes N.gives interpreter.now.meta interpreter.now.natives }
+    requires depth { 0 < interpreter.now.context.depth }
+    requires promises { KeepPromises N.takes N.gives
+        interpreter.now.context.meta interpreter.now.natives }
     requires left { 0 < world.old.left }
     requires idle { world.old.turn ≡ None }
-    requires keeps { WorldInvariant interpreter.now.meta world.old }
+    requires keeps { WorldInvariant interpreter.now.context.meta world.old }
     ensures { TookBy N.gives interpreter.now (Delete name.now) world.old world.new result }
 {
     let object = match find_living(world, name) {

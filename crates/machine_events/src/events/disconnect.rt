@@ -25,7 +25,7 @@ pub fn disconnect<N: Answering>(
 ) -> Result<Answer, Fault>
     requires left { 0 < world.old.left }
     requires idle { world.old.turn ≡ None }
-    requires keeps { WorldInvariant interpreter.now.meta world.old }
+    requires keeps { WorldInvariant interpreter.now.context.meta world.old }
     ensures { TookBy N.gives interpreter.now (Disconnect named.now) world.old world.new result }
 {
     match judge(interpreter, world, named) {
@@ -43,10 +43,11 @@ fn judge<N: Answering>(
     world: &World,
     named: &syntax_trees::Endpoints<Name>,
 ) -> Result<Endpoints, NotAccepted>
-    ensures accepted { IfOk result (DisconnectsThese interpreter.now.meta world.now named.now) }
+    ensures accepted { IfOk result
+        (DisconnectsThese interpreter.now.context.meta world.now named.now) }
     ensures joined { IfOk result (λ ends. IsTrue (are_joined ends world.now.store.connections)) }
     ensures refused { IfErr result (IsNotAccepted
-        (disconnect interpreter.now.meta (at world.now []) named.now)) }
+        (disconnect interpreter.now.context.meta (at world.now []) named.now)) }
 {
     let found = find_ends(interpreter, world, named)?;
     if !world.are_joined(&found.ends) {

@@ -24,16 +24,16 @@ pub fn find_ends<N: Answering>(
     named: &syntax_trees::Endpoints<Name>,
 ) -> Result<FoundEnds, NotAccepted>
     ensures found { IfOk result
-        (λ f. FindsEnds interpreter.now.meta world.now.store.tree named.now f) }
+        (λ f. FindsEnds interpreter.now.context.meta world.now.store.tree named.now f) }
     ensures refused { IfErr result (IsNotAccepted
-        (find_ends interpreter.now.meta world.now.store.tree named.now)) }
+        (find_ends interpreter.now.context.meta world.now.store.tree named.now)) }
 {
     let (sender, from) = find_living(world, &named.sender)?;
     let (receiver, to) = find_living(world, &named.receiver)?;
-    let Some(signal) = signal_of(&interpreter.meta, from.class, &named.signal) else {
+    let Some(signal) = signal_of(&interpreter.context.meta, from.class, &named.signal) else {
         return Err(NotAccepted::Refused(Refusal::NoMember));
     };
-    let Some(method) = interpreter.meta.method(to.class, &named.method) else {
+    let Some(method) = interpreter.context.meta.method(to.class, &named.method) else {
         return Err(NotAccepted::Refused(Refusal::NoMember));
     };
     Ok(FoundEnds {

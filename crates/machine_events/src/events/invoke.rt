@@ -2,7 +2,7 @@
 
 ghost use Rattle.std.specs.Prelude.{◌≡◌, ◌↔◌, ◌<◌, [], Ok, length, IfOk, IfErr, IsTrue, MatchOption, None};
 ghost use Rattle.machine_state.specs.Worlds.{at};
-ghost use Rattle.rule_interpreter.specs.code.Reaches.{CallFits};
+ghost use Rattle.run_context.specs.code.Activating.{CallFits};
 ghost use Rattle.machine_rules.specs.Good.{ArgumentsFit};
 ghost use Rattle.machine_rules.specs.Judgement.{NothingIs, numbered};
 ghost use Rattle.machine_rules.specs.Natives.{KeepPromises};
@@ -19,7 +19,8 @@ use class_outlines::OBJECT_NAME_CHANGED;
 use machine_state::World;
 use meta_objects::{Meta, MetaMethod};
 use native_slots::Answering;
-use rule_interpreter::{Active, Interpreter, MethodCall};
+use rule_interpreter::{Active, Interpreter};
+use run_context::MethodCall;
 use script_lang::Input;
 use signatures::{Arguments, Name, ObjectId};
 use trace_entries::{Answer, Fault, Refusal};
@@ -62,11 +63,12 @@ pub fn invoke<N: Answering>(
     called: &Name,
     inputs: &[Input],
 ) -> Result<Answer, Fault>
-    requires depth { 0 < interpreter.now.depth }
-    requires promises { KeepPromises N.takes N.gives interpreter.now.meta interpreter.now.natives }
+    requires depth { 0 < interpreter.now.context.depth }
+    requires promises { KeepPromises N.takes N.gives
+        interpreter.now.context.meta interpreter.now.natives }
     requires left { 0 < world.old.left }
     requires idle { world.old.turn ≡ None }
-    requires keeps { WorldInvariant interpreter.now.meta world.old }
+    requires keeps { WorldInvariant interpreter.now.context.meta world.old }
     ensures { TookBy N.gives interpreter.now (invoking invocation name.now called.now inputs.now)
         world.old world.new result }
 {
@@ -98,16 +100,17 @@ fn judge<N: Answering>(
     called: &Name,
     inputs: &[Input],
 ) -> Result<Invoked, NotAccepted>
-    ensures accepted { IfOk result (λ i. AsksFor interpreter.now.meta world.now
+    ensures accepted { IfOk result (λ i. AsksFor interpreter.now.context.meta world.now
         i.object i.method i.values (invoking invocation name.now called.now inputs.now)) }
-    ensures fits { IfOk result (λ i. ArgumentsFit interpreter.now.meta world.now.store.tree
+    ensures fits { IfOk result (λ i. ArgumentsFit interpreter.now.context.meta world.now.store.tree
         i.object i.method i.values) }
     ensures refused { IfErr result (IsNotAccepted
-        (invoke interpreter.now.meta (at world.now []) invocation name.now called.now inputs.now)) }
+        (invoke interpreter.now.context.meta (at world.now [])
+        invocation name.now called.now inputs.now)) }
 {
     let (object, life) = find_living(world, name)?;
     let Some((method, declared)) = method_of(
-        &interpreter.meta,
+        &interpreter.context.meta,
         life.class,
         invocation,
         called,
@@ -115,9 +118,9 @@ fn judge<N: Answering>(
     ) else {
         return Err(NotAccepted::Refused(Refusal::NoMember));
     };
-    let values = read_inputs(interpreter.alloc, world, inputs)?;
+    let values = read_inputs(interpreter.context.alloc, world, inputs)?;
     if world.store.tree.have_types(
-        &interpreter.meta,
+        &interpreter.context.meta,
         values.as_slice(),
         declared.kinds.as_slice(),
     ) {
@@ -162,20 +165,20 @@ fn begin<N: Answering>(
     world: &mut World,
     call: &MethodCall<'_>,
 ) -> Result<Answer, Fault>
-    requires depth { 0 < interpreter.now.depth }
-    requires promises { KeepPromises N.takes N.gives interpreter.now.meta interpreter.now.natives }
+    requires depth { 0 < interpreter.now.context.depth }
+    requires promises { KeepPromises N.takes N.gives
+        interpreter.now.context.meta interpreter.now.natives }
     requires left { 0 < world.old.left }
     requires idle { world.old.turn ≡ None }
-    requires keeps { WorldInvariant interpreter.now.meta world.old }
-    requires fit { CallFits interpreter.now.meta world.old.store.tree call.now }
+    requires keeps { WorldInvariant interpreter.now.context.meta world.old }
+    requires fit { CallFits interpreter.now.context.meta world.old.store.tree call.now }
     ensures { (e : AnEvent) →
-        AsksFor interpreter.now.meta world.old
+        AsksFor interpreter.now.context.meta world.old
         call.now.object call.now.method call.now.arguments.now e →
         TookBy N.gives interpreter.now e world.old world.new result }
 {
-    let below = Active::nothing();
-    let (line, callee) = interpreter.activate(world, &below, call)?;
+    let (line, callee) = interpreter.context.activate(world, 0, call)?;
     world.accept_with(line)?;
-    interpreter.run_callee(world, &below, call, &callee)?;
+    interpreter.run_callee(world, &Active::nothing(), call, &callee)?;
     Ok(Answer::Done)
 }

@@ -14,7 +14,7 @@ use Rattle.machine_state.specs.State.{Step, Run, Act, Activation, Body, Emit, Up
 use Rattle.machine_state.specs.Telling.{Assigning}
 use Rattle.statement_meaning.specs.Operations.{Operation, operation_of_step}
 use Rattle.rule_interpreter.specs.code.Reaches.{RunsTo, Advances, CallsIn, Calls, OnlyCalls, Sets, Deletes, Kills}
-use Rattle.rule_interpreter.specs.declared.method_call.MethodCall.{MethodCall}
+use Rattle.run_context.specs.declared.method_call.MethodCall.{MethodCall}
 use Rattle.binding_graph.specs.declared.place.Place.{Place}
 use Rattle.machine_rules.specs.Natives.{NativeAnswers}
 use Rattle.meta_model.specs.Loaded.{Loaded}

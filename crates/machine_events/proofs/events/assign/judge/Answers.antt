@@ -8,20 +8,20 @@ use Rattle.machine_events.proofs.events.assign.judge.Goals as goal
 
 pub returns-in_err-object-clause-refused : goal.returns-in_err-object-clause-refused
 returns-in_err-object-clause-refused g c =
-    err-is {Judged = assign c.args.interpreter.now.meta (at c.args.world.now []) c.args.name.now c.args.property.now c.args.input.now} c.from_residual.result (then-ends c.in_err-object.ensures.refused) c.from_residual.ensures.1
+    err-is {Judged = assign c.args.interpreter.now.context.meta (at c.args.world.now []) c.args.name.now c.args.property.now c.args.input.now} c.from_residual.result (then-ends c.in_err-object.ensures.refused) c.from_residual.ensures.1
 
 pub returns-in_default-clause-refused : goal.returns-in_default-clause-refused
-returns-in_default-clause-refused g c = refused (no-property c.args.interpreter.now.meta c.args.world.now c.args.name.now c.args.property.now c.args.input.now _ c.in_ok-object.ensures.found c.in_default.ensures)
+returns-in_default-clause-refused g c = refused (no-property c.args.interpreter.now.context.meta c.args.world.now c.args.name.now c.args.property.now c.args.input.now _ c.in_ok-object.ensures.found c.in_default.ensures)
 
 pub returns-in_err-value-clause-refused : goal.returns-in_err-value-clause-refused
 returns-in_err-value-clause-refused g c =
-    err-is {Judged = assign c.args.interpreter.now.meta (at c.args.world.now []) c.args.name.now c.args.property.now c.args.input.now} c.from_residual-in_err-value.result
-    (no-value c.args.interpreter.now.meta c.args.world.now c.args.name.now c.args.property.now c.args.input.now _ c.in_ok-object.ensures.found _ c.in-Some.ensures c.in_err-value.ensures.refused) c.from_residual-in_err-value.ensures.1
+    err-is {Judged = assign c.args.interpreter.now.context.meta (at c.args.world.now []) c.args.name.now c.args.property.now c.args.input.now} c.from_residual-in_err-value.result
+    (no-value c.args.interpreter.now.context.meta c.args.world.now c.args.name.now c.args.property.now c.args.input.now _ c.in_ok-object.ensures.found _ c.in-Some.ensures c.in_err-value.ensures.refused) c.from_residual-in_err-value.ensures.1
 
 pub returns-then-has_type-clause-accepted : goal.returns-then-has_type-clause-accepted
 returns-then-has_type-clause-accepted g c =
-    rw c.new.ensures (writes-to c.args.interpreter.now.meta c.args.world.now c.args.name.now c.args.property.now c.args.input.now _ c.in_ok-object.ensures.found _ c.in-Some.ensures _ c.in_ok-value.ensures.value (c.has_type.ensures.0 c.if-has_type.true))
+    rw c.new.ensures (writes-to c.args.interpreter.now.context.meta c.args.world.now c.args.name.now c.args.property.now c.args.input.now _ c.in_ok-object.ensures.found _ c.in-Some.ensures _ c.in_ok-value.ensures.value (c.has_type.ensures.0 c.if-has_type.true))
 
 pub returns-else-has_type-clause-refused : goal.returns-else-has_type-clause-refused
 returns-else-has_type-clause-refused g c =
-    refused (bad-value c.args.interpreter.now.meta c.args.world.now c.args.name.now c.args.property.now c.args.input.now _ c.in_ok-object.ensures.found _ c.in-Some.ensures _ c.in_ok-value.ensures.value (λ fits. absurd (cc (c.has_type.ensures.1 fits, c.if-has_type.false))))
+    refused (bad-value c.args.interpreter.now.context.meta c.args.world.now c.args.name.now c.args.property.now c.args.input.now _ c.in_ok-object.ensures.found _ c.in-Some.ensures _ c.in_ok-value.ensures.value (λ fits. absurd (cc (c.has_type.ensures.1 fits, c.if-has_type.false))))

@@ -26,7 +26,7 @@ returns-in_ok-run_update-in-Ok g c = λ site target sources asks.
 pub returns-in_err-refusal-in-Err : goal.returns-in_err-refusal-in-Err
 returns-in_err-refusal-in-Err g c = λ site target sources asks.
     let un = rw c.as_slice-sources.ensures at c.in-Err.ensures.value in
-    took-halted _ _ (binding-stops asks c.args.interpreter.now.depth (ready c.requires.left c.requires.idle) un.0 c.in_err-refusal-in-Err.ensures) un.1 c.from_residual-in_err-refusal-in-Err.ensures.1
+    took-halted _ _ (binding-stops asks c.args.interpreter.now.context.depth (ready c.requires.left c.requires.idle) un.0 c.in_err-refusal-in-Err.ensures) un.1 c.from_residual-in_err-refusal-in-Err.ensures.1
 
 pub returns-in_ok-refusal-in-Err : goal.returns-in_ok-refusal-in-Err
 returns-in_ok-refusal-in-Err g c = λ site target sources asks.

@@ -8,7 +8,7 @@ use Rattle.machine_events.proofs.Judging.Binding.{no-site, other-number, no-targ
 use Rattle.machine_events.proofs.events.bind.judge.Goals as goal
 
 pub returns-in_default-clause-refused : goal.returns-in_default-clause-refused
-returns-in_default-clause-refused g c = refused (no-site c.args.interpreter.now.meta c.args.world.now c.args.site.now c.args.target.now c.args.sources.now c.in_default.ensures.value)
+returns-in_default-clause-refused g c = refused (no-site c.args.interpreter.now.context.meta c.args.world.now c.args.site.now c.args.target.now c.args.sources.now c.in_default.ensures.value)
 
 pub unreachable-requires : goal.unreachable-requires
 unreachable-requires g c =
@@ -19,21 +19,21 @@ unreachable-requires g c =
 pub returns-then-sources-len-clause-refused : goal.returns-then-sources-len-clause-refused
 returns-then-sources-len-clause-refused g c =
     let is = site-found c.in-Some-site_at.declared.now c.in-Some.ensures.value (sym c.in-Some-site_at.ensures.value) in
-    refused (other-number c.args.interpreter.now.meta c.args.world.now c.args.site.now c.args.target.now c.args.sources.now (numbered c.in-Some.number c.in-Some-site_at.declared.now) is
+    refused (other-number c.args.interpreter.now.context.meta c.args.world.now c.args.site.now c.args.target.now c.args.sources.now (numbered c.in-Some.number c.in-Some-site_at.declared.now) is
     (λ same. absurd (omega (arith, c.if-sources-len.true, c.len.ensures, same))))
 
 pub returns-in_err-target-clause-refused : goal.returns-in_err-target-clause-refused
 returns-in_err-target-clause-refused g c =
     let is = site-found c.in-Some-site_at.declared.now c.in-Some.ensures.value (sym c.in-Some-site_at.ensures.value) in
-    err-is {Judged = may_bind c.args.interpreter.now.meta (at c.args.world.now []) c.args.site.now c.args.target.now c.args.sources.now} c.from_residual.result
-    (no-target c.args.interpreter.now.meta c.args.world.now c.args.site.now c.args.target.now c.args.sources.now (numbered c.in-Some.number c.in-Some-site_at.declared.now) is
+    err-is {Judged = may_bind c.args.interpreter.now.context.meta (at c.args.world.now []) c.args.site.now c.args.target.now c.args.sources.now} c.from_residual.result
+    (no-target c.args.interpreter.now.context.meta c.args.world.now c.args.site.now c.args.target.now c.args.sources.now (numbered c.in-Some.number c.in-Some-site_at.declared.now) is
     (omega (arith, c.if-sources-len.false, c.len.ensures)) c.in_err-target.ensures.refused) c.from_residual.ensures.1
 
 pub returns-in_err-sources-clause-refused : goal.returns-in_err-sources-clause-refused
 returns-in_err-sources-clause-refused g c =
     let is = site-found c.in-Some-site_at.declared.now c.in-Some.ensures.value (sym c.in-Some-site_at.ensures.value) in
-    err-is {Judged = may_bind c.args.interpreter.now.meta (at c.args.world.now []) c.args.site.now c.args.target.now c.args.sources.now} c.from_residual-in_err-sources.result
-    (no-sources c.args.interpreter.now.meta c.args.world.now c.args.site.now c.args.target.now c.args.sources.now (numbered c.in-Some.number c.in-Some-site_at.declared.now) is
+    err-is {Judged = may_bind c.args.interpreter.now.context.meta (at c.args.world.now []) c.args.site.now c.args.target.now c.args.sources.now} c.from_residual-in_err-sources.result
+    (no-sources c.args.interpreter.now.context.meta c.args.world.now c.args.site.now c.args.target.now c.args.sources.now (numbered c.in-Some.number c.in-Some-site_at.declared.now) is
     (omega (arith, c.if-sources-len.false, c.len.ensures)) (numbered c.in_ok-target.target c.in_ok-target.field-0-1.now) c.in_ok-target.ensures.found c.in_err-sources.ensures.refused)
     c.from_residual-in_err-sources.ensures.1
 

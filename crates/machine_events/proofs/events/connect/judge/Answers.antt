@@ -8,7 +8,7 @@ use Rattle.machine_events.proofs.events.connect.judge.Goals as goal
 
 pub returns-in_err-found-clause-refused : goal.returns-in_err-found-clause-refused
 returns-in_err-found-clause-refused g c =
-    err-is {Judged = connect c.args.interpreter.now.meta (at c.args.world.now []) c.args.named.now c.args.how} c.from_residual.result (then-ends c.in_err-found.ensures.refused) c.from_residual.ensures.1
+    err-is {Judged = connect c.args.interpreter.now.context.meta (at c.args.world.now []) c.args.named.now c.args.how} c.from_residual.result (then-ends c.in_err-found.ensures.refused) c.from_residual.ensures.1
 
 pub returns-in-Ok-clause-accepted : goal.returns-in-Ok-clause-accepted
 returns-in-Ok-clause-accepted g c = goes_on c.in_ok-found.found c.in_ok-found.ensures.found (goes_on tt (rw c.in-Ok.is at c.may_connect.ensures) gives)

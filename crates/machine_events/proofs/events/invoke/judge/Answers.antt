@@ -8,22 +8,22 @@ use Rattle.machine_events.proofs.events.invoke.judge.Goals as goal
 
 pub returns-in_err-object-clause-refused : goal.returns-in_err-object-clause-refused
 returns-in_err-object-clause-refused g c =
-    err-is {Judged = invoke c.args.interpreter.now.meta (at c.args.world.now []) c.args.invocation c.args.name.now c.args.called.now c.args.inputs.now} c.from_residual.result (then-ends c.in_err-object.ensures.refused) c.from_residual.ensures.1
+    err-is {Judged = invoke c.args.interpreter.now.context.meta (at c.args.world.now []) c.args.invocation c.args.name.now c.args.called.now c.args.inputs.now} c.from_residual.result (then-ends c.in_err-object.ensures.refused) c.from_residual.ensures.1
 
 pub returns-in_default-clause-refused : goal.returns-in_default-clause-refused
-returns-in_default-clause-refused g c = refused (no-method c.args.interpreter.now.meta c.args.world.now c.args.invocation c.args.name.now c.args.called.now c.args.inputs.now _ c.in_ok-object.ensures.found c.in_default.ensures)
+returns-in_default-clause-refused g c = refused (no-method c.args.interpreter.now.context.meta c.args.world.now c.args.invocation c.args.name.now c.args.called.now c.args.inputs.now _ c.in_ok-object.ensures.found c.in_default.ensures)
 
 pub returns-in_err-values-clause-refused : goal.returns-in_err-values-clause-refused
 returns-in_err-values-clause-refused g c =
-    err-is {Judged = invoke c.args.interpreter.now.meta (at c.args.world.now []) c.args.invocation c.args.name.now c.args.called.now c.args.inputs.now} c.from_residual-in_err-values.result
-    (no-values c.args.interpreter.now.meta c.args.world.now c.args.invocation c.args.name.now c.args.called.now c.args.inputs.now _ c.in_ok-object.ensures.found _ c.in-Some.ensures c.in_err-values.ensures.refused) c.from_residual-in_err-values.ensures.1
+    err-is {Judged = invoke c.args.interpreter.now.context.meta (at c.args.world.now []) c.args.invocation c.args.name.now c.args.called.now c.args.inputs.now} c.from_residual-in_err-values.result
+    (no-values c.args.interpreter.now.context.meta c.args.world.now c.args.invocation c.args.name.now c.args.called.now c.args.inputs.now _ c.in_ok-object.ensures.found _ c.in-Some.ensures c.in_err-values.ensures.refused) c.from_residual-in_err-values.ensures.1
 
 pub returns-then-have_types-clause-accepted : goal.returns-then-have_types-clause-accepted
 returns-then-have_types-clause-accepted g c =
     let fits = rw (c.as_slice.ensures, c.as_slice-2.ensures) at c.have_types.ensures in
-    rw c.new.ensures (asks-for c.args.interpreter.now.meta c.args.world.now c.args.invocation c.args.name.now c.args.called.now c.args.inputs.now _ c.in_ok-object.ensures.found _ c.in-Some.ensures _ c.in_ok-values.ensures.values (fits.0 c.if-have_types.true))
+    rw c.new.ensures (asks-for c.args.interpreter.now.context.meta c.args.world.now c.args.invocation c.args.name.now c.args.called.now c.args.inputs.now _ c.in_ok-object.ensures.found _ c.in-Some.ensures _ c.in_ok-values.ensures.values (fits.0 c.if-have_types.true))
 
 pub returns-else-have_types-clause-refused : goal.returns-else-have_types-clause-refused
 returns-else-have_types-clause-refused g c =
     let fits = rw (c.as_slice.ensures, c.as_slice-2.ensures) at c.have_types.ensures in
-    refused (bad-values c.args.interpreter.now.meta c.args.world.now c.args.invocation c.args.name.now c.args.called.now c.args.inputs.now _ c.in_ok-object.ensures.found _ c.in-Some.ensures _ c.in_ok-values.ensures.values (λ fit. absurd (cc (fits.1 fit, c.if-have_types.false))))
+    refused (bad-values c.args.interpreter.now.context.meta c.args.world.now c.args.invocation c.args.name.now c.args.called.now c.args.inputs.now _ c.in_ok-object.ensures.found _ c.in-Some.ensures _ c.in_ok-values.ensures.values (λ fit. absurd (cc (fits.1 fit, c.if-have_types.false))))

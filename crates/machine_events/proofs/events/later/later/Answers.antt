@@ -9,7 +9,7 @@ use Rattle.machine_events.proofs.events.later.later.Goals as goal
 
 pub returns-in-Err : goal.returns-in-Err
 returns-in-Err g c =
-    took-not-accepted _ c.refuse.result c.requires.keeps.sound.is.agree (not-later c.args.interpreter.now.meta c.args.world.now c.args.name.now c.in-Err.ensures.refused) (ready c.requires.left c.requires.idle) c.refuse.ensures
+    took-not-accepted _ c.refuse.result c.requires.keeps.sound.is.agree (not-later c.args.interpreter.now.context.meta c.args.world.now c.args.name.now c.in-Err.ensures.refused) (ready c.requires.left c.requires.idle) c.refuse.ensures
 
 pub returns-in_err-accept : goal.returns-in_err-accept
 returns-in_err-accept g c = took-unchanged _ _ (ready c.requires.left c.requires.idle) c.in_err-accept.ensures c.from_residual.ensures.1
@@ -17,7 +17,7 @@ returns-in_err-accept g c = took-unchanged _ _ (ready c.requires.left c.requires
 pub returns-then-life : goal.returns-then-life
 returns-then-life g c =
     let o : Numbered Life = record { number = c.in-Ok.number; it = c.in-Ok.life.now } in
-    later-again c.args.interpreter.now.meta c.args.world.now c.args.name.now o c.in-Ok.ensures.found c.if-life.true c.requires.keeps.sound.is.agree (ready c.requires.left c.requires.idle) c.in_ok-accept.ensures
+    later-again c.args.interpreter.now.context.meta c.args.world.now c.args.name.now o c.in-Ok.ensures.found c.if-life.true c.requires.keeps.sound.is.agree (ready c.requires.left c.requires.idle) c.in_ok-accept.ensures
 
 pub unreachable-requires : goal.unreachable-requires
 unreachable-requires g c =
@@ -42,5 +42,5 @@ returns-in_err-accept_schedule g c = took-unchanged _ _ (ready c.requires.left c
 pub returns : goal.returns
 returns g c =
     let o : Numbered Life = record { number = c.in-Ok.number; it = c.in-Ok.life.now } in
-    later-once c.args.interpreter.now.meta c.args.world.now c.args.name.now o c.in-Ok.ensures.found c.in-Some.event_loop.now (sym (rw c.in-Some.is at c.name.ensures)) c.if-life.false c.requires.keeps.sound.is.agree (ready c.requires.left c.requires.idle)
+    later-once c.args.interpreter.now.context.meta c.args.world.now c.args.name.now o c.in-Ok.ensures.found c.in-Some.event_loop.now (sym (rw c.in-Some.is at c.name.ensures)) c.if-life.false c.requires.keeps.sound.is.agree (ready c.requires.left c.requires.idle)
     (rw (c.in_ok-copy.ensures, c.in_ok-copy-2.ensures, c.new.ensures) at c.in_ok-accept_schedule.ensures)

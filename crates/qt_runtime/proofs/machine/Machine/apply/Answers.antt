@@ -23,17 +23,17 @@ returns-clause-kept g c =
 
 pub returns-clause-taken : goal.returns-clause-taken
 returns-clause-taken g c =
-    let From : Seen _ → Type 0 = λ a. IfOk c.take_event-result.result (λ x. Completes g.N.Answering.gives a (c.args.event.now ∷ []) (x ∷ []) (seen c.self.inside.interpreter.meta c.self.inside.interpreter.natives c.self.inside.interpreter.depth c.take_event-result.new.world c.is_err-self-inside.result)) in
+    let From : Seen _ → Type 0 = λ a. IfOk c.take_event-result.result (λ x. Completes g.N.Answering.gives a (c.args.event.now ∷ []) (x ∷ []) (seen c.self.inside.interpreter.context.meta c.self.inside.interpreter.natives c.self.inside.interpreter.context.depth c.take_event-result.new.world c.is_err-self-inside.result)) in
     subst From c.self.view_is (applied-taken g.N.Answering.gives c.self.inside.interpreter.natives c.take_event-result.result c.take_event-result.ensures c.if-self.false c.is_err-self-inside.ensures.value)
 
 pub returns-clause-refused : goal.returns-clause-refused
 returns-clause-refused g c =
-    let From : Seen _ → Type 0 = λ a. IfOk c.take_event-result.result (λ x. RefusesExactly a c.args.event.now x (seen c.self.inside.interpreter.meta c.self.inside.interpreter.natives c.self.inside.interpreter.depth c.take_event-result.new.world c.is_err-self-inside.result)) in
+    let From : Seen _ → Type 0 = λ a. IfOk c.take_event-result.result (λ x. RefusesExactly a c.args.event.now x (seen c.self.inside.interpreter.context.meta c.self.inside.interpreter.natives c.self.inside.interpreter.context.depth c.take_event-result.new.world c.is_err-self-inside.result)) in
     subst From c.self.view_is (applied-refused g.N.Answering.gives c.self.inside.interpreter.natives _ _ c.take_event-result.result c.classes.ensures.sound (c.self.invariant.keeps c.if-self.false).sound (c.self.invariant.idle c.if-self.false) c.take_event-result.ensures)
 
 pub returns-clause-stopped : goal.returns-clause-stopped
 returns-clause-stopped g c =
-    let after : Seen _ = seen c.self.inside.interpreter.meta c.self.inside.interpreter.natives c.self.inside.interpreter.depth c.take_event-result.new.world c.is_err-self-inside.result in
+    let after : Seen _ = seen c.self.inside.interpreter.context.meta c.self.inside.interpreter.natives c.self.inside.interpreter.context.depth c.take_event-result.new.world c.is_err-self-inside.result in
     let From : Seen _ → Type 0 = λ a. IfErr c.take_event-result.result (λ f. Halts g.N.Answering.gives a (c.args.event.now ∷ []) f after ⊎ Stays a f after) in
     subst From c.self.view_is (applied-stopped g.N.Answering.gives c.self.inside.interpreter.natives c.take_event-result.result c.take_event-result.ensures c.if-self.false c.is_err-self-inside.ensures.value)
 
@@ -53,7 +53,7 @@ returns-clause-checked g c =
     let sound = c.classes.ensures.sound in
     let went = c.if-self.false in
     let is = c.is_err-self-inside.ensures.value in
-    let after : Seen _ = seen c.self.inside.interpreter.meta natives c.self.inside.interpreter.depth c.take_event-result.new.world c.is_err-self-inside.result in
+    let after : Seen _ = seen c.self.inside.interpreter.context.meta natives c.self.inside.interpreter.context.depth c.take_event-result.new.world c.is_err-self-inside.result in
     let Kept : Seen _ → Type 0 = λ m. AreKept takes gives m in
     let From : Seen _ → Type 0 = λ a. IsChecked gives a → IsChecked gives after × IfErr result (StopsAtLimit a) in
     subst From c.self.view_is (applied-checked takes gives c.args.event.now result sound (subst Kept (sym c.self.view_is) c.requires) (applied-taken gives natives result took went is)

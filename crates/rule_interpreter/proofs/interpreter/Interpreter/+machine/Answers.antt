@@ -15,7 +15,9 @@ use Rattle.machine_rules.specs.code.Sound.{IsSoundWorld}
 use Rattle.rule_interpreter.proofs.Keeps.{keeps-same, keeps-then, reaches-keeps}
 use Rattle.machine_rules.proofs.Declared.{fit-sends}
 use Rattle.rule_interpreter.proofs.Soundness.{emitted-still, reaches-sound, sound-used, sound-noted, sound-set}
-use Rattle.rule_interpreter.proofs.Beginning.{begun-work, work-at, ends-begun, stops-barred, stops-no-member, stops-ill-typed, fit-of, next-delivered, delivered-fits, delivery-calls, begun-used, ends-posted, no-home, not-true}
+use Rattle.rule_interpreter.proofs.Beginning.{begun-work, work-at, ends-begun, stops-barred, stops-no-member, stops-ill-typed, fit-of, next-delivered, delivered-fits, delivery-calls, begun-used, ends-posted}
+use Rattle.run_context.proofs.Posts.{no-home}
+use Rattle.run_context.proofs.Linking.{not-true}
 use Rattle.rule_interpreter.proofs.Writes.{ends-written, ends-unplanned, stops-unwritten}
 use Rattle.rule_interpreter.proofs.Notifying.{no-places, all-notified, all-may-still, announces-signal, dead-rule, announced-member, announced-value, announced-fits, announcement-calls}
 use Rattle.rule_interpreter.proofs.Bodies.{does-call, does-call-alone, does-set, does-answer, does-nothing, does-connect, does-disconnect, does-delete, does-schedule, does-choose, lacks-read, advances-one, advances-ticked, advances-left}
@@ -59,11 +61,11 @@ run_emission-returns-in_err-deliver-clause-ends g t c =
 
 pub run_emission-returns-in_err-deliver-clause-keeps : goal.run_emission-returns-in_err-deliver-clause-keeps
 run_emission-returns-in_err-deliver-clause-keeps g t c =
-    ok-err (KeepsWorld c.args.self.now.meta c.args.world.now c.deliver.new.world) c.from_residual.result (c.in_err-deliver.ensures.ends _ _ _ _ (sym c.in-Some.ensures.value)).cases c.from_residual.ensures.1
+    ok-err (KeepsWorld c.args.self.now.context.meta c.args.world.now c.deliver.new.world) c.from_residual.result (c.in_err-deliver.ensures.ends _ _ _ _ (sym c.in-Some.ensures.value)).cases c.from_residual.ensures.1
 
 pub run_emission-returns-in_err-deliver-clause-sound : goal.run_emission-returns-in_err-deliver-clause-sound
 run_emission-returns-in_err-deliver-clause-sound g t c =
-    ok-err (IsSoundWorld c.args.self.now.meta c.deliver.new.world) c.from_residual.result (c.in_err-deliver.ensures.ends _ _ _ _ (sym c.in-Some.ensures.value)).cases c.from_residual.ensures.1
+    ok-err (IsSoundWorld c.args.self.now.context.meta c.deliver.new.world) c.from_residual.result (c.in_err-deliver.ensures.ends _ _ _ _ (sym c.in-Some.ensures.value)).cases c.from_residual.ensures.1
 
 pub run_emission-returns-clause-ends : goal.run_emission-returns-clause-ends
 run_emission-returns-clause-ends g t c =
@@ -80,13 +82,13 @@ pub deliver-unreachable-requires-in_default-home : goal.deliver-unreachable-requ
 deliver-unreachable-requires-in_default-home g t c = no-home c.in-Some.ensures c.in_default-home.ensures
 
 pub deliver-begin_used-requires : goal.deliver-begin_used-requires
-deliver-begin_used-requires g t c = λ κs lives. (omega arith, (lives, (c.requires.promises, (c.requires.sound, (c.in_ok-require_rule.ensures, (delivered-fits c.requires.takes c.in-Some.ensures c.front-taken.ensures c.len.ensures, c.in_ok-line.ensures.ok))))))
+deliver-begin_used-requires g t c = λ κs lives. (omega arith, (lives, (c.requires.promises, (c.requires.sound, (c.in_ok-require_rule.ensures, (delivered-fits c.requires.takes c.in-Some.ensures c.front-taken.ensures c.len.ensures, rw c.count.ensures at c.in_ok-line.ensures.ok))))))
 
 pub deliver-returns-in_err-line : goal.deliver-returns-in_err-line
 deliver-returns-in_err-line g t c =
     let now = rw c.running.ensures at c.reaches_at_once.ensures in
     let fit = delivered-fits c.requires.takes c.in-Some.ensures c.front-taken.ensures c.len.ensures in
-    record { ends = λ o g used last found. ends-left _ (stops-barred c.over-over.ensures (delivery-calls o g used last found c.in-Some.ensures c.front-taken.ensures c.len.ensures (sym c.in-Some-home.ensures) (sym now ∙ c.if-reaches_at_once.true)) fit c.requires.sound.is.agree c.in_ok-require_rule.ensures c.in_err-line.ensures.err) c.from_residual-in_err-line.ensures.1 }
+    record { ends = λ o g used last found. ends-left _ (stops-barred c.over-over.ensures (delivery-calls o g used last found c.in-Some.ensures c.front-taken.ensures c.len.ensures (sym c.in-Some-home.ensures) (sym now ∙ c.if-reaches_at_once.true)) fit c.requires.sound.is.agree c.in_ok-require_rule.ensures (rw c.count.ensures at c.in_err-line.ensures.err)) c.from_residual-in_err-line.ensures.1 }
 
 pub deliver-post-requires-clause-fit : goal.deliver-post-requires-clause-fit
 deliver-post-requires-clause-fit g t c = delivered-fits c.requires.takes c.in-Some.ensures c.front-taken.ensures c.len.ensures
@@ -101,7 +103,7 @@ deliver-returns-else-reaches_at_once g t c =
     let later = rw c.running.ensures at c.reaches_at_once.ensures in
     record {
       ends = λ o g used last found.
-          ends-posted o g used last _ _ found c.in-Some.ensures c.front-taken.ensures c.len.ensures (sym c.in-Some-home.ensures) (sym later ∙ c.if-reaches_at_once.false) c.requires.room c.requires.sound.is.agree c.in_ok-require_rule.ensures (omega (arith, c.count.ensures)) c.post.ensures;
+          ends-posted o g used last _ _ found c.in-Some.ensures c.front-taken.ensures c.len.ensures (sym c.in-Some-home.ensures) (sym later ∙ c.if-reaches_at_once.false) c.requires.room c.requires.sound.is.agree c.in_ok-require_rule.ensures (omega (arith, c.count-else-reaches_at_once.ensures)) c.post.ensures;
     }
 
 pub begin_used-returns-in_err-use_connection : goal.begin_used-returns-in_err-use_connection
@@ -110,7 +112,7 @@ begin_used-returns-in_err-use_connection g t c = record { ends = λ from to show
 pub begin_used-run_callee-requires : goal.begin_used-run_callee-requires
 begin_used-run_callee-requires g t c = λ κs lives.
     let went = c.in_ok-use_connection.ensures in
-    let Fit : World → Type 0 = λ v. ArgumentsFit c.args.self.now.meta v.store.tree c.args.call.now.object c.args.call.now.method c.args.call.now.arguments.now in
+    let Fit : World → Type 0 = λ v. ArgumentsFit c.args.self.now.context.meta v.store.tree c.args.call.now.object c.args.call.now.method c.args.call.now.arguments.now in
     (omega (arith, ap (λ (w : World). w.left) went, c.requires.left), (lives, (c.requires.promises, (c.requires.begun.room, (sound-used c.args.world.now _ c.args.connection.now went c.requires.sound, (subst Fit (sym went) c.requires.fit, work-at (ap (λ (u : World). u.store.tree) went) (begun-work c.requires.begun)))))))
 
 pub begin_used-returns : goal.begin_used-returns
@@ -135,23 +137,23 @@ pub begin_typed-returns-in_err-line : goal.begin_typed-returns-in_err-line
 begin_typed-returns-in_err-line g t c = record {
   ends = λ from to shown over calls only.
       let typed = rw c.as_slice.ensures at c.have_types.ensures in
-      ends-left _ (stops-barred over calls (fit-of c.in-Some.ensures (typed.0 c.if-not-have_types.false)) c.requires.sound.is.agree c.requires.left c.in_err-line.ensures.err) c.from_residual.ensures.1;
+      ends-left _ (stops-barred over calls (fit-of c.in-Some.ensures (typed.0 c.if-not-have_types.false)) c.requires.sound.is.agree c.requires.left (rw c.count.ensures at c.in_err-line.ensures.err)) c.from_residual.ensures.1;
 }
 
 pub begin_typed-begin_found-requires : goal.begin_typed-begin_found-requires
 begin_typed-begin_found-requires g t c = λ κs lives. let typed = rw c.as_slice.ensures at c.have_types.ensures in
-    (omega arith, (lives, (c.requires.promises, (c.requires.sound, (c.requires.left, (fit-of c.in-Some.ensures (typed.0 c.if-not-have_types.false), c.in_ok-line.ensures.ok))))))
+    (omega arith, (lives, (c.requires.promises, (c.requires.sound, (c.requires.left, (fit-of c.in-Some.ensures (typed.0 c.if-not-have_types.false), rw c.count.ensures at c.in_ok-line.ensures.ok))))))
 
 pub begin_typed-returns : goal.begin_typed-returns
 begin_typed-returns g t c = record { ends = λ from to shown over calls only. c.begin_found.ensures.ends from to shown over calls }
 
 pub begin-returns-in_err-line : goal.begin-returns-in_err-line
 begin-returns-in_err-line g t c = record {
-  ends = λ from to shown over calls. ends-left _ (stops-barred over calls c.requires.fit c.requires.sound.is.agree c.requires.left c.in_err-line.ensures.err) c.from_residual.ensures.1;
+  ends = λ from to shown over calls. ends-left _ (stops-barred over calls c.requires.fit c.requires.sound.is.agree c.requires.left (rw c.count.ensures at c.in_err-line.ensures.err)) c.from_residual.ensures.1;
 }
 
 pub begin-begin_found-requires : goal.begin-begin_found-requires
-begin-begin_found-requires g t c = λ κs lives. (omega arith, (lives, (c.requires.promises, (c.requires.sound, (c.requires.left, (c.requires.fit, c.in_ok-line.ensures.ok))))))
+begin-begin_found-requires g t c = λ κs lives. (omega arith, (lives, (c.requires.promises, (c.requires.sound, (c.requires.left, (c.requires.fit, rw c.count.ensures at c.in_ok-line.ensures.ok))))))
 
 pub begin-returns : goal.begin-returns
 begin-returns g t c = record { ends = λ from to shown over calls. c.begin_found.ensures.ends from to shown over calls }
@@ -162,7 +164,7 @@ begin_found-returns-in_err-note g t c = record { ends = λ from to shown over ca
 pub begin_found-run_callee-requires : goal.begin_found-run_callee-requires
 begin_found-run_callee-requires g t c = λ κs lives.
     let went = c.in_ok-note.ensures in
-    let Fit : World → Type 0 = λ v. ArgumentsFit c.args.self.now.meta v.store.tree c.args.call.now.object c.args.call.now.method c.args.call.now.arguments.now in
+    let Fit : World → Type 0 = λ v. ArgumentsFit c.args.self.now.context.meta v.store.tree c.args.call.now.object c.args.call.now.method c.args.call.now.arguments.now in
     (omega (arith, ap (λ (w : World). w.left) went, c.requires.left), (lives, (c.requires.promises, (c.requires.begun.room, (sound-noted c.args.world.now _ went c.requires.sound, (subst Fit (sym went) c.requires.fit, work-at (ap (λ (u : World). u.store.tree) went) (begun-work c.requires.begun)))))))
 
 pub begin_found-returns : goal.begin_found-returns
@@ -313,7 +315,7 @@ run_update-returns-in_err-places g t c = record { ends = ends-short _ (not-idle 
 pub run_update-loop-place-init : goal.run_update-loop-place-init
 run_update-loop-place-init g t c =
     let places = c.as_slice-left.ensures.value ∙ c.in_ok-places.ensures in
-    record { reaches = rw places reaches-same; fewer = omega arith; sound = c.requires.sound; may = rw places (all-notified c.args.self.now.meta c.args.world.now.store.tree c.args.changed.now c.requires.sound.program) }
+    record { reaches = rw places reaches-same; fewer = omega arith; sound = c.requires.sound; may = rw places (all-notified c.args.self.now.context.meta c.args.world.now.store.tree c.args.changed.now c.requires.sound.program) }
 
 pub run_update-notify-requires : goal.run_update-notify-requires
 run_update-notify-requires g t c = λ κs lives.
@@ -335,7 +337,7 @@ run_update-loop-place-preserved g t c =
       reaches = went;
       fewer = (reaches-keeps went).fewer;
       sound = reaches-sound ((tt, tt), tt) c.loop-place.invariant.sound one;
-      may = all-may-still c.args.self.now.meta c.loop-place.world.store.tree c.notify.new.world.store.tree c.in-Some.rest.now (reaches-keeps one).objects may.1;
+      may = all-may-still c.args.self.now.context.meta c.loop-place.world.store.tree c.notify.new.world.store.tree c.in-Some.rest.now (reaches-keeps one).objects may.1;
     }
 
 pub run_update-returns : goal.run_update-returns
@@ -385,12 +387,12 @@ emit_change-returns g t c =
 
 pub delete-returns-in_err-may_nest : goal.delete-returns-in_err-may_nest
 delete-returns-in_err-may_nest g t c = record {
-  ends = λ from to shown over deletes. ends-left _ (stops-as c.in_err-may_nest.ensures.1 (stops-deleting over deletes c.requires.sound.is.agree c.requires.left c.in_err-may_nest.ensures.0)) c.from_residual.ensures.1;
+  ends = λ from to shown over deletes. ends-left _ (stops-as c.in_err-may_nest.ensures.1 (stops-deleting over deletes c.requires.sound.is.agree c.requires.left (omega (arith, c.in_err-may_nest.ensures.0, c.count.ensures)))) c.from_residual.ensures.1;
 }
 
 pub delete-returns : goal.delete-returns
 delete-returns g t c = record {
-  ends = λ from to shown over deletes. ends-deleting over deletes c.in_ok-may_nest.ensures c.requires.sound.is.agree c.in_ok-tick.ensures c.run_deletion.ensures.ends;
+  ends = λ from to shown over deletes. ends-deleting over deletes (omega (arith, c.in_ok-may_nest.ensures, c.count.ensures)) c.requires.sound.is.agree c.in_ok-tick.ensures c.run_deletion.ensures.ends;
 }
 
 pub run_callee-run_emission-requires : goal.run_callee-run_emission-requires
@@ -418,7 +420,7 @@ pub announce-returns-in_err-may_nest-clause-ends : goal.announce-returns-in_err-
 announce-returns-in_err-may_nest-clause-ends g t c = λ next before torn kills.
     let named = living-name c.args.world.now.store.tree c.args.object c.requires.lives in
     let higher = ap (λ (l : List (Option ℕ)). length l) c.over-over.ensures in
-    ends-left _ (stops-as c.in_err-may_nest.ensures.1 (stops-announcing kills named.1 c.requires.sound.is.agree c.in_ok-require_rule.ensures (sym c.has_body.ensures ∙ c.if-has_body.false) (omega (arith, c.in_err-may_nest.ensures.0, higher)))) c.from_residual-in_err-may_nest.ensures.1
+    ends-left _ (stops-as c.in_err-may_nest.ensures.1 (stops-announcing kills named.1 c.requires.sound.is.agree c.in_ok-require_rule.ensures (sym c.has_body.ensures ∙ c.if-has_body.false) (omega (arith, c.in_err-may_nest.ensures.0, c.count-depth.ensures, higher)))) c.from_residual-in_err-may_nest.ensures.1
 
 pub announce-returns-in_err-copy-clause-ends : goal.announce-returns-in_err-copy-clause-ends
 announce-returns-in_err-copy-clause-ends g t c = λ next before torn kills. ends-short _ (not-idle c.args.world.now _) c.in_ok-require_rule.ensures c.from_residual-in_err-copy.ensures.1
@@ -433,24 +435,24 @@ pub announce-run_emission-requires : goal.announce-run_emission-requires
 announce-run_emission-requires g t c = λ κs lives.
     let w = c.args.world.now in
     let named = sym c.in-Some.ensures in
-    let came = died-as c.args.world.now c.args.object c.in_ok-mark_dead.ensures c.in_ok-copy.ensures c.in_ok-emitted.ensures c.count.ensures c.count-2.ensures in
+    let came = died-as c.args.world.now c.args.object c.in_ok-mark_dead.ensures c.in_ok-copy.ensures c.in_ok-emitted.ensures c.count-depth.ensures in
     let higher = ap (λ (l : List (Option ℕ)). length l) c.over-over.ensures in
-    let went = reaches-died {natives = g.N.Answering.gives c.args.self.now.natives} {d = c.args.self.now.depth} {active = c.args.active.now} {torn = []} (kills-first w c.args.object [] c.requires.lives) named c.requires.sound.is.agree c.in_ok-require_rule.ensures (sym c.has_body.ensures ∙ c.if-has_body.false) (omega (arith, c.in_ok-may_nest.ensures, higher)) (omega (arith, higher)) c.last-last.ensures came in
-    (omega (arith, ap (λ (u : World). u.left) c.in_ok-mark_dead.ensures, c.in_ok-require_rule.ensures), (lives, (c.requires.promises, (c.in_ok-may_nest.ensures, (reaches-sound ((tt, tt), tt) c.requires.sound went, (died-emits w _ c.args.object c.requires.sound.program named came, inl refl))))))
+    let went = reaches-died {natives = g.N.Answering.gives c.args.self.now.natives} {d = c.args.self.now.context.depth} {active = c.args.active.now} {torn = []} (kills-first w c.args.object [] c.requires.lives) named c.requires.sound.is.agree c.in_ok-require_rule.ensures (sym c.has_body.ensures ∙ c.if-has_body.false) (omega (arith, c.in_ok-may_nest.ensures, c.count-depth.ensures, higher)) (omega (arith, higher)) c.last-last.ensures came in
+    (omega (arith, ap (λ (u : World). u.left) c.in_ok-mark_dead.ensures, c.in_ok-require_rule.ensures), (lives, (c.requires.promises, (omega (arith, c.in_ok-may_nest.ensures, c.count-depth.ensures), (reaches-sound ((tt, tt), tt) c.requires.sound went, (died-emits w _ c.args.object c.requires.sound.program named came, inl refl))))))
 
 pub announce-returns-clause-ends : goal.announce-returns-clause-ends
 announce-returns-clause-ends g t c = λ next before torn kills.
     let named = sym c.in-Some.ensures in
-    let came = died-as c.args.world.now c.args.object c.in_ok-mark_dead.ensures c.in_ok-copy.ensures c.in_ok-emitted.ensures c.count.ensures c.count-2.ensures in
+    let came = died-as c.args.world.now c.args.object c.in_ok-mark_dead.ensures c.in_ok-copy.ensures c.in_ok-emitted.ensures c.count-depth.ensures in
     let higher = ap (λ (l : List (Option ℕ)). length l) c.over-over.ensures in
-    let went = reaches-died kills named c.requires.sound.is.agree c.in_ok-require_rule.ensures (sym c.has_body.ensures ∙ c.if-has_body.false) (omega (arith, c.in_ok-may_nest.ensures, higher)) (omega (arith, higher)) c.last-last.ensures came in
+    let went = reaches-died kills named c.requires.sound.is.agree c.in_ok-require_rule.ensures (sym c.has_body.ensures ∙ c.if-has_body.false) (omega (arith, c.in_ok-may_nest.ensures, c.count-depth.ensures, higher)) (omega (arith, higher)) c.last-last.ensures came in
     ends-after went (ends-lifted c.over-over.ensures c.run_emission.ensures.ends)
 
 pub announce-returns-clause-dead : goal.announce-returns-clause-dead
 announce-returns-clause-dead g t c =
     let named = sym c.in-Some.ensures in
-    let came = died-as c.args.world.now c.args.object c.in_ok-mark_dead.ensures c.in_ok-copy.ensures c.in_ok-emitted.ensures c.count.ensures c.count-2.ensures in
-    ok-map (KeepsWorld c.args.self.now.meta c.mark_dead.new.self c.run_emission.new.world) (is_living c.run_emission.new.world.store.tree c.args.object ≡ false) c.run_emission.result c.run_emission.ensures.keeps (λ keeps. dead-after c.args.object (died-gone c.args.world.now _ c.args.object named came) keeps)
+    let came = died-as c.args.world.now c.args.object c.in_ok-mark_dead.ensures c.in_ok-copy.ensures c.in_ok-emitted.ensures c.count-depth.ensures in
+    ok-map (KeepsWorld c.args.self.now.context.meta c.mark_dead.new.self c.run_emission.new.world) (is_living c.run_emission.new.world.store.tree c.args.object ≡ false) c.run_emission.result c.run_emission.ensures.keeps (λ keeps. dead-after c.args.object (died-gone c.args.world.now _ c.args.object named came) keeps)
 
 pub announce_living-returns-then-is_some-clause-ends : goal.announce_living-returns-then-is_some-clause-ends
 announce_living-returns-then-is_some-clause-ends g t c =
@@ -569,10 +571,10 @@ run_native-loop-action-init g t c =
     let actions = c.in_ok-actions.actions.items in
     let rest : c.into_iter-action-iterator.result.rest.items ≡ actions = c.into_iter-action-iterator.ensures.into_iter_gives.0 in
     let tells = rw c.as_slice.ensures.value at c.in_ok-line.ensures in
-    let went = (does-answer {d = c.args.self.now.depth} {h = c.args.active.now} effects actions _ _ (Ok tt) c.in_ok-actions.ensures.may tells c.requires.room c.requires.sound.is.agree c.in_ok-require_rule.ensures (omega (arith, c.count-depth.ensures)) c.in_ok-note.ensures).cases in
+    let went = (does-answer {d = c.args.self.now.context.depth} {h = c.args.active.now} effects actions _ _ (Ok tt) c.in_ok-actions.ensures.may tells c.requires.room c.requires.sound.is.agree c.in_ok-require_rule.ensures (omega (arith, c.count-depth.ensures)) c.in_ok-note.ensures).cases in
     record {
       reaches = rw rest went;
-      within = rw rest (all-placed c.args.self.now.meta w.store.tree c.args.call.now.object effects actions c.in_ok-actions.ensures.within);
+      within = rw rest (all-placed c.args.self.now.context.meta w.store.tree c.args.call.now.object effects actions c.in_ok-actions.ensures.within);
       fewer = omega (arith, ap (λ (u : World). u.left) c.in_ok-note.ensures);
       sound = sound-noted w _ c.in_ok-note.ensures c.requires.sound;
     }

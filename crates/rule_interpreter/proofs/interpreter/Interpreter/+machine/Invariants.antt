@@ -74,9 +74,9 @@ decreases-announce g l = 6 * l.world.now.left + 0
 abbrev pub invariant-run_deletion-loop-world : goal.invariant-run_deletion-loop-world
 invariant-run_deletion-loop-world g l =
     record {
-      reaches : Reaches l.self.meta (g.N.Answering.gives l.self.natives) l.self.depth l.active l.fn.world (Destroy (Some l.fn.object) [] ∷ []) l.world (Destroy None (reverse l.torn.items) ∷ []);
+      reaches : Reaches l.self.context.meta (g.N.Answering.gives l.self.natives) l.self.context.depth l.active l.fn.world (Destroy (Some l.fn.object) [] ∷ []) l.world (Destroy None (reverse l.torn.items) ∷ []);
       fewer : l.world.left ≤ l.fn.world.left;
-      sound : IsSoundWorld l.self.meta l.world;
+      sound : IsSoundWorld l.self.context.meta l.world;
     }
 
 abbrev pub decreases-run_deletion-loop-world : goal.decreases-run_deletion-loop-world
@@ -85,10 +85,10 @@ decreases-run_deletion-loop-world g l = l.world.left
 abbrev pub invariant-run_body-loop-statement : goal.invariant-run_body-loop-statement
 invariant-run_body-loop-statement g l =
     record {
-      reaches : Reaches l.self.meta (g.N.Answering.gives l.self.natives) l.self.depth l.active l.fn.world (Body l.call.object l.call.method l.call.arguments.now (map Run l.statements) ∷ []) l.world (Body l.call.object l.call.method l.call.arguments.now (map Run l.left) ∷ []);
-      keeps : KeepsWorld l.self.meta l.fn.world l.world;
+      reaches : Reaches l.self.context.meta (g.N.Answering.gives l.self.natives) l.self.context.depth l.active l.fn.world (Body l.call.object l.call.method l.call.arguments.now (map Run l.statements) ∷ []) l.world (Body l.call.object l.call.method l.call.arguments.now (map Run l.left) ∷ []);
+      keeps : KeepsWorld l.self.context.meta l.fn.world l.world;
       fewer : l.world.left ≤ l.fn.world.left;
-      sound : IsSoundWorld l.self.meta l.world;
+      sound : IsSoundWorld l.self.context.meta l.world;
     }
 
 abbrev pub decreases-run_body-loop-statement : goal.decreases-run_body-loop-statement
@@ -97,10 +97,10 @@ decreases-run_body-loop-statement g l = l.world.left
 abbrev pub invariant-run_emission-loop-connection : goal.invariant-run_emission-loop-connection
 invariant-run_emission-loop-connection g l =
     record {
-      reaches : Reaches l.self.meta (g.N.Answering.gives l.self.natives) l.self.depth l.active l.fn.world (Emit l.call.object l.call.method l.call.arguments.now 0 l.last ∷ []) l.world (Emit l.call.object l.call.method l.call.arguments.now l.used l.last ∷ []);
-      keeps : KeepsWorld l.self.meta l.fn.world l.world;
+      reaches : Reaches l.self.context.meta (g.N.Answering.gives l.self.natives) l.self.context.depth l.active l.fn.world (Emit l.call.object l.call.method l.call.arguments.now 0 l.last ∷ []) l.world (Emit l.call.object l.call.method l.call.arguments.now l.used l.last ∷ []);
+      keeps : KeepsWorld l.self.context.meta l.fn.world l.world;
       fewer : l.world.left ≤ l.fn.world.left;
-      sound : IsSoundWorld l.self.meta l.world;
+      sound : IsSoundWorld l.self.context.meta l.world;
       heard : MayBeHeardIn l.world l.call.object l.call.method;
     }
 
@@ -110,10 +110,10 @@ decreases-run_emission-loop-connection g l = l.last - l.used
 abbrev pub invariant-run_update-loop-place : goal.invariant-run_update-loop-place
 invariant-run_update-loop-place g l =
     record {
-      reaches : Reaches l.self.meta (g.N.Answering.gives l.self.natives) l.self.depth l.active l.fn.world (Update (notified l.self.meta l.fn.world.store.tree l.changed) ∷ []) l.world (Update l.left ∷ []);
+      reaches : Reaches l.self.context.meta (g.N.Answering.gives l.self.natives) l.self.context.depth l.active l.fn.world (Update (notified l.self.context.meta l.fn.world.store.tree l.changed) ∷ []) l.world (Update l.left ∷ []);
       fewer : l.world.left ≤ l.fn.world.left;
-      sound : IsSoundWorld l.self.meta l.world;
-      may : AllByRecursion (MayNotify l.self.meta l.world.store.tree) l.left;
+      sound : IsSoundWorld l.self.context.meta l.world;
+      may : AllByRecursion (MayNotify l.self.context.meta l.world.store.tree) l.left;
     }
 
 abbrev pub decreases-run_update-loop-place : goal.decreases-run_update-loop-place
@@ -123,8 +123,8 @@ decreases-run_update-loop-place g l = length l.left
 abbrev pub invariant-run_native-loop-action : goal.invariant-run_native-loop-action
 invariant-run_native-loop-action g l =
     record {
-      reaches : Reaches l.self.meta (g.N.Answering.gives l.self.natives) l.self.depth l.active l.fn.world (Body l.call.object l.call.method l.call.arguments.now (Ask l.effects ∷ []) ∷ []) l.world (Body l.call.object l.call.method l.call.arguments.now (map (Act l.effects) l.action-iterator.rest.items) ∷ []);
+      reaches : Reaches l.self.context.meta (g.N.Answering.gives l.self.natives) l.self.context.depth l.active l.fn.world (Body l.call.object l.call.method l.call.arguments.now (Ask l.effects ∷ []) ∷ []) l.world (Body l.call.object l.call.method l.call.arguments.now (map (Act l.effects) l.action-iterator.rest.items) ∷ []);
       within : AllByRecursion (λ (a : Action). IsTrue (is_some (member_of_action l.effects a))) l.action-iterator.rest.items;
       fewer : l.world.left ≤ l.fn.world.left;
-      sound : IsSoundWorld l.self.meta l.world;
+      sound : IsSoundWorld l.self.context.meta l.world;
     }

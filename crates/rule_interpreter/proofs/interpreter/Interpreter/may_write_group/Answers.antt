@@ -25,7 +25,7 @@ returns-then-not-fits-clause-err g c =
 
 pub loop-set-preserved : goal.loop-set-preserved
 loop-set-preserved g c =
-    let meta = c.args.self.now.meta in
+    let meta = c.args.self.now.context.meta in
     let objects = c.args.world.now.store.tree in
     let sets = c.args.sets.now in
     let set = c.set-item.result in
@@ -44,5 +44,5 @@ returns-clause-err g c =
     let sets = c.args.sets.now in
     let objects = c.args.world.now.store.tree in
     let all : take c.loop-set.set-index sets ≡ sets = take_all c.loop-set.set-index sets (omega (arith, c.loop-set-test.false)) in
-    let fit = subst (λ (zs : List (Option Assignment)). AllFit c.args.self.now.meta objects (writes_of (Grouped zs))) all c.loop-set.invariant in
-    unwritten-deep c.args.self.now.meta c.args.self.now.depth c.args.active.now objects (writes_of (Grouped sets)) c.may_nest.result fit c.may_nest.ensures
+    let fit = subst (λ (zs : List (Option Assignment)). AllFit c.args.self.now.context.meta objects (writes_of (Grouped zs))) all c.loop-set.invariant in
+    unwritten-deep c.args.self.now.context.meta c.args.self.now.context.depth c.args.active.now objects (writes_of (Grouped sets)) c.may_nest.result fit (rw c.count.ensures at c.may_nest.ensures)

@@ -5,4 +5,4 @@ use Rattle.rule_interpreter.proofs.interpreter.Interpreter.may_write_group.Given
 
 -- what the sets that were passed write is fit
 abbrev pub invariant-loop-set : goal.invariant-loop-set
-invariant-loop-set g l = AllFit l.self.meta l.world.store.tree (writes_of (Grouped (take l.set-index l.sets)))
+invariant-loop-set g l = AllFit l.self.context.meta l.world.store.tree (writes_of (Grouped (take l.set-index l.sets)))

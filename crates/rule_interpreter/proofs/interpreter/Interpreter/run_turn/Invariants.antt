@@ -6,8 +6,8 @@ use Rattle.rule_interpreter.proofs.interpreter.Interpreter.run_turn.Given as goa
 abbrev pub invariant-loop-world : goal.invariant-loop-world
 invariant-loop-world g l =
     record {
-      reaches : Reaches l.self.meta (g.N.Answering.gives l.self.natives) l.self.depth [] l.fn.world [] l.world [];
-      sound : IsSoundWorld l.self.meta l.world;
+      reaches : Reaches l.self.context.meta (g.N.Answering.gives l.self.natives) l.self.context.depth [] l.fn.world [] l.world [];
+      sound : IsSoundWorld l.self.context.meta l.world;
     }
 
 abbrev pub decreases-loop-world : goal.decreases-loop-world

@@ -1,9 +1,0 @@
-use Rattle.rule_interpreter.proofs.Linking.{connect-refused, connect-made}
-use Rattle.rule_interpreter.proofs.interpreter.Interpreter.connect.Goals as goal
-
-pub returns-in-Err : goal.returns-in-Err
-returns-in-Err g c = connect-refused c.args.self.now.meta c.args.world.now c.note.new.self c.args.depth c.args.ends _ (rw c.in-Err.is at c.in-Some.ensures) (rw c.refused.ensures at c.note.ensures)
-
-pub returns : goal.returns
-returns g c =
-    connect-made c.args.self.now.meta c.args.world.now c.connect.new.self c.args.depth c.args.ends _ (rw c.in_default-answer.is at c.in-Some.ensures) (rw c.kept_ends-kept.ensures at c.in_ok-names.ensures.ok) (rw c.kept_ends-kept.ensures at c.connect.ensures)

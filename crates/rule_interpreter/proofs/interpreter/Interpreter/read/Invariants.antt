@@ -1,7 +1,0 @@
-use Rattle.std.proofs.Common.{take}
-use Rattle.machine_rules.specs.Natives.{AreRead}
-use Rattle.rule_interpreter.proofs.interpreter.Interpreter.read.Given as goal
-
--- those that were passed are read
-abbrev pub invariant-loop-property : goal.invariant-loop-property
-invariant-loop-property g l = AreRead l.world.store.tree l.object (take l.property-index l.properties) l.values.items

@@ -1,0 +1,13 @@
+//! What a run goes by and never changes, and what its code finds and does by that without a step of the machine.
+#![tactic(auto)]
+
+mod answers;
+mod connecting;
+mod context;
+mod deleting;
+mod method_call;
+mod posting;
+
+pub use answers::declaring;
+pub use context::{Callee, RunContext};
+pub use method_call::{MethodCall, front};
