@@ -192,13 +192,13 @@ one_certificate text a b h k =
     (one_setting (codes "bound") k.second a.bound b.bound (rw second at h.bound) k.bound)
     (one_list k.version k.others a.lines b.lines (rw (version, others) at h.nodes) k.nodes)
 
--- ---- faults of one step as those of the next
+-- ---- faults of one step as those of the next: where a row is refused, its tokens are of no matter
 
-pub cutting_refused : {text rest line after : List ℕ} → SameRows text rest → IsFrontLine rest line after → (fault : LexFault) → (fault ≡ lex.BadByte → IsUncut line) → SplitsRow text (Err (fault_of_cutting fault))
+pub cutting_refused : {text rest line after : List ℕ} → SameRows text rest → IsFrontLine rest line after → (fault : LexFault) → (fault ≡ lex.BadByte → IsUncut line) → SplitsRow text [] (Err (fault_of_cutting fault))
 cutting_refused so_far front lex.BadByte none = rows_uncut so_far front (none refl)
 cutting_refused so_far front lex.Memory none = tt
 
-pub row_refused : (name text : List ℕ) (fault : CertificateFault) → SplitsRow text (Err fault) → SplitsSetting name text (Err fault)
+pub row_refused : (name text : List ℕ) (fault : CertificateFault) → SplitsRow text [] (Err fault) → SplitsSetting name text (Err fault)
 row_refused name text Format none = λ first later n h is. none (first ∷ later) h
 row_refused name text Memory none = tt
 
@@ -207,7 +207,7 @@ setting_refused name takes Format none = no_setting takes none
 setting_refused name takes Memory none = tt
 
 module _ {v : Version} {text rest : List ℕ} {lines : List Line} (so_far : LinesSoFar v text lines rest) where
-  pub next_refused : (fault : CertificateFault) → SplitsRow rest (Err fault) → ReadsNodeLines v text (Err fault)
+  pub next_refused : (fault : CertificateFault) → SplitsRow rest [] (Err fault) → ReadsNodeLines v text (Err fault)
   next_refused Format none = lines_uncut so_far none
   next_refused Memory none = tt
 

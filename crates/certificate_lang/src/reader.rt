@@ -10,7 +10,7 @@ use crate::syntax::{has_few_parameters, line, setting};
 use crate::version::Version;
 use sqlite_items::Items;
 use std::alloc::Global;
-use texts::{Token, split_line, tokens};
+use texts::{Lexer, Token, split_line};
 use token_reading::{Cursor, Trail, has_plain_reference};
 
 /// Reads a certificate: `certificate 1` or `certificate 2`, `bound N`, and a line `NODE RANK {ITEM}` for each node, where a
@@ -23,12 +23,13 @@ use token_reading::{Cursor, Trail, has_plain_reference};
 pub fn read_certificate(alloc: Global, bytes: &[u8]) -> Result<Certificate, CertificateFault>
     ensures { ReadsCertificate bytes.now result }
 {
-    let (number, after) = setting_line(alloc, bytes, b"certificate")?;
+    let mut lexer = Lexer::new(alloc, bytes.len())?;
+    let (number, after) = setting_line(alloc, &mut lexer, bytes, b"certificate")?;
     let Some(version) = Version::of(number) else {
         return Err(CertificateFault::Format);
     };
-    let (bound, rest) = setting_line(alloc, after, b"bound")?;
-    let lines = node_lines(alloc, version, rest)?;
+    let (bound, rest) = setting_line(alloc, &mut lexer, after, b"bound")?;
+    let lines = node_lines(alloc, &mut lexer, version, rest)?;
     Ok(Certificate { bound, lines })
 }
 
@@ -40,14 +41,15 @@ pub fn one_reading()
 /// Takes the first line that isn't empty, which has to be this name and a number: the number, and what follows the line.
 fn setting_line<'a>(
     alloc: Global,
+    lexer: &mut Lexer,
     text: &'a [u8],
     name: &'static [u8],
 ) -> Result<(u32, &'a [u8]), CertificateFault>
     ensures { SplitsSetting name.now text.now result }
 {
-    match next_row(alloc, text)? {
-        Some((tokens, after)) => {
-            let number = whole_setting(alloc, tokens.as_slice(), name)?;
+    match next_row(lexer, text)? {
+        Some(after) => {
+            let number = whole_setting(alloc, lexer.tokens(), name)?;
             Ok((number, after))
         }
         None => Err(CertificateFault::Format),
@@ -55,33 +57,35 @@ fn setting_line<'a>(
 }
 
 /// The lines of nodes that the text is, in this version.
-fn node_lines(alloc: Global, version: Version, text: &[u8]) -> Result<Items<Line>, CertificateFault>
+fn node_lines(
+    alloc: Global,
+    lexer: &mut Lexer,
+    version: Version,
+    text: &[u8],
+) -> Result<Items<Line>, CertificateFault>
     ensures { ReadsNodeLines version text.now result }
 {
     let mut lines = Items::new(alloc);
     let mut rest = text;
-    while let Some((tokens, after)) = next_row(alloc, rest)? {
-        let line = node_line(alloc, version, tokens.as_slice())?;
+    while let Some(after) = next_row(lexer, rest)? {
+        let line = node_line(alloc, version, lexer.tokens())?;
         lines.push(line)?;
         rest = after;
     }
     Ok(lines)
 }
 
-/// The tokens of the first line that isn't empty, and what follows the line; or `None` where all are empty.
-fn next_row<'a>(
-    alloc: Global,
-    text: &'a [u8],
-) -> Result<Option<(Items<Token>, &'a [u8])>, CertificateFault>
-    ensures splits { SplitsRow text.now result }
+/// Cuts the first line that isn't empty: the lexer has its tokens then. What follows the line; or `None` where all are empty.
+fn next_row<'a>(lexer: &mut Lexer, text: &'a [u8]) -> Result<Option<&'a [u8]>, CertificateFault>
+    ensures splits { SplitsRow text.now lexer.new result }
     ensures shorter { IfOk result (λ row.
-        IfSome row (λ parts. length parts.1.now < length text.now)) }
+        IfSome row (λ rest. length rest.now < length text.now)) }
 {
     let mut rest = text;
     while let Some((line, after)) = split_line(rest) {
-        let tokens = tokens(alloc, line)?;
-        if !tokens.is_empty() {
-            return Ok(Some((tokens, after)));
+        lexer.cut(line)?;
+        if !lexer.is_empty() {
+            return Ok(Some(after));
         }
         rest = after;
     }

@@ -10,7 +10,7 @@ use crate::limits::event_has_few_types;
 use crate::syntax::event;
 use sqlite_items::Items;
 use std::alloc::Global;
-use texts::{MOST_BYTES, Token, split_line, tokens};
+use texts::{Lexer, MOST_BYTES, Token, split_line};
 use token_reading::{Cursor, Trail, has_plain_reference};
 
 /// Reads the events of a script, in their order.
@@ -27,12 +27,13 @@ pub fn read_script(alloc: Global, bytes: &[u8]) -> Result<Items<Event>, ScriptFa
     if bytes.len() > MOST_BYTES {
         return Err(ScriptFault::TooLarge);
     }
+    let mut lexer = Lexer::new(alloc, bytes.len())?;
     let mut events = Items::new(alloc);
     let mut rest = bytes;
     let mut number = 0;
     while let Some((line, after)) = split_line(rest) {
         number += 1;
-        match read_line(alloc, line) {
+        match read_line(alloc, &mut lexer, line) {
             Ok(Some(event)) => events.push(event)?,
             Ok(None) => {}
             Err(LineFault::NoEvent) => return Err(ScriptFault::BadLine(number)),
@@ -55,15 +56,15 @@ pub fn one_answer()
 {}
 
 /// Reads a line: its event, or `None` where it has no tokens.
-fn read_line(alloc: Global, line: &[u8]) -> Result<Option<Event>, LineFault>
+fn read_line(alloc: Global, lexer: &mut Lexer, line: &[u8]) -> Result<Option<Event>, LineFault>
     ensures { ReadsLine line.now result }
 {
-    let tokens = tokens(alloc, line)?;
-    let mut cursor = Cursor::new(alloc, tokens.as_slice());
+    lexer.cut(line)?;
+    let mut cursor = Cursor::new(alloc, lexer.tokens());
     if cursor.is_empty() {
         return Ok(None);
     }
-    if has_plain_reference(tokens.as_slice()) {
+    if has_plain_reference(lexer.tokens()) {
         return Err(LineFault::NoEvent);
     }
     let event = event(&mut cursor)?;

@@ -5,9 +5,9 @@ use smallvec::SmallVec;
 use std::alloc::{AllocError, Global};
 use std::marker::Model;
 
-/// The arguments of a call or an emission, in their order. Up to four of them need no allocation.
+/// The arguments of a call or an emission, in their order. Up to two of them need no allocation.
 pub struct Arguments {
-    values: SmallVec<Value, 4>,
+    values: SmallVec<Value, 2>,
 }
 
 impl Drop for Arguments {

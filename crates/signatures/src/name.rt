@@ -5,14 +5,14 @@ ghost use Rattle.std.specs.Cmp.Rules.{hashing};
 ghost use Rattle.std.proofs.Common.{rules};
 ghost use Rattle.signatures.specs.Name.{IsName, FindsName, is_letter, is_digit, is_name_byte};
 
+use crate::shared_bytes::SharedBytes;
 use std::alloc::{AllocError, Global};
 use std::hash::{Hash, Hasher};
 use std::marker::Model;
-use std::rc::RcSlice;
 
 /// A name: a letter or `_`, then letters, digits and `_`, in ASCII. Copies share its bytes.
 pub struct Name {
-    bytes: RcSlice<u8>,
+    bytes: SharedBytes,
 }
 
 impl Drop for Name {
@@ -23,14 +23,13 @@ impl Drop for Name {
 
 impl Model for Name {
     ghost use Rattle.std.specs.Prelude.{List, ℕ};
-    ghost use Rattle.std.specs.Rc.{rc_slice_items};
     ghost use Rattle.signatures.specs.Name.{IsName};
 
     ghost Value = { List ℕ };
 
-    ghost view = { λ name. rc_slice_items name.bytes };
+    ghost view = { λ name. name.bytes };
 
-    ghost invariant = { λ name. IsName (rc_slice_items name.bytes) };
+    ghost invariant = { λ name. IsName name.bytes };
 }
 
 impl Name {
@@ -39,8 +38,17 @@ impl Name {
         requires { IsName bytes.now }
         ensures { IfOk result (λ name. name ≡ bytes.now) }
     {
-        let bytes = RcSlice::from_slice(alloc, bytes)?;
+        let bytes = SharedBytes::new(alloc, bytes)?;
         Ok(Name { bytes })
+    }
+
+    /// The name with these bytes, which it shares.
+    #[inline(always)]
+    pub fn sharing(bytes: SharedBytes) -> Name
+        requires { IsName bytes }
+        ensures { result ≡ bytes }
+    {
+        Name { bytes }
     }
 
     /// The name with these bytes, or `None` where they aren't one.
@@ -64,10 +72,11 @@ impl Name {
     }
 
     /// The same name, which shares the bytes.
+    #[inline(always)]
     pub fn copy(&self) -> Result<Name, AllocError>
         ensures { IfOk result (λ copy. copy ≡ self.now) }
     {
-        let bytes = self.bytes.clone()?;
+        let bytes = self.bytes.copy()?;
         Ok(Name { bytes })
     }
 
@@ -117,6 +126,7 @@ pub fn is_name(bytes: &[u8]) -> bool
 }
 
 /// Whether a name may go on with the byte.
+#[inline(always)]
 pub fn is_name_byte(byte: u8) -> bool
     ensures { result ≡ is_name_byte byte }
 {
@@ -124,6 +134,7 @@ pub fn is_name_byte(byte: u8) -> bool
 }
 
 /// `A` to `Z`, `a` to `z` and `_`.
+#[inline(always)]
 pub fn is_letter(byte: u8) -> bool
     ensures { result ≡ is_letter byte }
 {
@@ -131,6 +142,7 @@ pub fn is_letter(byte: u8) -> bool
 }
 
 /// `0` to `9`.
+#[inline(always)]
 pub fn is_digit(byte: u8) -> bool
     ensures { result ≡ is_digit byte }
 {

@@ -113,6 +113,7 @@ impl<'a> Scanner<'a> {
 }
 
 /// Whether it is a space, a tab, a carriage return or a newline.
+#[inline(always)]
 pub fn is_blank(byte: u8) -> bool
     ensures { result ≡ is_blank byte }
 {

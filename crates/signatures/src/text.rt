@@ -1,16 +1,16 @@
 ghost use Rattle.std.specs.Prelude.{◌≡◌, ◌↔◌, [], IsTrue, IfOk};
 ghost use Rattle.signatures.specs.Text.{IsText, IsTextByte, FindsText};
 
+use crate::shared_bytes::SharedBytes;
 use std::alloc::{AllocError, Global};
 use std::marker::Model;
-use std::rc::RcSlice;
 
 /// How many bytes a text has at most.
 pub const LONGEST_TEXT: usize = 255;
 
 /// A text: at most 255 bytes, each from 32 to 126 and none of them 34, the quote. Copies share its bytes.
 pub struct Text {
-    bytes: RcSlice<u8>,
+    bytes: SharedBytes,
 }
 
 impl Drop for Text {
@@ -21,14 +21,13 @@ impl Drop for Text {
 
 impl Model for Text {
     ghost use Rattle.std.specs.Prelude.{List, ℕ};
-    ghost use Rattle.std.specs.Rc.{rc_slice_items};
     ghost use Rattle.signatures.specs.Text.{IsText};
 
     ghost Value = { List ℕ };
 
-    ghost view = { λ text. rc_slice_items text.bytes };
+    ghost view = { λ text. text.bytes };
 
-    ghost invariant = { λ text. IsText (rc_slice_items text.bytes) };
+    ghost invariant = { λ text. IsText text.bytes };
 }
 
 impl Text {
@@ -37,7 +36,19 @@ impl Text {
         ensures { IfOk result (FindsText bytes.now) }
     {
         if is_text(bytes) {
-            let bytes = RcSlice::from_slice(alloc, bytes)?;
+            let bytes = SharedBytes::new(alloc, bytes)?;
+            Ok(Some(Text { bytes }))
+        } else {
+            Ok(None)
+        }
+    }
+
+    /// The text of these bytes, which it shares, or `None` where a text may not have them.
+    pub fn sharing(bytes: &SharedBytes) -> Result<Option<Text>, AllocError>
+        ensures { IfOk result (FindsText bytes.now) }
+    {
+        if is_text(bytes.as_slice()) {
+            let bytes = bytes.copy()?;
             Ok(Some(Text { bytes }))
         } else {
             Ok(None)
@@ -49,7 +60,7 @@ impl Text {
         ensures { IfOk result (λ text. text ≡ []) }
     {
         let none: [u8; 0] = [];
-        let bytes = RcSlice::from_slice(alloc, none.as_slice())?;
+        let bytes = SharedBytes::new(alloc, none.as_slice())?;
         Ok(Text { bytes })
     }
 
@@ -65,7 +76,7 @@ impl Text {
     pub fn copy(&self) -> Result<Text, AllocError>
         ensures { IfOk result (λ copy. copy ≡ self.now) }
     {
-        let bytes = self.bytes.clone()?;
+        let bytes = self.bytes.copy()?;
         Ok(Text { bytes })
     }
 

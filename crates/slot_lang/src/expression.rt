@@ -3,7 +3,8 @@
 ghost use Rattle.std.specs.Prelude.{◌≡◌, ◌<◌, ◌≤◌, length, IfOk, OnOk, Err};
 ghost use Rattle.slot_lang.specs.Expressions.{Expression, IsExpr, OneExpression, spell_expression, tree_of_expression, spell_factor, tree_of_factor, spell_group};
 ghost use Rattle.slot_lang.specs.code.Expressions.{EndsExpression, EndsFactor, ReadsExpression, ReadsComparison, ReadsPrefixed, ReadsPathFrom, Closes};
-ghost use Rattle.slot_lang.specs.code.Levels.{ReadsChain, ReadsOperand};
+ghost use Rattle.slot_lang.specs.code.Levels.{ReadsChain, ReadsOperand, GoesOn};
+ghost use Rattle.slot_lang.specs.declared.precedence.Level.TheVariants.{And, Sum, Term};
 ghost use Rattle.token_reading.specs.code.Reading.{Reads, EndsAnywhere};
 ghost use Rattle.token_reading.specs.declared.fault.ParseFault.TheVariants.{Syntax};
 ghost use Rattle.syntax_trees.specs.declared.syntax.Expr.{Expr};
@@ -11,7 +12,7 @@ ghost use Rattle.syntax_trees.specs.declared.syntax.Expr.TheVariants as tree;
 ghost use Rattle.syntax_trees.specs.declared.syntax.Path.{Path};
 
 use crate::path::names;
-use crate::precedence::{Level, Precedence, operator};
+use crate::precedence::{Level, Precedence, is_operator_next, operator};
 use signatures::Word;
 use sqlite_items::Boxed;
 use std::alloc::{AllocError, Global};
@@ -62,16 +63,82 @@ pub fn expression(cursor: &mut Cursor) -> Result<Expr<Path>, ParseFault>
     ensures reads { ReadsExpression cursor.old result cursor.new }
     ensures shorter { OnOk result (length cursor.new < length cursor.old) }
 {
-    chain(cursor, Level::Or)
+    let first = conjunction(cursor)?;
+    go_on(cursor, Level::Or, first)
 }
 
-/// `operand {operator operand}`, which groups to the left.
+/// `cmp {"&&" cmp}`
 #[cycle(expression)]
-fn chain(cursor: &mut Cursor, level: Level) -> Result<Expr<Path>, ParseFault>
-    ensures reads { ReadsChain level cursor.old result cursor.new }
+#[inline(always)]
+fn conjunction(cursor: &mut Cursor) -> Result<Expr<Path>, ParseFault>
+    ensures reads { ReadsChain And cursor.old result cursor.new }
     ensures shorter { OnOk result (length cursor.new < length cursor.old) }
 {
-    let mut left = operand(cursor, level)?;
+    let first = comparison(cursor)?;
+    go_on(cursor, Level::And, first)
+}
+
+/// Two operands with an operator between them, or one: comparisons don't chain.
+#[cycle(expression)]
+#[inline(always)]
+fn comparison(cursor: &mut Cursor) -> Result<Expr<Path>, ParseFault>
+    ensures reads { ReadsComparison cursor.old result cursor.new }
+    ensures shorter { OnOk result (length cursor.new < length cursor.old) }
+{
+    let left = sum(cursor)?;
+    match operator(cursor, Precedence::Comparison) {
+        Some(operator) => {
+            let right = sum(cursor)?;
+            let compared = binary(cursor.alloc(), operator, left, right)?;
+            Ok(compared)
+        }
+        None => Ok(left),
+    }
+}
+
+/// `term {("+" | "-") term}`
+#[cycle(expression)]
+#[inline(always)]
+fn sum(cursor: &mut Cursor) -> Result<Expr<Path>, ParseFault>
+    ensures reads { ReadsChain Sum cursor.old result cursor.new }
+    ensures shorter { OnOk result (length cursor.new < length cursor.old) }
+{
+    let first = term(cursor)?;
+    go_on(cursor, Level::Sum, first)
+}
+
+/// `factor {"*" factor}`
+#[cycle(expression)]
+#[inline(always)]
+fn term(cursor: &mut Cursor) -> Result<Expr<Path>, ParseFault>
+    ensures reads { ReadsChain Term cursor.old result cursor.new }
+    ensures shorter { OnOk result (length cursor.new < length cursor.old) }
+{
+    let first = factor(cursor)?;
+    go_on(cursor, Level::Term, first)
+}
+
+/// The first operand, or what it is with the operators of the level that follow it. Most often none does.
+#[cycle(expression)]
+#[inline(always)]
+fn go_on(cursor: &mut Cursor, level: Level, first: Expr<Path>) -> Result<Expr<Path>, ParseFault>
+    ensures reads { GoesOn level first cursor.old result cursor.new }
+    ensures no_longer { OnOk result (length cursor.new ≤ length cursor.old) }
+{
+    if is_operator_next(cursor, level.precedence()) {
+        chain(cursor, level, first)
+    } else {
+        Ok(first)
+    }
+}
+
+/// `{operator operand}`, behind the first operand; it groups to the left.
+#[cycle(expression)]
+fn chain(cursor: &mut Cursor, level: Level, first: Expr<Path>) -> Result<Expr<Path>, ParseFault>
+    ensures reads { GoesOn level first cursor.old result cursor.new }
+    ensures no_longer { OnOk result (length cursor.new ≤ length cursor.old) }
+{
+    let mut left = first;
     while let Some(operator) = operator(cursor, level.precedence()) {
         let right = operand(cursor, level)?;
         left = binary(cursor.alloc(), operator, left, right)?;
@@ -86,27 +153,10 @@ fn operand(cursor: &mut Cursor, level: Level) -> Result<Expr<Path>, ParseFault>
     ensures shorter { OnOk result (length cursor.new < length cursor.old) }
 {
     match level {
-        Level::Or => chain(cursor, Level::And),
+        Level::Or => conjunction(cursor),
         Level::And => comparison(cursor),
-        Level::Sum => chain(cursor, Level::Term),
+        Level::Sum => term(cursor),
         Level::Term => factor(cursor),
-    }
-}
-
-/// Two operands with an operator between them, or one: comparisons don't chain.
-#[cycle(expression)]
-fn comparison(cursor: &mut Cursor) -> Result<Expr<Path>, ParseFault>
-    ensures reads { ReadsComparison cursor.old result cursor.new }
-    ensures shorter { OnOk result (length cursor.new < length cursor.old) }
-{
-    let left = chain(cursor, Level::Sum)?;
-    match operator(cursor, Precedence::Comparison) {
-        Some(operator) => {
-            let right = chain(cursor, Level::Sum)?;
-            let compared = binary(cursor.alloc(), operator, left, right)?;
-            Ok(compared)
-        }
-        None => Ok(left),
     }
 }
 
@@ -131,7 +181,7 @@ fn factor(cursor: &mut Cursor) -> Result<Expr<Path>, ParseFault>
             path_from(cursor, Root::Name(root))
         }
         _ => {
-            let literal = unsigned_literal(cursor.alloc(), token)?;
+            let literal = unsigned_literal(token)?;
             Ok(Expr::Literal(literal.into_value()))
         }
     }

@@ -1,9 +1,9 @@
 //! Operators between operands: how they are spelled, and how tight they bind.
 
-ghost use Rattle.std.specs.Prelude.{◌≡◌, ◌<◌, length, OnSome};
+ghost use Rattle.std.specs.Prelude.{◌≡◌, ◌<◌, false, length, OnSome};
 ghost use Rattle.slot_lang.specs.code.Levels.{precedence_at};
 ghost use Rattle.slot_lang.specs.Precedence.{symbol_of, precedence_of};
-ghost use Rattle.slot_lang.specs.code.Precedence.{IsOperatorOf, IsNextOperator, TakesOperator};
+ghost use Rattle.slot_lang.specs.code.Precedence.{NoOperator, IsOperatorOf, IsNextOperator, TakesOperator};
 
 use syntax_trees::Binary;
 use texts::{Symbol, Token};
@@ -75,6 +75,7 @@ impl Level {
 }
 
 /// How the operator is spelled.
+#[inline(always)]
 fn symbol_of(binary: Binary) -> Symbol
     ensures { result ≡ symbol_of binary }
 {
@@ -94,6 +95,7 @@ fn symbol_of(binary: Binary) -> Symbol
 }
 
 /// The operator that is spelled so.
+#[inline(always)]
 fn operator_of(symbol: Symbol) -> Option<Binary>
     ensures { IsOperatorOf symbol result }
 {
@@ -114,6 +116,7 @@ fn operator_of(symbol: Symbol) -> Option<Binary>
 }
 
 /// How tight the operator binds.
+#[inline(always)]
 fn precedence_of(binary: Binary) -> Precedence
     ensures { result ≡ precedence_of binary }
 {
@@ -124,6 +127,18 @@ fn precedence_of(binary: Binary) -> Precedence
         Binary::Subtract => Precedence::Sum,
         Binary::Multiply => Precedence::Term,
         _ => Precedence::Comparison,
+    }
+}
+
+/// Whether an operator that binds so tight comes next.
+#[inline(always)]
+pub fn is_operator_next(cursor: &mut Cursor, precedence: Precedence) -> bool
+    ensures same { cursor.new ≡ cursor.old }
+    ensures none { result ≡ false → NoOperator precedence cursor.old }
+{
+    match next_operator(cursor.ahead(precedence.wanted())) {
+        Some(binary) => precedence_of(binary) == precedence,
+        None => false,
     }
 }
 
@@ -143,6 +158,7 @@ pub fn operator(cursor: &mut Cursor, precedence: Precedence) -> Option<Binary>
 }
 
 /// The operator with which the tokens begin.
+#[inline(always)]
 fn next_operator(tokens: &[Token]) -> Option<Binary>
     ensures { IsNextOperator tokens.now result }
 {

@@ -1,5 +1,5 @@
 -- What the loop over the pieces keeps.
-use Rattle.std.proofs.Common.{◌≡◌, ℕ, List, [], ◌∷◌, ◌++◌, sym, ◌∙◌, ap, append_assoc, Option, Some, None, true, false, length, ◌==◌}
+use Rattle.std.proofs.Common.{◌≡◌, ℕ, List, [], ◌∷◌, ◌++◌, refl, sym, ◌∙◌, ap, append_assoc, Option, Some, None, true, false, length, ◌==◌}
 use Rattle.std.proofs.lemmas.List.{append-nil}
 use Rattle.std.proofs.lemmas.Bool.{eqb-true}
 use Rattle.texts.specs.declared.token.Token.{Token}
@@ -12,6 +12,9 @@ use Rattle.texts.specs.code.Splitting.{Cuts}
 pub record CutSoFar (whole : List ℕ) (found : List Token) (left : List ℕ) : Type 0 where
   pub goes_on : (ps : List Piece) → IsCut ps left → (qs : List Piece) × IsCut qs whole × (tokens_of qs ≡ found ++ tokens_of ps)
   pub all : (qs : List Piece) → IsCut qs whole → (ps : List Piece) × IsCut ps left
+
+pub cut_start : (whole : List ℕ) → CutSoFar whole [] whole
+cut_start whole = record { goes_on = λ ps h. (ps, h, refl); all = λ qs h. (qs, h) }
 
 next : (ps : List Piece) (left : List ℕ) (t : Option Token) (rest : List ℕ) → Cuts left t rest → IsCut ps left → (qs : List Piece) × IsCut qs rest
 next [] left t rest c h = absurd (no_front_at_end left h c.piece rest c.front)

@@ -35,13 +35,13 @@ class_of_piece (number digits) = Digit
 class_of_piece (text inner) = Quote
 class_of_piece (symbol s) = Other
 
-letter_class : (b : ℕ) → is_letter b ≡ true → class_of b ≡ Letter
+pub letter_class : (b : ℕ) → is_letter b ≡ true → class_of b ≡ Letter
 letter_class b h =
     let p : is_blank b ≡ false = grind (arith, nat_tests) in
     let q : nat_eq b 47 ≡ false = grind (arith, nat_tests) in
     rw (p, q, h)
 
-digit_class : (b : ℕ) → is_digit b ≡ true → class_of b ≡ Digit
+pub digit_class : (b : ℕ) → is_digit b ≡ true → class_of b ≡ Digit
 digit_class b h =
     let p : is_blank b ≡ false = grind (arith, nat_tests) in
     let q : nat_eq b 47 ≡ false = grind (arith, nat_tests) in

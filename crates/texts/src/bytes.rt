@@ -36,18 +36,19 @@ pub enum Run {
     Line,
 }
 
-/// What a piece of text that begins with the byte is.
+/// What a piece of text that begins with the byte is. Most begin with a letter or a blank, so these are looked at first.
+#[inline(always)]
 pub fn class_of(b: u8) -> Class
     ensures { result ≡ class_of b }
 {
-    if is_blank(b) {
-        Class::Blank
-    } else if b == b'/' {
-        Class::Slash
-    } else if is_letter(b) {
+    if is_letter(b) {
         Class::Letter
+    } else if is_blank(b) {
+        Class::Blank
     } else if is_digit(b) {
         Class::Digit
+    } else if b == b'/' {
+        Class::Slash
     } else if b == b'"' {
         Class::Quote
     } else {
@@ -56,6 +57,7 @@ pub fn class_of(b: u8) -> Class
 }
 
 /// Whether the run goes on with the byte.
+#[inline(always)]
 pub fn belongs(run: Run, b: u8) -> bool
     ensures { result ≡ belongs run b }
 {

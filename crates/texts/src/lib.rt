@@ -3,6 +3,7 @@
 
 mod bytes;
 mod depth;
+mod interner;
 mod lexer;
 mod limits;
 mod lines;
@@ -12,7 +13,7 @@ mod symbol;
 mod token;
 
 pub use depth::nesting;
-pub use lexer::{LexFault, one_cut, split_piece, tokens};
+pub use lexer::{LexFault, Lexer, one_cut, tokens};
 pub use limits::{MOST_BYTES, MOST_DEPTH};
 pub use lines::{split_at_line, split_line};
 pub use numeral::{number, value_of};

@@ -3,6 +3,7 @@
 ghost use Rattle.std.specs.Prelude.{IfOk, IfErr};
 ghost use Rattle.texts.specs.code.Places.{ArePlaced, StopsPlacing};
 
+use crate::interner::Interner;
 use crate::lexer::{LexFault, split_piece};
 use crate::token::Token;
 use sqlite_items::Items;
@@ -47,11 +48,12 @@ pub fn placed_tokens(alloc: Global, text: &[u8]) -> Result<Items<PlacedToken>, P
     ensures placed { IfOk result (ArePlaced text.now) }
     ensures stuck { IfErr result (StopsPlacing text.now) }
 {
+    let mut interner = Interner::new(alloc, text.len())?;
     let mut found = Items::new(alloc);
     let mut rest = text;
     while !rest.is_empty() {
         let at = text.len() - rest.len();
-        match split_piece(alloc, rest) {
+        match split_piece(&mut interner, rest) {
             Ok((token, after)) => {
                 if let Some(token) = token {
                     let end = text.len() - after.len();

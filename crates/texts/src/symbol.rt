@@ -59,6 +59,7 @@ pub enum Symbol {
 }
 
 /// The longest symbol at the front, and what follows it.
+#[inline(always)]
 pub fn split_symbol(bytes: &[u8]) -> Option<(Symbol, &[u8])>
     ensures { SplitsSymbol bytes.now result }
 {
@@ -69,6 +70,7 @@ pub fn split_symbol(bytes: &[u8]) -> Option<(Symbol, &[u8])>
 }
 
 /// The symbol of two bytes at the front, and what follows it.
+#[inline(always)]
 fn split_double(bytes: &[u8]) -> Option<(Symbol, &[u8])>
     ensures { SplitsDouble bytes.now result }
 {
@@ -79,6 +81,7 @@ fn split_double(bytes: &[u8]) -> Option<(Symbol, &[u8])>
 }
 
 /// The symbol of one byte at the front, and what follows it.
+#[inline(always)]
 fn split_single(bytes: &[u8]) -> Option<(Symbol, &[u8])>
     ensures { SplitsSingle bytes.now result }
 {
@@ -88,6 +91,7 @@ fn split_single(bytes: &[u8]) -> Option<(Symbol, &[u8])>
 }
 
 /// The symbol that the two bytes are.
+#[inline(always)]
 fn double(first: u8, second: u8) -> Option<Symbol>
     ensures value { result ≡ double first second }
     ensures spelled { IfSome result (λ symbol. spelling symbol ≡ first ∷ second ∷ []) }
@@ -105,6 +109,7 @@ fn double(first: u8, second: u8) -> Option<Symbol>
 }
 
 /// The symbol that the byte is.
+#[inline(always)]
 fn single(byte: u8) -> Option<Symbol>
     ensures value { result ≡ single byte }
     ensures spelled { IfSome result (λ symbol. spelling symbol ≡ byte ∷ []) }

@@ -1,8 +1,7 @@
 //! Tokens.
 
 use crate::symbol::Symbol;
-use signatures::{Name, Word};
-use sqlite_items::Items;
+use signatures::{Name, SharedBytes, Word};
 
 /// A token of a text.
 #[derive(Drop)]
@@ -12,9 +11,9 @@ pub enum Token {
     /// A reserved word.
     Word(Word),
     /// A number, by its digits; there may be any number of them.
-    Number(Items<u8>),
+    Number(SharedBytes),
     /// A text, by what stands between its quotes.
-    Text(Items<u8>),
+    Text(SharedBytes),
     /// A symbol.
     Symbol(Symbol),
 }

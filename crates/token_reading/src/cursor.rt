@@ -69,11 +69,13 @@ impl<'a> Cursor<'a> {
     }
 
     /// What trees are built with.
+    #[inline(always)]
     pub fn alloc(&self) -> Global {
         self.alloc
     }
 
     /// The tokens that are left.
+    #[inline(always)]
     pub fn rest(&self) -> &'a [Token]
         ensures { result.now ≡ self.now }
     {
@@ -81,6 +83,7 @@ impl<'a> Cursor<'a> {
     }
 
     /// The tokens that are left, of which the first is looked at for one of these.
+    #[inline(always)]
     pub fn ahead(&mut self, wanted: &[Wanted]) -> &'a [Token]
         ensures tokens { result.now ≡ self.old }
         ensures same { self.new ≡ self.old }
@@ -104,6 +107,7 @@ impl<'a> Cursor<'a> {
     }
 
     /// Whether no token is left.
+    #[inline(always)]
     pub fn is_empty(&self) -> bool
         ensures { IsTrue result ↔ (self.now ≡ []) }
     {
@@ -111,6 +115,7 @@ impl<'a> Cursor<'a> {
     }
 
     /// Takes the next token; at the end that is a fault of syntax.
+    #[inline(always)]
     pub fn next(&mut self) -> Result<&'a Token, ParseFault>
         ensures found { TakesNext self.old result self.new }
         ensures shorter { OnOk result (length self.new < length self.old) }
@@ -125,6 +130,7 @@ impl<'a> Cursor<'a> {
     }
 
     /// Takes the next token, which is to be one of these; at the end that is a fault of syntax.
+    #[inline(always)]
     pub fn next_of(&mut self, wanted: &[Wanted]) -> Result<&'a Token, ParseFault>
         ensures found { TakesNext self.old result self.new }
         ensures shorter { OnOk result (length self.new < length self.old) }
@@ -133,7 +139,18 @@ impl<'a> Cursor<'a> {
         self.next()
     }
 
+    /// Takes the next token, which is to be this; at the end that is a fault of syntax.
+    #[inline(always)]
+    pub(crate) fn next_as(&mut self, wanted: Wanted) -> Result<&'a Token, ParseFault>
+        ensures found { TakesNext self.old result self.new }
+        ensures shorter { OnOk result (length self.new < length self.old) }
+    {
+        want(&mut self.trail, self.tokens.len(), wanted);
+        self.next()
+    }
+
     /// Takes the next token, which is to be one of these and begins such a part; at the end that is a fault of syntax.
+    #[inline(always)]
     pub fn opening(
         &mut self,
         landmark: Landmark,
@@ -147,6 +164,7 @@ impl<'a> Cursor<'a> {
     }
 
     /// Takes the reserved word, if it comes next, and says whether it did.
+    #[inline]
     pub fn eat_word(&mut self, word: Word) -> bool
         ensures found { Eats (token.Word word) self.old result self.new }
         ensures shorter { OnTrue result (length self.new < length self.old) }
@@ -162,6 +180,7 @@ impl<'a> Cursor<'a> {
     }
 
     /// Takes the reserved word with which such a part begins, if it comes next, and says whether it did.
+    #[inline]
     pub fn eat_opening(&mut self, landmark: Landmark, word: Word) -> bool
         ensures found { Eats (token.Word word) self.old result self.new }
         ensures shorter { OnTrue result (length self.new < length self.old) }
@@ -175,6 +194,7 @@ impl<'a> Cursor<'a> {
     }
 
     /// Takes the symbol, if it comes next, and says whether it did.
+    #[inline]
     pub fn eat(&mut self, symbol: Symbol) -> bool
         ensures found { Eats (token.Symbol symbol) self.old result self.new }
         ensures shorter { OnTrue result (length self.new < length self.old) }
@@ -190,6 +210,7 @@ impl<'a> Cursor<'a> {
     }
 
     /// Takes the symbol, which has to come next; where it doesn't, that is a fault of syntax.
+    #[inline]
     pub fn expect(&mut self, symbol: Symbol) -> Result<(), ParseFault>
         ensures found { Expects (token.Symbol symbol) self.old result self.new }
         ensures shorter { OnOk result (length self.new < length self.old) }
@@ -202,6 +223,7 @@ impl<'a> Cursor<'a> {
     }
 
     /// Takes the reserved word, which has to come next; where it doesn't, that is a fault of syntax.
+    #[inline]
     pub fn expect_word(&mut self, word: Word) -> Result<(), ParseFault>
         ensures found { Expects (token.Word word) self.old result self.new }
         ensures shorter { OnOk result (length self.new < length self.old) }
@@ -214,6 +236,7 @@ impl<'a> Cursor<'a> {
     }
 
     /// Takes the name that has to come next; where none does, that is a fault of syntax.
+    #[inline]
     pub fn name(&mut self) -> Result<Name, ParseFault>
         ensures reads { Reads spell_name (λ name. name) EndsAnywhere self.old result self.new }
         ensures shorter { OnOk result (length self.new < length self.old) }

@@ -11,7 +11,6 @@ use crate::cursor::Cursor;
 use crate::fault::ParseFault;
 use crate::wanted::{LITERAL, Wanted};
 use signatures::{Text, Word};
-use std::alloc::Global;
 use syntax_trees::Literal;
 use texts::{Symbol, Token, value_of};
 
@@ -23,7 +22,7 @@ const DEEPEST: u32 = 2147483648;
 
 /// The literal that the token is by itself: a number of at most 2147483647, `true`, `false`, a text of at
 /// most 255 bytes or `null`.
-pub fn unsigned_literal(alloc: Global, token: &Token) -> Result<Literal, ParseFault>
+pub fn unsigned_literal(token: &Token) -> Result<Literal, ParseFault>
     ensures { ReadsUnsigned token.now result }
 {
     match token {
@@ -31,7 +30,7 @@ pub fn unsigned_literal(alloc: Global, token: &Token) -> Result<Literal, ParseFa
             Some(value) => Ok(Literal::Int(value as i32)),
             None => Err(ParseFault::Syntax),
         },
-        Token::Text(bytes) => match Text::of(alloc, bytes.as_slice())? {
+        Token::Text(bytes) => match Text::sharing(bytes)? {
             Some(text) => Ok(Literal::Text(text)),
             None => Err(ParseFault::Syntax),
         },
@@ -62,7 +61,7 @@ impl<'a> Cursor<'a> {
         ensures fits { IfOk result (λ n. n ≤ most) }
         ensures shorter { OnOk result (length self.new < length self.old) }
     {
-        match self.next_of(&[Wanted::Number(most)])? {
+        match self.next_as(Wanted::Number(most))? {
             Token::Number(digits) => match value_of(digits.as_slice(), u64::from(most)) {
                 Some(value) => Ok(value as u32),
                 None => Err(ParseFault::Syntax),
@@ -84,7 +83,7 @@ impl<'a> Cursor<'a> {
             return Ok(Literal::Int(negated(depth)));
         }
         let token = self.next_of(&LITERAL)?;
-        let value = unsigned_literal(self.alloc(), token)?;
+        let value = unsigned_literal(token)?;
         Ok(value)
     }
 }

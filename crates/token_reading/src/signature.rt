@@ -111,6 +111,7 @@ impl Part for TypePart {
 }
 
 /// The type that is spelled so, which for `T &` is T.
+#[inline(always)]
 fn type_of(name: Name, place: ConstPlace, ending: TypeEnding) -> QType
     ensures { result ≡ tree_of_type (spelled_type place name ending) }
 {
@@ -152,6 +153,7 @@ pub fn has_plain_reference(tokens: &[Token]) -> bool
 }
 
 /// Whether the tokens begin with a name and `&`.
+#[inline(always)]
 fn begins_with_reference(tokens: &[Token]) -> bool
     ensures { IsTrue result ↔ BeginsWithReference tokens.now }
 {
@@ -162,6 +164,7 @@ fn begins_with_reference(tokens: &[Token]) -> bool
 }
 
 /// Whether the tokens begin with `&`.
+#[inline(always)]
 fn begins_with_ampersand(tokens: &[Token]) -> bool
     ensures { IsTrue result ↔ BeginsWithAmpersand tokens.now }
 {
@@ -172,6 +175,7 @@ fn begins_with_ampersand(tokens: &[Token]) -> bool
 }
 
 /// Whether it is `const`.
+#[inline(always)]
 fn is_const(first: &Token) -> bool
     ensures { IsTrue result ↔ (first.now ≡ token.Word word.Const) }
 {

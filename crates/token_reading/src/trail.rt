@@ -71,6 +71,8 @@ impl Trail {
     }
 
     /// Notes what is looked for where so many tokens are left.
+    #[cold]
+    #[inline(never)]
     fn want(&mut self, left: usize, wanted: Wanted) {
         let at = self.total.saturating_sub(left);
         if at < self.farthest {
@@ -85,7 +87,18 @@ impl Trail {
         }
     }
 
+    /// Notes each of what is looked for where so many tokens are left.
+    #[cold]
+    #[inline(never)]
+    fn want_each(&mut self, left: usize, wanted: &[Wanted]) {
+        for one in wanted {
+            self.want(left, *one);
+        }
+    }
+
     /// Notes that the part begins where so many tokens are left.
+    #[cold]
+    #[inline(never)]
     fn begin(&mut self, left: usize, landmark: Landmark) {
         let at = self.total.saturating_sub(left);
         if self.begun.push(Begun { landmark, at }).is_err() {
@@ -95,6 +108,7 @@ impl Trail {
 }
 
 /// Notes what is looked for where so many tokens are left, if there is a trail.
+#[inline(always)]
 pub fn want(trail: &mut Option<Trail>, left: usize, wanted: Wanted) {
     if let Some(trail) = trail {
         trail.want(left, wanted);
@@ -102,15 +116,15 @@ pub fn want(trail: &mut Option<Trail>, left: usize, wanted: Wanted) {
 }
 
 /// Notes each of what is looked for where so many tokens are left, if there is a trail.
+#[inline(always)]
 pub fn want_each(trail: &mut Option<Trail>, left: usize, wanted: &[Wanted]) {
     if let Some(trail) = trail {
-        for one in wanted {
-            trail.want(left, *one);
-        }
+        trail.want_each(left, wanted);
     }
 }
 
 /// Notes that the part begins where so many tokens are left, if there is a trail.
+#[inline(always)]
 pub fn begin(trail: &mut Option<Trail>, left: usize, landmark: Landmark) {
     if let Some(trail) = trail {
         trail.begin(left, landmark);

@@ -32,12 +32,12 @@ pub record TakesRow (text : List ℕ) (tokens : List Token) (rest : List ℕ) : 
   pub onward : (later : List (List Token)) → HasRows rest later → HasRows text (tokens ∷ later)
   pub back : (rows : List (List Token)) → HasRows text rows → (later : List (List Token)) × HasRows rest later × (rows ≡ tokens ∷ later)
 
--- the first of the text's rows is taken; or there is none; or the text can't be cut
-abbrev pub SplitsRow : List ℕ → Result (Option (List Token × Bor (List ℕ))) CertificateFault → Type 0
-SplitsRow text (Ok (Some parts)) = TakesRow text parts.0 parts.1.now
-SplitsRow text (Ok None) = HasRows text []
-SplitsRow text (Err Format) = (rows : List (List Token)) → ¬ HasRows text rows
-SplitsRow text (Err Memory) = Unit {0}
+-- the first of the text's rows, which has these tokens, is taken; or there is none; or the text can't be cut
+abbrev pub SplitsRow : List ℕ → List Token → Result (Option (Bor (List ℕ))) CertificateFault → Type 0
+SplitsRow text tokens (Ok (Some rest)) = TakesRow text tokens rest.now
+SplitsRow text tokens (Ok None) = HasRows text []
+SplitsRow text tokens (Err Format) = (rows : List (List Token)) → ¬ HasRows text rows
+SplitsRow text tokens (Err Memory) = Unit {0}
 
 -- the first of the text's rows is this setting
 pub record TakesSetting (name text : List ℕ) (n : ℕ) (rest : List ℕ) : Type 0 where

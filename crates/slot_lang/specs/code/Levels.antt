@@ -7,7 +7,7 @@ use Rattle.slot_lang.specs.declared.precedence.Level.{Level}
 use Rattle.slot_lang.specs.declared.precedence.Level.TheVariants as level
 use Rattle.slot_lang.specs.declared.precedence.Precedence.{Precedence}
 use Rattle.slot_lang.specs.declared.precedence.Precedence.TheVariants as precedence
-use Rattle.token_reading.specs.code.Reading.{Reads}
+use Rattle.token_reading.specs.code.Reading.{Found, Reads}
 use Rattle.syntax_trees.specs.declared.syntax.Expr.{Expr}
 use Rattle.syntax_trees.specs.declared.syntax.Path.{Path}
 use Rattle.texts.specs.declared.token.Token.{Token}
@@ -76,3 +76,8 @@ ReadsChain l before result after = Reads (spell_at l) (tree_at l) (EndsAt l) bef
 
 abbrev pub ReadsOperand : Level → List Token → Answer → List Token → Type 0
 ReadsOperand l before result after = Reads (spell_operand l) (tree_of_operand l) (EndsOperand l) before result after
+
+-- the first operand was read already: with it, behind whatever tokens it is, the rule is read on
+abbrev pub GoesOn : Level → Expr Path → List Token → Answer → List Token → Type 0
+GoesOn l first now result after =
+    (before : List Token) → Found (spell_operand l) (tree_of_operand l) (EndsOperand l) before first now → ReadsChain l before result after

@@ -4,7 +4,7 @@ use Rattle.certificate_lang.proofs.reader.read_certificate.Goals as goal
 
 pub returns-in_err-number : goal.returns-in_err-number
 returns-in_err-number c =
-    let p = err_from_is_err_and c.from_residual.result c.from_residual.ensures.1 in
+    let p = err_from_is_err_and c.from_residual-in_err-number.result c.from_residual-in_err-number.ensures.1 in
     rw (p.1, p.2) (header_refused c.args.bytes.now c.in_err-number.field-0.0 c.in_err-number.ensures)
 
 pub returns-in_default : goal.returns-in_default

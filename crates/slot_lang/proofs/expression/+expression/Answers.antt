@@ -1,51 +1,89 @@
-use Rattle.std.proofs.Common.{length, ap, arith}
+use Rattle.std.proofs.Common.{length, ap, refl, arith}
 use Rattle.std.proofs.lemmas.Result.{err_from_is_err_and}
 use Rattle.slot_lang.proofs.Chains.{chain_no_first, chain_start, chain_step, chain_stuck, chain_done}
 use Rattle.slot_lang.proofs.Factors.{prefix_reads, group_reads, path_reads, literal_found, no_factor_at_symbol, no_factor_at_token, no_factor_at_end}
 use Rattle.slot_lang.proofs.Levels.{chain_at, no_left, alone_found, no_right, compared_found}
+use Rattle.slot_lang.specs.declared.precedence.Level.TheVariants as level
 use Rattle.syntax_trees.specs.declared.syntax.Root.TheVariants as root
 use Rattle.syntax_trees.specs.declared.syntax.Unary.TheVariants as unary
 use Rattle.slot_lang.proofs.expression.+expression.Goals as goal
 
 -- ---- rules that group to the left
 
-pub chain-returns-in_err-left-clause-reads : goal.chain-returns-in_err-left-clause-reads
-chain-returns-in_err-left-clause-reads t c =
+pub expression-returns-in_err-first-clause-reads : goal.expression-returns-in_err-first-clause-reads
+expression-returns-in_err-first-clause-reads t c =
     let p = err_from_is_err_and c.from_residual.result c.from_residual.ensures.1 in
-    rw (p.1, p.2) (λ k. chain_no_first (chain_at c.args.level) (c.in_err-left.ensures.reads k))
+    rw (p.1, p.2) (λ k. chain_no_first (chain_at level.Or) (c.in_err-first.ensures.reads k))
+
+pub expression-returns-clause-reads : goal.expression-returns-clause-reads
+expression-returns-clause-reads t c = c.go_on.ensures.reads _ c.in_ok-first.ensures.reads
+
+pub conjunction-returns-in_err-first-clause-reads : goal.conjunction-returns-in_err-first-clause-reads
+conjunction-returns-in_err-first-clause-reads t c =
+    let p = err_from_is_err_and c.from_residual.result c.from_residual.ensures.1 in
+    rw (p.1, p.2) (λ k. chain_no_first (chain_at level.And) (c.in_err-first.ensures.reads k))
+
+pub conjunction-returns-clause-reads : goal.conjunction-returns-clause-reads
+conjunction-returns-clause-reads t c = c.go_on.ensures.reads _ c.in_ok-first.ensures.reads
+
+pub sum-returns-in_err-first-clause-reads : goal.sum-returns-in_err-first-clause-reads
+sum-returns-in_err-first-clause-reads t c =
+    let p = err_from_is_err_and c.from_residual.result c.from_residual.ensures.1 in
+    rw (p.1, p.2) (λ k. chain_no_first (chain_at level.Sum) (c.in_err-first.ensures.reads k))
+
+pub sum-returns-clause-reads : goal.sum-returns-clause-reads
+sum-returns-clause-reads t c = c.go_on.ensures.reads _ c.in_ok-first.ensures.reads
+
+pub term-returns-in_err-first-clause-reads : goal.term-returns-in_err-first-clause-reads
+term-returns-in_err-first-clause-reads t c =
+    let p = err_from_is_err_and c.from_residual.result c.from_residual.ensures.1 in
+    rw (p.1, p.2) (λ k. chain_no_first (chain_at level.Term) (c.in_err-first.ensures.reads k))
+
+pub term-returns-clause-reads : goal.term-returns-clause-reads
+term-returns-clause-reads t c = c.go_on.ensures.reads _ c.in_ok-first.ensures.reads
+
+-- ---- what follows their first operand
+
+pub go_on-returns-then-is_operator_next-clause-reads : goal.go_on-returns-then-is_operator_next-clause-reads
+go_on-returns-then-is_operator_next-clause-reads t c = λ before f. c.chain.ensures.reads before (rw c.if-is_operator_next.ensures.same f)
+
+pub go_on-returns-else-is_operator_next-clause-reads : goal.go_on-returns-else-is_operator_next-clause-reads
+go_on-returns-else-is_operator_next-clause-reads t c =
+    let none = rw c.precedence.ensures at (c.if-is_operator_next.ensures.none refl) in
+    λ before f. rw c.if-is_operator_next.ensures.same (chain_done (chain_at c.args.level) (chain_start (chain_at c.args.level) f) none)
 
 pub chain-loop-operator-init : goal.chain-loop-operator-init
-chain-loop-operator-init t c = record { so_far = chain_start (chain_at c.args.level) c.in_ok-left.ensures.reads; shorter = c.in_ok-left.ensures.shorter }
+chain-loop-operator-init t c = record { so_far = λ before f. chain_start (chain_at c.args.level) f; no_longer = omega arith }
 
 pub chain-returns-in_err-right-clause-reads : goal.chain-returns-in_err-right-clause-reads
 chain-returns-in_err-right-clause-reads t c =
-    let p = err_from_is_err_and c.from_residual-in_err-right.result c.from_residual-in_err-right.ensures.1 in
+    let p = err_from_is_err_and c.from_residual.result c.from_residual.ensures.1 in
     let found = rw c.precedence.ensures at c.in-Some.ensures.found in
-    rw (p.1, p.2) (λ k. chain_stuck (chain_at c.args.level) c.loop-operator.invariant.so_far c.in-Some.operator found.0 found.1 (c.in_err-right.ensures.reads k))
+    rw (p.1, p.2) (λ before f k. chain_stuck (chain_at c.args.level) (c.loop-operator.invariant.so_far before f) c.in-Some.operator found.0 found.1 (c.in_err-right.ensures.reads k))
 
 pub chain-loop-operator-preserved : goal.chain-loop-operator-preserved
 chain-loop-operator-preserved t c =
     let found = rw c.precedence.ensures at c.in-Some.ensures.found in
     record {
-      so_far = rw c.in_ok-left-2.ensures (chain_step (chain_at c.args.level) c.loop-operator.invariant.so_far c.in-Some.operator found.0 found.1 c.in_ok-right.ensures.reads);
-      shorter = omega (arith, c.in-Some.ensures.shorter, c.in_ok-right.ensures.shorter);
+      so_far = λ before f. rw c.in_ok-left.ensures (chain_step (chain_at c.args.level) (c.loop-operator.invariant.so_far before f) c.in-Some.operator found.0 found.1 c.in_ok-right.ensures.reads);
+      no_longer = omega (arith, c.in-Some.ensures.shorter, c.in_ok-right.ensures.shorter);
     }
 
 pub chain-returns-clause-reads : goal.chain-returns-clause-reads
 chain-returns-clause-reads t c =
     let found = rw c.precedence.ensures at c.in_default.ensures.found in
-    rw found.0 (chain_done (chain_at c.args.level) c.loop-operator.invariant.so_far found.1)
+    λ before f. rw found.0 (chain_done (chain_at c.args.level) (c.loop-operator.invariant.so_far before f) found.1)
 
 -- ---- what stands between their operators
 
 pub operand-returns-in-Or-clause-reads : goal.operand-returns-in-Or-clause-reads
-operand-returns-in-Or-clause-reads t c = rw c.in-Or.is c.chain.ensures.reads
+operand-returns-in-Or-clause-reads t c = rw c.in-Or.is c.conjunction.ensures.reads
 
 pub operand-returns-in-And-clause-reads : goal.operand-returns-in-And-clause-reads
 operand-returns-in-And-clause-reads t c = rw c.in-And.is c.comparison.ensures.reads
 
 pub operand-returns-in-Sum-clause-reads : goal.operand-returns-in-Sum-clause-reads
-operand-returns-in-Sum-clause-reads t c = rw c.in-Sum.is c.chain-in-Sum.ensures.reads
+operand-returns-in-Sum-clause-reads t c = rw c.in-Sum.is c.term.ensures.reads
 
 pub operand-returns-in-Term-clause-reads : goal.operand-returns-in-Term-clause-reads
 operand-returns-in-Term-clause-reads t c = rw c.in-Term.is c.factor.ensures.reads

@@ -14,7 +14,7 @@ returns-in-Some c =
 pub returns-in-Some-2 : goal.returns-in-Some-2
 returns-in-Some-2 c =
     let text = rw c.in-Some-2.is at c.in_ok-text-in-Text.ensures in
-    rw text.0 (is_quoted c.args.token.now c.as_slice-in-Text.result.now (rw c.as_slice-in-Text.ensures c.in-Text.is) text.1)
+    rw text.0 (is_quoted c.args.token.now _ c.in-Text.is text.1)
 
 pub returns-in-True : goal.returns-in-True
 returns-in-True c = record { reading = truth true; is = cc; tree = refl }

@@ -1,0 +1,97 @@
+//! Bytes that a text has again and again are kept once.
+
+ghost use Rattle.std.specs.Prelude.{◌≡◌, IfOk, IfSome};
+
+use signatures::SharedBytes;
+use sqlite_items::Items;
+use std::alloc::{AllocError, Global};
+
+/// How many places there are for bytes that may come again.
+const PLACES: usize = 512;
+
+/// How long a text is for which places are made: in a shorter one too little comes again.
+const WORTH_PLACES: usize = 2048;
+
+/// Gives shared bytes. Where the same ones were asked for a short time ago, it gives those, and takes no memory.
+pub struct Interner {
+    alloc: Global,
+    places: Items<Option<SharedBytes>>,
+}
+
+impl Drop for Interner {
+    fn drop(self) {
+        let Interner {
+            alloc: _,
+            places: _,
+        } = self;
+    }
+}
+
+impl Interner {
+    /// One for texts of so many bytes in all, which has met nothing.
+    pub fn new(alloc: Global, text: usize) -> Result<Interner, AllocError> {
+        let places = if text < WORTH_PLACES {
+            Items::new(alloc)
+        } else {
+            free_places(alloc)?
+        };
+        Ok(Interner { alloc, places })
+    }
+
+    /// These bytes, shared.
+    pub fn share(&mut self, bytes: &[u8]) -> Result<SharedBytes, AllocError>
+        ensures { IfOk result (λ shared. shared ≡ bytes.now) }
+    {
+        let at = place_of(bytes);
+        if let Some(known) = self.known(at, bytes)? {
+            return Ok(known);
+        }
+        self.add(at, bytes)
+    }
+
+    /// What is kept in the place, if it is these bytes.
+    #[inline(always)]
+    fn known(&self, at: usize, bytes: &[u8]) -> Result<Option<SharedBytes>, AllocError>
+        ensures { IfOk result (λ found. IfSome found (λ known. known ≡ bytes.now)) }
+    {
+        match self.places.get(at) {
+            Some(Some(kept)) if kept.are(bytes) => {
+                let known = kept.copy()?;
+                Ok(Some(known))
+            }
+            _ => Ok(None),
+        }
+    }
+
+    /// These bytes, which are kept in the place from now on.
+    #[inline(never)]
+    fn add(&mut self, at: usize, bytes: &[u8]) -> Result<SharedBytes, AllocError>
+        ensures { IfOk result (λ shared. shared ≡ bytes.now) }
+    {
+        let shared = SharedBytes::new(self.alloc, bytes)?;
+        if at < self.places.len() {
+            let kept = shared.copy()?;
+            self.places.set(at, Some(kept));
+        }
+        Ok(shared)
+    }
+}
+
+/// Places in which nothing is kept.
+fn free_places(alloc: Global) -> Result<Items<Option<SharedBytes>>, AllocError> {
+    let mut places = Vec::with_capacity(alloc, PLACES)?;
+    for _ in 0..PLACES {
+        places.push(None)?;
+    }
+    Ok(Items::from_vec(places))
+}
+
+/// In which place the bytes are kept: a number that all of them go into.
+#[inline(always)]
+fn place_of(bytes: &[u8]) -> usize {
+    let mut number = 0u32;
+    for byte in bytes {
+        number = number.wrapping_mul(31).wrapping_add(u32::from(*byte));
+    }
+    number as usize % PLACES
+}
