@@ -134,6 +134,7 @@ impl Loops {
     }
 
     /// Posts an item with the next number at the end of a loop; without memory nothing changes.
+    #[inline(always)]
     pub fn post(&mut self, home: LoopId, item: Item) -> Result<(), PostFault>
         requires { self.old.posted < 2 ^ 63 - 1 }
         ensures posted { OnOk result (self.new ≡ posted_to home item self.old) }
@@ -153,6 +154,7 @@ impl Loops {
     }
 
     /// Removes the first item of a loop that was posted before the one of this number, and gives it.
+    #[inline(always)]
     pub fn take_before(&mut self, home: LoopId, number: u64) -> Option<Posted>
         ensures taken { result ≡ find (is_before number) (items_at self.old.loops home) }
         ensures rest { self.new ≡ taken_before home number self.old }

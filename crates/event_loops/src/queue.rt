@@ -14,11 +14,13 @@ use std::alloc::AllocError;
 use std::collections::VecDeque;
 
 /// One more item at the end; without memory nothing changes.
+#[inline(always)]
 pub fn push(items: &mut VecDeque<Posted>, posted: Posted) -> Result<(), AllocError>
     ensures ok { OnOk result (items.new.items ≡ items.old.items ++ posted ∷ []) }
     ensures err { OnErr result (items.new.items ≡ items.old.items) }
 {
-    items.push_back(posted)?;
+    items.reserve(1)?;
+    items.push_back_reserved(posted);
     Ok(())
 }
 
@@ -39,6 +41,7 @@ pub fn peek_before<'a>(
 }
 
 /// Removes the first item that waits and was posted before the one of this number, and gives it.
+#[inline(always)]
 pub fn take_before(items: &mut VecDeque<Posted>, marks: &Marks, number: u64) -> Option<Posted>
     requires { AreTold marks.now items.old.items }
     ensures taken { result ≡ find (is_due (since_of marks.now) number) items.old.items }
@@ -49,6 +52,7 @@ pub fn take_before(items: &mut VecDeque<Posted>, marks: &Marks, number: u64) -> 
     taken
 }
 
+#[inline(always)]
 #[tactic(auto, using(crate::proofs::Places::by_place))]
 fn remove_before(items: &mut VecDeque<Posted>, marks: &Marks, number: u64) -> Option<Posted>
     requires { AreTold marks.now items.old.items }

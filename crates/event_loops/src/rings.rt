@@ -19,6 +19,7 @@ use std::alloc::AllocError;
 use std::collections::VecDeque;
 
 /// One more item at the end of the loop at a place, after so many were posted; without memory nothing is seen to change.
+#[inline(always)]
 pub fn post_at(
     queues: &mut IndexMap<Name, VecDeque<Posted>>,
     marks: &mut Marks,
@@ -51,6 +52,7 @@ pub fn post_at(
 }
 
 /// One more item in the ring of the loop at a place.
+#[inline(always)]
 fn push_at(
     queues: &mut IndexMap<Name, VecDeque<Posted>>,
     home: usize,
@@ -85,6 +87,7 @@ pub fn peek_at<'a>(
 }
 
 /// Takes the first such item, if there is one.
+#[inline(always)]
 pub fn take_at(
     queues: &mut IndexMap<Name, VecDeque<Posted>>,
     marks: &Marks,

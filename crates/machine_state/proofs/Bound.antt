@@ -43,9 +43,9 @@ pub noted-over : (w v : World) (objects : List Object) (cs : List Binding) (line
 noted-over w v objects cs lines trace full is = is ∙ ap (λ (s : List Entry). with_bound (record w { trace = s; left = w.left - 1 }) objects cs) full
 
 -- an event is counted, and so they are
-pub counted-over : (w u v : World) (plan : Planned) (target : Place) (lines trace : List Entry) → trace ≡ w.trace ++ Accepted (w.events + 1) ∷ [] ++ lines → u ≡ counted (record w { trace = trace }) → v ≡ with_bound u (after plan u.store.tree) (without target u.store.bindings) → v ≡ with_bound (accepting_entries w lines) (after plan w.store.tree) (without target w.store.bindings)
-counted-over w u v plan target lines trace full counts is =
-    is ∙ ap (λ (z : World). with_bound z (after plan z.store.tree) (without target z.store.bindings)) (counts ∙ ap (λ (s : List Entry). counted (record w { trace = s })) full)
+pub counted-over : (w u v : World) (change : List Object → List Object) (target : Place) (lines trace : List Entry) → trace ≡ w.trace ++ Accepted (w.events + 1) ∷ [] ++ lines → u ≡ counted (record w { trace = trace }) → v ≡ with_bound u (change u.store.tree) (without target u.store.bindings) → v ≡ with_bound (accepting_entries w lines) (change w.store.tree) (without target w.store.bindings)
+counted-over w u v change target lines trace full counts is =
+    is ∙ ap (λ (z : World). with_bound z (change z.store.tree) (without target z.store.bindings)) (counts ∙ ap (λ (s : List Entry). counted (record w { trace = s })) full)
 
 -- ---- a binding is installed, or memory was refused
 pub binds-short : (p : Loaded) (site target : ℕ) (sources : List ℕ) (w v : World) (told : List Entry → World) → v ≡ w → (r : Result (List Place) BindFault) → IsErrAnd r (λ fault. fault ≡ bind.Memory) → BindsIn p site target sources w told r v

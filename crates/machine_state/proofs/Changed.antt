@@ -133,7 +133,7 @@ module _ (p : Loaded) (old new : List Object) (before : AreTyped p old) (after :
 
 -- ---- writes and a bind
 -- a value that fits there has a property
-fits-has : (p : Loaded) (objects : List Object) → AreTyped p objects → (at : Place) (v : Value) → FitsAt p objects at v → HasValue p objects at
+pub fits-has : (p : Loaded) (objects : List Object) → AreTyped p objects → (at : Place) (v : Value) → FitsAt p objects at v → HasValue p objects at
 fits-has p objects typed at v f = property-has p objects typed at f.object f.life f.property f.lives f.is_property
 
 pub fit-have : (p : Loaded) (objects : List Object) → AreTyped p objects → (writes : List Assignment) → AllFit p objects writes → HaveValues p objects (places_in writes)

@@ -6,4 +6,5 @@ pub mod Changed
 pub mod Told
 pub mod Ahead
 pub mod Bound
+pub mod Alone
 pub mod Trying

@@ -1,10 +1,13 @@
 //! Writes and binds, and what changes with them. A change is planned, the lines that tell of it are made, and the trace takes
-//! them, before anything else changes: where memory is refused for one of these, the world is as it was.
+//! them, before anything else changes: where memory is refused for one of these, the world is as it was. A write of a property
+//! that no binding reads, as most are, needs no plan.
 
 ghost use Rattle.std.specs.Prelude.{◌≡◌, [], ◌∷◌, ◌<◌, ◌^◌, IfOk, IfErr};
-ghost use Rattle.binding_graph.specs.Bindings.{without, without_all};
+ghost use Rattle.object_tree.specs.Objects.{change_life, written};
+ghost use Rattle.binding_graph.specs.Bindings.{binding_at, without, without_all};
+ghost use Rattle.binding_graph.specs.code.Graph.{Unread};
 ghost use Rattle.prop_bindings.specs.Calls.{AllFit};
-ghost use Rattle.prop_bindings.specs.Changes.{once, one, places_in};
+ghost use Rattle.prop_bindings.specs.Changes.{AreChanged, once, one, places_in};
 ghost use Rattle.prop_bindings.specs.Fits.{Agree, FitsAt};
 ghost use Rattle.prop_bindings.specs.Plans.{after};
 ghost use Rattle.trace_entries.specs.declared.fault.Fault.TheVariants.{Memory};
@@ -13,15 +16,15 @@ ghost use Rattle.machine_state.specs.Telling.{Alone, AreTold, Grouped, IsGroupTo
 ghost use Rattle.machine_state.specs.Worlds.{noted, accepting_entries, with_bound, WritesIn, BindsIn};
 ghost use Rattle.machine_state.specs.code.Planned.{CanBeTold, WillWrite, WillWriteOne, WillWriteAll};
 
-use crate::telling::{Cause, Telling};
+use crate::telling::{Cause, Telling, line_of};
 use crate::world::World;
 use delete_later::Store;
 use meta_objects::Meta;
 use prop_bindings::{
-    Assignment, BindFault, Place, Planned, PlannedGroup, PlannedWrite, WriteFault,
+    Assignment, BindFault, ChangedPlaces, Place, Planned, PlannedGroup, PlannedWrite, WriteFault,
+    fits,
 };
 use signatures::{ObjectId, Value};
-use sqlite_items::Items;
 use std::alloc::{AllocError, Global};
 use trace_entries::{Entry, Fault};
 
@@ -36,7 +39,52 @@ impl World {
         depth: usize,
         place: &Place,
         value: Value,
-    ) -> Result<Items<Place>, Fault>
+    ) -> Result<ChangedPlaces, Fault>
+        requires left { 0 < self.old.left }
+        requires agree { Agree meta.now self.old.store.tree self.old.store.bindings }
+        ensures value { TriesWrite meta.now depth place.now value self.old result self.new }
+        ensures agree { Agree meta.now self.new.store.tree self.new.store.bindings }
+    {
+        if self.store.bindings.is_unread(place) {
+            return self.write_unread(meta, depth, place, value);
+        }
+        self.write_followed(meta, depth, place, value)
+    }
+
+    /// Writes a property that no binding reads, as `write` does: nothing follows from it.
+    #[inline(always)]
+    fn write_unread(
+        &mut self,
+        meta: &Meta,
+        depth: usize,
+        place: &Place,
+        value: Value,
+    ) -> Result<ChangedPlaces, Fault>
+        requires left { 0 < self.old.left }
+        requires agree { Agree meta.now self.old.store.tree self.old.store.bindings }
+        requires unread { Unread (binding_at self.old.store.bindings) place.now }
+        ensures value { TriesWrite meta.now depth place.now value self.old result self.new }
+        ensures agree { Agree meta.now self.new.store.tree self.new.store.bindings }
+    {
+        let tree = &self.store.tree;
+        if !fits(meta, tree, place, &value) {
+            return Err(Fault::BadType);
+        }
+        let line = line_of(meta, tree, depth, Cause::Write, place, &value)?;
+        self.trace.push(line)?;
+        self.left -= 1;
+        Ok(self.write_alone(place, value))
+    }
+
+    /// Writes a property that bindings may read, as `write` does: others may follow.
+    #[inline(never)]
+    fn write_followed(
+        &mut self,
+        meta: &Meta,
+        depth: usize,
+        place: &Place,
+        value: Value,
+    ) -> Result<ChangedPlaces, Fault>
         requires left { 0 < self.old.left }
         requires agree { Agree meta.now self.old.store.tree self.old.store.bindings }
         ensures value { TriesWrite meta.now depth place.now value self.old result self.new }
@@ -63,7 +111,7 @@ impl World {
         meta: &Meta,
         depth: usize,
         sets: &[Option<Assignment>],
-    ) -> Result<Items<Place>, Fault>
+    ) -> Result<ChangedPlaces, Fault>
         requires left { 0 < self.old.left }
         requires agree { Agree meta.now self.old.store.tree self.old.store.bindings }
         requires fit { AllFit meta.now self.old.store.tree (writes_of (Grouped sets.now)) }
@@ -84,7 +132,51 @@ impl World {
         meta: &Meta,
         place: &Place,
         value: Value,
-    ) -> Result<Items<Place>, Fault>
+    ) -> Result<ChangedPlaces, Fault>
+        requires left { 0 < self.old.left }
+        requires few { self.old.events < 2 ^ 63 }
+        requires agree { Agree meta.now self.old.store.tree self.old.store.bindings }
+        requires fits { FitsAt meta.now self.old.store.tree place.now value }
+        ensures value { WritesIn meta.now 1 (Alone place.now value) self.old
+            (accepting_entries self.old) result self.new }
+        ensures agree { Agree meta.now self.new.store.tree self.new.store.bindings }
+    {
+        if self.store.bindings.is_unread(place) {
+            return self.accept_unread(meta, place, value);
+        }
+        self.accept_followed(meta, place, value)
+    }
+
+    /// Writes a property that no binding reads for an accepted event, as `accept_write` does: nothing follows from it.
+    fn accept_unread(
+        &mut self,
+        meta: &Meta,
+        place: &Place,
+        value: Value,
+    ) -> Result<ChangedPlaces, Fault>
+        requires left { 0 < self.old.left }
+        requires few { self.old.events < 2 ^ 63 }
+        requires agree { Agree meta.now self.old.store.tree self.old.store.bindings }
+        requires fits { FitsAt meta.now self.old.store.tree place.now value }
+        requires unread { Unread (binding_at self.old.store.bindings) place.now }
+        ensures value { WritesIn meta.now 1 (Alone place.now value) self.old
+            (accepting_entries self.old) result self.new }
+        ensures agree { Agree meta.now self.new.store.tree self.new.store.bindings }
+    {
+        let line = line_of(meta, &self.store.tree, 1, Cause::Write, place, &value)?;
+        self.trace.accept(self.events + 1, [line])?;
+        self.count_event();
+        Ok(self.write_alone(place, value))
+    }
+
+    /// Writes a property that bindings may read for an accepted event, as `accept_write` does: others may follow.
+    #[inline(never)]
+    fn accept_followed(
+        &mut self,
+        meta: &Meta,
+        place: &Place,
+        value: Value,
+    ) -> Result<ChangedPlaces, Fault>
         requires left { 0 < self.old.left }
         requires few { self.old.events < 2 ^ 63 }
         requires agree { Agree meta.now self.old.store.tree self.old.store.bindings }
@@ -111,7 +203,7 @@ impl World {
         site: usize,
         target: ObjectId,
         sources: &[ObjectId],
-    ) -> Result<Items<Place>, BindFault>
+    ) -> Result<ChangedPlaces, BindFault>
         requires left { 0 < self.old.left }
         requires few { self.old.events < 2 ^ 63 }
         requires agree { Agree meta.now self.old.store.tree self.old.store.bindings }
@@ -219,8 +311,23 @@ impl World {
         telling.group(self.trace.allocator(), sets, planned.targets())
     }
 
+    /// Gives a property that no binding reads a value of its type, and ends its own binding, which takes no memory. It
+    /// answers the property, if it no longer reads as it did.
+    #[inline(always)]
+    fn write_alone(&mut self, place: &Place, value: Value) -> ChangedPlaces
+        ensures changed { AreChanged self.old.store.tree
+            (change_life place.now.object (written place.now.property value) self.old.store.tree)
+            (place.now ∷ []) result }
+        ensures world { self.new ≡ with_bound self.old
+            (change_life place.now.object (written place.now.property value) self.old.store.tree)
+            (without place.now self.old.store.bindings) }
+    {
+        let Store { tree, bindings, .. } = &mut self.store;
+        bindings.write_alone(tree, place, value)
+    }
+
     /// Carries out a planned write, which takes no memory, and answers the properties that no longer read as they did.
-    fn carry_out(&mut self, planned: PlannedWrite) -> Items<Place>
+    fn carry_out(&mut self, planned: PlannedWrite) -> ChangedPlaces
         ensures changed { result ≡ planned.planned.changed }
         ensures world { self.new ≡ with_bound self.old (after planned.planned self.old.store.tree)
             (without planned.target self.old.store.bindings) }
@@ -230,7 +337,7 @@ impl World {
     }
 
     /// Carries out a planned group, which takes no memory, and answers the properties that no longer read as they did.
-    fn carry_out_group(&mut self, planned: PlannedGroup) -> Items<Place>
+    fn carry_out_group(&mut self, planned: PlannedGroup) -> ChangedPlaces
         ensures changed { result ≡ planned.planned.changed }
         ensures world { self.new ≡ with_bound self.old (after planned.planned self.old.store.tree)
             (without_all planned.targets self.old.store.bindings) }

@@ -9,6 +9,7 @@ use std::alloc::{AllocError, Global};
 use trace_entries::{Shown, ShownValues};
 
 /// A value as it is written down: a reference, as it reads, by the object's name, or as null.
+#[inline(always)]
 pub fn show(objects: &Tree, value: &Value) -> Result<Shown, AllocError>
     ensures { IfOk result (λ text. text ≡ shown objects.now value.now) }
 {

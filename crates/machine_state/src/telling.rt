@@ -7,7 +7,7 @@ ghost use Rattle.prop_bindings.specs.Changes.{DifferInValues, once, places_in};
 ghost use Rattle.prop_bindings.specs.Values.{values_in};
 ghost use Rattle.prop_bindings.specs.Plans.{after};
 ghost use Rattle.machine_state.specs.Telling.{HasValue, IsTold, IsToldWith, IsSetTold, AreTold, IsGroupTold, Grouped, entry_kind_of, others, writes_of};
-ghost use Rattle.machine_state.specs.code.Planned.{CanBeTold, HaveValues, AddsFollowers, AddsSets, AddsTold, StandFirst, behind};
+ghost use Rattle.machine_state.specs.code.Planned.{CanBeTold, HaveValues, AddsFollowers, AddsSets, AddsTold, StandFirst, WillBeTold, behind};
 
 use crate::showing::show;
 use meta_objects::Meta;
@@ -188,18 +188,7 @@ impl<'w> Telling<'w> {
             (after self.now.planned.now self.now.tree.now) self.now.depth cause place.now
             value.now) }
     {
-        let Some((object, life)) = self.tree.get(place.object) else {
-            unreachable!()
-        };
-        let Some(class) = self.meta.object(life.class) else {
-            unreachable!()
-        };
-        let Some(property) = class.properties.get(place.property) else {
-            unreachable!()
-        };
-        let value = show(self.tree, value)?;
-        let what = entry_kind(cause, object.name.copy()?, property.name.copy()?, value);
-        Ok(Entry::At(self.depth, what))
+        line_of(self.meta, self.tree, self.depth, cause, place, value)
     }
 
     /// The value that a property will have.
@@ -215,6 +204,33 @@ impl<'w> Telling<'w> {
             None => Some(own),
         }
     }
+}
+
+/// The line of a property with this value, before the change; it depends on no other value that the change gives.
+#[inline(always)]
+pub fn line_of(
+    meta: &Meta,
+    tree: &Tree,
+    depth: usize,
+    cause: Cause,
+    place: &Place,
+    value: &Value,
+) -> Result<Entry, AllocError>
+    requires has { HasValue meta.now tree.now place.now }
+    ensures { IfOk result (WillBeTold meta.now tree.now depth cause place.now value.now) }
+{
+    let Some((object, life)) = tree.get(place.object) else {
+        unreachable!()
+    };
+    let Some(class) = meta.object(life.class) else {
+        unreachable!()
+    };
+    let Some(property) = class.property(place.property) else {
+        unreachable!()
+    };
+    let value = show(tree, value)?;
+    let what = entry_kind(cause, object.name.copy()?, property.name.copy()?, value);
+    Ok(Entry::At(depth, what))
 }
 
 /// What is left of properties behind this one, if it stands first.

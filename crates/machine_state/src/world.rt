@@ -69,6 +69,7 @@ impl World {
     /// of the number `used`, and not later than that of `last`, and whose receiver lives; none where the sender lives and
     /// is blocked, unless the signal is `destroyed`. An emission keeps one hint for all its calls; the answer is the same
     /// whatever it holds.
+    #[inline(always)]
     pub fn next_used(
         &self,
         sender: ObjectId,
@@ -89,6 +90,7 @@ impl World {
     }
 
     /// The first connection that is due and whose receiver lives.
+    #[inline(always)]
     fn first_to_living(
         &self,
         sender: ObjectId,
@@ -116,6 +118,7 @@ impl World {
     }
 
     /// Whether an emission of this signal calls nothing, since the sender lives and is blocked.
+    #[inline(always)]
     fn is_silent(&self, sender: ObjectId, signal: usize) -> bool
         ensures { result ≡ silences (life_of self.now.store.tree sender) signal }
     {
@@ -172,6 +175,7 @@ impl World {
     }
 
     /// Gives back what removed connections still take up, where no emission goes on; the world stays as it is.
+    #[inline(always)]
     pub fn sweep(&mut self)
         ensures { self.new ≡ self.old }
     {
@@ -187,6 +191,7 @@ pub fn is_silent(object: &Object, signal: usize) -> bool
 }
 
 /// Whether an object that lives this life is blocked, and the signal isn't `destroyed`.
+#[inline(always)]
 fn silences(life: Option<&Life>, signal: usize) -> bool
     ensures { result ≡ silences (option_copied life.entry) signal }
 {

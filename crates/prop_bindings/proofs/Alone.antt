@@ -1,5 +1,5 @@
 -- A write of a property on which nothing depends.
-use Rattle.std.proofs.Common.{◌≡◌, Bool, List, [], ◌∷◌, cond, inl, inr, refl, ap, sym, ◌∙◌, subst}
+use Rattle.std.proofs.Common.{◌≡◌, ℕ, Bool, List, [], ◌∷◌, cond, inl, inr, Option, Some, refl, ap, sym, ◌∙◌, subst}
 use Rattle.std.specs.Option.{option_map}
 use Rattle.signatures.specs.declared.value.Value.{Value}
 use Rattle.meta_model.specs.Loaded.{Loaded}
@@ -8,18 +8,18 @@ use Rattle.object_tree.specs.Objects.{change_life, written}
 use Rattle.object_tree.specs.Seen.{seen}
 use Rattle.binding_graph.specs.declared.place.Place.{Place}
 use Rattle.binding_graph.specs.declared.binding.Binding.{Binding}
-use Rattle.binding_graph.specs.Bindings.{Reads, binding_at, without_all}
+use Rattle.binding_graph.specs.Bindings.{Reads, binding_at, without, without_all}
 use Rattle.binding_graph.specs.code.Graph.{Unread}
 use Rattle.binding_graph.specs.code.Orders.{IsAffected}
 use Rattle.binding_graph.proofs.Places.{same_place-refl}
 use Rattle.binding_graph.proofs.Replaced.{without-fewer}
-use Rattle.prop_bindings.specs.declared.planned.Planned.{Planned}
 use Rattle.prop_bindings.specs.Values.{values_in}
-use Rattle.prop_bindings.specs.Changes.{AreChanged, DifferInValues, none_changed, one, one_changed, one_stayed}
+use Rattle.prop_bindings.specs.Changes.{AreChanged, DifferInValues, IsWritten, none_changed, one, one_changed, one_stayed}
+use Rattle.prop_bindings.specs.Counts.{CountsWritten}
 use Rattle.prop_bindings.specs.Fits.{Agree, FitsAt}
-use Rattle.prop_bindings.specs.Plans.{after}
-use Rattle.prop_bindings.specs.code.Parts.{PlansThem}
-use Rattle.prop_bindings.proofs.Calling.{plans-them}
+use Rattle.prop_bindings.specs.code.Parts.{LeadTo}
+use Rattle.prop_bindings.proofs.Calling.{lead-to}
+use Rattle.prop_bindings.proofs.Changed.{changed-once}
 use Rattle.prop_bindings.proofs.Evaluating.{given-sound, rest-alike}
 use Rattle.prop_bindings.proofs.InOrder.{lifted-changes}
 use Rattle.prop_bindings.proofs.Staying.{alike-by, alike-from}
@@ -58,9 +58,34 @@ module _ (objects : List Object) (at : Place) (v : Value) where
       ];
     }
 
-    pub plans-alone : (plan : Planned) → AreChanged objects new (at ∷ []) plan.changed → after plan objects ≡ new → plan.evaluated ≡ 0 → PlansThem p objects bs (one at v) plan
-    plans-alone plan changes done count =
-        let all = lifted-changes objects new (at ∷ []) bs [] [] plan.changed ((λ i. i), tt) agree.apart (tt, tt) (λ q. ((λ i. i), (λ i. i))) (λ q i j. j)
-        (rest-alike objects new new bs (at ∷ []) [] (wrote-other (one at v) objects) (λ q. refl) differ) changes in
-        plans-them p bs objects new new (one at v) (at ∷ []) [] agree (fits, tt) refl refl affected (λ q. refl)
-        plan differ all (given-sound p objects bs at v (agree.typed, agree.fit) fits) count (sym done)
+    module _ (changed : List Place) (changes : AreChanged objects new (at ∷ []) changed) where
+      alone-leads : LeadTo p objects bs (one at v) new changed 0
+      alone-leads =
+          let all = lifted-changes objects new (at ∷ []) bs [] [] changed ((λ i. i), tt) agree.apart (tt, tt) (λ q. ((λ i. i), (λ i. i))) (λ q i j. j)
+          (rest-alike objects new new bs (at ∷ []) [] (wrote-other (one at v) objects) (λ q. refl) differ) changes in
+          lead-to p bs objects new new (one at v) (at ∷ []) [] agree (fits, tt) refl refl affected (λ q. refl)
+          changed 0 differ all (given-sound p objects bs at v (agree.typed, agree.fit) fits) refl
+
+      -- a value that it has already
+      same-seen : values_in objects at ≡ Some v → option_map (seen objects) (option_map (λ (own : Value). v) (values_in objects at)) ≡ option_map (seen objects) (values_in objects at)
+      same-seen has =
+          ap (λ (o : Option Value). option_map (seen objects) (option_map (λ (own : Value). v) o)) has
+          ∙ sym (ap (option_map (seen objects)) has)
+
+      -- what bindings and objects are once it is written
+      module _ (cs : List Binding) (xs : List Object) (left : cs ≡ without at bs) (objects_are : xs ≡ new) where
+        pub alone-written : IsWritten bs cs objects xs (one at v) changed
+        alone-written =
+            subst (λ (ys : List Object). IsWritten bs cs objects ys (one at v) changed) (sym objects_are)
+            (subst (λ (ds : List Binding). IsWritten bs ds objects new (one at v) changed) (sym left) alone-leads.written)
+
+        pub alone-agrees : Agree p xs cs
+        alone-agrees =
+            subst (λ (ys : List Object). Agree p ys cs) (sym objects_are)
+            (subst (λ (ds : List Binding). Agree p new ds) (sym left) alone-leads.agree)
+
+        pub alone-counted : (n : ℕ) → n ≡ 0 → CountsWritten (binding_at cs) at v objects changed n
+        alone-counted n none =
+            subst (λ (k : ℕ). CountsWritten (binding_at cs) at v objects changed k) (sym none)
+            (subst (λ (ds : List Binding). CountsWritten (binding_at ds) at v objects changed 0) (sym left)
+            ((λ have. (changed-once objects new (at ∷ []) changed [] changes (alone-stayed (same-seen have.0)), refl)), (λ out. alone-leads.counted)))

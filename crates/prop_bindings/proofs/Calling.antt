@@ -17,8 +17,8 @@ use Rattle.prop_bindings.specs.Calls.{AllFit}
 use Rattle.prop_bindings.specs.Changes.{in_order, once, places_in, DifferInValues, AreChanged, HaveLasting, none_changed, one_stayed, IsWritten, IsInstalled}
 use Rattle.prop_bindings.specs.Counts.{CountsGroup, CountsReached}
 use Rattle.prop_bindings.specs.Fits.{FitsAt, IsFit, IsInOneLoop, Agree}
-use Rattle.prop_bindings.specs.Plans.{after, assigned, entries_in}
-use Rattle.prop_bindings.specs.code.Parts.{AreSound, PlansThem, wrote}
+use Rattle.prop_bindings.specs.Plans.{after, assigned}
+use Rattle.prop_bindings.specs.code.Parts.{AreSound, LeadTo, wrote}
 use Rattle.binding_graph.specs.code.Orders.{update, pass, bound, IsAffected, IsLater}
 use Rattle.binding_graph.proofs.Apart.{apart-all, apart-replaced, acyclic-all}
 use Rattle.prop_bindings.proofs.Counting.{changed-among, counts-affected, counts-same}
@@ -73,9 +73,9 @@ module _ (p : Loaded) (bs : List Binding) (old mid new : List Object) (writes : 
       (λ q i. written-value bs ts followers (values_in old) (values_in mid) (values_in new) affected agree.settled others-kept is q (written-in q i))
       (subst (λ (xs : List Object). HaveLasting xs writes) (sym begun) (wrote-lasting p writes old agree.typed fits))
 
-  module _ (plan : Planned) (differ : DifferInValues old new) (changes : AreChanged old new (in_order ts bs) plan.changed)
-      (sound : AreSound p new bs) (count : plan.evaluated ≡ length followers) where
-    is_written : IsWritten bs (without_all ps bs) old new writes plan.changed
+  module _ (changed : List Place) (n : ℕ) (differ : DifferInValues old new) (changes : AreChanged old new (in_order ts bs) changed)
+      (sound : AreSound p new bs) (count : n ≡ length followers) where
+    is_written : IsWritten bs (without_all ps bs) old new writes changed
     is_written = record {
       bindings = refl;
       objects = differ;
@@ -83,7 +83,7 @@ module _ (p : Loaded) (bs : List Binding) (old mid new : List Object) (writes : 
       settled = settled;
       kept = λ q none away. written-kept bs ts followers (values_in old) (values_in mid) (values_in new) affected agree.settled others-kept is q
           (ap (λ (xs : List Binding). binding_at xs q) left-is ∙ none) (λ i. away (in-written q i));
-      changes = subst (λ (qs : List Place). AreChanged old new qs plan.changed) (ap (λ (qs : List Place). in_order qs bs) targets ∙ in-order-once ps bs) changes;
+      changes = subst (λ (qs : List Place). AreChanged old new qs changed) (ap (λ (qs : List Place). in_order qs bs) targets ∙ in-order-once ps bs) changes;
     }
 
     agree_written : Agree p new (without_all ps bs)
@@ -96,18 +96,14 @@ module _ (p : Loaded) (bs : List Binding) (old mid new : List Object) (writes : 
       settled = settled;
     }
 
-    counts : CountsReached (binding_at (without_all ps bs)) ps plan.changed plan.evaluated
-    counts = counts-same (binding_at (without_all ps bs)) ts ps plan.changed plan.evaluated in-written written-in
-        (subst (λ (xs : List Binding). CountsReached (binding_at xs) ts plan.changed plan.evaluated) left-is
-        (counts-affected (binding_at (without_all ts bs)) ts followers plan.changed plan.evaluated affected
-        (changed-among old new (in_order ts bs) plan.changed ts followers changes (rest-alike old mid new bs ts followers others-kept is differ)) count))
+    counts : CountsReached (binding_at (without_all ps bs)) ps changed n
+    counts = counts-same (binding_at (without_all ps bs)) ts ps changed n in-written written-in
+        (subst (λ (xs : List Binding). CountsReached (binding_at xs) ts changed n) left-is
+        (counts-affected (binding_at (without_all ts bs)) ts followers changed n affected
+        (changed-among old new (in_order ts bs) changed ts followers changes (rest-alike old mid new bs ts followers others-kept is differ)) count))
 
-    pub plans-them : new ≡ after plan old → PlansThem p old bs writes plan
-    plans-them done = record {
-      written = subst (λ (xs : List Object). IsWritten bs (without_all ps bs) old xs writes plan.changed) done is_written;
-      agree = subst (λ (xs : List Object). Agree p xs (without_all ps bs)) done agree_written;
-      counted = counts;
-    }
+    pub lead-to : LeadTo p old bs writes new changed n
+    lead-to = record { written = is_written; agree = agree_written; counted = counts }
 
 -- .. of values that the properties had already
 all-stay : (objects : List Object) (ps : List Place) → AreChanged objects objects ps []
@@ -139,7 +135,7 @@ module _ (bs : List Binding) (objects : List Object) (writes : List Assignment) 
   }
 
   -- .. and then nothing is planned
-  module _ (plan : Planned) (none : entries_in plan.values ≡ []) (told : plan.changed ≡ []) (counted : plan.evaluated ≡ 0) where
+  module _ (plan : Planned) (none : plan.values.entries ≡ []) (told : plan.changed ≡ []) (counted : plan.evaluated ≡ 0) where
     same : after plan objects ≡ objects
     same = ap (λ (es : List ((ℕ × ℕ) × Value)). assigned es objects) none
 

@@ -15,8 +15,6 @@ use Rattle.prop_bindings.specs.declared.planned.Planned.{Planned}
 use Rattle.prop_bindings.specs.declared.planned.PlannedBind.{PlannedBind}
 use Rattle.prop_bindings.specs.declared.planned.PlannedGroup.{PlannedGroup}
 use Rattle.prop_bindings.specs.declared.planned.PlannedWrite.{PlannedWrite}
-use Rattle.prop_bindings.specs.declared.planned.Values.{Values}
-use Rattle.prop_bindings.specs.declared.planned.Values.TheVariants.{One, Many}
 use Rattle.prop_bindings.specs.Values.{values_in}
 use Rattle.binding_graph.specs.Bindings.{replaced, without_all}
 use Rattle.prop_bindings.specs.Calls.{AllFit, IsNotWritten, IsNotBound, IsBound, new_binding}
@@ -27,14 +25,9 @@ abbrev pub assigned : List ((ℕ × ℕ) × Value) → List Object → List Obje
 assigned [] objects = objects
 assigned (e ∷ rest) objects = change_life e.0.0 (written e.0.1 e.1) (assigned rest objects)
 
--- the values that are to be given, with the numbers of their properties
-abbrev pub entries_in : Values → List ((ℕ × ℕ) × Value)
-entries_in (One a) = ((a.place.object, a.place.property), a.value) ∷ []
-entries_in (Many values) = values.entries
-
 -- the objects once a plan is carried out
 abbrev pub after : Planned → List Object → List Object
-after plan objects = assigned (entries_in plan.values) objects
+after plan objects = assigned plan.values.entries objects
 
 -- once it is carried out, the property has this value, or its own where this is none
 abbrev pub WillBe : Planned → Place → Option Value → Type 0

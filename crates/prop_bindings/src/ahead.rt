@@ -74,8 +74,18 @@ fn value_near<'w>(
 {
     match value_at(values, likely, place) {
         Some(value) => Some(value),
-        None => values.get(&place.key()),
+        None => value_given(values, place),
     }
+}
+
+/// The value that a property is to have; `None` where it is to have none.
+pub fn value_given<'w>(
+    values: &'w IndexMap<(usize, usize), Value>,
+    place: &Place,
+) -> Option<&'w Value>
+    ensures { option_copied result ≡ get same_key values.now (key_of place.now) }
+{
+    values.get(&place.key())
 }
 
 /// The value at this place among them, if it is the one that the property is to have.

@@ -1,10 +1,12 @@
 //! The installed bindings.
 
-ghost use Rattle.std.specs.Prelude.{◌≡◌, ◌∷◌, slice_get, IfOk, OnOk, OnErr};
+ghost use Rattle.std.specs.Prelude.{◌≡◌, ◌∷◌, [], slice_get, IfOk, IsTrue, OnOk, OnErr};
 ghost use Rattle.std.specs.Option.{option_copied};
+ghost use Rattle.object_tree.specs.Objects.{change_life, written};
 ghost use Rattle.binding_graph.specs.Bindings.{binding_at, dropped, lead_out, replaced, without, without_all};
 ghost use Rattle.prop_bindings.specs.Calls.{Binds, Writes};
-ghost use Rattle.prop_bindings.specs.Changes.{once, one, places_in};
+ghost use Rattle.binding_graph.specs.code.Graph.{Unread};
+ghost use Rattle.prop_bindings.specs.Changes.{AreChanged, once, one, places_in};
 ghost use Rattle.prop_bindings.specs.Counts.{CountsBound, CountsFrom, CountsGroup, CountsWritten, Kept, nothing_kept};
 ghost use Rattle.prop_bindings.specs.Fits.{Agree};
 ghost use Rattle.binding_graph.specs.Laws.{Determines};
@@ -12,7 +14,8 @@ ghost use Rattle.prop_bindings.specs.Plans.{PlansBind, PlansGroup, PlansWrite, a
 ghost use Rattle.prop_bindings.specs.code.Parts.{AgreesWith, Installs, MayInstall, StayAgreeing};
 
 use crate::assignment::Assignment;
-use crate::changes::plan;
+use crate::changed_places::ChangedPlaces;
+use crate::changes::{changed_alone, plan};
 use crate::fault::{BindFault, WriteFault};
 use crate::planned::{Planned, PlannedBind, PlannedGroup, PlannedWrite, assign};
 use crate::preparing::{Prepared, fits, has_value, prepare};
@@ -91,6 +94,34 @@ impl Bindings {
         let _graph = &self.graph;
     }
 
+    /// Whether it is certain that no binding reads the property, so that nothing follows from it.
+    #[inline(always)]
+    pub fn is_unread(&self, place: &Place) -> bool
+        ensures { IsTrue result → Unread (binding_at self.now.installed) place.now }
+    {
+        self.graph.is_unread(place)
+    }
+
+    /// Writes a property alone: it loses its binding and gets the value, and nothing else changes or is evaluated. That is
+    /// all that a write does where no binding reads the property and the value is of its type. It takes no memory, and
+    /// answers the property, if it no longer reads as it did.
+    #[inline(always)]
+    pub fn write_alone(&mut self, tree: &mut Tree, place: &Place, value: Value) -> ChangedPlaces
+        ensures changed { AreChanged tree.old
+            (change_life place.now.object (written place.now.property value) tree.old)
+            (place.now ∷ []) result }
+        ensures left { self.new.installed ≡ without place.now self.old.installed }
+        ensures objects { tree.new
+            ≡ change_life place.now.object (written place.now.property value) tree.old }
+        ensures counted { self.new.evaluated ≡ 0 }
+    {
+        let changed = changed_alone(self.alloc, place, tree, &value);
+        self.graph.remove(place);
+        tree.set_value(place.object, place.property, value);
+        self.evaluated = 0;
+        changed
+    }
+
     /// Plans a write of a property of a living object, which ends its binding; the values that follow from it change with
     /// it. `BadType` where no such object lives, it has no such property, or the value isn't of its type; `Memory` comes
     /// only where a growth was refused.
@@ -128,7 +159,7 @@ impl Bindings {
 
     /// Carries out a planned write, for the bindings and objects for which it was planned. It takes no memory, and answers
     /// the properties that no longer read as they did, in the order in which they are notified.
-    pub fn carry_out(&mut self, tree: &mut Tree, planned: PlannedWrite) -> Items<Place>
+    pub fn carry_out(&mut self, tree: &mut Tree, planned: PlannedWrite) -> ChangedPlaces
         ensures value { result ≡ planned.planned.changed }
         ensures left { self.new.installed ≡ without planned.target self.old.installed }
         ensures objects { tree.new ≡ after planned.planned tree.old }
@@ -186,7 +217,7 @@ impl Bindings {
 
     /// Carries out a planned group of writes, for the bindings and objects for which it was planned. It takes no memory, and
     /// answers the properties that no longer read as they did, in the order in which they are notified.
-    pub fn carry_out_group(&mut self, tree: &mut Tree, planned: PlannedGroup) -> Items<Place>
+    pub fn carry_out_group(&mut self, tree: &mut Tree, planned: PlannedGroup) -> ChangedPlaces
         ensures value { result ≡ planned.planned.changed }
         ensures left { self.new.installed ≡ without_all planned.targets self.old.installed }
         ensures objects { tree.new ≡ after planned.planned tree.old }
@@ -282,7 +313,7 @@ impl Bindings {
         &mut self,
         tree: &mut Tree,
         planned: PlannedBind,
-    ) -> Result<Items<Place>, AllocError>
+    ) -> Result<ChangedPlaces, AllocError>
         requires may { MayInstall self.old.installed planned }
         ensures value { IfOk result (λ changed. changed ≡ planned.planned.changed) }
         ensures installed { OnOk result
@@ -317,7 +348,7 @@ impl Bindings {
         tree: &mut Tree,
         place: &Place,
         value: Value,
-    ) -> Result<Items<Place>, WriteFault>
+    ) -> Result<ChangedPlaces, WriteFault>
         requires agree { Agree meta.now tree.old self.old.installed }
         ensures value { Writes meta.now (one place.now value) self.old.installed tree.old result
             self.new.installed tree.new }
@@ -326,6 +357,12 @@ impl Bindings {
             place.now value tree.old changed self.new.evaluated) }
         ensures err { OnErr result ((self.new ≡ self.old) × (tree.new ≡ tree.old)) }
     {
+        if !fits(meta, tree, place, &value) {
+            return Err(WriteFault::BadType);
+        }
+        if self.is_unread(place) {
+            return Ok(self.write_alone(tree, place, value));
+        }
         let planned = self.plan_write(meta, tree, place, value)?;
         Ok(self.carry_out(tree, planned))
     }
@@ -338,7 +375,7 @@ impl Bindings {
         meta: &Meta,
         tree: &mut Tree,
         writes: &[Assignment],
-    ) -> Result<Items<Place>, WriteFault>
+    ) -> Result<ChangedPlaces, WriteFault>
         requires agree { Agree meta.now tree.old self.old.installed }
         ensures value { Writes meta.now writes.now self.old.installed tree.old result
             self.new.installed tree.new }
@@ -361,7 +398,7 @@ impl Bindings {
         site: usize,
         target: ObjectId,
         sources: &[ObjectId],
-    ) -> Result<Items<Place>, BindFault>
+    ) -> Result<ChangedPlaces, BindFault>
         requires agree { Agree meta.now tree.old self.old.installed }
         ensures value { Binds meta.now site target sources.now self.old.installed tree.old result
             self.new.installed tree.new }

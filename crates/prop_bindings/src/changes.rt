@@ -16,13 +16,13 @@ ghost use Rattle.binding_graph.specs.code.Orders.{AreBound, pass};
 ghost use Rattle.prop_bindings.specs.code.Parts.{AddsChanged, GivesOnly, IsSoundBySome, StaySound, ahead, value_ahead};
 
 use crate::ahead::value_ahead;
+use crate::changed_places::ChangedPlaces;
 use crate::evaluation::evaluate_all;
-use crate::planned::{Planned, Values};
+use crate::planned::Planned;
 use binding_graph::{Installed, Numbered, Place};
 use indexmap::IndexMap;
 use object_tree::Tree;
 use signatures::Value;
-use sqlite_items::Items;
 use std::alloc::{AllocError, Global};
 
 /// Different properties are to have these values, and then each of their followers, in their order, its expression's value,
@@ -63,7 +63,7 @@ pub fn plan(
     others.sort_unstable_by_key(|each| each.number);
     let changed = changed_among(alloc, targets, &others, tree, &values)?;
     Ok(Planned {
-        values: Values::Many(values),
+        values,
         changed,
         evaluated: count,
     })
@@ -77,11 +77,11 @@ fn changed_among(
     others: &[Numbered],
     tree: &Tree,
     values: &IndexMap<(usize, usize), Value>,
-) -> Result<Items<Place>, AllocError>
+) -> Result<ChangedPlaces, AllocError>
     ensures { IfOk result (λ changed. AreChanged tree.now (ahead values.now tree.now)
         (targets.now ++ places_of others.now) changed) }
 {
-    let mut changed = Vec::new(alloc);
+    let mut changed = ChangedPlaces::new(alloc);
     let mut likely: usize = 0;
     for target in targets {
         add_changed(target, tree, values, likely, &mut changed)?;
@@ -91,7 +91,7 @@ fn changed_among(
         add_changed(&each.place, tree, values, likely, &mut changed)?;
         likely = likely.saturating_add(1);
     }
-    Ok(Items::from_vec(changed))
+    Ok(changed)
 }
 
 /// Adds the property to those that changed, unless it still reads as it did once these have their values. Its own likely
@@ -101,10 +101,10 @@ fn add_changed(
     tree: &Tree,
     values: &IndexMap<(usize, usize), Value>,
     likely: usize,
-    changed: &mut Vec<Place>,
+    changed: &mut ChangedPlaces,
 ) -> Result<(), AllocError>
     ensures { OnOk result (AddsChanged tree.now (ahead values.now tree.now) place.now
-        changed.old.items changed.new.items) }
+        changed.old changed.new) }
 {
     if stays(place, tree, values, likely) {
         return Ok(());
@@ -113,25 +113,20 @@ fn add_changed(
     Ok(())
 }
 
-/// The property, if it no longer reads as it did once it has this value. Its error is that memory was refused.
-pub fn changed_alone(
-    alloc: Global,
-    place: &Place,
-    tree: &Tree,
-    value: &Value,
-) -> Result<Items<Place>, AllocError>
-    ensures { IfOk result (λ changed. AreChanged tree.now
-        (change_life place.now.object (written place.now.property value.now) tree.now) (place.now ∷ []) changed) }
+/// The property, if it no longer reads as it did once it has this value. It takes no memory.
+#[inline(always)]
+pub fn changed_alone(alloc: Global, place: &Place, tree: &Tree, value: &Value) -> ChangedPlaces
+    ensures { AreChanged tree.now
+        (change_life place.now.object (written place.now.property value.now) tree.now) (place.now ∷ []) result }
 {
     if stays_alone(place, tree, value) {
-        return Ok(Items::from_vec(Vec::new(alloc)));
+        return ChangedPlaces::new(alloc);
     }
-    let mut changed = Vec::with_capacity(alloc, 1)?;
-    changed.push(*place)?;
-    Ok(Items::from_vec(changed))
+    ChangedPlaces::one(alloc, *place)
 }
 
 /// Whether the property still reads as it did once it has this value.
+#[inline(always)]
 fn stays_alone(place: &Place, tree: &Tree, value: &Value) -> bool
     ensures { IsTrue result
         ↔ (option_map (seen tree.now) (option_map (λ own. value.now) (values_in tree.now place.now))

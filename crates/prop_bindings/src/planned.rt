@@ -2,12 +2,11 @@
 
 ghost use Rattle.std.specs.Prelude.{◌≡◌, []};
 ghost use Rattle.std.specs.Option.{option_copied};
-ghost use Rattle.std.specs.Map.{lookup};
-ghost use Rattle.binding_graph.specs.code.Keys.{key_of, same_key};
-ghost use Rattle.prop_bindings.specs.Plans.{WillBe, assigned, entries_in};
+ghost use Rattle.prop_bindings.specs.Plans.{WillBe};
 ghost use Rattle.prop_bindings.specs.code.Parts.{ahead};
 
-use crate::assignment::Assignment;
+use crate::ahead::value_given;
+use crate::changed_places::ChangedPlaces;
 use binding_graph::{Place, Reader};
 use indexmap::IndexMap;
 use object_tree::Tree;
@@ -15,36 +14,14 @@ use signatures::{ObjectId, Value};
 use sqlite_items::Items;
 use std::alloc::Global;
 
-/// The values that properties are to have.
-#[derive(Drop)]
-pub enum Values {
-    /// That of one property.
-    One(Assignment),
-    /// Those of any number of them, by the numbers of the properties.
-    Many(IndexMap<(usize, usize), Value>),
-}
-
-impl Values {
-    /// The value that the property is to have; `None` where it is to have none.
-    pub fn get(&self, place: &Place) -> Option<&Value>
-        ensures { option_copied result ≡ lookup (same_key (key_of place.now)) (entries_in self.now) }
-    {
-        match self {
-            Values::One(only) if place.is_same(&only.place) => Some(&only.value),
-            Values::One(_) => None,
-            Values::Many(values) => values.get(&place.key()),
-        }
-    }
-}
-
 /// What a write or a bind is to change: the values of properties, and which of them then no longer read as they did. It
 /// stands for the objects and bindings for which it was planned, as long as these stay as they are.
 #[derive(Drop)]
 pub struct Planned {
-    /// The values that properties are to have.
-    pub values: Values,
+    /// The values that properties are to have, by the numbers of the properties.
+    pub values: IndexMap<(usize, usize), Value>,
     /// The properties that will no longer read as they did, in the order in which they are notified.
-    pub changed: Items<Place>,
+    pub changed: ChangedPlaces,
     /// How many expressions were evaluated for it.
     pub evaluated: usize,
 }
@@ -52,13 +29,13 @@ pub struct Planned {
 impl Planned {
     /// Nothing is to change, and nothing was evaluated for it. This takes no memory.
     pub fn nothing(alloc: Global) -> Planned
-        ensures values { entries_in result.values ≡ [] }
+        ensures values { result.values.entries ≡ [] }
         ensures changed { result.changed ≡ [] }
         ensures evaluated { result.evaluated ≡ 0 }
     {
         Planned {
-            values: Values::Many(IndexMap::new(alloc)),
-            changed: Items::from_vec(Vec::new(alloc)),
+            values: IndexMap::new(alloc),
+            changed: ChangedPlaces::new(alloc),
             evaluated: 0,
         }
     }
@@ -75,7 +52,7 @@ impl Planned {
     pub fn value(&self, place: &Place) -> Option<&Value>
         ensures { WillBe self.now place.now (option_copied result) }
     {
-        self.values.get(place)
+        value_given(&self.values, place)
     }
 }
 
@@ -158,19 +135,7 @@ impl PlannedBind {
 }
 
 /// Gives properties their values. It takes no memory.
-pub fn assign(tree: &mut Tree, values: Values)
-    ensures { tree.new ≡ assigned (entries_in values) tree.old }
-{
-    match values {
-        Values::One(Assignment { place, value }) => {
-            tree.set_value(place.object, place.property, value);
-        }
-        Values::Many(values) => assign_all(tree, values),
-    }
-}
-
-/// Gives these properties their values.
-fn assign_all(tree: &mut Tree, values: IndexMap<(usize, usize), Value>)
+pub fn assign(tree: &mut Tree, values: IndexMap<(usize, usize), Value>)
     ensures { tree.new ≡ ahead values tree.old }
 {
     let mut rest = values.into_iter();

@@ -92,7 +92,7 @@ pub fn fits(meta: &Meta, tree: &Tree, place: &Place, value: &Value) -> bool
     let Some(class) = meta.object(life.class) else {
         return false;
     };
-    match class.properties.get(place.property) {
+    match class.property(place.property) {
         Some(property) => tree.has_type(meta, value, property.kind),
         None => false,
     }

@@ -1,21 +1,23 @@
 //! The installed bindings, without the count of evaluations.
 
-ghost use Rattle.std.specs.Prelude.{◌≡◌, [], IfOk, OnOk, OnErr};
-ghost use Rattle.binding_graph.specs.Bindings.{dropped, lead_out, replaced, without, without_all};
-ghost use Rattle.prop_bindings.specs.Changes.{once, one, places_in};
+ghost use Rattle.std.specs.Prelude.{◌≡◌, [], ◌∷◌, IfOk, IsTrue, OnOk, OnErr};
+ghost use Rattle.object_tree.specs.Objects.{change_life, written};
+ghost use Rattle.binding_graph.specs.Bindings.{binding_at, dropped, lead_out, replaced, without, without_all};
+ghost use Rattle.binding_graph.specs.code.Graph.{Unread};
+ghost use Rattle.prop_bindings.specs.Changes.{AreChanged, once, one, places_in};
 ghost use Rattle.prop_bindings.specs.Fits.{Agree};
 ghost use Rattle.prop_bindings.specs.Plans.{PlansBind, PlansGroup, PlansWrite, after};
 ghost use Rattle.prop_bindings.specs.code.Parts.{MayInstall};
 
 use crate::assignment::Assignment;
 use crate::bindings::Bindings;
+use crate::changed_places::ChangedPlaces;
 use crate::fault::{BindFault, WriteFault};
 use crate::planned::{PlannedBind, PlannedGroup, PlannedWrite};
 use binding_graph::Place;
 use meta_objects::Meta;
 use object_tree::Tree;
 use signatures::{ObjectId, Value};
-use sqlite_items::Items;
 use std::alloc::{AllocError, Global};
 use std::marker::Model;
 
@@ -56,6 +58,27 @@ impl UncountedBindings {
         &self.bindings
     }
 
+    /// Whether it is certain that no binding reads the property, as `Bindings::is_unread` says.
+    #[inline(always)]
+    pub fn is_unread(&self, place: &Place) -> bool
+        ensures { IsTrue result → Unread (binding_at self.now) place.now }
+    {
+        self.bindings.is_unread(place)
+    }
+
+    /// Writes a property alone, as `Bindings::write_alone` does. It takes no memory.
+    #[inline(always)]
+    pub fn write_alone(&mut self, tree: &mut Tree, place: &Place, value: Value) -> ChangedPlaces
+        ensures changed { AreChanged tree.old
+            (change_life place.now.object (written place.now.property value) tree.old)
+            (place.now ∷ []) result }
+        ensures left { self.new ≡ without place.now self.old }
+        ensures objects { tree.new
+            ≡ change_life place.now.object (written place.now.property value) tree.old }
+    {
+        self.bindings.write_alone(tree, place, value)
+    }
+
     /// Plans a write of a property, as `Bindings::plan_write` does.
     pub fn plan_write(
         &self,
@@ -74,7 +97,7 @@ impl UncountedBindings {
     }
 
     /// Carries out a planned write, as `Bindings::carry_out` does. It takes no memory.
-    pub fn carry_out(&mut self, tree: &mut Tree, planned: PlannedWrite) -> Items<Place>
+    pub fn carry_out(&mut self, tree: &mut Tree, planned: PlannedWrite) -> ChangedPlaces
         ensures value { result ≡ planned.planned.changed }
         ensures left { self.new ≡ without planned.target self.old }
         ensures objects { tree.new ≡ after planned.planned tree.old }
@@ -101,7 +124,7 @@ impl UncountedBindings {
     }
 
     /// Carries out a planned group of writes, as `Bindings::carry_out_group` does. It takes no memory.
-    pub fn carry_out_group(&mut self, tree: &mut Tree, planned: PlannedGroup) -> Items<Place>
+    pub fn carry_out_group(&mut self, tree: &mut Tree, planned: PlannedGroup) -> ChangedPlaces
         ensures value { result ≡ planned.planned.changed }
         ensures left { self.new ≡ without_all planned.targets self.old }
         ensures objects { tree.new ≡ after planned.planned tree.old }
@@ -133,7 +156,7 @@ impl UncountedBindings {
         &mut self,
         tree: &mut Tree,
         planned: PlannedBind,
-    ) -> Result<Items<Place>, AllocError>
+    ) -> Result<ChangedPlaces, AllocError>
         requires may { MayInstall self.old planned }
         ensures value { IfOk result (λ changed. changed ≡ planned.planned.changed) }
         ensures installed { OnOk result (self.new ≡ replaced self.old planned.reader) }

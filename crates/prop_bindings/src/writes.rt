@@ -1,18 +1,16 @@
 //! Writes of properties, one or several at once, planned.
 
 ghost use Rattle.std.specs.Prelude.{◌≡◌, ◌↔◌, ◌∷◌, [], IfOk, IsTrue};
-ghost use Rattle.object_tree.specs.Objects.{change_life, written};
 ghost use Rattle.prop_bindings.specs.Values.{values_in};
 ghost use Rattle.prop_bindings.specs.Calls.{AllFit};
-ghost use Rattle.prop_bindings.specs.Changes.{AreChanged, one};
-ghost use Rattle.prop_bindings.specs.Plans.{after};
+ghost use Rattle.prop_bindings.specs.Changes.{one};
 ghost use Rattle.binding_graph.specs.code.Graph.{IsGraph, bindings_of};
 ghost use Rattle.prop_bindings.specs.code.Parts.{AreGiven, HaveAhead, MayGiveSome, MayWriteOne, PlansGiven, PlansOne, ahead};
 
 use crate::ahead::value_ahead;
 use crate::assignment::Assignment;
-use crate::changes::{changed_alone, plan};
-use crate::planned::{Planned, Values};
+use crate::changes::plan;
+use crate::planned::Planned;
 use crate::preparing::{fits, has_value};
 use binding_graph::{Graph, Place, followers};
 use indexmap::IndexMap;
@@ -67,36 +65,9 @@ pub fn plan_one(
     requires may { MayWriteOne tree.now (bindings_of graph.now) place.now value }
     ensures { IfOk result (PlansOne tree.now (bindings_of graph.now) place.now value) }
 {
-    if graph.is_unread(place) {
-        let alone = plan_alone(alloc, tree, place, value)?;
-        return Ok(alone);
-    }
     let values = give_one(alloc, place, value)?;
     let planned = plan_given(alloc, graph, tree, &[*place], values)?;
     Ok(planned)
-}
-
-/// Plans to give a property a value from which nothing follows. Its error is that memory was refused.
-fn plan_alone(
-    alloc: Global,
-    tree: &Tree,
-    place: &Place,
-    value: Value,
-) -> Result<Planned, AllocError>
-    ensures values { IfOk result (λ plan. after plan tree.now
-        ≡ change_life place.now.object (written place.now.property value) tree.now) }
-    ensures changed { IfOk result (λ plan. AreChanged tree.now
-        (change_life place.now.object (written place.now.property value) tree.now) (place.now ∷ [])
-        plan.changed) }
-    ensures evaluated { IfOk result (λ plan. plan.evaluated ≡ 0) }
-{
-    let changed = changed_alone(alloc, place, tree, &value)?;
-    let place = *place;
-    Ok(Planned {
-        values: Values::One(Assignment { place, value }),
-        changed,
-        evaluated: 0,
-    })
 }
 
 /// What these writes give. Its error is that memory was refused.

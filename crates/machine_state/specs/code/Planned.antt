@@ -18,11 +18,16 @@ use Rattle.prop_bindings.specs.Plans.{after}
 use Rattle.trace_entries.specs.declared.entry.Entry.{Entry}
 use Rattle.machine_state.specs.declared.telling.Cause.{Cause}
 use Rattle.machine_state.specs.declared.telling.Cause.TheVariants.{Follow}
-use Rattle.machine_state.specs.Telling.{AreTold, HasValue, IsTold, IsSetTold, others}
+use Rattle.machine_state.specs.Telling.{AreTold, HasValue, IsTold, IsToldWith, IsSetTold, others}
 
 -- these properties have values
 abbrev pub HaveValues : Loaded → List Object → List Place → Type 0
 HaveValues p objects places = AllByRecursion (HasValue p objects) places
+
+-- the property's line with this value, whatever other values properties have then
+abbrev pub WillBeTold : Loaded → List Object → ℕ → Cause → Place → Value → Entry → Type 0
+WillBeTold p objects depth cause at value entry =
+    (new : List Object) → DifferInValues objects new → HasValue p new at → IsToldWith p new depth cause at value entry
 
 -- what is left of properties behind this one, if it stands first
 abbrev pub behind : Place → List Place → List Place

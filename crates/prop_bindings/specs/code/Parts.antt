@@ -81,12 +81,16 @@ pub record MayGive {S : Type 0} (p : Loaded) (objects : List Object) (bs : List 
 abbrev pub MayGiveSome : {S : Type 0} → List Object → List Binding → List Place → IndexMap (ℕ × ℕ) Value S → Type 0
 MayGiveSome objects bs targets values = (p : Loaded) × (writes : List Assignment) × MayGive p objects bs writes targets values
 
--- the plan is of these writes, and what follows from them was evaluated
-pub record PlansThem (p : Loaded) (objects : List Object) (bs : List Binding) (writes : List Assignment) (plan : Planned)
-    : Type 0 where
-  pub written : IsWritten bs (without_all (places_in writes) bs) objects (after plan objects) writes plan.changed
-  pub agree : Agree p (after plan objects) (without_all (places_in writes) bs)
-  pub counted : CountsReached (binding_at (without_all (places_in writes) bs)) (places_in writes) plan.changed plan.evaluated
+-- these writes lead to the new objects, and what follows from them was evaluated
+pub record LeadTo (p : Loaded) (objects : List Object) (bs : List Binding) (writes : List Assignment) (new : List Object)
+    (changed : List Place) (n : ℕ) : Type 0 where
+  pub written : IsWritten bs (without_all (places_in writes) bs) objects new writes changed
+  pub agree : Agree p new (without_all (places_in writes) bs)
+  pub counted : CountsReached (binding_at (without_all (places_in writes) bs)) (places_in writes) changed n
+
+-- the plan is of these writes
+abbrev pub PlansThem : Loaded → List Object → List Binding → List Assignment → Planned → Type 0
+PlansThem p objects bs writes plan = LeadTo p objects bs writes (after plan objects) plan.changed plan.evaluated
 
 -- the plan is of whichever writes give these properties these values
 abbrev pub PlansGiven : {S : Type 0} → List Object → List Binding → List Place → IndexMap (ℕ × ℕ) Value S → Planned → Type 0

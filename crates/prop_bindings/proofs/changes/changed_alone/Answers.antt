@@ -1,4 +1,4 @@
-use Rattle.std.proofs.Common.{◌∙◌, ◌++◌, ◌∷◌, [], List, ap, sym, subst}
+use Rattle.std.proofs.Common.{◌∙◌, ◌∷◌, [], List, sym, subst}
 use Rattle.std.proofs.lemmas.Bool.{false≢true}
 use Rattle.object_tree.specs.Objects.{change_life, written}
 use Rattle.binding_graph.specs.declared.place.Place.{Place}
@@ -9,11 +9,11 @@ use Rattle.prop_bindings.proofs.changes.changed_alone.Goals as goal
 pub returns-then-stays_alone : goal.returns-then-stays_alone
 returns-then-stays_alone c =
     subst (λ (cs : List Place). AreChanged c.args.tree.now (change_life c.args.place.now.object (written c.args.place.now.property c.args.value.now) c.args.tree.now) (c.args.place.now ∷ []) cs)
-    (sym (c.from_vec.ensures ∙ c.new.ensures.items))
+    (sym c.new.ensures)
     (alone-stayed c.args.tree.now c.args.place.now c.args.value.now (c.stays_alone.ensures.0 c.if-stays_alone.true))
 
 pub returns : goal.returns
 returns c =
     subst (λ (cs : List Place). AreChanged c.args.tree.now (change_life c.args.place.now.object (written c.args.place.now.property c.args.value.now) c.args.tree.now) (c.args.place.now ∷ []) cs)
-    (sym (c.from_vec-2.ensures ∙ c.in_ok-push.ensures.items ∙ ap (λ (cs : List Place). cs ++ c.args.place.now ∷ []) c.in_ok-changed.ensures.items))
+    (sym c.one.ensures)
     (alone-changed c.args.tree.now c.args.place.now c.args.value.now (λ same. false≢true (sym c.if-stays_alone.false ∙ c.stays_alone.ensures.1 same)))

@@ -1,4 +1,4 @@
-use Rattle.std.proofs.Common.{◌≡◌, List, length, ap, refl, sym, subst, arith}
+use Rattle.std.proofs.Common.{◌≡◌, List, length, ap, sym, subst, arith}
 use Rattle.object_tree.specs.declared.object.Object.{Object}
 use Rattle.binding_graph.specs.declared.place.Place.{Place}
 use Rattle.binding_graph.specs.declared.binding.Binding.{Binding}
@@ -10,7 +10,7 @@ use Rattle.prop_bindings.specs.Plans.{after}
 use Rattle.binding_graph.specs.code.Graph.{bindings_of}
 use Rattle.binding_graph.specs.code.Orders.{AreBound, pass}
 use Rattle.prop_bindings.specs.code.Parts.{AreSound, ahead}
-use Rattle.prop_bindings.proofs.Calling.{plans-them}
+use Rattle.prop_bindings.proofs.Calling.{lead-to}
 use Rattle.prop_bindings.proofs.Giving.{given-only, given-sound}
 use Rattle.prop_bindings.proofs.Settling.{affected-away, affected-bound}
 use Rattle.prop_bindings.proofs.EachOnce.{once-distinct}
@@ -52,5 +52,5 @@ returns c = λ p writes may.
     let begun = may.given.begun c.args.tree.now in
     let sound = c.in_ok-planned.ensures.sound p (subst (λ (xs : List Object). AreSound p xs bs) (sym begun) (wrote-sound p bs writes c.args.tree.now (agree.typed, agree.fit) may.fits)) in
     let count : plan.evaluated ≡ length fs = omega (arith, c.in_ok-planned.ensures.counted, ap length c.deref.ensures.value) in
-    plans-them p bs c.args.tree.now mid (after plan c.args.tree.now) writes c.args.targets.now fs agree may.fits may.given.each begun c.in_ok-followers.ensures values
-    plan c.in_ok-planned.ensures.objects c.in_ok-planned.ensures.changed sound count refl
+    lead-to p bs c.args.tree.now mid (after plan c.args.tree.now) writes c.args.targets.now fs agree may.fits may.given.each begun c.in_ok-followers.ensures values
+    plan.changed plan.evaluated c.in_ok-planned.ensures.objects c.in_ok-planned.ensures.changed sound count

@@ -1,18 +1,16 @@
-use Rattle.std.proofs.Common.{ℕ, List, ap, ◌∙◌}
-use Rattle.trace_entries.specs.declared.entry.Entry.TheVariants.{At}
-use Rattle.machine_state.specs.Telling.{entry_kind_of}
+use Rattle.std.proofs.lemmas.Result.{IfOk-weaker}
 use Rattle.prop_bindings.specs.Plans.{after}
-use Rattle.machine_state.proofs.Ahead.{told-ahead}
+use Rattle.trace_entries.specs.declared.entry.Entry.{Entry}
+use Rattle.machine_state.specs.Telling.{IsToldWith}
+use Rattle.machine_state.specs.code.Planned.{WillBeTold}
 use Rattle.machine_state.proofs.telling.Telling.line_with.Goals as goal
 
 pub returns : goal.returns
 returns c =
     let self = c.args.self.now in
-    let object = c.in-Some.object.now in
-    let property = c.in-Some-get.property.now in
-    told-ahead self.tree.now (after self.planned.now self.tree.now) c.requires.differ self.meta.now self.depth c.args.cause c.args.place.now object c.in-Some.life.now c.in-Some-object.class.now property c.args.value.now _ c.requires.will_have c.in-Some.ensures.value c.in-Some-object.ensures.value c.in-Some-get.ensures.value
-    (ap (At self.depth) (
-    c.entry_kind-what.ensures
-    ∙ ap (λ (name : List ℕ). entry_kind_of c.args.cause name c.in_ok-copy-2.field-0 c.in_ok-value.value) c.in_ok-copy.ensures
-    ∙ ap (λ (name : List ℕ). entry_kind_of c.args.cause object.name name c.in_ok-value.value) c.in_ok-copy-2.ensures
-    ∙ ap (entry_kind_of c.args.cause object.name property.name) c.in_ok-value.ensures))
+    let new = after self.planned.now self.tree.now in
+    let cause = c.args.cause in
+    let at = c.args.place.now in
+    let v = c.args.value.now in
+    IfOk-weaker c.line_of.result (WillBeTold self.meta.now self.tree.now self.depth cause at v) (IsToldWith self.meta.now new self.depth cause at v)
+    (λ (entry : Entry) told. told new c.requires.differ c.requires.will_have) c.line_of.ensures

@@ -1,14 +1,38 @@
 use Rattle.std.proofs.Common.{◌≡◌, ◌∙◌, ℕ, List, ap, refl, sym, subst}
+use Rattle.std.proofs.lemmas.Bool.{false≢true}
 use Rattle.object_tree.specs.declared.object.Object.{Object}
 use Rattle.binding_graph.specs.declared.place.Place.{Place}
 use Rattle.binding_graph.specs.declared.binding.Binding.{Binding}
 use Rattle.binding_graph.specs.Bindings.{binding_at, without}
+use Rattle.prop_bindings.specs.Calls.{bad_type}
 use Rattle.prop_bindings.specs.Changes.{IsWritten, one}
 use Rattle.prop_bindings.specs.Counts.{CountsWritten}
 use Rattle.prop_bindings.specs.Fits.{Agree}
 use Rattle.prop_bindings.specs.Plans.{after}
+use Rattle.prop_bindings.proofs.Alone.{alone-agrees, alone-counted, alone-written}
 use Rattle.prop_bindings.proofs.Short.{on-err, writes-err}
 use Rattle.prop_bindings.proofs.bindings.Bindings.write.Goals as goal
+
+pub returns-then-not-fits-clause-value : goal.returns-then-not-fits-clause-value
+returns-then-not-fits-clause-value c = bad_type (λ fits. false≢true (sym c.if-not-fits.true ∙ c.fits.ensures.1 fits.0))
+
+pub returns-then-is_unread-clause-value : goal.returns-then-is_unread-clause-value
+returns-then-is_unread-clause-value c =
+    let fits = c.fits.ensures.0 c.if-not-fits.false in (
+      (fits, tt),
+      alone-written c.args.tree.now c.args.place.now c.args.value c.args.meta.now c.args.self.now.installed c.requires.agree fits (c.is_unread.ensures c.if-is_unread.true) c.write_alone.result c.write_alone.ensures.changed
+          c.write_alone.new.self.installed c.write_alone.new.tree c.write_alone.ensures.left c.write_alone.ensures.objects,
+    )
+
+pub returns-then-is_unread-clause-agree : goal.returns-then-is_unread-clause-agree
+returns-then-is_unread-clause-agree c =
+    alone-agrees c.args.tree.now c.args.place.now c.args.value c.args.meta.now c.args.self.now.installed c.requires.agree (c.fits.ensures.0 c.if-not-fits.false) (c.is_unread.ensures c.if-is_unread.true) c.write_alone.result c.write_alone.ensures.changed
+    c.write_alone.new.self.installed c.write_alone.new.tree c.write_alone.ensures.left c.write_alone.ensures.objects
+
+pub returns-then-is_unread-clause-counted : goal.returns-then-is_unread-clause-counted
+returns-then-is_unread-clause-counted c =
+    alone-counted c.args.tree.now c.args.place.now c.args.value c.args.meta.now c.args.self.now.installed c.requires.agree (c.fits.ensures.0 c.if-not-fits.false) (c.is_unread.ensures c.if-is_unread.true) c.write_alone.result c.write_alone.ensures.changed
+    c.write_alone.new.self.installed c.write_alone.new.tree c.write_alone.ensures.left c.write_alone.ensures.objects c.write_alone.new.self.evaluated c.write_alone.ensures.counted
 
 pub returns-in_err-planned-clause-value : goal.returns-in_err-planned-clause-value
 returns-in_err-planned-clause-value c = writes-err c.args.meta.now (one c.args.place.now c.args.value) c.args.self.now.installed _ c.args.tree.now _ _ c.from_residual.result c.from_residual.ensures.1 c.in_err-planned.ensures.value

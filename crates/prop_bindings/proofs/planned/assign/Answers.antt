@@ -3,7 +3,7 @@ use Rattle.signatures.specs.declared.value.Value.{Value}
 use Rattle.object_tree.specs.Objects.{change_life, written}
 use Rattle.prop_bindings.specs.Plans.{assigned}
 use Rattle.prop_bindings.proofs.Assigned.{assigned-last}
-use Rattle.prop_bindings.proofs.planned.assign_all.Goals as goal
+use Rattle.prop_bindings.proofs.planned.assign.Goals as goal
 
 pub loop-key-preserved : goal.loop-key-preserved
 loop-key-preserved c =
