@@ -26,14 +26,14 @@ pub fn member_text(alloc: Global, meta: &Meta, node: Node) -> Result<String, All
         return Ok(String::new(alloc));
     };
     match node.member {
-        Member::Method(method) => match class.methods.get(method) {
+        Member::Method(method) => match class.method(method) {
             Some(found) => {
                 let bytes = found.sig.text(alloc)?;
                 text_of(alloc, bytes.as_slice())
             }
             None => Ok(String::new(alloc)),
         },
-        Member::Property(property) => match class.properties.get(property) {
+        Member::Property(property) => match class.property(property) {
             Some(found) => text_of(alloc, found.name.bytes()),
             None => Ok(String::new(alloc)),
         },

@@ -1,8 +1,10 @@
 -- The first elements of lists.
-use Rattle.std.proofs.Common.{◌≡◌, ℕ, List, slice_get, sym, ap, ◌∙◌, subst}
-use Rattle.std.proofs.lemmas.Option.{same_Some}
-use Rattle.class_outlines.specs.Places.{StandsFirst, Found}
-use Rattle.class_outlines.proofs.Searches.{same_first}
+use Rattle.std.proofs.Common.{◌≡◌, ℕ, ◌<◌, List, ◌++◌, length, slice_get, inl, inr, sym, ap, ◌∙◌, subst, arith}
+use Rattle.std.proofs.lemmas.Option.{same_Some, slice_get_within}
+use Rattle.name_indexes.specs.Places.{StandsAt, StandsFirst, Found}
+use Rattle.name_indexes.proofs.Once.{get_split_at}
+use Rattle.name_indexes.proofs.Searches.{same_first}
+use Rattle.name_indexes.proofs.Zips.{get_front}
 
 module _ {X : Type 0} (P : X → Type 0) (xs : List X) where
   -- the first elements at two places are one
@@ -23,3 +25,19 @@ pub same_in : {O X : Type 0} (list : O → List X) (P : X → Type 0) (o u : O) 
 same_in list P o u e q r h k =
     let same : q ≡ r = same_first P (list o) q r h (subst (λ v. StandsFirst P (list v) r) (sym e) k) in
     (same, same_Some _ _ (sym h.at.is ∙ ap (λ n. slice_get (list o) n) same ∙ ap (λ v. slice_get (list v) r) e ∙ k.at.is))
+
+-- ---- fronts
+-- an element of a front
+in_front : {X : Type 0} (P : X → Type 0) (xs ys : List X) (m k : ℕ) → k < m → m < length xs → StandsAt P (xs ++ ys) k → StandsAt P xs k
+in_front P xs ys m k less inside at =
+    elim (get_split_at xs ys k at.item at.is) [
+      | inl e ↦ record { item = at.item; is = e; has = at.has }
+      | inr r ↦ absurd (omega (arith, r.1))
+    ]
+
+-- the first in a front is the first
+pub first_in_front : {X : Type 0} (P : X → Type 0) (xs ys : List X) (m : ℕ) → StandsFirst P xs m → StandsFirst P (xs ++ ys) m
+first_in_front P xs ys m h = record {
+  at = record { item = h.at.item; is = get_front xs ys m h.at.item h.at.is; has = h.at.has };
+  first = λ k below at. h.first k below (in_front P xs ys m k below (slice_get_within xs m h.at.item h.at.is) at);
+}

@@ -1,12 +1,8 @@
-pub mod Searches
 pub mod Choices
-pub mod Zips
 pub mod Firsts
-pub mod Once
 pub mod OutlineSteps
-pub mod Fronts
 pub mod Outlined
-pub mod Indexing
+pub mod OverBases
 pub mod OneMember
 pub mod Anys
 pub mod Offending
@@ -14,3 +10,8 @@ pub mod OwnPlaces
 pub mod TwinMembers
 pub mod Nexts
 pub mod Loading
+pub use Rattle.name_indexes.proofs.Searches
+pub use Rattle.name_indexes.proofs.Zips
+pub use Rattle.name_indexes.proofs.Once
+pub use Rattle.name_indexes.proofs.Fronts
+pub use Rattle.name_indexes.proofs.Indexing

@@ -1,14 +1,14 @@
 -- The class that is indexed next.
-use Rattle.std.proofs.Common.{◌≡◌, ℕ, List, [], ◌∷◌, ◌++◌, length, take, slice_get, Some, Any, refl, sym, ap, ◌∙◌, subst, arith}
+use Rattle.std.proofs.Common.{◌≡◌, List, [], ◌∷◌, ◌++◌, length, take, slice_get, Some, Any, refl, sym, ◌∙◌, subst, arith}
 use Rattle.std.proofs.lemmas.List.{take-append-le, take_all}
 use Rattle.std.proofs.lemmas.Option.{none-some, same_Some}
 use Rattle.syntax_trees.specs.declared.program.Program.{Program}
 use Rattle.class_outlines.specs.declared.outline.Outline.{Outline}
 use Rattle.class_outlines.specs.Clashes.{HasTwoMembers}
 use Rattle.class_outlines.specs.Outlines.{Outlines}
-use Rattle.class_outlines.specs.Places.{NoneStands}
+use Rattle.name_indexes.specs.Places.{NoneStands}
 use Rattle.class_outlines.specs.code.OwnMembers.{IsNext}
-use Rattle.class_outlines.proofs.Zips.{any_of, place_of_any}
+use Rattle.name_indexes.proofs.Zips.{any_of, place_of_any}
 
 -- what follows a list
 pub get_behind : {X : Type 0} (xs ys : List X) (x : X) → slice_get (xs ++ x ∷ ys) (length xs) ≡ Some x

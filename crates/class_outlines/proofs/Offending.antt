@@ -1,8 +1,8 @@
 -- Offences, the declarations that they are of, and searches for them.
-use Rattle.std.proofs.Common.{◌≡◌, ℕ, zero, suc, ◌+◌, ◌<◌, ◌≤◌, List, [], ◌∷◌, ◌++◌, length, take, get_or, slice_get, Option, Some, None, Any, ◌⊎◌, inl, inr, refl, sym, ap, ◌∙◌, subst, arith}
+use Rattle.std.proofs.Common.{◌≡◌, ℕ, ◌+◌, ◌<◌, ◌≤◌, List, [], ◌∷◌, ◌++◌, length, take, get_or, slice_get, Option, Some, None, Any, ◌⊎◌, inl, inr, refl, sym, ap, ◌∙◌, subst}
 use Rattle.std.specs.List.{AllZip}
 use Rattle.std.proofs.lemmas.List.{take_all}
-use Rattle.std.proofs.lemmas.Option.{slice_get_read, slice_get_within}
+use Rattle.std.proofs.lemmas.Option.{slice_get_read}
 use Rattle.syntax_trees.specs.declared.program.Class.{Class}
 use Rattle.syntax_trees.specs.declared.program.Program.{Program}
 use Rattle.class_outlines.specs.declared.fault.MetaFault.{MetaFault}
@@ -12,9 +12,9 @@ use Rattle.class_outlines.specs.declared.offence.Declaration.TheVariants as decl
 use Rattle.class_outlines.specs.declared.offence.Breach.{Breach}
 use Rattle.class_outlines.specs.declared.offence.Offence.{Offence}
 use Rattle.class_outlines.specs.Offences.{IsMember, IsDeclared, fault_of, offence_of, IsOffence, IsOffenceIn, TellsOffence, TellsOffenceIn, TellsBreach}
-use Rattle.class_outlines.specs.Places.{StandsAt}
-use Rattle.class_outlines.proofs.Searches.{none_more, none_at_all, met}
-use Rattle.class_outlines.proofs.Zips.{any_of, place_of_any, zip_push}
+use Rattle.name_indexes.specs.Places.{StandsAt}
+use Rattle.name_indexes.proofs.Searches.{none_more, none_at_all, met}
+use Rattle.name_indexes.proofs.Zips.{any_of, place_of_any, zip_push}
 
 -- ---- searches in a list, by a slice of it
 module _ {X : Type 0} (P : X → Type 0) (xs ys : List X) (e : ys ≡ xs) where

@@ -4,11 +4,11 @@ use Rattle.std.proofs.lemmas.Option.{none-some, same_Some}
 use Rattle.signatures.specs.declared.sig.Sig.{Sig}
 use Rattle.class_outlines.specs.declared.outline.Heading.{Heading}
 use Rattle.class_outlines.specs.declared.outline.Outline.{Outline}
-use Rattle.class_outlines.specs.Places.{StandsAt, NoneStands, StandsOnlyAt}
+use Rattle.name_indexes.specs.Places.{StandsAt, NoneStands, StandsOnlyAt}
 use Rattle.class_outlines.specs.Clashes.{AreOneCall, HasTwoMembers}
 use Rattle.class_outlines.specs.Indexed.{IsCallOf}
-use Rattle.class_outlines.proofs.Once.{once, get_split_at}
-use Rattle.class_outlines.proofs.Zips.{place_of_any}
+use Rattle.name_indexes.proofs.Once.{once, get_split_at}
+use Rattle.name_indexes.proofs.Zips.{place_of_any}
 
 pub only_call : (o : Outline) → (¬ HasTwoMembers o) → (name : List ℕ) (count m : ℕ) → StandsAt (IsCallOf name count) o.methods m → StandsOnlyAt (IsCallOf name count) o.methods m
 only_call o one name count m here k at =

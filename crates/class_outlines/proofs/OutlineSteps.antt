@@ -6,12 +6,13 @@ use Rattle.syntax_trees.specs.declared.program.Property.{Property}
 use Rattle.syntax_trees.specs.declared.program.Class.{Class}
 use Rattle.class_outlines.specs.declared.outline.Heading.{Heading}
 use Rattle.class_outlines.specs.declared.outline.Outline.{Outline}
-use Rattle.class_outlines.specs.Places.{StandsAt, Found}
+use Rattle.name_indexes.specs.Places.{StandsAt, Found}
 use Rattle.class_outlines.specs.Outlines.{base_name, own_methods, qobject, IsOutline, HasOutline, Outlines}
 use Rattle.class_outlines.specs.Bases.{LacksBase}
-use Rattle.class_outlines.proofs.Fronts.{next_take, last_at, last_of}
-use Rattle.class_outlines.proofs.Once.{get_split_at}
-use Rattle.class_outlines.proofs.Zips.{any_of, place_of_any, get_front}
+use Rattle.name_indexes.proofs.Fronts.{next_take, last_at, last_of}
+pub use Rattle.name_indexes.proofs.Fronts.{drop_at, drop_end}
+use Rattle.name_indexes.proofs.Once.{get_split_at}
+use Rattle.name_indexes.proofs.Zips.{any_of, place_of_any, get_front}
 
 abbrev outline_with : List ℕ → ℕ → List Heading → List Property → Outline
 outline_with n b ms ps = record { name = n; base = Some b; methods = ms; properties = ps }
@@ -33,17 +34,6 @@ names os = map (λ (o : Outline). o.name) os
 names_more : (os : List Outline) (o : Outline) → names (os ++ o ∷ []) ≡ names os ++ o.name ∷ []
 names_more [] o = refl
 names_more (u ∷ os) o = ap (λ ns. u.name ∷ ns) (names_more os o)
-
-pub drop_at : {A : Type 0} (xs : List A) (i : ℕ) (x : A) → slice_get xs i ≡ Some x → drop i xs ≡ x ∷ drop (suc i) xs
-drop_at [] i x e = absurd (none-some x e)
-drop_at (y ∷ xs) zero x e = ap (λ z. z ∷ xs) (same_Some _ _ e)
-drop_at (y ∷ xs) (suc i) x e = drop_at xs i x e
-
-pub drop_end : {A : Type 0} (xs : List A) (i : ℕ) → length xs ≤ i → drop i xs ≡ []
-drop_end [] zero past = refl
-drop_end [] (suc i) past = refl
-drop_end (y ∷ xs) zero past = absurd (omega arith)
-drop_end (y ∷ xs) (suc i) past = drop_end xs i (omega arith)
 
 names_at : (os : List Outline) (k : ℕ) (o : Outline) → slice_get os k ≡ Some o → slice_get (names os) k ≡ Some o.name
 names_at [] k o e = absurd (none-some o e)

@@ -11,9 +11,9 @@ use Rattle.class_outlines.specs.declared.outline.Outline.{Outline}
 use Rattle.class_outlines.specs.declared.outline.Sort.TheVariants as sort
 use Rattle.class_outlines.specs.Outlines.{kinds_of, sig_of, base_name, signal_heading, slot_headings, own_methods, qobject, Outlines}
 use Rattle.class_outlines.specs.Clashes.{DuplicateClass, IsTaken}
-use Rattle.class_outlines.proofs.Fronts.{get_take, inside}
-use Rattle.class_outlines.proofs.Zips.{any_of}
-use Rattle.class_outlines.proofs.Once.{once, get_split_at}
+use Rattle.name_indexes.proofs.Fronts.{get_take, inside}
+use Rattle.name_indexes.proofs.Zips.{any_of}
+use Rattle.name_indexes.proofs.Once.{once, get_split_at}
 
 -- class c is declared
 pub record Declared (classes : List Class) (all : List Outline) (c : ℕ) (o : Outline) : Type 0 where

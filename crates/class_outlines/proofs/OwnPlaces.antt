@@ -1,15 +1,15 @@
 -- The second of two members of a class that are one is declared by the class itself, where each of its base's appears
 -- once.
-use Rattle.std.proofs.Common.{◌≡◌, ℕ, zero, suc, ◌+◌, ◌-◌, ◌<◌, ◌≤◌, List, [], ◌∷◌, ◌++◌, map, length, take, slice_get, Option, Some, Any, ◌⊎◌, inl, inr, refl, sym, ap, ◌∙◌, subst, arith, length-append}
+use Rattle.std.proofs.Common.{◌≡◌, ℕ, zero, suc, ◌+◌, ◌-◌, ◌<◌, ◌≤◌, List, [], ◌∷◌, ◌++◌, map, length, take, slice_get, Some, inl, inr, refl, sym, ap, ◌∙◌, subst, arith, length-append}
 use Rattle.std.specs.Option.{option_and_then}
-use Rattle.std.proofs.lemmas.Bool.{cases_lt}
+use Rattle.std.proofs.lemmas.List.{take_all, take-append-le}
 use Rattle.std.proofs.lemmas.Option.{none-some, same_Some, slice_get_within}
 use Rattle.syntax_trees.specs.declared.program.Property.{Property}
 use Rattle.syntax_trees.specs.declared.program.Signal.{Signal}
 use Rattle.syntax_trees.specs.declared.program.Slot.{Slot}
 use Rattle.syntax_trees.specs.declared.program.Class.{Class}
 use Rattle.syntax_trees.specs.declared.program.Program.{Program}
-use Rattle.class_outlines.specs.declared.call_index.Twins.{Twins}
+use Rattle.name_indexes.specs.declared.twins.Twins.{Twins}
 use Rattle.class_outlines.specs.declared.outline.Heading.{Heading}
 use Rattle.class_outlines.specs.declared.outline.Outline.{Outline}
 use Rattle.class_outlines.specs.declared.offence.Member.{Member}
@@ -17,15 +17,15 @@ use Rattle.class_outlines.specs.declared.offence.Member.TheVariants as member
 use Rattle.class_outlines.specs.declared.offence.Declaration.TheVariants as declaration
 use Rattle.class_outlines.specs.Clashes.{AreOneCall, HasTwoMembers}
 use Rattle.class_outlines.specs.Offences.{IsMember, IsDeclared}
-use Rattle.class_outlines.specs.Outlines.{signal_heading, slot_headings, own_methods, qobject, Outlines}
-use Rattle.class_outlines.specs.Twice.{StandsTwice}
-use Rattle.class_outlines.specs.code.OwnMembers.{IsNext, AreOneProperty, methods_of, properties_of, methods_above, properties_above}
-use Rattle.class_outlines.specs.code.Twins.{AreTwins}
-use Rattle.class_outlines.proofs.Indexing.{twice_at}
-use Rattle.class_outlines.proofs.Once.{get_split_at}
+use Rattle.class_outlines.specs.Outlines.{signal_heading, slot_headings, own_methods, qobject}
+use Rattle.name_indexes.specs.Twice.{StandsTwice}
+use Rattle.class_outlines.specs.code.OwnMembers.{IsNext, IsOverBase, AreOneProperty, methods_of, properties_of, base_methods, base_properties, methods_above, properties_above}
+use Rattle.name_indexes.specs.code.Twins.{AreTwins}
+use Rattle.name_indexes.proofs.Indexing.{twice_at}
+use Rattle.name_indexes.proofs.Once.{get_split_at}
 use Rattle.class_outlines.proofs.Outlined.{Declared, outline_of}
-use Rattle.class_outlines.proofs.Fronts.{take_get}
-use Rattle.class_outlines.proofs.Zips.{any_of}
+use Rattle.name_indexes.proofs.Fronts.{take_get}
+use Rattle.name_indexes.proofs.Zips.{any_of}
 
 -- ---- two that are alike appear twice
 pub twins_twice : {X : Type 0} (alike : X → X → Type 0) (xs : List X) (t : Twins) → AreTwins alike xs t → StandsTwice alike xs
@@ -112,6 +112,9 @@ second_own alike xs ys t are once =
       | inr r ↦ let within = slice_get_within ys r.0 are.y r.2 in (omega (arith, r.1), omega (arith, r.1, within))
     ]
 
+front : {X : Type 0} (xs ys : List X) → take (length xs) (xs ++ ys) ≡ xs
+front xs ys = take-append-le (length xs) xs ys (omega arith) ∙ take_all (length xs) xs (omega arith)
+
 module _ (program : Program) (done : List Outline) (o : Outline) (next : IsNext program done o) where
   -- the base is one of those that are done
   base_at : (d : Declared program.classes next.all (length done) o) → slice_get done d.base_number ≡ Some d.base
@@ -135,7 +138,7 @@ module _ (program : Program) (done : List Outline) (o : Outline) (next : IsNext 
         | inr d ↦
             let twins = subst (λ (ms : List Heading). AreTwins AreOneCall ms t) (ap (λ (u : Outline). u.methods) d.shape) are in
             let own = second_own AreOneCall d.base.methods (own_methods d.i d.class) t twins (λ two. base_once d (inl two)) in
-            let above : methods_above done o.base ≡ length d.base.methods = ap methods_of (based d) in
+            let above : methods_above done o.base ≡ length d.base.methods = ap length (ap methods_of (based d)) in
             let signals = signals_counted d.class.signals in
             let slots = slots_counted d.i 0 d.class.slots in
             let total = length-append (map signal_heading d.class.signals) (slot_headings d.i 0 d.class.slots) in
@@ -155,7 +158,33 @@ module _ (program : Program) (done : List Outline) (o : Outline) (next : IsNext 
         | inr d ↦
             let twins = subst (λ (ps : List Property). AreTwins AreOneProperty ps t) (ap (λ (u : Outline). u.properties) d.shape) are in
             let own = second_own AreOneProperty d.base.properties d.class.properties t twins (λ two. base_once d (inr two)) in
-            let above : properties_above done o.base ≡ length d.base.properties = ap properties_of (based d) in
+            let above : properties_above done o.base ≡ length d.base.properties = ap length (ap properties_of (based d)) in
             let number : d.i ≡ n = omega (arith, d.number, en) in
             record { item = d.class; is = subst (λ (x : ℕ). slice_get program.classes x ≡ Some d.class) number d.is; has = omega (arith, ek, above, own.1) }
+      ]
+
+  -- its base's members come first, and each of them appears once
+  pub over_base : IsOverBase done o
+  over_base =
+      elim (outline_of program.classes next.all next.outlined (length done) o next.is) [
+        | inl z ↦
+            subst (λ (u : Outline). IsOverBase done u) (sym z.1)
+            (record { methods = refl; properties = refl; methods_once = λ two. two; properties_once = λ two. two })
+        | inr d ↦
+            let methods : base_methods done o.base ≡ d.base.methods = ap methods_of (based d) in
+            let properties : base_properties done o.base ≡ d.base.properties = ap properties_of (based d) in
+            record {
+              methods =
+                  ap (λ (ms : List Heading). take (length ms) o.methods) methods
+                  ∙ ap (λ (u : Outline). take (length d.base.methods) u.methods) d.shape
+                  ∙ front d.base.methods (own_methods d.i d.class)
+                  ∙ sym methods;
+              properties =
+                  ap (λ (ps : List Property). take (length ps) o.properties) properties
+                  ∙ ap (λ (u : Outline). take (length d.base.properties) u.properties) d.shape
+                  ∙ front d.base.properties d.class.properties
+                  ∙ sym properties;
+              methods_once = λ two. base_once d (inl (subst (λ (ms : List Heading). StandsTwice AreOneCall ms) methods two));
+              properties_once = λ two. base_once d (inr (subst (λ (ps : List Property). StandsTwice AreOneProperty ps) properties two));
+            }
       ]

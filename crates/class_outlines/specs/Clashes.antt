@@ -5,7 +5,7 @@ use Rattle.syntax_trees.specs.declared.program.Class.{Class}
 use Rattle.syntax_trees.specs.declared.program.Program.{Program}
 use Rattle.class_outlines.specs.declared.outline.Heading.{Heading}
 use Rattle.class_outlines.specs.declared.outline.Outline.{Outline}
-use Rattle.class_outlines.specs.Twice.{StandsTwice}
+use Rattle.name_indexes.specs.Twice.{StandsTwice}
 
 -- ---- names of classes
 -- no class may have this name

@@ -5,7 +5,7 @@ use Rattle.syntax_trees.specs.declared.program.Program.{Program}
 use Rattle.class_outlines.specs.declared.fault.MetaFault.TheVariants as fault
 use Rattle.class_outlines.specs.declared.outline.Heading.{Heading}
 use Rattle.class_outlines.specs.declared.outline.Outline.{Outline}
-use Rattle.class_outlines.specs.CallPlaces.{Index, IndexesCalls}
+use Rattle.name_indexes.specs.CallPlaces.{Layers, IndexesCalls}
 use Rattle.class_outlines.specs.Clashes.{HasTwoMembers}
 use Rattle.class_outlines.specs.declared.offence.LoadFault.{LoadFault}
 use Rattle.class_outlines.specs.Offences.{LoadsOf}
@@ -18,15 +18,15 @@ IsCallOf name count h = (h.sig.name ≡ name) × (length h.sig.types ≡ count)
 abbrev pub IsPropertyOfName : List ℕ → Property → Type 0
 IsPropertyOfName name property = property.name ≡ name
 
-abbrev pub IndexesHeadings : List Heading → List Index → Type 0
-IndexesHeadings methods indexes = IndexesCalls (λ (h : Heading). h.sig.name) (λ (h : Heading). length h.sig.types) methods indexes
+abbrev pub IndexesHeadings : List Heading → Layers → Type 0
+IndexesHeadings methods layers = IndexesCalls (λ (h : Heading). h.sig.name) (λ (h : Heading). length h.sig.types) methods layers
 
 -- properties have no parameters
-abbrev pub IndexesDeclared : List Property → List Index → Type 0
-IndexesDeclared properties indexes = IndexesCalls (λ (p : Property). p.name) (λ (p : Property). 0) properties indexes
+abbrev pub IndexesDeclared : List Property → Layers → Type 0
+IndexesDeclared properties layers = IndexesCalls (λ (p : Property). p.name) (λ (p : Property). 0) properties layers
 
 -- the indexes of a class's members, each of which appears once
-pub record IndexesOutline (outline : Outline) (methods properties : List Index) : Type 0 where
+pub record IndexesOutline (outline : Outline) (methods properties : Layers) : Type 0 where
   pub methods_by : IndexesHeadings outline.methods methods
   pub properties_by : IndexesDeclared outline.properties properties
   pub once : ¬ HasTwoMembers outline

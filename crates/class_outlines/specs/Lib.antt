@@ -1,8 +1,4 @@
-pub mod NamePlaces
-pub mod Places
 pub mod LookUps
-pub mod CallPlaces
-pub mod Twice
 pub mod Outlines
 pub mod Ends
 pub mod Clashes
@@ -12,5 +8,9 @@ pub mod Indexed
 pub mod FaultNumbers
 pub mod Offences
 pub mod code
+pub use Rattle.name_indexes.specs.NamePlaces
+pub use Rattle.name_indexes.specs.Places
+pub use Rattle.name_indexes.specs.CallPlaces
+pub use Rattle.name_indexes.specs.Twice
 pub use Rattle.signatures.specs.Name
 pub use Rattle.signatures.specs.Types

@@ -6,7 +6,7 @@ use Rattle.class_outlines.specs.declared.outline.Heading.{Heading}
 use Rattle.class_outlines.specs.declared.outline.Outline.{Outline}
 use Rattle.class_outlines.specs.declared.outline.Sort.TheVariants as sort
 use Rattle.class_outlines.specs.declared.qobject.TheConstants.{DELETE_LATER}
-use Rattle.class_outlines.specs.Places.{StandsFirst}
+use Rattle.name_indexes.specs.Places.{StandsFirst}
 
 abbrev pub IsSignalOf : Sig → Heading → Type 0
 IsSignalOf sig h = (h.sig ≡ sig) × (h.sort ≡ sort.Signal)

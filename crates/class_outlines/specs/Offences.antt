@@ -16,7 +16,7 @@ use Rattle.class_outlines.specs.declared.offence.PartFault.{PartFault}
 use Rattle.class_outlines.specs.declared.offence.PartFault.TheVariants as part
 use Rattle.class_outlines.specs.declared.offence.LoadFault.{LoadFault}
 use Rattle.class_outlines.specs.declared.offence.LoadFault.TheVariants as load
-use Rattle.class_outlines.specs.Places.{StandsAt}
+use Rattle.name_indexes.specs.Places.{StandsAt}
 
 -- ---- declarations
 -- the class declares the member

@@ -18,7 +18,7 @@ use Rattle.class_outlines.specs.declared.outline.Outline.{Outline}
 use Rattle.class_outlines.specs.declared.offence.PartFault.{PartFault}
 use Rattle.class_outlines.specs.declared.fault.MetaFault.TheVariants as fault
 use Rattle.class_outlines.specs.Offences.{LoadsPart}
-use Rattle.class_outlines.specs.Places.{StandsFirst, NoneStands, IsFirst}
+use Rattle.name_indexes.specs.Places.{StandsFirst, NoneStands, IsFirst}
 
 -- a signature, by its parts
 abbrev pub sig_of : List ℕ → List QType → Sig

@@ -1,34 +1,36 @@
-ghost use Rattle.std.specs.Prelude.{◌≡◌, ◌↔◌, IsTrue, Any};
+ghost use Rattle.std.specs.Prelude.{◌≡◌, ◌↔◌, IsTrue, IfOk, Any};
 ghost use Rattle.class_outlines.specs.Notifiers.{IsSignalOf};
 ghost use Rattle.class_outlines.specs.Clashes.{HasTwoMembers};
 ghost use Rattle.class_outlines.specs.Ends.{IsSigned};
 ghost use Rattle.class_outlines.specs.Indexed.{IsCallOf, IsPropertyOfName, IsIndexed, IndexesOutlines};
+ghost use Rattle.class_outlines.specs.Indexed.{IndexesHeadings, IndexesDeclared};
 ghost use Rattle.class_outlines.specs.Offences.{LoadsOf};
 ghost use Rattle.class_outlines.specs.Outlines.{Outlines};
-ghost use Rattle.class_outlines.specs.Places.{IsPlace, IsFirst, IsAlone};
+ghost use Rattle.name_indexes.specs.Places.{IsPlace, IsFirst, IsAlone};
 ghost use Rattle.class_outlines.specs.code.NearMembers.{IsNear, IsNearOf, IsNamesake};
-ghost use Rattle.class_outlines.specs.code.OwnMembers.{IsNext};
+ghost use Rattle.class_outlines.specs.code.OwnMembers.{IsNext, IsOverBase};
 ghost use Rattle.class_outlines.specs.declared.fault.MetaFault.TheVariants as fault;
 
-use crate::call_index::{find_call, index_calls};
-use crate::name_index::NameIndex;
+use crate::bases::base_of;
 use crate::offence::LoadFault;
 use crate::outline::{Heading, Outline};
 use crate::qobject::OBJECT_NAME_CHANGED;
 use crate::reason::Near;
 use crate::twin_members::{find_twin_members, twin_offence};
+use name_indexes::{CallIndex, index_all, index_calls};
+use shared_values::Shared;
 use signatures::{Name, Sig};
 use sqlite_items::Items;
-use std::alloc::Global;
+use std::alloc::{AllocError, Global};
 use std::marker::Model;
 use syntax_trees::{Program, Property};
 
 /// A class with its whole lists of members, each of which appears once. They are found by name, methods also by their
-/// number of parameters, in time that doesn't grow with their number.
+/// number of parameters, in time that doesn't grow with their number. Members that it inherits are shared with its base.
 pub struct IndexedOutline {
     outline: Outline,
-    methods: Items<NameIndex>,
-    properties: Items<NameIndex>,
+    methods: CallIndex,
+    properties: CallIndex,
 }
 
 impl Drop for IndexedOutline {
@@ -68,17 +70,31 @@ impl IndexedOutline {
     }
 
     /// The base's methods, then its own signals, then its own slots and natives.
-    pub fn methods(&self) -> &[Heading]
+    pub fn methods(&self) -> &[Shared<Heading>]
         ensures { result.now ≡ self.now.methods }
     {
         self.outline.methods.as_slice()
     }
 
     /// The base's properties, then its own.
-    pub fn properties(&self) -> &[Property]
+    pub fn properties(&self) -> &[Shared<Property>]
         ensures { result.now ≡ self.now.properties }
     {
         self.outline.properties.as_slice()
+    }
+
+    /// The index of its methods.
+    pub fn method_index(&self) -> &CallIndex
+        ensures { IndexesHeadings self.now.methods result.now }
+    {
+        &self.methods
+    }
+
+    /// The index of its properties, which have no parameters.
+    pub fn property_index(&self) -> &CallIndex
+        ensures { IndexesDeclared self.now.properties result.now }
+    {
+        &self.properties
     }
 
     /// The method of this name and with so many parameters, with its place.
@@ -86,8 +102,9 @@ impl IndexedOutline {
         ensures value { IsFirst (IsCallOf name.now count) self.now.methods result }
         ensures only { IsAlone (IsCallOf name.now count) self.now.methods result }
     {
-        let place = find_call(self.methods.as_slice(), name, count)?;
-        let method = self.outline.methods.get(place)?;
+        let place = self.methods.find(name, count)?;
+        let shared = self.outline.methods.get(place)?;
+        let method = shared.get();
         Some((place, method))
     }
 
@@ -95,8 +112,9 @@ impl IndexedOutline {
     pub fn find_property(&self, name: &Name) -> Option<(usize, &Property)>
         ensures { IsFirst (IsPropertyOfName name.now) self.now.properties result }
     {
-        let place = find_call(self.properties.as_slice(), name, 0)?;
-        let property = self.outline.properties.get(place)?;
+        let place = self.properties.find(name, 0)?;
+        let shared = self.outline.properties.get(place)?;
+        let property = shared.get();
         Some((place, property))
     }
 
@@ -169,7 +187,7 @@ fn near_of(number: usize, method: &Heading) -> Near
 }
 
 /// Whether there is a method of this name at all, where none is the one that is looked for.
-fn near_name(methods: &[Heading], name: &Name) -> Near
+fn near_name(methods: &[Shared<Heading>], name: &Name) -> Near
     ensures { IsNamesake methods.now name.now result }
 {
     if has_named(methods, name) {
@@ -180,10 +198,12 @@ fn near_name(methods: &[Heading], name: &Name) -> Near
 }
 
 /// Whether one of the methods has this name.
-fn has_named(methods: &[Heading], name: &Name) -> bool
+fn has_named(methods: &[Shared<Heading>], name: &Name) -> bool
     ensures { IsTrue result ↔ Any (λ h. h.sig.name ≡ name.now) methods.now }
 {
-    methods.iter().any(|method| method.sig.name.is_same(name))
+    methods
+        .iter()
+        .any(|method| method.get().sig.name.is_same(name))
 }
 
 /// The classes with indexes of their members; or the first class of which a member appears twice.
@@ -213,9 +233,9 @@ fn index_outline(
     requires { IsNext program.now before.now outline }
     ensures { LoadsOf program.now fault.DuplicateMember (HasTwoMembers outline) (IsIndexed outline) result }
 {
-    let methods = index_calls(alloc, outline.methods.as_slice())?;
-    let properties = index_calls(alloc, outline.properties.as_slice())?;
-    if let Some(twins) = find_twin_members(&outline, methods.as_slice(), properties.as_slice()) {
+    let methods = index_methods(alloc, before, &outline)?;
+    let properties = index_properties(alloc, before, &outline)?;
+    if let Some(twins) = find_twin_members(before, &outline, &methods, &properties) {
         let offence = twin_offence(program, before, &outline, twins);
         return Err(LoadFault::Offence(offence));
     }
@@ -224,4 +244,41 @@ fn index_outline(
         methods,
         properties,
     })
+}
+
+/// The index of the methods of the class that comes next behind these, over its base's.
+fn index_methods(
+    alloc: Global,
+    before: &[IndexedOutline],
+    outline: &Outline,
+) -> Result<CallIndex, AllocError>
+    requires { IsOverBase before.now outline.now }
+    ensures { IfOk result (IndexesHeadings outline.now.methods) }
+{
+    let methods = outline.methods.as_slice();
+    match base_of(before, outline.base) {
+        Some(base) => index_calls(alloc, base.method_index(), base.methods().len(), methods),
+        None => index_all(alloc, methods),
+    }
+}
+
+/// The index of the properties of the class that comes next behind these, over its base's.
+fn index_properties(
+    alloc: Global,
+    before: &[IndexedOutline],
+    outline: &Outline,
+) -> Result<CallIndex, AllocError>
+    requires { IsOverBase before.now outline.now }
+    ensures { IfOk result (IndexesDeclared outline.now.properties) }
+{
+    let properties = outline.properties.as_slice();
+    match base_of(before, outline.base) {
+        Some(base) => index_calls(
+            alloc,
+            base.property_index(),
+            base.properties().len(),
+            properties,
+        ),
+        None => index_all(alloc, properties),
+    }
 }

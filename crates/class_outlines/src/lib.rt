@@ -2,10 +2,9 @@
 //! and found by name; and the offences for which a program is refused.
 #![tactic(auto)]
 
-mod call_index;
+mod bases;
 mod fault;
 mod indexed;
-mod name_index;
 mod names;
 mod offence;
 mod outline;
@@ -15,10 +14,9 @@ mod qobject;
 mod reason;
 mod twin_members;
 
-pub use call_index::{Called, find_call, index_calls};
 pub use fault::MetaFault;
 pub use indexed::{IndexedOutline, index_outlines};
-pub use name_index::NameIndex;
+pub use name_indexes::{CallIndex, NameIndex};
 pub use names::{
     names_before_expression, names_before_parameter, names_before_work, names_of_parameters,
     names_of_sig,

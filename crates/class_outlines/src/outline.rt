@@ -1,8 +1,12 @@
-ghost use Rattle.std.specs.Prelude.{◌≡◌, ◌↔◌, IsTrue};
+ghost use Rattle.std.specs.Prelude.{◌≡◌, ◌↔◌, length, IsTrue, IfOk};
+ghost use Rattle.class_outlines.specs.Outlines.{heading};
 ghost use Rattle.class_outlines.specs.declared.outline.Sort.TheVariants.{Signal};
 
+use name_indexes::Called;
+use shared_values::Shared;
 use signatures::{Name, Sig};
 use sqlite_items::Items;
+use std::alloc::{AllocError, Global};
 use syntax_trees::Property;
 
 /// Where a method's work is in the program.
@@ -32,11 +36,32 @@ impl Drop for Heading {
 }
 
 impl Heading {
+    /// A method with this signature, whose work stands there. The error is that memory was refused.
+    pub fn shared(alloc: Global, sig: Sig, sort: Sort) -> Result<Shared<Heading>, AllocError>
+        ensures { IfOk result (λ method. method ≡ heading sig sort) }
+    {
+        Shared::new(alloc, Heading { sig, sort })
+    }
+
     /// Whether it is a signal's.
     pub fn is_signal(&self) -> bool
         ensures { IsTrue result ↔ (self.now.sort ≡ Signal) }
     {
         matches!(self.sort, Sort::Signal)
+    }
+}
+
+impl Called for Heading {
+    ghost name_of = { λ heading. heading.sig.name };
+
+    ghost count_of = { λ heading. length heading.sig.types };
+
+    fn called(&self) -> &Name {
+        &self.sig.name
+    }
+
+    fn count(&self) -> usize {
+        self.sig.types.len()
     }
 }
 
@@ -47,10 +72,10 @@ pub struct Outline {
     pub name: Name,
     /// The number of its base; only `QObject`, which has the number 0, has none.
     pub base: Option<usize>,
-    /// The base's methods, then its own signals, then its own slots and natives.
-    pub methods: Items<Heading>,
-    /// The base's properties, then its own.
-    pub properties: Items<Property>,
+    /// The base's methods, which it shares, then its own signals, then its own slots and natives.
+    pub methods: Items<Shared<Heading>>,
+    /// The base's properties, which it shares, then its own.
+    pub properties: Items<Shared<Property>>,
 }
 
 impl Drop for Outline {

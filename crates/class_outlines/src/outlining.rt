@@ -12,6 +12,7 @@ use crate::outline::{Heading, Outline, Sort};
 use crate::places::find;
 use crate::qobject::qobject;
 use crate::reason::{BasePlace, Reason};
+use shared_values::{Shared, copy_all};
 use signatures::{Name, QType, Sig};
 use sqlite_items::Items;
 use std::alloc::{AllocError, Global};
@@ -60,12 +61,8 @@ fn outline_class(
         return Err(PartFault::Breach(missing_base(classes, class)));
     };
     let name = class.name.copy()?;
-    let mut methods = copy_headings(alloc, above.methods.as_slice())?;
-    let own = own_headings(alloc, number, class)?;
-    methods.append(own)?;
-    let mut properties = copy_properties(alloc, above.properties.as_slice())?;
-    let own_properties = copy_properties(alloc, class.properties.as_slice())?;
-    properties.append(own_properties)?;
+    let methods = all_methods(alloc, above, number, class)?;
+    let properties = all_properties(alloc, above, class)?;
     Ok(Outline {
         name,
         base: Some(base),
@@ -113,23 +110,41 @@ fn find_base<'a>(
     }
 }
 
-/// The same methods, which share their names.
-fn copy_headings(alloc: Global, headings: &[Heading]) -> Result<Items<Heading>, AllocError>
-    ensures { IfOk result (λ copy. copy ≡ headings.now) }
+/// The base's methods, which both share, then those of the class of this number among the program's.
+fn all_methods(
+    alloc: Global,
+    above: &Outline,
+    number: usize,
+    class: &Class,
+) -> Result<Items<Shared<Heading>>, AllocError>
+    ensures { IfOk result (λ methods. methods ≡ above.now.methods ++ own_methods number class.now) }
 {
-    let mut copy = Items::new(alloc);
-    for heading in headings {
-        let sig = heading.sig.copy(alloc)?;
-        copy.push(Heading {
-            sig,
-            sort: heading.sort,
-        })?;
-    }
-    Ok(copy)
+    let own = own_headings(alloc, number, class)?;
+    let mut methods = copy_all(alloc, above.methods.as_slice(), own.len())?;
+    methods.append(own)?;
+    Ok(methods)
+}
+
+/// The base's properties, which both share, then the class's own.
+fn all_properties(
+    alloc: Global,
+    above: &Outline,
+    class: &Class,
+) -> Result<Items<Shared<Property>>, AllocError>
+    ensures { IfOk result (λ properties. properties ≡ above.now.properties ++ class.now.properties) }
+{
+    let own = own_properties(alloc, class.properties.as_slice())?;
+    let mut properties = copy_all(alloc, above.properties.as_slice(), own.len())?;
+    properties.append(own)?;
+    Ok(properties)
 }
 
 /// The class's signals, then its slots and natives.
-fn own_headings(alloc: Global, number: usize, class: &Class) -> Result<Items<Heading>, AllocError>
+fn own_headings(
+    alloc: Global,
+    number: usize,
+    class: &Class,
+) -> Result<Items<Shared<Heading>>, AllocError>
     ensures { IfOk result (λ headings. headings ≡ own_methods number class.now) }
 {
     let mut headings = signal_headings(alloc, class.signals.as_slice())?;
@@ -139,31 +154,31 @@ fn own_headings(alloc: Global, number: usize, class: &Class) -> Result<Items<Hea
 }
 
 /// The signals, as declared.
-fn signal_headings(alloc: Global, signals: &[Signal]) -> Result<Items<Heading>, AllocError>
+fn signal_headings(alloc: Global, signals: &[Signal]) -> Result<Items<Shared<Heading>>, AllocError>
     ensures { IfOk result (λ headings. headings ≡ map signal_heading signals.now) }
 {
     let mut headings = Items::new(alloc);
     for signal in signals {
         let sig = declared_sig(alloc, &signal.name, signal.parameters.as_slice())?;
-        headings.push(Heading {
-            sig,
-            sort: Sort::Signal,
-        })?;
+        let heading = Heading::shared(alloc, sig, Sort::Signal)?;
+        headings.push(heading)?;
     }
     Ok(headings)
 }
 
 /// The slots and natives, as declared, of the class of this number among the program's.
-fn slot_headings(alloc: Global, number: usize, slots: &[Slot]) -> Result<Items<Heading>, AllocError>
+fn slot_headings(
+    alloc: Global,
+    number: usize,
+    slots: &[Slot],
+) -> Result<Items<Shared<Heading>>, AllocError>
     ensures { IfOk result (λ headings. headings ≡ slot_headings number 0 slots.now) }
 {
     let mut headings = Items::new(alloc);
     for (place, slot) in slots.iter().enumerate() {
         let sig = declared_sig(alloc, &slot.name, slot.parameters.as_slice())?;
-        headings.push(Heading {
-            sig,
-            sort: Sort::Slot(number, place),
-        })?;
+        let heading = Heading::shared(alloc, sig, Sort::Slot(number, place))?;
+        headings.push(heading)?;
     }
     Ok(headings)
 }
@@ -181,16 +196,20 @@ fn declared_sig(alloc: Global, name: &Name, parameters: &[Parameter]) -> Result<
     Ok(Sig { name, types })
 }
 
-/// The same properties, which share their names.
-fn copy_properties(alloc: Global, properties: &[Property]) -> Result<Items<Property>, AllocError>
-    ensures { IfOk result (λ copy. copy ≡ properties.now) }
+/// The properties, as declared.
+fn own_properties(
+    alloc: Global,
+    properties: &[Property],
+) -> Result<Items<Shared<Property>>, AllocError>
+    ensures { IfOk result (λ own. own ≡ properties.now) }
 {
-    let mut copy = Items::new(alloc);
+    let mut own = Items::new(alloc);
     for property in properties {
         let property = copy_property(alloc, property)?;
-        copy.push(property)?;
+        let property = Shared::new(alloc, property)?;
+        own.push(property)?;
     }
-    Ok(copy)
+    Ok(own)
 }
 
 /// The same property, which shares its names.

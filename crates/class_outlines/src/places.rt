@@ -1,7 +1,7 @@
 //! The places of classes and members in their lists.
 
 ghost use Rattle.std.specs.Prelude.{◌≡◌, ◌↔◌, ℕ, List, IsTrue, Some};
-ghost use Rattle.class_outlines.specs.Places.{IsPlace, IsFirst};
+ghost use Rattle.name_indexes.specs.Places.{IsPlace, IsFirst};
 
 use crate::indexed::IndexedOutline;
 use crate::outline::Outline;

@@ -1,13 +1,13 @@
 //! The class `QObject`, the base of all others.
 
-ghost use Rattle.std.specs.Prelude.{◌≡◌, false, [], ◌∷◌, IfOk, codes};
+ghost use Rattle.std.specs.Prelude.{◌≡◌, false, [], ◌∷◌, ◌++◌, IfOk, OnOk, codes};
 ghost use Rattle.signatures.specs.Name.{IsName};
 ghost use Rattle.signatures.specs.Normal.{pointer_type};
 ghost use Rattle.signatures.specs.Types.{value_type};
 ghost use Rattle.class_outlines.specs.Outlines.{qobject, sig_of, heading, name_changed, object_name};
-ghost use Rattle.class_outlines.specs.declared.outline.Sort.TheVariants.{Signal};
 
 use crate::outline::{Heading, Outline, Sort};
+use shared_values::Shared;
 use signatures::{Name, QType, Sig};
 use sqlite_items::Items;
 use std::alloc::{AllocError, Global};
@@ -36,22 +36,8 @@ pub fn qobject(alloc: Global) -> Result<Outline, AllocError>
     ensures { IfOk result (λ outline. outline ≡ qobject) }
 {
     let name = Name::new(alloc, b"QObject")?;
-    let mut methods = Items::new(alloc);
-    let object = reference_to(&name)?;
-    let destroyed = sig_of_one(alloc, b"destroyed", object)?;
-    methods.push(signal(destroyed))?;
-    let destroyed_alone = sig_of_none(alloc, b"destroyed")?;
-    methods.push(signal(destroyed_alone))?;
-    let name_changed = name_changed(alloc)?;
-    methods.push(signal(name_changed))?;
-    let delete_later = sig_of_none(alloc, b"deleteLater")?;
-    methods.push(Heading {
-        sig: delete_later,
-        sort: Sort::DeleteLater,
-    })?;
-    let mut properties = Items::new(alloc);
-    let object_name = object_name(alloc)?;
-    properties.push(object_name)?;
+    let methods = root_methods(alloc, &name)?;
+    let properties = root_properties(alloc)?;
     Ok(Outline {
         name,
         base: None,
@@ -60,14 +46,47 @@ pub fn qobject(alloc: Global) -> Result<Outline, AllocError>
     })
 }
 
-/// A signal.
-fn signal(sig: Sig) -> Heading
-    ensures { result ≡ heading sig Signal }
+/// The methods of `QObject`, which has this name.
+fn root_methods(alloc: Global, root: &Name) -> Result<Items<Shared<Heading>>, AllocError>
+    requires { root.now ≡ codes "QObject" }
+    ensures { IfOk result (λ methods. methods ≡ qobject.methods) }
 {
-    Heading {
-        sig,
-        sort: Sort::Signal,
-    }
+    let mut methods = Items::new(alloc);
+    let object = reference_to(root)?;
+    let destroyed = sig_of_one(alloc, b"destroyed", object)?;
+    add(alloc, &mut methods, destroyed, Sort::Signal)?;
+    let destroyed_alone = sig_of_none(alloc, b"destroyed")?;
+    add(alloc, &mut methods, destroyed_alone, Sort::Signal)?;
+    let name_changed = name_changed(alloc)?;
+    add(alloc, &mut methods, name_changed, Sort::Signal)?;
+    let delete_later = sig_of_none(alloc, b"deleteLater")?;
+    add(alloc, &mut methods, delete_later, Sort::DeleteLater)?;
+    Ok(methods)
+}
+
+/// Puts a method with this signature after the others. The error is that memory was refused.
+fn add(
+    alloc: Global,
+    methods: &mut Items<Shared<Heading>>,
+    sig: Sig,
+    sort: Sort,
+) -> Result<(), AllocError>
+    ensures { OnOk result (methods.new ≡ methods.old ++ heading sig sort ∷ []) }
+{
+    let method = Heading::shared(alloc, sig, sort)?;
+    methods.push(method)?;
+    Ok(())
+}
+
+/// The properties of `QObject`.
+fn root_properties(alloc: Global) -> Result<Items<Shared<Property>>, AllocError>
+    ensures { IfOk result (λ properties. properties ≡ object_name ∷ []) }
+{
+    let object_name = object_name(alloc)?;
+    let shared = Shared::new(alloc, object_name)?;
+    let mut properties = Items::new(alloc);
+    properties.push(shared)?;
+    Ok(properties)
 }
 
 /// The signature of this name without parameters.

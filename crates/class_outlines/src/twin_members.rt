@@ -3,19 +3,18 @@
 ghost use Rattle.std.specs.Prelude.{◌≡◌, ◌+◌, ◌<◌, length, Some, slice_get};
 ghost use Rattle.class_outlines.specs.Indexed.{IndexesHeadings, IndexesDeclared};
 ghost use Rattle.class_outlines.specs.Offences.{IsMember, IsOffence};
-ghost use Rattle.class_outlines.specs.code.OwnMembers.{IsNext, AreTwinMembers, FindsTwinMembers};
-ghost use Rattle.class_outlines.specs.code.OwnMembers.{methods_above, properties_above};
+ghost use Rattle.class_outlines.specs.code.OwnMembers.{IsNext, IsOverBase, AreTwinMembers, FindsTwinMembers};
 ghost use Rattle.class_outlines.specs.declared.fault.MetaFault.TheVariants as fault;
 ghost use Rattle.class_outlines.specs.declared.offence.Declaration.TheVariants as declaration;
 ghost use Rattle.class_outlines.specs.declared.reason.Reason.TheVariants as reason;
 ghost use Rattle.syntax_trees.specs.declared.program.Class.{Class};
 
-use crate::call_index::{Twins, find_twins};
+use crate::bases::{inherited_methods, inherited_properties};
 use crate::indexed::IndexedOutline;
-use crate::name_index::NameIndex;
 use crate::offence::{Declaration, Member, Offence};
 use crate::outline::Outline;
 use crate::reason::{Reason, Repeated};
+use name_indexes::{CallIndex, Twins, find_twins};
 use syntax_trees::Program;
 
 /// Two members of a class that are one, by their places among its members of that sort.
@@ -27,20 +26,24 @@ pub enum TwinMembers {
     Properties(Twins),
 }
 
-/// Two methods or two properties of the class that are one, by indexes of them.
+/// Two methods or two properties of the class behind these that are one, by indexes of them.
 pub fn find_twin_members(
+    before: &[IndexedOutline],
     outline: &Outline,
-    methods: &[NameIndex],
-    properties: &[NameIndex],
+    methods: &CallIndex,
+    properties: &CallIndex,
 ) -> Option<TwinMembers>
+    requires over { IsOverBase before.now outline.now }
     requires methods_by { IndexesHeadings outline.now.methods methods.now }
     requires properties_by { IndexesDeclared outline.now.properties properties.now }
     ensures { FindsTwinMembers outline.now result }
 {
-    if let Some(twins) = find_twins(methods, outline.methods.as_slice()) {
+    let inherited = inherited_methods(before, outline.base);
+    if let Some(twins) = find_twins(methods, inherited, outline.methods.as_slice()) {
         return Some(TwinMembers::Methods(twins));
     }
-    match find_twins(properties, outline.properties.as_slice()) {
+    let others = inherited_properties(before, outline.base);
+    match find_twins(properties, others, outline.properties.as_slice()) {
         Some(twins) => Some(TwinMembers::Properties(twins)),
         None => None,
     }
@@ -105,31 +108,5 @@ fn own_method(program: &Program, number: usize, own: usize) -> Member
         Member::Signal(own)
     } else {
         Member::Slot(own - signals)
-    }
-}
-
-/// How many methods a class inherits from the base of this number.
-fn inherited_methods(before: &[IndexedOutline], base: Option<usize>) -> usize
-    ensures { result ≡ methods_above before.now base }
-{
-    let Some(base) = base else {
-        return 0;
-    };
-    match before.get(base) {
-        Some(above) => above.methods().len(),
-        None => 0,
-    }
-}
-
-/// How many properties a class inherits from the base of this number.
-fn inherited_properties(before: &[IndexedOutline], base: Option<usize>) -> usize
-    ensures { result ≡ properties_above before.now base }
-{
-    let Some(base) = base else {
-        return 0;
-    };
-    match before.get(base) {
-        Some(above) => above.properties().len(),
-        None => 0,
     }
 }

@@ -9,6 +9,7 @@ ghost use Rattle.command_output.specs.Sent.{Puts};
 
 use crate::output::Output;
 use meta_objects::{Meta, MetaMethod, MetaObject, MetaProperty, Work};
+use shared_values::Shared;
 use signatures::{QType, Sig};
 use std::io::Write;
 
@@ -84,7 +85,7 @@ impl<W: Write> Output<'_, W> {
         let Some(number) = notify else {
             return;
         };
-        if let Some(signal) = class.methods.get(number) {
+        if let Some(signal) = class.method(number) {
             self.put_word(b" notify ");
             self.sig(&signal.sig);
         }
@@ -128,11 +129,11 @@ impl<W: Write> Output<'_, W> {
     }
 
     /// Adds the lines of properties of the class.
-    fn properties(&mut self, class: &MetaObject, properties: &[MetaProperty])
+    fn properties(&mut self, class: &MetaObject, properties: &[Shared<MetaProperty>])
         ensures { Puts W.contents self.old self.new (flat_map (property_line class.now) properties.now) }
     {
         for property in properties {
-            self.property(class, property);
+            self.property(class, property.get());
         }
     }
 
@@ -161,12 +162,12 @@ impl<W: Write> Output<'_, W> {
     }
 
     /// Adds the lines of the methods behind the first ones, so many.
-    fn methods(&mut self, offset: usize, methods: &[MetaMethod])
+    fn methods(&mut self, offset: usize, methods: &[Shared<MetaMethod>])
         ensures { Puts W.contents self.old self.new (method_lines offset (drop offset methods.now)) }
     {
         let mut number = offset;
         while let Some(method) = methods.get(number) {
-            self.method(number, method);
+            self.method(number, method.get());
             number += 1;
         }
     }

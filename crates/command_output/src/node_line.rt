@@ -38,10 +38,10 @@ impl<W: Write> Output<'_, W> {
     {
         match member {
             Member::Method(number) => {
-                self.method_in(&class.name, class.methods.get(number));
+                self.method_in(&class.name, class.method(number));
             }
             Member::Property(number) => {
-                self.property_in(&class.name, class.properties.get(number));
+                self.property_in(&class.name, class.property(number));
             }
             Member::Destruction => {
                 self.put_byte(b'~');

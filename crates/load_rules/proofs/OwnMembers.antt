@@ -1,7 +1,7 @@
 -- What holds of the members that each class declares holds of all members of all classes.
 use Rattle.std.proofs.Common.{◌≡◌, ℕ, zero, suc, ◌+◌, ◌<◌, ◌≤◌, Bool, true, false, List, [], ◌∷◌, ◌++◌, map, length, slice_get, Option, Some, None, Any, ◌⊎◌, inl, inr, refl, sym, ap, ◌∙◌, subst, below_more, arith}
 use Rattle.std.specs.Prelude.{codes}
-use Rattle.std.proofs.lemmas.Option.{none-some, same_Some, slice_get_within}
+use Rattle.std.proofs.lemmas.Option.{none-some, same_Some}
 use Rattle.signatures.specs.declared.qtype.QType.{QType}
 use Rattle.signatures.specs.declared.sig.Sig.{Sig}
 use Rattle.syntax_trees.specs.declared.program.Parameter.{Parameter}
@@ -20,30 +20,16 @@ use Rattle.meta_model.specs.Conditions.{LacksPropertyType, LacksParameterType, L
 use Rattle.class_outlines.specs.Outlines.{heading, destroyed, destroyed_alone, name_changed, object_name, kinds_of, signal_heading, slot_headings, own_methods, qobject, IsOutlineNamed, Outlines}
 use Rattle.load_rules.specs.code.OwnTypes.{DeclaresUnknown}
 use Rattle.class_outlines.proofs.Anys.{any_none, of_one, any_front, any_back, any_part}
+use Rattle.class_outlines.proofs.Firsts.{first_in_front}
 use Rattle.class_outlines.proofs.Once.{get_split_at}
 use Rattle.class_outlines.proofs.Outlined.{Declared, outline_of}
-use Rattle.class_outlines.proofs.Zips.{any_of, place_of_any, get_front}
+use Rattle.class_outlines.proofs.Zips.{any_of, place_of_any}
 
 -- ---- fronts
 any_later : {X : Type 0} (P : X → Type 0) (x : X) (xs : List X) → Any P xs → Any P (x ∷ xs)
 any_later P x xs any =
     let at = place_of_any P xs any in
     any_of P (x ∷ xs) (suc at.0) (record { item = at.1.item; is = at.1.is; has = at.1.has })
-
--- an element of a front
-in_front : {X : Type 0} (P : X → Type 0) (xs ys : List X) (m k : ℕ) → k < m → m < length xs → StandsAt P (xs ++ ys) k → StandsAt P xs k
-in_front P xs ys m k less inside at =
-    elim (get_split_at xs ys k at.item at.is) [
-      | inl e ↦ record { item = at.item; is = e; has = at.has }
-      | inr r ↦ absurd (omega (arith, r.1))
-    ]
-
--- the first in a front is the first
-pub first_in_front : {X : Type 0} (P : X → Type 0) (xs ys : List X) (m : ℕ) → StandsFirst P xs m → StandsFirst P (xs ++ ys) m
-first_in_front P xs ys m h = record {
-  at = record { item = h.at.item; is = get_front xs ys m h.at.item h.at.is; has = h.at.has };
-  first = λ k below at. h.first k below (in_front P xs ys m k below (slice_get_within xs m h.at.item h.at.is) at);
-}
 
 -- ---- `QObject`
 -- `objectNameChanged(QString)` is at its number alone

@@ -1,9 +1,9 @@
-ghost use Rattle.std.specs.Prelude.{◌≡◌, length, IfOk};
+ghost use Rattle.std.specs.Prelude.{◌≡◌, ◌<◌, length, slice_get, option_copied, IfOk, OnSome};
 ghost use Rattle.meta_model.specs.Values.{default};
 
 use crate::effects::MetaEffects;
 use crate::slot_body::SlotBody;
-use class_outlines::Called;
+use shared_values::Shared;
 use signatures::{Kind, Name, QType, Sig, Text, Value};
 use sqlite_items::Items;
 use std::alloc::{AllocError, Global};
@@ -148,20 +148,6 @@ impl Drop for MetaMethod {
     }
 }
 
-impl Called for MetaMethod {
-    ghost name_of = { λ method. method.sig.name };
-
-    ghost count_of = { λ method. length method.sig.types };
-
-    fn called(&self) -> &Name {
-        &self.sig.name
-    }
-
-    fn count(&self) -> usize {
-        self.sig.types.len()
-    }
-}
-
 /// A property of a class.
 pub struct MetaProperty {
     /// Its name.
@@ -189,16 +175,16 @@ impl Drop for MetaProperty {
 }
 
 /// A class. A method's or a property's number is its place here, from 0: the base's members come first, then the
-/// class's own, signals before slots and natives, each as declared.
+/// class's own, signals before slots and natives, each as declared. A class shares its base's members with it.
 pub struct MetaObject {
     /// The class's name.
     pub name: Name,
     /// The number of its base; only `QObject`, which has the number 0, has none.
     pub base: Option<usize>,
     /// The base's methods, then its own signals, then its own slots and natives.
-    pub methods: Items<MetaMethod>,
+    pub methods: Items<Shared<MetaMethod>>,
     /// The base's properties, then its own.
-    pub properties: Items<MetaProperty>,
+    pub properties: Items<Shared<MetaProperty>>,
 }
 
 impl Drop for MetaObject {
@@ -209,6 +195,30 @@ impl Drop for MetaObject {
             methods: _,
             properties: _,
         } = self;
+    }
+}
+
+impl MetaObject {
+    /// The method of this number, or `None` past the last one.
+    pub fn method(&self, number: usize) -> Option<&MetaMethod>
+        ensures value { option_copied result ≡ slice_get self.now.methods number }
+        ensures within { OnSome result (number < length self.now.methods) }
+    {
+        match self.methods.get(number) {
+            Some(method) => Some(method.get()),
+            None => None,
+        }
+    }
+
+    /// The property of this number, or `None` past the last one.
+    pub fn property(&self, number: usize) -> Option<&MetaProperty>
+        ensures value { option_copied result ≡ slice_get self.now.properties number }
+        ensures within { OnSome result (number < length self.now.properties) }
+    {
+        match self.properties.get(number) {
+            Some(property) => Some(property.get()),
+            None => None,
+        }
     }
 }
 

@@ -45,11 +45,11 @@ module _ (p : Loaded) (index : ClassIndex) (is : IsIndexOf p.classes index) wher
     property_found name = by (slice_get index.members c) refl
       where
         by : (found : Option MemberIndex) → slice_get index.members c ≡ found
-            → MatchOption (option_and_then (λ (m : MemberIndex). place_in m.properties name) found) ((q : ℕ) → ¬ IsPropertyNamed p c name q) (λ q. IsPropertyNamed p c name q)
+            → MatchOption (option_and_then (λ (m : MemberIndex). place_by m.properties 0 name) found) ((q : ℕ) → ¬ IsPropertyNamed p c name q) (λ q. IsPropertyNamed p c name q)
         by None e = λ q named. past e named.class named.is_class.is
         by (Some m) e =
             let class = zip_right IndexesMembers p.classes index.members is.members c m e in
-            property_answer p c class.0 class.1 name class.0.properties refl (place_in m.properties name) (class.2.properties name)
+            property_answer p c class.0 class.1 name class.0.properties refl (place_by m.properties 0 name) (class.2.properties name)
 
     pub method_found : (name : List ℕ) (count : ℕ) → MatchOption (method_in index.members c name count) ((m : ℕ) → ¬ IsMethodNamed p c name count m) (λ m. IsMethodNamed p c name count m)
     method_found name count = by (slice_get index.members c) refl

@@ -5,6 +5,7 @@ pub mod Deciding
 pub mod Whole
 pub mod Refusals
 pub mod Indexing
+pub mod MembersIndexed
 pub mod OnlyAnswer
 pub mod Sited
 pub mod Natives

@@ -59,7 +59,8 @@ use Rattle.meta_objects.specs.LoadedProgram.{IsLoadedSignal, IsLoadedWork, IsLoa
 use Rattle.class_outlines.proofs.Zips.{zip_left, zip_right, zip_split, zip_also, zip_both, same_zip_by, get_front, get_back}
 use Rattle.meta_model.proofs.InLists.{place_in}
 use Rattle.class_outlines.proofs.Once.{once, none_at, get_split_at}
-use Rattle.load_rules.proofs.OwnMembers.{first_in_front, name_changed_first}
+use Rattle.class_outlines.proofs.Firsts.{first_in_front}
+use Rattle.load_rules.proofs.OwnMembers.{name_changed_first}
 use Rattle.meta_model.proofs.ReadTypes.{same_read}
 use Rattle.meta_objects.proofs.Deciding.{carries}
 use Rattle.name_resolution.proofs.OneSite.{same_zip}

@@ -4,7 +4,7 @@ use Rattle.std.specs.Prelude.{◌≡◌, ℕ, List, length, Option, slice_get}
 use Rattle.std.specs.Option.{option_and_then}
 use Rattle.std.specs.List.{AllZip}
 use Rattle.class_outlines.specs.NamePlaces.{place_in}
-use Rattle.class_outlines.specs.CallPlaces.{Index, place_by, IndexesCalls}
+use Rattle.class_outlines.specs.CallPlaces.{Index, Layers, place_by, IndexesCalls}
 use Rattle.meta_model.specs.declared.object.MetaObject.{MetaObject}
 use Rattle.meta_model.specs.declared.object.MetaMethod.{MetaMethod}
 use Rattle.meta_model.specs.declared.object.MetaProperty.{MetaProperty}
@@ -17,13 +17,14 @@ use Rattle.class_outlines.specs.Places.{IsPlace}
 abbrev pub IndexesClasses : List MetaObject → Index → Type 0
 IndexesClasses classes index = (name : List ℕ) → IsPlace (λ (class : MetaObject). class.name ≡ name) classes (place_in index name)
 
-abbrev pub IndexesProperties : List MetaProperty → Index → Type 0
-IndexesProperties properties index =
-    (name : List ℕ) → IsPlace (λ (property : MetaProperty). property.name ≡ name) properties (place_in index name)
+-- a property has no parameters
+abbrev pub IndexesProperties : List MetaProperty → Layers → Type 0
+IndexesProperties properties layers =
+    (name : List ℕ) → IsPlace (λ (property : MetaProperty). property.name ≡ name) properties (place_by layers 0 name)
 
 -- a method is found by its name and its number of parameters
-abbrev pub IndexesMethods : List MetaMethod → List Index → Type 0
-IndexesMethods methods indexes = IndexesCalls (λ (method : MetaMethod). method.sig.name) (λ (method : MetaMethod). length method.sig.types) methods indexes
+abbrev pub IndexesMethods : List MetaMethod → Layers → Type 0
+IndexesMethods methods layers = IndexesCalls (λ (method : MetaMethod). method.sig.name) (λ (method : MetaMethod). length method.sig.types) methods layers
 
 -- the members of a class, inherited ones too
 pub record IndexesMembers (class : MetaObject) (index : MemberIndex) : Type 0 where
@@ -36,7 +37,7 @@ pub record IsIndexOf (classes : List MetaObject) (index : ClassIndex) : Type 0 w
 
 -- ---- what a look-up in the indexes of classes' members answers
 abbrev pub property_in : List MemberIndex → ℕ → List ℕ → Option ℕ
-property_in members c name = option_and_then (λ (index : MemberIndex). place_in index.properties name) (slice_get members c)
+property_in members c name = option_and_then (λ (index : MemberIndex). place_by index.properties 0 name) (slice_get members c)
 
 abbrev pub method_in : List MemberIndex → ℕ → List ℕ → ℕ → Option ℕ
 method_in members c name count = option_and_then (λ (index : MemberIndex). place_by index.methods count name) (slice_get members c)

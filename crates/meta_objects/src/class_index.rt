@@ -3,20 +3,21 @@
 ghost use Rattle.std.specs.Prelude.{◌≡◌, IfOk};
 ghost use Rattle.std.specs.List.{AllZip};
 ghost use Rattle.class_outlines.specs.NamePlaces.{place_in};
-ghost use Rattle.meta_objects.specs.Indexes.{IndexesClasses, IndexesProperties, IndexesMembers, IsIndexOf, IndexesSites, property_in, method_in};
+ghost use Rattle.meta_objects.specs.Indexes.{IndexesClasses, IsIndexOf, IndexesSites, property_in, method_in};
+ghost use Rattle.meta_objects.specs.code.Outlined.{AreOf, IndexesOutlined};
 
-use class_outlines::{NameIndex, find_call, index_calls};
-use meta_model::{MetaObject, MetaProperty, MetaSite};
+use class_outlines::{CallIndex, IndexedOutline, NameIndex};
+use meta_model::{MetaObject, MetaSite};
 use signatures::Name;
 use sqlite_items::Items;
 use std::alloc::{AllocError, Global};
 
 /// Where the members of a class stand, by their names.
 pub struct MemberIndex {
-    /// Where its properties stand.
-    pub properties: NameIndex,
-    /// Where its methods stand: first those without parameters, then those with one, and so on.
-    pub methods: Items<NameIndex>,
+    /// Where its properties stand; they have no parameters.
+    pub properties: CallIndex,
+    /// Where its methods stand, by their numbers of parameters too.
+    pub methods: CallIndex,
 }
 
 impl Drop for MemberIndex {
@@ -46,12 +47,18 @@ impl Drop for ClassIndex {
 }
 
 impl ClassIndex {
-    /// The index of these classes; its error is that memory was refused.
-    pub fn new(alloc: Global, classes: &[MetaObject]) -> Result<ClassIndex, AllocError>
+    /// The index of these classes, which shares the indexes of members with their outlines; its error is that memory was
+    /// refused.
+    pub fn new(
+        alloc: Global,
+        outlines: &[IndexedOutline],
+        classes: &[MetaObject],
+    ) -> Result<ClassIndex, AllocError>
+        requires { AreOf outlines.now classes.now }
         ensures { IfOk result (λ index. IsIndexOf classes.now index) }
     {
         let names = index_classes(alloc, classes)?;
-        let members = index_members(alloc, classes)?;
+        let members = index_members(alloc, outlines)?;
         Ok(ClassIndex {
             classes: names,
             members,
@@ -69,14 +76,14 @@ impl ClassIndex {
     pub fn property(&self, class: usize, name: &Name) -> Option<usize>
         ensures { result ≡ property_in self.now.members class name.now }
     {
-        self.members.get(class)?.properties.find(name)
+        self.members.get(class)?.properties.find(name, 0)
     }
 
     /// The number of the method of this name with so many parameters, in the class of this number.
     pub fn method(&self, class: usize, name: &Name, count: usize) -> Option<usize>
         ensures { result ≡ method_in self.now.members class name.now count }
     {
-        find_call(self.members.get(class)?.methods.as_slice(), name, count)
+        self.members.get(class)?.methods.find(name, count)
     }
 }
 
@@ -92,38 +99,30 @@ fn index_classes(alloc: Global, classes: &[MetaObject]) -> Result<NameIndex, All
 }
 
 /// The indexes of the classes' members, in the classes' order.
-fn index_members(alloc: Global, classes: &[MetaObject]) -> Result<Items<MemberIndex>, AllocError>
-    ensures { IfOk result (AllZip IndexesMembers classes.now) }
+fn index_members(
+    alloc: Global,
+    outlines: &[IndexedOutline],
+) -> Result<Items<MemberIndex>, AllocError>
+    ensures { IfOk result (AllZip IndexesOutlined outlines.now) }
 {
     let mut members = Items::new(alloc);
-    for class in classes {
-        let index = index_class(alloc, class)?;
+    for outline in outlines {
+        let index = index_of(alloc, outline)?;
         members.push(index)?;
     }
     Ok(members)
 }
 
 /// The index of the class's members.
-fn index_class(alloc: Global, class: &MetaObject) -> Result<MemberIndex, AllocError>
-    ensures { IfOk result (IndexesMembers class.now) }
+fn index_of(alloc: Global, outline: &IndexedOutline) -> Result<MemberIndex, AllocError>
+    ensures { IfOk result (IndexesOutlined outline.now) }
 {
-    let properties = index_properties(alloc, class.properties.as_slice())?;
-    let methods = index_calls(alloc, class.methods.as_slice())?;
+    let properties = outline.property_index().copy(alloc)?;
+    let methods = outline.method_index().copy(alloc)?;
     Ok(MemberIndex {
         properties,
         methods,
     })
-}
-
-/// The properties' numbers by their names.
-fn index_properties(alloc: Global, properties: &[MetaProperty]) -> Result<NameIndex, AllocError>
-    ensures { IfOk result (IndexesProperties properties.now) }
-{
-    let mut index = NameIndex::new(alloc);
-    for (number, property) in properties.iter().enumerate() {
-        index.insert(&property.name, number)?;
-    }
-    Ok(index)
 }
 
 /// The binding sites' numbers, by their names; its error is that memory was refused.

@@ -117,7 +117,7 @@ impl Meta {
             return Err(LoadFault::Offence(offence));
         }
         let classes = resolve_objects(alloc, all, works.as_slice())?;
-        let index = ClassIndex::new(alloc, classes.as_slice())?;
+        let index = ClassIndex::new(alloc, all, classes.as_slice())?;
         let site_names = index_sites(alloc, sites.as_slice())?;
         Ok(Meta {
             classes,
@@ -245,7 +245,7 @@ impl Meta {
         ensures value { LooksUpRef (IsMethod self.now class method) result }
         ensures sound { IfSome result (λ m. IsSoundMethod self.now class method m.now) }
     {
-        self.object(class)?.methods.get(method)
+        self.object(class)?.method(method)
     }
 
     /// The number of the method of this signature, in the class of this number, or `None` where there is none.

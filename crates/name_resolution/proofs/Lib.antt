@@ -5,5 +5,6 @@ pub mod BodyEnds
 pub mod BodyReferences
 pub mod Ends
 pub mod Unique
+pub mod Inheriting
 pub mod SitePieces
 pub mod OneSite

@@ -4,4 +4,5 @@ pub mod Natives
 pub mod Wires
 pub mod Sites
 pub mod Loading
+pub mod Inherited
 pub mod Resolving

@@ -1,6 +1,8 @@
 //! Classes whose members are resolved.
 
-ghost use Rattle.std.specs.Prelude.{◌≡◌, ℕ, [], IfOk, option_copied};
+ghost use Rattle.std.specs.Prelude.{◌≡◌, ℕ, [], IfOk, IfSome, option_copied};
+ghost use Rattle.class_outlines.specs.Notifiers.{BadNotify};
+ghost use Rattle.name_resolution.specs.code.Inherited.{AreOutlined, IsNextObject, InheritMethods, InheritProperties, inherited_method, inherited_property};
 ghost use Rattle.name_resolution.specs.code.Loading.{IsMethodOf, AreMethodsOf, work_of, work_at, found_work};
 ghost use Rattle.name_resolution.specs.InitialValues.{initial_of};
 ghost use Rattle.name_resolution.specs.code.Loading.{IsNotify, IsPropertyOf, ArePropertiesOf};
@@ -12,39 +14,45 @@ use meta_model::{
     MetaMethod, MetaObject, MetaProperty, SlotBody, ValueType, Work, delete_later_body, read_kind,
     read_kinds,
 };
+use shared_values::Shared;
 use signatures::Value;
 use sqlite_items::Items;
 use std::alloc::{AllocError, Global};
 use syntax_trees::{Literal, Property};
 
-/// The classes in their order, where the program's slots and natives do this.
+/// The classes in their order, where the program's slots and natives do this. A class shares its base's members: a signal
+/// that notifies an inherited property has the same number in both, as each that is declared is there.
 pub fn resolve_objects(
     alloc: Global,
     outlines: &[IndexedOutline],
     works: &[Items<ResolvedWork>],
 ) -> Result<Items<MetaObject>, AllocError>
+    requires outlined { AreOutlined outlines.now }
+    requires notified { ¬ BadNotify outlines.now }
     ensures { IfOk result (AreObjects outlines.now works.now) }
 {
     let mut objects = Items::new(alloc);
     for outline in outlines {
-        let object = resolve_object(alloc, outlines, works, outline)?;
+        let object = resolve_object(alloc, outlines, works, objects.as_slice(), outline)?;
         objects.push(object)?;
     }
     Ok(objects)
 }
 
-/// The class with its methods and its properties.
+/// The class with its methods and its properties, behind those that stand before it.
 fn resolve_object(
     alloc: Global,
     outlines: &[IndexedOutline],
     works: &[Items<ResolvedWork>],
+    before: &[MetaObject],
     outline: &IndexedOutline,
 ) -> Result<MetaObject, AllocError>
+    requires { IsNextObject outlines.now works.now before.now outline.now }
     ensures { IfOk result (IsObject outlines.now works.now outline.now) }
 {
     let name = outline.name().copy()?;
-    let methods = resolve_methods(alloc, outlines, works, outline.methods())?;
-    let properties = resolve_properties(alloc, outlines, outline)?;
+    let methods = resolve_methods(alloc, outlines, works, before, outline)?;
+    let properties = resolve_properties(alloc, outlines, before, outline)?;
     Ok(MetaObject {
         name,
         base: outline.base(),
@@ -53,21 +61,57 @@ fn resolve_object(
     })
 }
 
-/// The methods in their order.
+/// The methods in their order: the base's, which are shared, and the class's own.
 fn resolve_methods(
     alloc: Global,
     outlines: &[IndexedOutline],
     works: &[Items<ResolvedWork>],
-    headings: &[Heading],
-) -> Result<Items<MetaMethod>, AllocError>
-    ensures { IfOk result (AreMethodsOf outlines.now works.now headings.now) }
+    before: &[MetaObject],
+    outline: &IndexedOutline,
+) -> Result<Items<Shared<MetaMethod>>, AllocError>
+    requires { InheritMethods outlines.now works.now before.now outline.now }
+    ensures { IfOk result (AreMethodsOf outlines.now works.now outline.now.methods) }
 {
-    let mut methods = Items::new(alloc);
-    for heading in headings {
-        let method = resolve_method(alloc, outlines, works, heading)?;
+    let headings = outline.methods();
+    let base = outline.base();
+    let mut methods = Items::from_vec(Vec::with_capacity(alloc, headings.len())?);
+    for (place, heading) in headings.iter().enumerate() {
+        let inherited = inherited_method(before, base, place);
+        let method = method_over(alloc, outlines, works, inherited, heading.get())?;
         methods.push(method)?;
     }
     Ok(methods)
+}
+
+/// The method of this place of the base, where there is one.
+fn inherited_method(
+    before: &[MetaObject],
+    base: Option<usize>,
+    place: usize,
+) -> Option<&Shared<MetaMethod>>
+    ensures { option_copied result ≡ inherited_method before.now base place }
+{
+    before.get(base?)?.methods.get(place)
+}
+
+/// The method that is inherited, if one is; else it is resolved.
+fn method_over(
+    alloc: Global,
+    outlines: &[IndexedOutline],
+    works: &[Items<ResolvedWork>],
+    inherited: Option<&Shared<MetaMethod>>,
+    heading: &Heading,
+) -> Result<Shared<MetaMethod>, AllocError>
+    requires { IfSome (option_copied inherited) (IsMethodOf outlines.now works.now heading.now) }
+    ensures { IfOk result (IsMethodOf outlines.now works.now heading.now) }
+{
+    match inherited {
+        Some(method) => method.copy(),
+        None => {
+            let method = resolve_method(alloc, outlines, works, heading)?;
+            Shared::new(alloc, method)
+        }
+    }
 }
 
 /// The method with its types and what it does.
@@ -138,20 +182,56 @@ fn work_at(works: &[Items<ResolvedWork>], class: usize, slot: usize) -> Option<&
     works.get(class)?.get(slot)
 }
 
-/// The class's properties in their order.
+/// The properties in their order: the base's, which are shared, and the class's own.
 fn resolve_properties(
     alloc: Global,
     outlines: &[IndexedOutline],
+    before: &[MetaObject],
     outline: &IndexedOutline,
-) -> Result<Items<MetaProperty>, AllocError>
+) -> Result<Items<Shared<MetaProperty>>, AllocError>
+    requires { InheritProperties outlines.now before.now outline.now }
     ensures { IfOk result (ArePropertiesOf outlines.now outline.now) }
 {
-    let mut properties = Items::new(alloc);
-    for declared in outline.properties() {
-        let property = resolve_property(alloc, outlines, outline, declared)?;
+    let all = outline.properties();
+    let base = outline.base();
+    let mut properties = Items::from_vec(Vec::with_capacity(alloc, all.len())?);
+    for (place, declared) in all.iter().enumerate() {
+        let inherited = inherited_property(before, base, place);
+        let property = property_over(alloc, outlines, outline, inherited, declared.get())?;
         properties.push(property)?;
     }
     Ok(properties)
+}
+
+/// The property of this place of the base, where there is one.
+fn inherited_property(
+    before: &[MetaObject],
+    base: Option<usize>,
+    place: usize,
+) -> Option<&Shared<MetaProperty>>
+    ensures { option_copied result ≡ inherited_property before.now base place }
+{
+    before.get(base?)?.properties.get(place)
+}
+
+/// The property that is inherited, if one is; else it is resolved.
+fn property_over(
+    alloc: Global,
+    outlines: &[IndexedOutline],
+    outline: &IndexedOutline,
+    inherited: Option<&Shared<MetaProperty>>,
+    declared: &Property,
+) -> Result<Shared<MetaProperty>, AllocError>
+    requires { IfSome (option_copied inherited) (IsPropertyOf outlines.now outline.now declared.now) }
+    ensures { IfOk result (IsPropertyOf outlines.now outline.now declared.now) }
+{
+    match inherited {
+        Some(property) => property.copy(),
+        None => {
+            let property = resolve_property(alloc, outlines, outline, declared)?;
+            Shared::new(alloc, property)
+        }
+    }
 }
 
 /// The property with its type, its first value and its notify signal.

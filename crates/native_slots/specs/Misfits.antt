@@ -24,7 +24,7 @@ abbrev pub fault_of : Misfit → NativeFault
 fault_of (misfit.NoNative at) = fault.NoNative
 fault_of (misfit.EffectsDiffer at differing) = fault.EffectsDiffer
 
--- .. and the native
+-- the native that the refusal is about
 abbrev pub place_of : Misfit → NativePlace
 place_of (misfit.NoNative at) = at
 place_of (misfit.EffectsDiffer at differing) = at
@@ -41,7 +41,7 @@ DiffersIn class method effects kept list.Sets =
     (method.kinds ≡ kinds_of kept.parameters) × AllZip (IsPropertyAs class) effects.reads kept.reads
     × AllZip (IsSignalAs class) effects.emits kept.emits × ¬ AllZip (IsPropertyAs class) effects.sets kept.sets
 
--- .. or there is none
+-- the first such list, or `None` where the effects are those declared
 abbrev pub TellsDifference : MetaObject → MetaMethod → MetaEffects → Effects → Option Difference → Type 0
 TellsDifference class method effects kept None = AreAsDeclared class method effects kept
 TellsDifference class method effects kept (Some differing) = DiffersIn class method effects kept differing
@@ -87,7 +87,7 @@ FitsAmong heads Meant (Err (misfit.EffectsDiffer at differing)) =
 abbrev pub IsNativeAt : Loaded → Placed
 IsNativeAt p at class method effects = IsNative p at.class at.method class method effects
 
--- .. of the natives that the program declares
+-- the same, of the natives that the program declares
 abbrev pub Fits : List NativeHead → Loaded → Result (Unit {0}) Misfit → Type 0
 Fits heads p answer = FitsAmong heads (IsNativeAt p) answer
 

@@ -64,7 +64,7 @@ fn are_properties(class: &MetaObject, numbers: &[usize], properties: &[PlainProp
 fn is_property(class: &MetaObject, number: usize, property: &PlainProperty) -> bool
     ensures { IsTrue result ↔ IsPropertyAs class.now number property.now }
 {
-    match class.properties.get(number) {
+    match class.property(number) {
         Some(found) => { found.name.is_same(&property.name) && found.kind == property.kind.kind() }
         None => false,
     }
@@ -87,7 +87,7 @@ fn are_signals(class: &MetaObject, numbers: &[usize], signals: &[PlainSignal]) -
 fn is_signal(class: &MetaObject, number: usize, signal: &PlainSignal) -> bool
     ensures { IsTrue result ↔ IsSignalAs class.now number signal.now }
 {
-    match class.methods.get(number) {
+    match class.method(number) {
         Some(found) => {
             found.sig.name.is_same(&signal.name)
                 && are_kinds(found.kinds.as_slice(), signal.types.as_slice())

@@ -95,7 +95,10 @@ impl Natives {
                 class: number,
                 method,
             };
-            answer = first_of(answer, self.method_fits(place, class, &methods[method]));
+            answer = first_of(
+                answer,
+                self.method_fits(place, class, methods[method].get()),
+            );
         }
         answer
     }

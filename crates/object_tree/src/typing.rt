@@ -9,16 +9,22 @@ ghost use Rattle.object_tree.specs.Typed.{ReadsAs, ReadAs};
 use crate::objects::Objects;
 use crate::seen::seen_reference;
 use meta_objects::{Meta, MetaProperty, ValueType};
+use shared_values::Shared;
 use signatures::Value;
 
 /// Whether each property of a new object of the class `new` has at first a value of its type.
-pub fn begin_well(meta: &Meta, objects: &Objects, new: usize, properties: &[MetaProperty]) -> bool
+pub fn begin_well(
+    meta: &Meta,
+    objects: &Objects,
+    new: usize,
+    properties: &[Shared<MetaProperty>],
+) -> bool
     ensures { IsTrue result ↔
         All (BeginsAs meta.now objects.now new) properties.now }
 {
     properties
         .iter()
-        .all(|property| begins_well(meta, objects, new, property))
+        .all(|property| begins_well(meta, objects, new, property.get()))
 }
 
 /// Whether the property of a new object of the class `new` has at first a value of its type.

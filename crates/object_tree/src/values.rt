@@ -3,6 +3,7 @@ ghost use Rattle.std.specs.Option.{option_copied};
 ghost use Rattle.object_tree.specs.Creating.{initials};
 
 use meta_objects::MetaProperty;
+use shared_values::Shared;
 use signatures::Value;
 use std::alloc::{AllocError, Global};
 use std::marker::Model;
@@ -24,12 +25,12 @@ impl Model for Values {
 
 impl Values {
     /// The values that these properties have at first.
-    pub fn initial(alloc: Global, properties: &[MetaProperty]) -> Result<Values, AllocError>
+    pub fn initial(alloc: Global, properties: &[Shared<MetaProperty>]) -> Result<Values, AllocError>
         ensures { IfOk result (λ values. values ≡ initials properties.now) }
     {
         let mut items = Vec::with_capacity(alloc, properties.len())?;
         for property in properties {
-            let value = property.initial.copy()?;
+            let value = property.get().initial.copy()?;
             items.push(value)?;
         }
         Ok(Values { items })

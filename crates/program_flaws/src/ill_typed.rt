@@ -42,7 +42,7 @@ fn literal_text(source: Source<'_>, node: Node, property: usize) -> Result<Strin
 /// The type that a property is declared with.
 fn declared_text(source: Source<'_>, class: usize, property: usize) -> Result<String, AllocError> {
     if let Some(object) = source.meta.object(class) {
-        if let Some(found) = object.properties.get(property) {
+        if let Some(found) = object.property(property) {
             return type_text(source.alloc, &found.declared);
         }
     }

@@ -43,7 +43,7 @@ pub fn property_text(
 ) -> Result<String, AllocError> {
     if let Some(class) = class {
         if let Some(object) = meta.object(class) {
-            if let Some(found) = object.properties.get(property) {
+            if let Some(found) = object.property(property) {
                 return text_of(alloc, found.name.bytes());
             }
         }
@@ -79,14 +79,14 @@ fn member_text(alloc: Global, class: &MetaObject, member: Member) -> Result<Stri
     let mut text = text_of(alloc, class.name.bytes())?;
     match member {
         Member::Method(method) => {
-            if let Some(found) = class.methods.get(method) {
+            if let Some(found) = class.method(method) {
                 let sig = sig_text(alloc, &found.sig)?;
                 write!(text, ".{sig}")?;
             }
             Ok(text)
         }
         Member::Property(property) => {
-            if let Some(found) = class.properties.get(property) {
+            if let Some(found) = class.property(property) {
                 let name = text_of(alloc, found.name.bytes())?;
                 write!(text, ".{name}")?;
             }

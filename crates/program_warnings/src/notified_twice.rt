@@ -49,7 +49,7 @@ pub fn add_notified_twice(
 
 /// The notify signal of the property, if it has one.
 fn notifier(meta: &Meta, class: usize, property: usize) -> Option<usize> {
-    meta.object(class)?.properties.get(property)?.notify
+    meta.object(class)?.property(property)?.notify
 }
 
 /// What the statements of a slot do to its own object.

@@ -19,7 +19,7 @@ pub fn has_deletion(meta: &Meta) -> bool {
         .methods
         .as_slice()
         .iter()
-        .any(|method| deletes(&method.work)))
+        .any(|method| deletes(&method.get().work)))
 }
 
 /// Whether the method destroys an object by itself.

@@ -191,7 +191,7 @@ impl<N: Answering> Interpreter<N> {
     {
         let life = objects.life(place.object)?;
         let class = self.context.meta.object(life.class)?;
-        class.properties.get(place.property)?.notify
+        class.property(place.property)?.notify
     }
 
     /// Notifies that a property has changed, if its object lives.

@@ -90,7 +90,7 @@ impl RunContext {
         let Some(class) = self.meta.object(life.class) else {
             return None;
         };
-        let Some(declared) = class.properties.get(property) else {
+        let Some(declared) = class.property(property) else {
             return None;
         };
         Some((found, declared))

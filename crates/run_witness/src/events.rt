@@ -114,7 +114,7 @@ fn begin_text(
             push_object(&mut text, node.class)?;
         }
         Member::Property(property) => {
-            let Some(found) = class.properties.get(property) else {
+            let Some(found) = class.property(property) else {
                 return Ok(None);
             };
             text.push_str("set ")?;

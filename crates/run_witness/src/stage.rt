@@ -45,6 +45,7 @@ fn push_references(
     events: &mut Vec<String>,
 ) -> Result<(), AllocError> {
     for property in class.properties.as_slice() {
+        let property = property.get();
         if let ValueType::Reference(_, _) = property.kind {
             let mut text = String::from_str(alloc, "set ")?;
             push_object(&mut text, number)?;

@@ -6,7 +6,7 @@ use Rattle.class_outlines.specs.declared.outline.Sort.TheVariants as sort
 use Rattle.class_outlines.specs.declared.qobject.TheConstants.{OBJECT_NAME_CHANGED}
 use Rattle.class_outlines.specs.declared.reason.Near.{Near}
 use Rattle.class_outlines.specs.declared.reason.Near.TheVariants as near
-use Rattle.class_outlines.specs.Places.{Found, NoneStands}
+use Rattle.name_indexes.specs.Places.{Found, NoneStands}
 
 -- the method, which has this number: a slot or native, or a signal, which the runtime alone may emit
 abbrev pub IsNearOf : ℕ → Heading → Near → Type 0

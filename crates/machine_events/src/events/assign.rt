@@ -91,7 +91,7 @@ fn property_of<'m>(meta: &'m Meta, class: usize, name: &Name) -> Option<(usize, 
         return None;
     };
     let found = meta.object(class)?;
-    let declared = found.properties.get(number)?;
+    let declared = found.property(number)?;
     Some((number, declared))
 }
 

@@ -1,6 +1,6 @@
 use Rattle.std.proofs.Common.{◌≡◌, ◌++◌}
 use Rattle.class_outlines.specs.Clashes.{HasTwoMembers}
-use Rattle.class_outlines.specs.Places.{NoneStands}
+use Rattle.name_indexes.specs.Places.{NoneStands}
 use Rattle.class_outlines.proofs.indexed.index_outlines.Given as goal
 
 -- those that were taken are indexed, and the others are left

@@ -7,6 +7,4 @@ returns-in_default c = inr (c.missing_base.ensures, c.in_default.ensures)
 
 pub returns : goal.returns
 returns c =
-    an_outline _ _ _ _ _ c.in-Some.ensures _ _ _ c.in_ok-name.ensures
-    (cc (c.in_ok-append.ensures, c.in_ok-methods.ensures, c.in_ok-own.ensures, c.as_slice.ensures))
-    (cc (c.in_ok-append-2.ensures, c.in_ok-properties.ensures, c.in_ok-own_properties.ensures, c.as_slice-2.ensures, c.as_slice-3.ensures))
+    an_outline _ _ _ _ _ c.in-Some.ensures _ _ _ c.in_ok-name.ensures c.in_ok-methods.ensures c.in_ok-properties.ensures

@@ -1,11 +1,11 @@
 use Rattle.std.proofs.Common.{ℕ, ◌≤◌, List, length, refl, sym, subst, ◌∷◌, [], ◌≡◌, map}
 use Rattle.std.specs.Prelude.{codes}
-use Rattle.std.proofs.lemmas.Option.{slice_get_read, none-some}
+use Rattle.std.proofs.lemmas.Option.{none-some}
 use Rattle.syntax_trees.specs.declared.program.Class.{Class}
 use Rattle.class_outlines.specs.declared.outline.Outline.{Outline}
 use Rattle.class_outlines.specs.declared.offence.Declaration.TheVariants as declaration
 use Rattle.class_outlines.specs.Bases.{LacksBase}
-use Rattle.class_outlines.specs.Outlines.{Outlines, qobject, IsOutline, base_name}
+use Rattle.class_outlines.specs.Outlines.{Outlines, qobject, base_name}
 use Rattle.class_outlines.specs.Places.{StandsAt}
 use Rattle.class_outlines.specs.declared.fault.MetaFault.TheVariants as fault
 use Rattle.class_outlines.proofs.Loading.{stops_at}

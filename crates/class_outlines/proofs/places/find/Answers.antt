@@ -1,6 +1,6 @@
 use Rattle.std.proofs.Common.{rules, refl}
 use Rattle.std.proofs.lemmas.Option.{slice_get_read}
-use Rattle.class_outlines.proofs.Searches.{none_more, none_at_all}
+use Rattle.name_indexes.proofs.Searches.{none_more, none_at_all}
 use Rattle.class_outlines.proofs.places.find.Goals as goal
 
 pub loop-place-preserved : goal.loop-place-preserved

@@ -1,5 +1,5 @@
 use Rattle.std.proofs.Common.{ℕ, ◌<◌}
-use Rattle.class_outlines.specs.Places.{StandsAt}
+use Rattle.name_indexes.specs.Places.{StandsAt}
 use Rattle.class_outlines.proofs.places.find.Given as goal
 
 abbrev pub invariant-loop-place : goal.invariant-loop-place

@@ -1,17 +1,24 @@
-use Rattle.std.proofs.Common.{◌≡◌, List, refl, inl, inr}
+use Rattle.std.proofs.Common.{refl, inl, inr}
 use Rattle.syntax_trees.specs.declared.program.Property.{Property}
-use Rattle.class_outlines.specs.CallPlaces.{AreCalledAlike}
-use Rattle.class_outlines.specs.Clashes.{AreOneCall}
-use Rattle.class_outlines.specs.Twice.{StandsTwice}
+use Rattle.name_indexes.specs.CallPlaces.{AreCalledAlike}
 use Rattle.class_outlines.specs.code.OwnMembers.{AreOneProperty}
-use Rattle.class_outlines.proofs.Indexing.{twice_also}
+use Rattle.name_indexes.proofs.Indexing.{twice_also}
+use Rattle.class_outlines.proofs.OverBases.{methods_once, properties_once}
 use Rattle.class_outlines.proofs.twin_members.find_twin_members.Goals as goal
 
-pub find_twins-requires : goal.find_twins-requires
-find_twins-requires c = rw c.as_slice.ensures c.requires.methods_by
+pub find_twins-requires-clause-indexed : goal.find_twins-requires-clause-indexed
+find_twins-requires-clause-indexed c = rw c.as_slice.ensures c.requires.methods_by
 
-pub find_twins-requires-2 : goal.find_twins-requires-2
-find_twins-requires-2 c = rw c.as_slice-2.ensures c.requires.properties_by
+pub find_twins-requires-clause-once : goal.find_twins-requires-clause-once
+find_twins-requires-clause-once c =
+    methods_once c.args.before.now c.args.outline.now c.requires.over c.inherited_methods-inherited.result c.as_slice.result.now c.inherited_methods-inherited.ensures c.as_slice.ensures
+
+pub find_twins-requires-2-clause-indexed : goal.find_twins-requires-2-clause-indexed
+find_twins-requires-2-clause-indexed c = rw c.as_slice-2.ensures c.requires.properties_by
+
+pub find_twins-requires-2-clause-once : goal.find_twins-requires-2-clause-once
+find_twins-requires-2-clause-once c =
+    properties_once c.args.before.now c.args.outline.now c.requires.over c.inherited_properties-others.result c.as_slice-2.result.now c.inherited_properties-others.ensures c.as_slice-2.ensures
 
 pub returns-in-Some : goal.returns-in-Some
 returns-in-Some c = rw c.as_slice.ensures at c.in-Some.ensures

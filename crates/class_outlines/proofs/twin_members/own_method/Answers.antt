@@ -1,5 +1,5 @@
-use Rattle.std.proofs.Common.{arith, ◌∙◌, sym}
-use Rattle.std.proofs.lemmas.Option.{none-some, same_Some}
+use Rattle.std.proofs.Common.{◌∙◌}
+use Rattle.std.proofs.lemmas.Option.{none-some}
 use Rattle.class_outlines.proofs.twin_members.own_method.Goals as goal
 
 pub returns-in_default : goal.returns-in_default

@@ -1,7 +1,7 @@
-use Rattle.meta_objects.specs.Indexes.{IndexesMembers}
 use Rattle.class_outlines.proofs.Zips.{zip_push}
+use Rattle.meta_objects.specs.code.Outlined.{IndexesOutlined}
 use Rattle.meta_objects.proofs.class_index.index_members.Goals as goal
 
-pub loop-class-preserved : goal.loop-class-preserved
-loop-class-preserved c =
-    zip_push IndexesMembers _ _ _ _ _ _ c.loop-class-test.true c.class-item.is c.in_ok-index.ensures c.loop-class.invariant c.in_ok-push.ensures.ok
+pub loop-outline-preserved : goal.loop-outline-preserved
+loop-outline-preserved c =
+    zip_push IndexesOutlined _ _ _ _ _ _ c.loop-outline-test.true c.outline-item.is c.in_ok-index.ensures c.loop-outline.invariant c.in_ok-push.ensures.ok

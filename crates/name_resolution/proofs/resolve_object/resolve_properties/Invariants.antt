@@ -3,5 +3,5 @@ use Rattle.std.specs.List.{AllZip}
 use Rattle.name_resolution.specs.code.Loading.{IsPropertyOf}
 use Rattle.name_resolution.proofs.resolve_object.resolve_properties.Given as goal
 
-abbrev pub invariant-loop-declared : goal.invariant-loop-declared
-invariant-loop-declared l = AllZip (IsPropertyOf l.outlines l.outline) (take l.declared-index l.declared-items) l.properties
+abbrev pub invariant-loop-place : goal.invariant-loop-place
+invariant-loop-place l = AllZip (IsPropertyOf l.outlines l.outline) (take l.place l.outline.properties) l.properties

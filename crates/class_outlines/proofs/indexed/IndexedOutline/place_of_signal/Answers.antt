@@ -4,7 +4,7 @@ use Rattle.class_outlines.specs.Notifiers.{IsSignalOf}
 use Rattle.class_outlines.specs.Indexed.{IsCallOf}
 use Rattle.class_outlines.proofs.Choices.{fails}
 use Rattle.class_outlines.proofs.OneMember.{called_by}
-use Rattle.class_outlines.proofs.Searches.{none_also, first_also, none_but}
+use Rattle.name_indexes.proofs.Searches.{none_also, first_also, none_but}
 use Rattle.class_outlines.proofs.indexed.IndexedOutline.place_of_signal.Goals as goal
 use Rattle.class_outlines.proofs.indexed.IndexedOutline.place_of_signal.Goals.{else-is_signal-via-then-is_signal+else-is_same, else-is_signal-via-else-is_signal}
 

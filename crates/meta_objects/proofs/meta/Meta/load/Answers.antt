@@ -17,6 +17,16 @@ bad_notifier-requires c = rw (c.as_slice-all.ensures, c.in_ok-indexed.ensures.sa
 pub unfit_type-requires : goal.unfit_type-requires
 unfit_type-requires c = rw (c.as_slice-all.ensures, c.in_ok-indexed.ensures.same) c.in_ok-outlines.ensures
 
+pub resolve_objects-requires-clause-outlined : goal.resolve_objects-requires-clause-outlined
+resolve_objects-requires-clause-outlined c =
+    (c.args.program.now.classes, rw (c.as_slice-all.ensures, c.in_ok-indexed.ensures.same) c.in_ok-outlines.ensures)
+
+pub resolve_objects-requires-clause-notified : goal.resolve_objects-requires-clause-notified
+resolve_objects-requires-clause-notified c = c.in_default-bad_notifier.ensures
+
+pub new-requires : goal.new-requires
+new-requires c = (c.as_slice.result.now, rw c.as_slice-2.ensures c.in_ok-classes.ensures)
+
 pub returns-in-Some : goal.returns-in-Some
 returns-in-Some c = refused _ fault.DuplicateClass _ c.in-Some.ensures.1 c.in-Some.ensures.0
 

@@ -13,7 +13,7 @@ loop-method-preserved g c =
     subst (λ r. FitsAmong heads (FromBefore heads c.args.number c.args.class.now c.args.first (c.loop-method.method + 1)) r) (sym c.first_of-answer.ensures)
     (more_methods heads c.args.number c.args.class.now c.args.first c.loop-method.method c.index-methods-method.result c.loop-method.auto.method
     (ap (λ xs. slice_get xs c.loop-method.method) (sym c.as_slice-methods.ensures) ∙ slice_get_read _ _ _ _ refl c.loop-method-test.true c.index-methods-method.is)
-    c.loop-method.answer c.method_fits.result c.loop-method.invariant c.method_fits.ensures)
+    c.loop-method.answer c.method_fits.result c.loop-method.invariant (rw c.get.ensures at c.method_fits.ensures))
 
 pub returns : goal.returns
 returns g c =

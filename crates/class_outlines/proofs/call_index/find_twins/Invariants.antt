@@ -1,5 +1,0 @@
-use Rattle.class_outlines.proofs.Indexing.{AreFirstBefore}
-use Rattle.class_outlines.proofs.call_index.find_twins.Given as goal
-
-abbrev pub invariant-loop-place : goal.invariant-loop-place
-invariant-loop-place g l = AreFirstBefore g.T.Called.name_of g.T.Called.count_of l.items l.indexes l.place

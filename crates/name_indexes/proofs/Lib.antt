@@ -1,0 +1,6 @@
+pub mod Searches
+pub mod Zips
+pub mod Once
+pub mod Fronts
+pub mod Indexing
+pub mod Layers

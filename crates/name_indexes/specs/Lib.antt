@@ -1,0 +1,6 @@
+pub mod NamePlaces
+pub mod Places
+pub mod CallPlaces
+pub mod Twice
+pub mod code
+pub use Rattle.signatures.specs.Name

@@ -1,0 +1,3 @@
+-- What the contracts of this crate's functions need besides.
+pub mod CallSteps
+pub mod Twins

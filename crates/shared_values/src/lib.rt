@@ -1,0 +1,7 @@
+//! Values that several lists hold together: each holder has a handle to the one value on the heap, and contracts see the
+//! value itself.
+#![tactic(auto)]
+
+mod shared;
+
+pub use shared::{Shared, copy_all};
