@@ -2,27 +2,14 @@
 use Rattle.std.proofs.Common.{◌≡◌, ◌≢◌, ◌↔◌, ◌⊎◌, inl, inr, ℕ, zero, suc, ◌+◌, ◌<◌, ◌≤◌, List, [], ◌∷◌, ◌++◌, length, get_or, set, take, replicate, slice_get, Some, None, refl, sym, ap, ◌∙◌, subst, arith, get_or-set_same, get_or-set_other}
 use Rattle.std.specs.List.{Contains}
 use Rattle.std.proofs.lemmas.Bool.{cases_eq, cases_lt}
-use Rattle.std.proofs.lemmas.List.{take_more, take_all, length-set, get_or_past, get_or_default, get_or-replicate, length-replicate}
-use Rattle.std.proofs.lemmas.List.Elements.{Contains-append_left, Contains-append_right, Contains-append_cases, Contains-push, Contains-push_cases, length_all_zip, AllZip-get_or}
+use Rattle.std.proofs.lemmas.List.{take_all, length-set, get_or_past, get_or_default, get_or-replicate, length-replicate}
+use Rattle.std.proofs.lemmas.List.Elements.{length_all_zip, AllZip-get_or}
 use Rattle.std.proofs.lemmas.Option.{slice_get_within, same_Some, none-some, get_or_from_slice_get}
+pub use Rattle.class_sets.proofs.Firsts.{no_members, first_more}
 use Rattle.effect_scan.specs.Rows.{row, Edge}
+use Rattle.effect_scan.specs.Effects.{Gathers}
 use Rattle.effect_scan.specs.code.Adding.{Adds, Joins, IsOrdered, AreOrdered}
 use Rattle.effect_scan.specs.code.Adding.{Among, AmongFirst}
-
-pub no_members : {X : Type 0} (x : X) → ¬ Contains [] x
-no_members x h = absurd (omega (arith, h.1))
-
--- ---- the first elements of a list
-module _ {X : Type 0} (xs : List X) (i : ℕ) (d : X) (inside : i < length xs) where
-  pub first_more : (x : X) → Contains (take (i + 1) xs) x ↔ (Contains (take i xs) x ⊎ (x ≡ get_or xs i d))
-  first_more x = (
-    λ h. elim (Contains-push_cases (take i xs) (get_or xs i d) x (subst (λ (l : List X). Contains l x) (take_more xs i d inside) h)) [ inl old ↦ inl old | inr e ↦ inr (sym e) ],
-    λ h.
-        elim h [
-          | inl old ↦ subst (λ (l : List X). Contains l x) (sym (take_more xs i d inside)) (Contains-append_left (take i xs) (get_or xs i d ∷ []) x old)
-          | inr e ↦ subst (λ (l : List X). Contains l x) (sym (take_more xs i d inside)) (subst (λ (y : X). Contains (take i xs ++ get_or xs i d ∷ []) y) (sym e) (Contains-push (take i xs) (get_or xs i d)))
-        ],
-  )
 
 -- ---- rows
 pub row_past : (rows : List (List ℕ)) (a : ℕ) → length rows ≤ a → row rows a ≡ []
@@ -44,16 +31,27 @@ pub row_set_other : (rows : List (List ℕ)) (a : ℕ) (r : List ℕ) (x : ℕ) 
 unfolding row
 row_set_other rows a r x ne = get_or-set_other rows a x r [] ne
 
--- targets are added to the row of a
-pub adds_row : (rows : List (List ℕ)) (a : ℕ) (r ts : List ℕ) → a < length rows → r ≡ row rows a ++ ts → Adds (λ x y. (x ≡ a) × Contains ts y) rows (set rows a r)
-adds_row rows a r ts inside e = record {
+pub row_default : (rows : List (List ℕ)) (a : ℕ) (d : List ℕ) → a < length rows → get_or rows a d ≡ row rows a
+unfolding row
+row_default rows a d inside = get_or_default rows a d [] inside
+
+-- numbers with P are added to the row of a
+pub adds_to : (P : ℕ → Type 0) (rows : List (List ℕ)) (a : ℕ) (d r : List ℕ) → a < length rows → Gathers P (get_or rows a d) r → Adds (λ x y. (x ≡ a) × P y) rows (set rows a r)
+adds_to P rows a d r inside g = record {
   count = length-set rows a r;
   edges = λ x y.
       elim (cases_eq x a) [
         | inl same ↦
-            let now : row (set rows a r) x ≡ row rows x ++ ts = subst (λ (z : ℕ). row (set rows a r) z ≡ row rows z ++ ts) (sym same) (row_set_same rows a r inside ∙ e) in (
-              λ h. elim (Contains-append_cases (row rows x) ts y (subst (λ (l : List ℕ). Contains l y) now h)) [ inl old ↦ inl old | inr new ↦ inr (same, new) ],
-              λ h. subst (λ (l : List ℕ). Contains l y) (sym now) (elim h [ inl old ↦ Contains-append_left (row rows x) ts y old | inr new ↦ Contains-append_right (row rows x) ts y new.1 ]),
+            let now : row (set rows a r) x ≡ r = subst (λ (z : ℕ). row (set rows a r) z ≡ r) (sym same) (row_set_same rows a r inside) in
+            let was : get_or rows a d ≡ row rows x = subst (λ (z : ℕ). get_or rows a d ≡ row rows z) (sym same) (row_default rows a d inside) in (
+              λ h.
+                  elim ((g y).0 (subst (λ (l : List ℕ). Contains l y) now h)) [
+                    | inl old ↦ inl (subst (λ (l : List ℕ). Contains l y) was old)
+                    | inr new ↦ inr (same, new)
+                  ],
+              λ h.
+                  subst (λ (l : List ℕ). Contains l y) (sym now)
+                  (elim h [ inl old ↦ (g y).1 (inl (subst (λ (l : List ℕ). Contains l y) (sym was) old)) | inr new ↦ (g y).1 (inr new.1) ]),
             )
         | inr other ↦
             let now : row (set rows a r) x ≡ row rows x = row_set_other rows a r x other in (
@@ -184,10 +182,6 @@ row_absent [] a e = refl
 row_absent (r ∷ rs) zero e = absurd (none-some r (sym e))
 row_absent (r ∷ rs) (suc a) e = row_absent rs a e
 
-pub row_default : (rows : List (List ℕ)) (a : ℕ) (d : List ℕ) → a < length rows → get_or rows a d ≡ row rows a
-unfolding row
-row_default rows a d inside = get_or_default rows a d [] inside
-
 -- ---- what joins the numbers of two kinds of nodes
 module _ (P Q : ℕ → Type 0) (R : ℕ → ℕ → Type 0) (both : (a b : ℕ) → R a b ↔ (P a × Q b)) where
   pub join_leads : (from to sources targets : List ℕ) (before after : List (List ℕ)) → ((n : ℕ) → Contains from n ↔ P n) → ((n : ℕ) → Contains to n ↔ Q n) → sources ≡ from → targets ≡ to
@@ -199,6 +193,19 @@ module _ (P Q : ℕ → Type 0) (R : ℕ → ℕ → Type 0) (both : (a b : ℕ)
         λ r. let k = (both a b).0 r in ((p a).1 k.0, (q b).1 k.1),
         λ j. (both a b).1 ((p a).0 j.0, (q b).0 j.1),
       ))
+
+-- ---- what leads from one node alone
+module _ (P Q : ℕ → Type 0) (R : ℕ → ℕ → Type 0) (both : (a b : ℕ) → R a b ↔ (P a × Q b)) where
+  pub one_leads : (from : ℕ) → P from → ((n : ℕ) → P n → n ≡ from) → (rows : List (List ℕ)) (d r : List ℕ) → from < length rows → Gathers Q (get_or rows from d) r → Adds R rows (set rows from r)
+  one_leads from is only rows d r inside g =
+      adds_same (λ x y. (x ≡ from) × Q y) R rows (set rows from r) (adds_to Q rows from d r inside g)
+      (λ a b. (
+        λ h. let k = (both a b).0 h in (only a k.0, k.1),
+        λ h. (both a b).1 (subst P (sym h.0) is, h.1),
+      ))
+
+  pub none_leads : ((n : ℕ) → ¬ P n) → (rows : List (List ℕ)) → Adds R rows rows
+  none_leads none rows = adds_none R rows (λ a b h. none a ((both a b).0 h).0)
 
 -- ---- rows that are taken out one by one
 -- the rows behind the one that was taken stand as before

@@ -6,6 +6,7 @@ use Rattle.signatures.specs.declared.kind.Kind.TheVariants.{Queued}
 use Rattle.class_outlines.specs.declared.qobject.TheConstants.{DESTROYED}
 use Rattle.meta_model.specs.declared.object.MetaMethod.{MetaMethod}
 use Rattle.meta_model.specs.declared.object.MetaProperty.{MetaProperty}
+use Rattle.meta_model.specs.declared.object.ValueType.{ValueType}
 use Rattle.meta_model.specs.declared.object.MetaWire.{MetaWire}
 use Rattle.syntax_trees.specs.declared.syntax.Expr.{Expr}
 use Rattle.meta_model.specs.declared.site.SourceProperty.{SourceProperty}
@@ -17,7 +18,7 @@ use Rattle.effect_scan.specs.declared.places.Places.{Places}
 use Rattle.effect_scan.specs.Nodes.{node, named, IsAt}
 use Rattle.effect_scan.specs.Effects.{WorkHas}
 use Rattle.effect_scan.specs.code.Places.{InEach, InBelow, IsReached, IsRead, OfSome}
-use Rattle.effect_scan.specs.code.Leading.{WireLeads, MethodLeads, PropertyLeads, SiteLeads, ClosureLeads}
+use Rattle.effect_scan.specs.code.Leading.{WireLeads, MethodLeads, WorkReaches, PropertyLeads, Notifies, SiteLeads, ClosureLeads}
 
 module _ (places : Places) where
   pub wire_both : (wire : MetaWire) (signal : ℕ) → signal ≡ named wire.signal → wire.kind ≢ Queued → (a b : ℕ)
@@ -30,20 +31,35 @@ module _ (places : Places) where
   pub wire_queued : (wire : MetaWire) → wire.kind ≡ Queued → (a b : ℕ) → ¬ WireLeads places wire a b
   wire_queued wire kind a b h = h.at_once kind
 
-  pub method_both : (c m : ℕ) (method : MetaMethod) (effects found : List Effect) → effects ≡ found → ((e : Effect) → Contains found e ↔ WorkHas method.kinds method.work e) → (a b : ℕ)
-      → MethodLeads places c m method a b ↔ (IsAt places.numbering (node c (Method m)) a × OfSome (IsReached places c) effects b)
-  method_both c m method effects found e has a b = (
-    λ h. (h.from, (h.effect, subst (λ (l : List Effect). Contains l h.effect) (sym e) ((has h.effect).1 h.has), h.to)),
-    λ h. record { from = h.0; effect = h.1.0; has = (has h.1.0).0 (subst (λ (l : List Effect). Contains l h.1.0) e h.1.1); to = h.1.2 },
+  pub method_both : (c m : ℕ) (method : MetaMethod) → (a b : ℕ) → MethodLeads places c m method a b ↔ (IsAt places.numbering (node c (Method m)) a × WorkReaches places c method b)
+  method_both c m method a b = (
+    λ h. (h.from, record { effect = h.effect; has = h.has; to = h.to }),
+    λ h. record { from = h.0; effect = h.1.effect; has = h.1.has; to = h.1.to },
   )
 
-  pub property_both : (c q : ℕ) (property : MetaProperty) (signal given : ℕ) → property.notify ≡ Some given → signal ≡ named given → (a b : ℕ)
-      → PropertyLeads places c q property a b ↔ (IsAt places.numbering (node c (Property q)) a × IsAt places.numbering (node c (Method signal)) b)
+  -- what some of the effects reach, where they are those of the work
+  pub work_reaches : (c : ℕ) (method : MetaMethod) (kinds : List ValueType) (effects found : List Effect) → kinds ≡ method.kinds → effects ≡ found → ((e : Effect) → Contains found e ↔ WorkHas kinds method.work e) → (b : ℕ)
+      → WorkReaches places c method b ↔ OfSome (IsReached places c) effects b
+  work_reaches c method kinds effects found k e has b = (
+    λ h.
+        let among = (has h.effect).1 (subst (λ (ks : List ValueType). WorkHas ks method.work h.effect) (sym k) h.has) in
+        (h.effect, subst (λ (l : List Effect). Contains l h.effect) (sym e) among, h.to),
+    λ h. record {
+      effect = h.0;
+      has = subst (λ (ks : List ValueType). WorkHas ks method.work h.0) k ((has h.0).0 (subst (λ (l : List Effect). Contains l h.0) e h.1));
+      to = h.2;
+    },
+  )
+
+  pub notify_both : (c q signal : ℕ) → (a b : ℕ) → Notifies places c q signal a b ↔ (IsAt places.numbering (node c (Property q)) a × IsAt places.numbering (node c (Method signal)) b)
+  notify_both c q signal a b = (λ h. (h.from, h.to), λ h. record { from = h.0; to = h.1 })
+
+  pub property_both : (c q : ℕ) (property : MetaProperty) (signal given : ℕ) → property.notify ≡ Some given → signal ≡ named given → (a b : ℕ) → PropertyLeads places c q property a b ↔ Notifies places c q signal a b
   property_both c q property signal given is e a b = (
     λ h.
         let same : named h.signal ≡ signal = ap named (same_Some _ _ (sym h.notifies ∙ is)) ∙ sym e in
-        (h.from, subst (λ (m : ℕ). IsAt places.numbering (node c (Method m)) b) same h.to),
-    λ h. record { signal = given; notifies = is; from = h.0; to = subst (λ (m : ℕ). IsAt places.numbering (node c (Method m)) b) e h.1 },
+        record { from = h.from; to = subst (λ (m : ℕ). IsAt places.numbering (node c (Method m)) b) same h.to },
+    λ h. record { signal = given; notifies = is; from = h.from; to = subst (λ (m : ℕ). IsAt places.numbering (node c (Method m)) b) e h.to },
   )
 
   pub property_none : (c q : ℕ) (property : MetaProperty) → property.notify ≡ None → (a b : ℕ) → ¬ PropertyLeads places c q property a b

@@ -4,10 +4,12 @@ pub mod Listing
 pub mod Numbered
 pub mod Occurring
 pub mod Doing
+pub mod Gathering
 pub mod Drawing
 pub mod Pairing
 pub mod Reading
 pub mod Relating
 pub mod Sources
 pub mod Standing
+pub mod Undrawn
 pub mod Whole

@@ -83,45 +83,6 @@ module _ (P : ℕ → Type 0) where
 pub just_none : (P : ℕ → Type 0) → ((n : ℕ) → ¬ P n) → AreJust P []
 just_none P none n = (λ h. absurd (no_members n h), λ h. absurd (none n h))
 
-pub just_one : (P : ℕ → Type 0) (n : ℕ) (xs ys : List ℕ) → xs ≡ [] → ys ≡ xs ++ n ∷ [] → P n → ((m : ℕ) → P m → m ≡ n) → AreJust P ys
-just_one P n xs ys none e has only m =
-    let is : ys ≡ [] ++ n ∷ [] = e ∙ ap (λ (l : List ℕ). l ++ n ∷ []) none in (
-      λ h. elim (Contains-push_cases [] n m (subst (λ (l : List ℕ). Contains l m) is h)) [ inl old ↦ absurd (no_members m old) | inr same ↦ subst P same has ],
-      λ h. subst (λ (l : List ℕ). Contains l m) (sym is) (subst (λ (x : ℕ). Contains ([] ++ n ∷ []) x) (sym (only m h)) (Contains-push [] n)),
-    )
-
-module _ (nodes : List Node) (classes : List ℕ) (member : Member) where
-  pub each_none : AreJust (InEach nodes (take 0 classes) member) []
-  each_none = just_none (InEach nodes (take 0 classes) member) (λ n h. no_members h.0 h.1)
-
-  pub each_yes : (i n : ℕ) (xs ys : List ℕ) → i < length classes → AreJust (InEach nodes (take i classes) member) xs → IsAt nodes (node (get_or classes i 0) member) n → ((m : ℕ) → IsAt nodes (node (get_or classes i 0) member) m → m ≡ n) → ys ≡ xs ++ n ∷ [] → AreJust (InEach nodes (take (i + 1) classes) member) ys
-  each_yes i n xs ys inside just is only e m = (
-    λ h.
-        elim (Contains-push_cases xs n m (subst (λ (l : List ℕ). Contains l m) e h)) [
-          | inl old ↦ let k = (just m).0 old in (k.0, (first_more classes i 0 inside k.0).1 (inl k.1), k.2)
-          | inr same ↦ (get_or classes i 0, (first_more classes i 0 inside (get_or classes i 0)).1 (inr refl), subst (IsAt nodes (node (get_or classes i 0) member)) same is)
-        ],
-    λ h.
-        subst (λ (l : List ℕ). Contains l m) (sym e)
-        (elim ((first_more classes i 0 inside h.0).0 h.1) [
-          | inl old ↦ Contains-append_left xs (n ∷ []) m ((just m).1 (h.0, old, h.2))
-          | inr same ↦ subst (λ (x : ℕ). Contains (xs ++ n ∷ []) x) (sym (only m (subst (λ (d : ℕ). IsAt nodes (node d member) m) same h.2))) (Contains-push xs n)
-        ]),
-  )
-
-  pub each_no : (i : ℕ) (xs : List ℕ) → i < length classes → AreJust (InEach nodes (take i classes) member) xs → ((m : ℕ) → ¬ IsAt nodes (node (get_or classes i 0) member) m) → AreJust (InEach nodes (take (i + 1) classes) member) xs
-  each_no i xs inside just none m = (
-    λ h. let k = (just m).0 h in (k.0, (first_more classes i 0 inside k.0).1 (inl k.1), k.2),
-    λ h.
-        elim ((first_more classes i 0 inside h.0).0 h.1) [
-          | inl old ↦ (just m).1 (h.0, old, h.2)
-          | inr same ↦ absurd (none m (subst (λ (d : ℕ). IsAt nodes (node d member) m) same h.2))
-        ],
-  )
-
-  pub each_all : (i : ℕ) (xs : List ℕ) → length classes ≤ i → AreJust (InEach nodes (take i classes) member) xs → AreJust (InEach nodes classes member) xs
-  each_all i xs past just = subst (λ (l : List ℕ). AreJust (InEach nodes l member) xs) (take_all i classes past) just
-
 -- ---- the numbers that some of a list have
 module _ {X : Type 0} (P : X → ℕ → Type 0) (xs : List X) where
   pub some_none : AreJust (OfSome P (take 0 xs)) []
@@ -150,10 +111,6 @@ module _ {X : Type 0} (P : X → ℕ → Type 0) (xs : List X) where
 -- ---- numbers below the number of nodes
 pub at_low : (nodes : List Node) (x : Node) (n : ℕ) → IsAt nodes x n → n < length nodes
 at_low nodes x n is = slice_get_within nodes n x is
-
-pub one_low : (nodes : List Node) (x : Node) (rows : List (List ℕ)) (from sources : List ℕ) → AreJust (IsAt nodes x) from → sources ≡ from → length rows ≡ length nodes → (a : ℕ) → Contains sources a → a < length rows
-one_low nodes x rows from sources just e count a h =
-    let low = at_low nodes x a ((just a).0 (subst (λ (l : List ℕ). Contains l a) e h)) in omega arith
 
 pub each_low : (nodes : List Node) (classes : List ℕ) (member : Member) (rows : List (List ℕ)) (from sources : List ℕ) → AreJust (InEach nodes classes member) from → sources ≡ from → length rows ≡ length nodes → (a : ℕ) → Contains sources a → a < length rows
 each_low nodes classes member rows from sources just e count a h =

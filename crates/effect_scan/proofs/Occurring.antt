@@ -119,7 +119,7 @@ module _ (kinds : List ValueType) where
   in_group z sets e is has = subst (λ (w : layer.Statement-F Statement). StatementHas kinds w e) (sym is) has
 
   -- a body of one statement
-  alone : (t : Statement) (e : Effect) → BodyHas kinds (t ∷ []) e → StatementHas kinds (out-Statement t) e
+  pub alone : (t : Statement) (e : Effect) → BodyHas kinds (t ∷ []) e → StatementHas kinds (out-Statement t) e
   alone t e has = given has.statement has.occurs has.is
     where
       given : (s : Statement) → Occurs s (t ∷ []) → effect_of kinds (out-Statement s) ≡ Some e → StatementHas kinds (out-Statement t) e

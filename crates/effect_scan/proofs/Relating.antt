@@ -4,6 +4,9 @@ use Rattle.std.specs.List.{Contains, AllZip}
 use Rattle.std.proofs.lemmas.Bool.{cases_eq, cases_lt}
 use Rattle.std.proofs.lemmas.List.{take_all, length-set, length-append, get_or_past, get_or_default, get_or_append_left, get_or-append_right}
 use Rattle.std.proofs.Math.Seq.{get_or-append_seam}
+use Rattle.class_sets.specs.Marks.{IsMarked, Marks}
+use Rattle.class_sets.proofs.Firsts.{first_more}
+use Rattle.class_sets.proofs.Marking.{not_marked, marked_inside}
 use Rattle.meta_model.specs.declared.object.MetaObject.{MetaObject}
 use Rattle.meta_model.specs.declared.object.MetaOwns.{MetaOwns}
 use Rattle.meta_model.specs.Loaded.{Loaded}
@@ -15,61 +18,8 @@ use Rattle.effect_scan.specs.Rows.{row}
 use Rattle.effect_scan.specs.code.Adding.{Joins, AmongFirst}
 use Rattle.effect_scan.specs.code.Places.{IsLineage, Lists}
 use Rattle.effect_scan.specs.Destroying.{Closure, itself, child, AreClosures}
-use Rattle.effect_scan.specs.code.Relations.{IsMarked, marks_of, Holds, IsSquare, IsEmpty, Marks, Extends, OwnsRows, IsOwned, IsOwn, Passes, Chains, one, more, IsClosed, Closing, AreListed}
-use Rattle.effect_scan.proofs.Adding.{no_members, first_more, among_more, among_all, edge_inside}
-
--- ---- one row
-pub not_marked : (j : ℕ) → ¬ IsMarked [] j
-not_marked j h = let bad : false ≡ true = h in cc
-
-pub marked_inside : (marks : List Bool) (j : ℕ) → IsMarked marks j → j < length marks
-marked_inside marks j h =
-    elim (cases_lt j (length marks)) [
-      | inl l ↦ l
-      | inr m ↦ let past : get_or marks j false ≡ false = get_or_past marks j false m in let bad : false ≡ true = sym past ∙ h in cc
-    ]
-
-pub mark_none : (marks : List Bool) (numbers : List ℕ) → Marks (Contains (take 0 numbers)) marks marks
-mark_none marks numbers = record { count = refl; marks = λ j. (λ h. inl h, λ h. elim h [ inl old ↦ old | inr new ↦ absurd (no_members j new) ]) }
-
-pub mark_one : (marks : List Bool) (n : ℕ) → n < length marks → Marks (λ j. j ≡ n) marks (set marks n true)
-mark_one marks n inside = record {
-  count = length-set marks n true;
-  marks = λ j.
-      elim (cases_eq j n) [
-        | inl e ↦
-            let now : get_or (set marks n true) j false ≡ true = subst (λ (k : ℕ). get_or (set marks n true) k false ≡ true) (sym e) (get_or-set_same marks n true false inside) in
-            (λ h. inr e, λ h. now)
-        | inr ne ↦
-            let now : get_or (set marks n true) j false ≡ get_or marks j false = get_or-set_other marks n j true false ne in
-            (λ h. inl (sym now ∙ h), λ h. elim h [ inl old ↦ now ∙ old | inr e ↦ absurd (ne e) ])
-      ];
-}
-
-pub marks_then : (P Q R : ℕ → Type 0) (first then last : List Bool) → Marks P first then → Marks Q then last → ((j : ℕ) → R j ↔ (P j ⊎ Q j)) → Marks R first last
-marks_then P Q R first then last p q r = record {
-  count = q.count ∙ p.count;
-  marks = λ j. (
-    λ h.
-        elim ((q.marks j).0 h) [
-          | inl old ↦ elim ((p.marks j).0 old) [ inl before ↦ inl before | inr new ↦ inr ((r j).1 (inl new)) ]
-          | inr new ↦ inr ((r j).1 (inr new))
-        ],
-    λ h.
-        elim h [
-          | inl old ↦ (q.marks j).1 (inl ((p.marks j).1 (inl old)))
-          | inr new ↦ elim ((r j).0 new) [ inl left ↦ (q.marks j).1 (inl ((p.marks j).1 (inr left))) | inr right ↦ (q.marks j).1 (inr right) ]
-        ],
-  );
-}
-
-pub mark_more : (numbers : List ℕ) (i : ℕ) (first then : List Bool) → i < length numbers → get_or numbers i 0 < length then → Marks (Contains (take i numbers)) first then → Marks (Contains (take (i + 1) numbers)) first (set then (get_or numbers i 0) true)
-mark_more numbers i first then inside low p =
-    marks_then (Contains (take i numbers)) (λ j. j ≡ get_or numbers i 0) (Contains (take (i + 1) numbers)) first then (set then (get_or numbers i 0) true) p
-    (mark_one then (get_or numbers i 0) low) (first_more numbers i 0 inside)
-
-pub mark_all : (numbers : List ℕ) (i : ℕ) (before after : List Bool) → length numbers ≤ i → Marks (Contains (take i numbers)) before after → Marks (Contains numbers) before after
-mark_all numbers i before after past p = subst (λ (l : List ℕ). Marks (Contains l) before after) (take_all i numbers past) p
+use Rattle.effect_scan.specs.code.Relations.{marks_of, Holds, IsSquare, IsEmpty, Extends, OwnsRows, IsOwned, IsOwn, Passes, Chains, one, more, IsClosed, Closing, AreListed}
+use Rattle.effect_scan.proofs.Adding.{among_more, among_all, edge_inside}
 
 -- ---- all rows
 pub marks_inside : (relation : List (List Bool)) (i j : ℕ) → Holds relation i j → i < length relation
@@ -158,40 +108,23 @@ pub extends_at : (P : ℕ → Type 0) (relation : List (List Bool)) (i : ℕ) (d
     → Extends (λ k j. (k ≡ i) × P j) relation (set relation i marks)
 extends_at P relation i d marks square inside m = extends_row P relation i marks square inside (subst (λ (l : List Bool). Marks P l marks) (marks_default relation i d inside) m)
 
-pub holds_at : (relation : List (List Bool)) (i j : ℕ) (d marks : List Bool) (b : Bool) → i < length relation → marks ≡ get_or relation i d → get_or marks j false ≡ b → get_or (marks_of relation i) j false ≡ b
-holds_at relation i j d marks b inside e h = subst (λ (l : List Bool). get_or l j false ≡ b) (e ∙ marks_default relation i d inside) h
+pub held_at : (relation : List (List Bool)) (i j : ℕ) (d : List Bool) → i < length relation → IsMarked (get_or relation i d) j ↔ Holds relation i j
+held_at relation i j d inside =
+    let is = marks_default relation i d inside in
+    (λ h. subst (λ (l : List Bool). IsMarked l j) is h, λ h. subst (λ (l : List Bool). IsMarked l j) (sym is) h)
 
--- what stands after class n, as it is listed
-abbrev pub IsAfter : List (List Bool) → ℕ → List ℕ → Type 0
-IsAfter relation n others = (j : ℕ) → Contains others j ↔ Holds relation n j
+-- what stands after class n, as a set
+abbrev pub IsAfter : List (List Bool) → ℕ → List Bool → Type 0
+IsAfter relation n others = (j : ℕ) → IsMarked others j ↔ Holds relation n j
 
-pub is_after : (relation : List (List Bool)) (n : ℕ) (d marks : List Bool) (list others : List ℕ) → n < length relation → marks ≡ get_or relation n d → others ≡ list → Lists (IsMarked marks) (length marks) list → IsAfter relation n others
-is_after relation n d marks list others inside e f l j =
-    let is : marks ≡ marks_of relation n = e ∙ marks_default relation n d inside in (
-      λ h. subst (λ (x : List Bool). IsMarked x j) is ((l.members j).0 (subst (λ (x : List ℕ). Contains x j) f h)).1,
-      λ h.
-          let marked : IsMarked marks j = subst (λ (x : List Bool). IsMarked x j) (sym is) h in
-          subst (λ (x : List ℕ). Contains x j) (sym f) ((l.members j).1 (marked_inside marks j marked, marked)),
+pub is_after : (relation : List (List Bool)) (n : ℕ) (d others : List Bool) → n < length relation → others ≡ get_or relation n d → IsAfter relation n others
+is_after relation n d others inside e j =
+    let held = held_at relation n j d inside in (
+      λ h. held.0 (subst (λ (l : List Bool). IsMarked l j) e h),
+      λ h. subst (λ (l : List Bool). IsMarked l j) (sym e) (held.1 h),
     )
 
-pub listed_low : (P : ℕ → Type 0) (n : ℕ) (list others : List ℕ) → Lists P n list → others ≡ list → (j : ℕ) → Contains others j → j < n
-listed_low P n list others l e j h = ((l.members j).0 (subst (λ (x : List ℕ). Contains x j) e h)).0
-
--- ---- no marks
-pub unmarked_more : (marks last : List Bool) → last ≡ marks ++ false ∷ [] → ((j : ℕ) → ¬ IsMarked marks j) → (j : ℕ) → ¬ IsMarked last j
-unmarked_more marks last e none j h =
-    let all : get_or (marks ++ false ∷ []) j false ≡ true = subst (λ (l : List Bool). IsMarked l j) e h in
-    elim (cases_lt j (length marks)) [
-      | inl l ↦ none j (sym (get_or_append_left marks (false ∷ []) false j l) ∙ all)
-      | inr m ↦
-          let end_is : get_or (marks ++ false ∷ []) j false ≡ get_or (false ∷ []) (j - length marks) false = get_or-append_right marks (false ∷ []) (length marks) j false refl m in
-          end (j - length marks) (sym end_is ∙ all)
-    ]
-  where
-    end : (k : ℕ) → get_or (false ∷ []) k false ≡ true → ⊥
-    end zero h = let bad : false ≡ true = h in cc
-    end (suc k) h = let bad : false ≡ true = h in cc
-
+-- ---- no classes are related
 pub record EmptyFirst (n k : ℕ) (relation : List (List Bool)) : Type 0 where
   pub count : length relation ≡ k
   pub width : (i : ℕ) → i < k → length (marks_of relation i) ≡ n
@@ -297,20 +230,20 @@ own_more n first then last p q =
     ))
 
 -- ---- by way of one class
-abbrev pub PassesFirst : List (List Bool) → ℕ → List ℕ → ℕ → ℕ → ℕ → Type 0
+abbrev pub PassesFirst : List (List Bool) → ℕ → List Bool → ℕ → ℕ → ℕ → Type 0
 PassesFirst relation k others n i j = (i < n) × Passes relation k others i j
 
-pub pass_yes : (relation : List (List Bool)) (k : ℕ) (others : List ℕ) (n : ℕ) (then last : List (List Bool)) → Holds then n k → Extends (PassesFirst relation k others n) relation then
-    → Extends (λ i j. (i ≡ n) × Contains others j) then last → Extends (PassesFirst relation k others (n + 1)) relation last
+pub pass_yes : (relation : List (List Bool)) (k : ℕ) (others : List Bool) (n : ℕ) (then last : List (List Bool)) → Holds then n k → Extends (PassesFirst relation k others n) relation then
+    → Extends (λ i j. (i ≡ n) × IsMarked others j) then last → Extends (PassesFirst relation k others (n + 1)) relation last
 pass_yes relation k others n then last has p q =
     let before : Holds relation n k = elim ((p.holds n k).0 has) [ inl old ↦ old | inr new ↦ absurd (omega (arith, new.0)) ] in
-    extends_then (PassesFirst relation k others n) (λ i j. (i ≡ n) × Contains others j) (PassesFirst relation k others (n + 1)) relation then last p q
+    extends_then (PassesFirst relation k others n) (λ i j. (i ≡ n) × IsMarked others j) (PassesFirst relation k others (n + 1)) relation then last p q
     (λ i j. (
       λ h. elim (cases_eq i n) [ inl e ↦ inr (e, h.1.1) | inr ne ↦ inl (omega (arith, h.0), h.1) ],
       λ h. elim h [ inl old ↦ (omega (arith, old.0), old.1) | inr new ↦ (omega (arith, new.0), (subst (λ (x : ℕ). Holds relation x k) (sym new.0) before, new.1)) ],
     ))
 
-pub pass_no : (relation : List (List Bool)) (k : ℕ) (others : List ℕ) (n : ℕ) (then : List (List Bool)) → ¬ Holds then n k → Extends (PassesFirst relation k others n) relation then → Extends (PassesFirst relation k others (n + 1)) relation then
+pub pass_no : (relation : List (List Bool)) (k : ℕ) (others : List Bool) (n : ℕ) (then : List (List Bool)) → ¬ Holds then n k → Extends (PassesFirst relation k others n) relation then → Extends (PassesFirst relation k others (n + 1)) relation then
 pass_no relation k others n then lacks p =
     extends_same (PassesFirst relation k others n) (PassesFirst relation k others (n + 1)) relation then p
     (λ i j. (
@@ -318,7 +251,7 @@ pass_no relation k others n then lacks p =
       λ h. (omega (arith, h.0), h.1),
     ))
 
-pub pass_all : (relation : List (List Bool)) (k : ℕ) (others : List ℕ) (n : ℕ) (after : List (List Bool)) → length relation ≤ n → Extends (PassesFirst relation k others n) relation after → Extends (Passes relation k others) relation after
+pub pass_all : (relation : List (List Bool)) (k : ℕ) (others : List Bool) (n : ℕ) (after : List (List Bool)) → length relation ≤ n → Extends (PassesFirst relation k others n) relation after → Extends (Passes relation k others) relation after
 pass_all relation k others n after past p =
     extends_same (PassesFirst relation k others n) (Passes relation k others) relation after p
     (λ i j. (λ h. let low = marks_inside relation i k h.0 in (omega arith, h), λ h. h.1))
@@ -336,7 +269,7 @@ closing_none relation square = record {
   closed = λ i k j low. absurd (omega (arith, low));
 }
 
-pub closing_more : (n : ℕ) (first then last : List (List Bool)) (others : List ℕ) → Closing n first then → IsAfter then n others → Extends (Passes then n others) then last → Closing (n + 1) first last
+pub closing_more : (n : ℕ) (first then last : List (List Bool)) (others : List Bool) → Closing n first then → IsAfter then n others → Extends (Passes then n others) then last → Closing (n + 1) first last
 closing_more n first then last others c listed p =
     let to : (i j : ℕ) → Holds last i j → Holds then i j ⊎ (Holds then i n × Holds then n j) = λ i j h. elim ((p.holds i j).0 h) [ inl old ↦ inl old | inr new ↦ inr (new.0, (listed j).0 new.1) ] in
     let from : (i j : ℕ) → Holds then i n → Holds then n j → Holds last i j = λ i j a b. (p.holds i j).1 (inr (a, (listed j).1 b)) in

@@ -32,6 +32,12 @@ pub record BodyLeads (p : Loaded) (c : ℕ) (kinds : List ValueType) (body : Lis
   pub is : effect_of kinds (out-Statement statement) ≡ Some effect
   pub to : Reaches p c effect y
 
+-- the statement does something to the node at once, by itself
+pub record DoesTo (p : Loaded) (c : ℕ) (kinds : List ValueType) (t : Statement) (y : Node) : Type 0 where
+  pub effect : Effect
+  pub is : effect_of kinds (out-Statement t) ≡ Some effect
+  pub to : Reaches p c effect y
+
 -- the native of class c may do something to the node, a member of the object itself
 pub record NativeLeads (c : ℕ) (effects : MetaEffects) (y : Node) : Type 0 where
   pub member : Member

@@ -5,10 +5,10 @@ ghost use Rattle.std.specs.List.{Contains};
 ghost use Rattle.meta_model.specs.Sites.{paths_in};
 ghost use Rattle.effect_scan.specs.declared.effect.Effect.{Effect as AnEffect};
 ghost use Rattle.effect_scan.specs.Nodes.{named};
-ghost use Rattle.effect_scan.specs.Effects.{WorkHas};
+ghost use Rattle.effect_scan.specs.Effects.{WorkHas, Gathers};
 ghost use Rattle.effect_scan.specs.code.Adding.{Adds};
 ghost use Rattle.effect_scan.specs.code.Places.{AreJust, IsReached, IsRead, OfSome};
-ghost use Rattle.effect_scan.specs.code.Leading.{WireLeads, WiresLead, MethodLeads, MethodsLead, WorksLead, PropertyLeads, PropertiesLead, NotifiersLead, SiteLeads, SitesLead, ClosureLeads, ClosuresLead};
+ghost use Rattle.effect_scan.specs.code.Leading.{WireLeads, WiresLead, MethodLeads, MethodsLead, WorksLead, WorkReaches, PropertyLeads, Notifies, PropertiesLead, NotifiersLead, SiteLeads, SitesLead, ClosureLeads, ClosuresLead};
 
 use crate::effect::{Effect, gather, gather_native};
 use crate::node::{Member, Node};
@@ -99,12 +99,12 @@ fn add_methods(
     ensures { IfOk result (λ _. Adds (MethodsLead places.now number class.now) rows.old rows.new) }
 {
     for (place, method) in class.methods.as_slice().iter().enumerate() {
-        add_method(alloc, places, number, place, method, rows)?;
+        add_method(alloc, places, number, place, method.get(), rows)?;
     }
     Ok(())
 }
 
-/// Adds the edges from the method of this number in the class: a signal does nothing by itself.
+/// Adds the edges from the method of this number in the class to what its work does: a signal does nothing by itself.
 fn add_method(
     alloc: Global,
     places: &Places,
@@ -117,30 +117,26 @@ fn add_method(
     ensures { IfOk result (λ _.
         Adds (MethodLeads places.now class number method.now) rows.old rows.new) }
 {
-    match method.work {
-        Work::Signal => Ok(()),
-        _ => add_effects(alloc, places, class, number, method, rows),
+    let member = Member::Method(number);
+    match places.numbering.number(Node { class, member }) {
+        Some(from) => add_work(alloc, places, class, method, &mut rows[from]),
+        None => Ok(()),
     }
 }
 
-/// Adds the edges from a method to what its work does.
-fn add_effects(
+/// Adds the numbers of what the method's work does something to, for an object of this class, and puts all in order.
+fn add_work(
     alloc: Global,
     places: &Places,
     class: usize,
-    number: usize,
     method: &MetaMethod,
-    rows: &mut [Added],
+    numbers: &mut Added,
 ) -> Result<(), AllocError>
-    requires { length rows.old ≡ length places.now.numbering }
     ensures { IfOk result (λ _.
-        Adds (MethodLeads places.now class number method.now) rows.old rows.new) }
+        Gathers (WorkReaches places.now class method.now) numbers.old numbers.new) }
 {
-    let member = Member::Method(number);
-    let from = places.one(alloc, Node { class, member })?;
     let effects = effects_of(alloc, method.kinds.as_slice(), &method.work)?;
-    let to = reached(alloc, places, class, effects.as_slice())?;
-    join(rows, from.as_slice(), to.as_slice())
+    add_all_reached(places, class, effects.as_slice(), numbers)
 }
 
 /// What is done at once when the method is called, whose parameters are of these types.
@@ -162,26 +158,26 @@ fn effects_of(alloc: Global, kinds: &[ValueType], work: &Work) -> Result<Items<E
     }
 }
 
-/// The numbers of what some of the effects does something to, for an object of this class, each once.
-fn reached(
-    alloc: Global,
+/// Adds the numbers of what some of the effects does something to, for an object of this class, and puts all in order: a
+/// body may do the same again and again.
+fn add_all_reached(
     places: &Places,
     class: usize,
     effects: &[Effect],
-) -> Result<Items<usize>, AllocError>
-    ensures { IfOk result (AreJust (OfSome (IsReached places.now class) effects.now)) }
+    numbers: &mut Added,
+) -> Result<(), AllocError>
+    ensures { IfOk result (λ _.
+        Gathers (OfSome (IsReached places.now class) effects.now) numbers.old numbers.new) }
 {
-    let mut all = Added::new(alloc);
     for effect in effects {
-        let found = places.reached(alloc, class, *effect)?;
-        all.add_all(found.as_slice())?;
+        places.add_reached(class, *effect, numbers)?;
     }
-    Ok(all.ordered())
+    numbers.put_in_order();
+    Ok(())
 }
 
 /// Adds the edges from properties to their notify signals.
 pub fn add_notifiers(
-    alloc: Global,
     places: &Places,
     classes: &[MetaObject],
     rows: &mut [Added],
@@ -190,14 +186,13 @@ pub fn add_notifiers(
     ensures { IfOk result (λ _. Adds (NotifiersLead places.now classes.now) rows.old rows.new) }
 {
     for (number, class) in classes.iter().enumerate() {
-        add_properties(alloc, places, number, class, rows)?;
+        add_properties(places, number, class, rows)?;
     }
     Ok(())
 }
 
 /// Adds the edges from the properties of the class of this number.
 fn add_properties(
-    alloc: Global,
     places: &Places,
     number: usize,
     class: &MetaObject,
@@ -208,14 +203,13 @@ fn add_properties(
         Adds (PropertiesLead places.now number class.now) rows.old rows.new) }
 {
     for (place, property) in class.properties.as_slice().iter().enumerate() {
-        add_property(alloc, places, number, place, property, rows)?;
+        add_property(places, number, place, property.get(), rows)?;
     }
     Ok(())
 }
 
 /// Adds the edges from the property of this number in the class.
 fn add_property(
-    alloc: Global,
     places: &Places,
     class: usize,
     number: usize,
@@ -227,13 +221,27 @@ fn add_property(
         Adds (PropertyLeads places.now class number property.now) rows.old rows.new) }
 {
     match property.notify {
-        Some(signal) => {
-            let member = Member::Property(number);
-            let from = places.one(alloc, Node { class, member })?;
-            let member = Member::Method(named(signal));
-            let to = places.one(alloc, Node { class, member })?;
-            join(rows, from.as_slice(), to.as_slice())
-        }
+        Some(signal) => add_notifier(places, class, number, named(signal), rows),
+        None => Ok(()),
+    }
+}
+
+/// Adds the edge from the property of this number in the class to the signal.
+fn add_notifier(
+    places: &Places,
+    class: usize,
+    property: usize,
+    signal: usize,
+    rows: &mut [Added],
+) -> Result<(), AllocError>
+    requires { length rows.old ≡ length places.now.numbering }
+    ensures { IfOk result (λ _.
+        Adds (Notifies places.now class property signal) rows.old rows.new) }
+{
+    let member = Member::Property(property);
+    let to = Member::Method(signal);
+    match places.numbering.number(Node { class, member }) {
+        Some(from) => places.add_one(Node { class, member: to }, &mut rows[from]),
         None => Ok(()),
     }
 }
@@ -312,18 +320,17 @@ fn read_one(
     places: &Places,
     formals: &[usize],
     source: SourceProperty,
-) -> Result<Items<usize>, AllocError>
+) -> Result<Added, AllocError>
     ensures { IfOk result (AreJust (IsRead places.now formals.now source)) }
 {
     match at(formals, source.source) {
         Some(class) => places.below(alloc, *class, Member::Property(source.property)),
-        None => Ok(Items::new(alloc)),
+        None => Ok(Added::new(alloc)),
     }
 }
 
 /// Adds the edges from destructions to the announcements of those that are destroyed with an object.
 pub fn add_closures(
-    alloc: Global,
     places: &Places,
     closures: &[Items<usize>],
     rows: &mut [Added],
@@ -332,14 +339,13 @@ pub fn add_closures(
     ensures { IfOk result (λ _. Adds (ClosuresLead places.now closures.now) rows.old rows.new) }
 {
     for (class, closure) in closures.iter().enumerate() {
-        add_closure(alloc, places, class, closure.as_slice(), rows)?;
+        add_closure(places, class, closure.as_slice(), rows)?;
     }
     Ok(())
 }
 
 /// Adds the edges from the destruction of an object of this class.
 fn add_closure(
-    alloc: Global,
     places: &Places,
     class: usize,
     closure: &[usize],
@@ -350,7 +356,8 @@ fn add_closure(
         Adds (ClosureLeads places.now class closure.now) rows.old rows.new) }
 {
     let member = Member::Destruction;
-    let from = places.one(alloc, Node { class, member })?;
-    let to = places.each(alloc, closure, Member::Method(DESTROYED))?;
-    join(rows, from.as_slice(), to.as_slice())
+    match places.numbering.number(Node { class, member }) {
+        Some(from) => places.add_each(closure, Member::Method(DESTROYED), &mut rows[from]),
+        None => Ok(()),
+    }
 }

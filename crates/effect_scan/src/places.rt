@@ -1,13 +1,15 @@
 //! Where the members of classes stand among the nodes.
 
-ghost use Rattle.std.specs.Prelude.{◌≡◌, IfOk};
+ghost use Rattle.std.specs.Prelude.{IfOk};
 ghost use Rattle.effect_scan.specs.Nodes.{IsAt};
+ghost use Rattle.effect_scan.specs.Effects.{Gathers};
 ghost use Rattle.effect_scan.specs.code.Places.{AreJust, ArePlaces, InEach, InBelow, IsReached};
 
 use crate::effect::{Effect, Reach};
 use crate::lineage::lineage;
 use crate::node::{Member, Node};
 use crate::numbering::Numbering;
+use crate::rows::Added;
 use meta_objects::Meta;
 use sqlite_items::Items;
 use std::alloc::{AllocError, Global};
@@ -31,68 +33,76 @@ impl Places {
         Ok(Places { numbering, lineage })
     }
 
-    /// The number of the node alone, and none where it is no node of the program.
-    pub fn one(&self, alloc: Global, node: Node) -> Result<Items<usize>, AllocError>
-        ensures { IfOk result (AreJust (IsAt self.now.numbering node)) }
+    /// Adds the number of the node, and nothing where it is no node of the program.
+    pub fn add_one(&self, node: Node, numbers: &mut Added) -> Result<(), AllocError>
+        ensures { IfOk result (λ _.
+            Gathers (IsAt self.now.numbering node) numbers.old numbers.new) }
     {
-        let mut found = Items::new(alloc);
-        if let Some(number) = self.numbering.number(node) {
-            found.push(number)?;
+        match self.numbering.number(node) {
+            Some(number) => numbers.add(number),
+            None => Ok(()),
         }
-        Ok(found)
     }
 
-    /// The numbers of this member in the classes.
-    pub fn each(
+    /// Adds the numbers of this member in the classes.
+    pub fn add_each(
         &self,
-        alloc: Global,
         classes: &[usize],
         member: Member,
-    ) -> Result<Items<usize>, AllocError>
-        ensures { IfOk result (AreJust (InEach self.now.numbering classes.now member)) }
+        numbers: &mut Added,
+    ) -> Result<(), AllocError>
+        ensures { IfOk result (λ _.
+            Gathers (InEach self.now.numbering classes.now member) numbers.old numbers.new) }
     {
-        let mut found = Items::from_vec(Vec::with_capacity(alloc, classes.len())?);
         for class in classes {
             let node = Node {
                 class: *class,
                 member,
             };
-            match self.numbering.number(node) {
-                Some(number) => found.push(number)?,
-                None => {}
-            }
+            self.add_one(node, numbers)?;
         }
-        Ok(found)
+        Ok(())
     }
 
-    /// The numbers of this member in the class and those below it.
-    pub fn below(
+    /// Adds the numbers of this member in the class and those below it.
+    pub fn add_below(
         &self,
-        alloc: Global,
         class: usize,
         member: Member,
-    ) -> Result<Items<usize>, AllocError>
-        ensures { IfOk result (AreJust (InBelow self.now class member)) }
+        numbers: &mut Added,
+    ) -> Result<(), AllocError>
+        ensures { IfOk result (λ _.
+            Gathers (InBelow self.now class member) numbers.old numbers.new) }
     {
         match self.lineage.get(class) {
-            Some(classes) => self.each(alloc, classes.as_slice(), member),
-            None => Ok(Items::new(alloc)),
+            Some(classes) => self.add_each(classes.as_slice(), member, numbers),
+            None => Ok(()),
         }
     }
 
-    /// The numbers of what the effect does something to, for an object of this class.
-    pub fn reached(
+    /// Adds the numbers of what the effect does something to, for an object of this class.
+    pub fn add_reached(
         &self,
-        alloc: Global,
         class: usize,
         effect: Effect,
-    ) -> Result<Items<usize>, AllocError>
-        ensures { IfOk result (AreJust (IsReached self.now class effect)) }
+        numbers: &mut Added,
+    ) -> Result<(), AllocError>
+        ensures { IfOk result (λ _.
+            Gathers (IsReached self.now class effect) numbers.old numbers.new) }
     {
         let member = effect.member;
         match effect.reach {
-            Reach::Own => self.one(alloc, Node { class, member }),
-            Reach::Below(other) => self.below(alloc, other, member),
+            Reach::Own => self.add_one(Node { class, member }, numbers),
+            Reach::Below(other) => self.add_below(other, member, numbers),
         }
+    }
+
+    /// The numbers of this member in the class and those below it.
+    pub fn below(&self, alloc: Global, class: usize, member: Member) -> Result<Added, AllocError>
+        ensures { IfOk result (AreJust (InBelow self.now class member)) }
+    {
+        let mut found = Added::new(alloc);
+        self.add_below(class, member, &mut found)?;
+        Ok(found)
     }
 }

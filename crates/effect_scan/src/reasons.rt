@@ -1,10 +1,10 @@
 //! What draws an edge: a statement, a native's declaration, a wire, a notify signal, a binding, or the deletion of objects.
 
-ghost use Rattle.std.specs.Prelude.{◌≡◌, ◌↔◌, [], ◌∷◌, IsTrue, IfSome};
+ghost use Rattle.std.specs.Prelude.{◌≡◌, ◌↔◌, [], ◌∷◌, IsTrue, IfSome, IfNone};
 ghost use Rattle.effect_scan.specs.Nodes.{node};
-ghost use Rattle.effect_scan.specs.Edges.{AtOrBelow, Reaches, ByNotify};
+ghost use Rattle.effect_scan.specs.Edges.{AtOrBelow, Reaches, ByWork, ByWire, ByNotify, BySite, MayLead};
 ghost use Rattle.effect_scan.specs.declared.node.Member.TheVariants.{Method, Property};
-ghost use Rattle.effect_scan.specs.Reasons.{BodyLeads, NativeLeads, WireJoins, WireDraws, IsSource, Reads, SiteBinds, SiteDraws, Draws};
+ghost use Rattle.effect_scan.specs.Reasons.{BodyLeads, DoesTo, NativeLeads, WireJoins, IsSource, Reads, SiteBinds, Draws};
 
 use crate::edges::named;
 use crate::effect::{Effect, Reach, effect_of};
@@ -37,7 +37,8 @@ pub enum Reason {
 /// notify signal before bindings, and each of them in the order of the text. `None` where nothing leads from the one to the
 /// other. Time is linear in the body of a slot, in wires or in bindings.
 pub fn reason_for(meta: &Meta, from: Node, to: Node) -> Option<Reason>
-    ensures { IfSome result (Draws meta.now from to) }
+    ensures draws { IfSome result (Draws meta.now from to) }
+    ensures none { IfNone result (¬ MayLead meta.now from to) }
 {
     match from.member {
         Member::Method(method) => match work_reason(meta, from, method, to) {
@@ -73,21 +74,22 @@ struct Search<'m> {
 impl<'m> Search<'m> {
     /// Whether the effect is one on the node.
     fn reaches(&self, effect: Effect) -> bool
-        ensures { IsTrue result → Reaches self.now.meta.now self.now.class effect self.now.to }
+        ensures { IsTrue result ↔ Reaches self.now.meta.now self.now.class effect self.now.to }
     {
-        if effect.member != self.to.member {
-            return false;
-        }
+        let member = effect.member;
         match effect.reach {
-            Reach::Own => self.class == self.to.class,
-            Reach::Below(class) => self.meta.inherits(self.to.class, class),
+            Reach::Own => {
+                let class = self.class;
+                self.to == Node { class, member }
+            }
+            Reach::Below(class) => is_below(self.meta, self.to, class, member),
         }
     }
 
     /// Whether the statement does something to the node by itself.
     fn is_done_by(&self, statement: &Statement) -> bool
-        ensures { IsTrue result →
-            BodyLeads self.now.meta.now self.now.class self.now.kinds.now (statement.now ∷ []) self.now.to }
+        ensures { IsTrue result ↔
+            DoesTo self.now.meta.now self.now.class self.now.kinds.now statement.now self.now.to }
     {
         match effect_of(self.kinds, statement) {
             Some(effect) => self.reaches(effect),
@@ -99,7 +101,8 @@ impl<'m> Search<'m> {
 /// What in the work of the method leads to the node.
 fn work_reason(meta: &Meta, from: Node, method: usize, to: Node) -> Option<Reason>
     requires { from.member ≡ Method method }
-    ensures { IfSome result (Draws meta.now from to) }
+    ensures draws { IfSome result (Draws meta.now from to) }
+    ensures none { IfNone result (¬ ByWork meta.now from to) }
 {
     let Some(found) = meta.method_at(from.class, method) else {
         return None;
@@ -133,7 +136,7 @@ fn work_reason(meta: &Meta, from: Node, method: usize, to: Node) -> Option<Reaso
 /// Whether a statement of the body leads to the node, or of a block or a group in it; `passed` counts those before it.
 #[cycle(bodies)]
 fn leads(search: &Search, body: &[Statement], passed: &mut usize) -> bool
-    ensures { IsTrue result →
+    ensures { IsTrue result ↔
         BodyLeads search.now.meta.now search.now.class search.now.kinds.now body.now search.now.to }
 {
     for statement in body {
@@ -147,7 +150,7 @@ fn leads(search: &Search, body: &[Statement], passed: &mut usize) -> bool
 /// Whether the statement leads to the node, or one that is in it.
 #[cycle(bodies)]
 fn whole_leads(search: &Search, statement: &Statement, passed: &mut usize) -> bool
-    ensures { IsTrue result →
+    ensures { IsTrue result ↔
         BodyLeads search.now.meta.now search.now.class search.now.kinds.now (statement.now ∷ []) search.now.to }
 {
     if search.is_done_by(statement) {
@@ -165,7 +168,7 @@ fn whole_leads(search: &Search, statement: &Statement, passed: &mut usize) -> bo
 
 /// Whether the native, of this class, may emit or set the node.
 fn native_leads(class: usize, native: &MetaEffects, to: Node) -> bool
-    ensures { IsTrue result → NativeLeads class native.now to }
+    ensures { IsTrue result ↔ NativeLeads class native.now to }
 {
     if to.class != class {
         return false;
@@ -186,7 +189,8 @@ fn is_below(meta: &Meta, place: Node, class: usize, member: Member) -> bool
 
 /// The first wire that isn't queued and leads from the one node to the other.
 fn wire_reason(meta: &Meta, from: Node, to: Node) -> Option<Reason>
-    ensures { IfSome result (Draws meta.now from to) }
+    ensures draws { IfSome result (Draws meta.now from to) }
+    ensures none { IfNone result (¬ ByWire meta.now from to) }
 {
     for (place, wire) in meta.wires().iter().enumerate() {
         if joins(meta, wire, from, to) {
@@ -198,7 +202,7 @@ fn wire_reason(meta: &Meta, from: Node, to: Node) -> Option<Reason>
 
 /// Whether the wire leads from the one node to the other at once.
 fn joins(meta: &Meta, wire: &MetaWire, from: Node, to: Node) -> bool
-    ensures { IsTrue result → WireJoins meta.now from to wire.now }
+    ensures { IsTrue result ↔ WireJoins meta.now from to wire.now }
 {
     wire.kind != Kind::Queued
         && is_below(meta, from, wire.sender, Member::Method(named(wire.signal)))
@@ -207,12 +211,12 @@ fn joins(meta: &Meta, wire: &MetaWire, from: Node, to: Node) -> bool
 
 /// Whether the node is the notify signal of the property, in the same class.
 fn notifies(meta: &Meta, class: usize, property: usize, to: Node) -> bool
-    ensures { IsTrue result → ByNotify meta.now (node class (Property property)) to }
+    ensures { IsTrue result ↔ ByNotify meta.now (node class (Property property)) to }
 {
     let Some(object) = meta.object(class) else {
         return false;
     };
-    let Some(found) = object.properties.get(property) else {
+    let Some(found) = object.property(property) else {
         return false;
     };
     match found.notify {
@@ -223,7 +227,8 @@ fn notifies(meta: &Meta, class: usize, property: usize, to: Node) -> bool
 
 /// The first binding that reads the one node for the other.
 fn site_reason(meta: &Meta, from: Node, to: Node) -> Option<Reason>
-    ensures { IfSome result (Draws meta.now from to) }
+    ensures draws { IfSome result (Draws meta.now from to) }
+    ensures none { IfNone result (¬ BySite meta.now from to) }
 {
     for (place, site) in meta.sites().iter().enumerate() {
         if binds(meta, site, from, to) {
@@ -235,7 +240,7 @@ fn site_reason(meta: &Meta, from: Node, to: Node) -> Option<Reason>
 
 /// Whether the binding is for the one node and reads the other.
 fn binds(meta: &Meta, site: &MetaSite, from: Node, to: Node) -> bool
-    ensures { IsTrue result → SiteBinds meta.now from to site.now }
+    ensures { IsTrue result ↔ SiteBinds meta.now from to site.now }
 {
     is_below(meta, to, site.class, Member::Property(site.property))
         && reads(
@@ -248,7 +253,7 @@ fn binds(meta: &Meta, site: &MetaSite, from: Node, to: Node) -> bool
 
 /// Whether the expression reads the node, where the formal sources are of these classes.
 fn reads(meta: &Meta, formals: &[usize], expression: &Expr<SourceProperty>, from: Node) -> bool
-    ensures { IsTrue result → Reads meta.now formals.now from expression.now }
+    ensures { IsTrue result ↔ Reads meta.now formals.now from expression.now }
 {
     match expression {
         Expr::Literal(_) => false,
@@ -265,7 +270,7 @@ fn reads(meta: &Meta, formals: &[usize], expression: &Expr<SourceProperty>, from
 
 /// Whether the node is this property of the source.
 fn is_source(meta: &Meta, formals: &[usize], source: SourceProperty, from: Node) -> bool
-    ensures { IsTrue result → IsSource meta.now formals.now from source }
+    ensures { IsTrue result ↔ IsSource meta.now formals.now from source }
 {
     match formals.get(source.source) {
         Some(class) => is_below(meta, from, *class, Member::Property(source.property)),

@@ -1,6 +1,6 @@
 //! Lists of numbers, as the ends of edges are kept.
 
-ghost use Rattle.std.specs.Prelude.{◌≡◌, ◌<◌, ◌++◌, ℕ, length, map, replicate, [], IfOk, OnOk};
+ghost use Rattle.std.specs.Prelude.{◌≡◌, ◌<◌, ◌++◌, ◌∷◌, ℕ, length, replicate, [], IfOk, OnOk};
 ghost use Rattle.std.specs.List.{Contains};
 ghost use Rattle.effect_scan.specs.Rows.{row};
 ghost use Rattle.effect_scan.specs.code.Adding.{Adds, Joins, IsOrdered, AreOrdered};
@@ -34,12 +34,35 @@ impl Added {
         }
     }
 
+    /// The numbers as they were added.
+    pub fn as_slice(&self) -> &[usize]
+        ensures { result.now ≡ self.now }
+    {
+        self.numbers.as_slice()
+    }
+
+    /// Adds the number to the end.
+    pub fn add(&mut self, number: usize) -> Result<(), AllocError>
+        ensures { OnOk result (self.new ≡ self.old ++ number ∷ []) }
+    {
+        self.numbers.push(number)?;
+        Ok(())
+    }
+
     /// Adds the numbers to the end.
     pub fn add_all(&mut self, numbers: &[usize]) -> Result<(), AllocError>
         ensures { OnOk result (self.new ≡ self.old ++ numbers.now) }
     {
         self.numbers.extend_from_slice(numbers)?;
         Ok(())
+    }
+
+    /// Puts the numbers in their order, each once.
+    pub fn put_in_order(&mut self)
+        ensures { IsOrdered self.old self.new }
+    {
+        self.numbers.sort_unstable();
+        self.numbers.dedup();
     }
 
     /// The numbers in their order, each once, in no more memory than they need.

@@ -143,8 +143,8 @@ fn add_edges(
 {
     add_works(alloc, places, meta.classes(), rows)?;
     add_wires(alloc, places, meta.wires(), rows)?;
-    add_notifiers(alloc, places, meta.classes(), rows)?;
+    add_notifiers(places, meta.classes(), rows)?;
     add_sites(alloc, places, meta.sites(), rows)?;
-    add_closures(alloc, places, closures, rows)?;
+    add_closures(places, closures, rows)?;
     ordered_rows(alloc, rows)
 }

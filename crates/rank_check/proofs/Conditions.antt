@@ -15,7 +15,7 @@ use Rattle.effect_scan.specs.Rows.{row, Edge}
 use Rattle.effect_scan.specs.Edges.{MayLead}
 use Rattle.effect_scan.specs.Scans.{Scanned, IsScan}
 use Rattle.effect_scan.specs.Destroying.{Closure, AreClosures}
-use Rattle.effect_scan.specs.code.Relations.{IsMarked}
+use Rattle.class_sets.specs.Marks.{IsMarked}
 use Rattle.certificate_lang.specs.declared.certificate.Line.{Line}
 use Rattle.certificate_lang.specs.declared.certificate.Certificate.{Certificate}
 use Rattle.rank_check.specs.declared.entries.Entry.{Entry}

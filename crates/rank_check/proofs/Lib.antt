@@ -1,5 +1,4 @@
 pub mod Elements
-pub mod Words
 pub mod Named
 pub mod Placing
 pub mod Listing

@@ -1,16 +1,17 @@
 -- Sets of classes from items.
 use Rattle.std.proofs.Common.{◌≡◌, ◌↔◌, ◌⊎◌, inl, inr, ℕ, ◌+◌, ◌<◌, ◌≤◌, Bool, true, false, List, [], length, get_or, take, replicate, refl, sym, ◌∙◌, subst, arith}
 use Rattle.std.specs.List.{Contains}
-use Rattle.std.proofs.lemmas.Bool.{cases_lt}
-use Rattle.std.proofs.lemmas.List.{length-replicate, get_or-replicate, get_or_past, take_all}
+use Rattle.std.proofs.lemmas.List.{length-replicate, take_all}
 use Rattle.std.proofs.lemmas.Option.{slice_get_within}
 use Rattle.meta_model.specs.Loaded.{Loaded}
 use Rattle.meta_model.specs.Members.{IsClassNamed}
 use Rattle.effect_scan.specs.Rows.{row}
 use Rattle.effect_scan.specs.Destroying.{Closure, itself, child, AreClosures}
-use Rattle.effect_scan.specs.code.Relations.{IsMarked, Marks}
-use Rattle.effect_scan.proofs.Adding.{no_members, first_more}
-use Rattle.effect_scan.proofs.Relating.{not_marked, below_first}
+use Rattle.effect_scan.proofs.Relating.{below_first}
+use Rattle.class_sets.specs.Marks.{IsMarked, Marks}
+use Rattle.class_sets.proofs.Firsts.{no_members, first_more}
+use Rattle.class_sets.proofs.Marking.{not_marked}
+pub use Rattle.class_sets.proofs.Marking.{unmarked}
 use Rattle.certificate_lang.specs.declared.certificate.SetItem.{SetItem}
 use Rattle.certificate_lang.specs.declared.certificate.SetItem.TheVariants as item
 use Rattle.rank_check.specs.Valid.{StandsFor, IsListed, AreClassesThere}
@@ -22,13 +23,6 @@ use Rattle.rank_check.proofs.Elements.{at_index, element_at}
 pub record SetsFirst (p : Loaded) (items : List SetItem) (set : List Bool) : Type 0 where
   pub count : length set ≡ length p.classes
   pub is : IsSet p items set
-
-pub unmarked : (count d : ℕ) → ¬ IsMarked (replicate count false) d
-unmarked count d h =
-    elim (cases_lt d count) [
-      | inl l ↦ let off = get_or-replicate count d false false l in let bad : false ≡ true = sym off ∙ h in cc
-      | inr m ↦ let off = get_or_past (replicate count false) d false (omega (arith, m, length-replicate {A = Bool} count false)) in let bad : false ≡ true = sym off ∙ h in cc
-    ]
 
 pub none_set : (p : Loaded) (items : List SetItem) (count : ℕ) → count ≡ length p.classes → SetsFirst p (take 0 items) (replicate count false)
 none_set p items count e = record {

@@ -6,7 +6,7 @@ use Rattle.effect_scan.specs.declared.node.Node.{Node}
 use Rattle.effect_scan.specs.declared.node.Member.TheVariants.{Destruction}
 use Rattle.effect_scan.specs.Rows.{Edge}
 use Rattle.effect_scan.specs.Destroying.{Closure}
-use Rattle.effect_scan.specs.code.Relations.{IsMarked}
+use Rattle.class_sets.specs.Marks.{IsMarked, IsWithin}
 use Rattle.rank_check.specs.declared.causes.NodeLine.{NodeLine}
 use Rattle.rank_check.specs.declared.causes.Rise.{Rise}
 use Rattle.rank_check.specs.declared.causes.Mistake.{Mistake}
@@ -47,10 +47,6 @@ pub record IsRiseIn (rows : List (List ℕ)) (entries : List Entry) (rise : Rise
   pub rises : upper.rank ≤ lower.rank
 
 -- ---- sets
-
--- the classes of the one set are in the other
-abbrev pub IsWithin : List Bool → List Bool → Type 0
-IsWithin set other = (d : ℕ) → IsMarked set d → IsMarked other d
 
 -- the sets of these nodes are within this one
 abbrev pub AreWithin : List ℕ → List Entry → List Bool → Type 0

@@ -5,7 +5,7 @@ use Rattle.meta_model.specs.Loaded.{Loaded}
 use Rattle.class_outlines.specs.LookUps.{LooksUp, FindsOnly}
 use Rattle.effect_scan.specs.declared.node.Node.{Node}
 use Rattle.effect_scan.specs.Nodes.{nodes_of, IsAt}
-use Rattle.effect_scan.specs.code.Relations.{IsMarked, Marks}
+use Rattle.class_sets.specs.Marks.{IsMarked, Marks}
 use Rattle.type_check.specs.Wires.{AreFitWires}
 use Rattle.type_check.specs.Typed.{IsTypedProgram}
 use Rattle.certificate_lang.specs.declared.certificate.NodeName.{NodeName}

@@ -4,10 +4,9 @@ pub mod Causes
 pub mod Checks
 pub mod Entries
 pub mod ByNumbers
-pub mod Words
+pub use Rattle.class_sets.specs.Marks
 pub use Rattle.class_outlines.specs.LookUps
 pub use Rattle.effect_scan.specs.Destroying
-pub use Rattle.effect_scan.specs.code.Relations
 pub use Rattle.effect_scan.specs.Nodes
 pub use Rattle.effect_scan.specs.Rows
 pub use Rattle.effect_scan.specs.Scans

@@ -16,6 +16,11 @@ IsMemberNamed p c (Method sig) found = (m : ℕ) × HasSig p c sig m × (found �
 IsMemberNamed p c (Property name) found = (q : ℕ) × IsPropertyNamed p c name q × (found ≡ member.Property q)
 IsMemberNamed p c Destruction found = found ≡ member.Destruction
 
+-- the name is that of this member of this class
+pub record IsMemberOf (p : Loaded) (name : NodeName) (x : Node) : Type 0 where
+  pub class : IsClassNamed p name.class x.class
+  pub member : IsMemberNamed p x.class name.member x.member
+
 -- the name is that of this node of the program: `C.destroyed()` names none
 pub record IsNodeNamed (p : Loaded) (name : NodeName) (x : Node) : Type 0 where
   pub class : IsClassNamed p name.class x.class

@@ -3,14 +3,14 @@
 ghost use Rattle.std.specs.Prelude.{ℕ, ◌≡◌, ◌↔◌, ◌<◌, length, IsTrue, MatchOption};
 ghost use Rattle.std.specs.List.{Contains};
 ghost use Rattle.effect_scan.specs.Rows.{Edge};
-ghost use Rattle.effect_scan.specs.code.Relations.{IsMarked};
+ghost use Rattle.class_sets.specs.Marks.{IsMarked};
 ghost use Rattle.effect_scan.specs.Scans.{IsScan};
 ghost use Rattle.rank_check.specs.Valid.{RunsBody};
 ghost use Rattle.rank_check.specs.ByNumbers.{AreWithin, HasLost, HoldsOwn, IsOwnMistake, Hold, IsMistakeIn};
 
 use crate::causes::{Mistake, NodeLine};
-use crate::class_set::ClassSet;
 use crate::entries::Entry;
+use class_sets::ClassSet;
 use effect_scan::{Member, Node, Scan, row_at};
 use meta_model::Work;
 use meta_objects::Meta;
@@ -77,7 +77,7 @@ fn own_mistake(
             None => None,
         },
         Member::Method(method) => {
-            if runs_body(meta, node.class, method) && set.contains(node.class) {
+            if set.contains(node.class) && runs_body(meta, node.class, method) {
                 Some(Mistake::Own(place))
             } else {
                 None

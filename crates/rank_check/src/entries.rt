@@ -6,11 +6,11 @@ ghost use Rattle.rank_check.specs.Entries.{AreNumbers, ArePlaces, FindsEntry, Fi
 ghost use Rattle.effect_scan.specs.Nodes.{nodes_of};
 
 use crate::causes::{Cause, Extra};
-use crate::class_set::ClassSet;
 use crate::naming::line_numbers;
 use crate::places::{first_extra, line_places};
 use crate::sets::set_of;
 use certificate_lang::{Certificate, Line};
+use class_sets::ClassSet;
 use effect_scan::Scan;
 use meta_objects::Meta;
 use sqlite_items::Items;

@@ -3,7 +3,6 @@
 
 mod causes;
 mod checked;
-mod class_set;
 mod denied;
 mod destroys;
 mod entries;
@@ -19,7 +18,7 @@ pub use certificate_lang::{
     Certificate, CertificateFault, Line, MemberName, NodeName, SetItem, read_certificate,
 };
 pub use checked::{Checked, check, examine};
-pub use class_set::ClassSet;
+pub use class_sets::ClassSet;
 pub use denied::Denied;
 pub use judging::judge;
 pub use no::No;

@@ -4,8 +4,8 @@ ghost use Rattle.std.specs.Prelude.{◌≡◌, length, IfOk};
 ghost use Rattle.effect_scan.specs.Scans.{IsScan};
 ghost use Rattle.rank_check.specs.Entries.{FindsSet, AddsItem};
 
-use crate::class_set::ClassSet;
 use certificate_lang::SetItem;
+use class_sets::ClassSet;
 use effect_scan::{Scan, row_at};
 use meta_objects::Meta;
 use std::alloc::{AllocError, Global};

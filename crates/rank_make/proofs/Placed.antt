@@ -3,14 +3,13 @@ use Rattle.std.proofs.Common.{◌≡◌, inl, inr, ℕ, zero, suc, ◌+◌, ◌<
 use Rattle.std.specs.Option.{option_map}
 use Rattle.std.proofs.lemmas.List.{length-append}
 use Rattle.std.proofs.lemmas.Option.{slice_get-map, same_Some, none-some}
-use Rattle.signatures.specs.declared.sig.Sig.{Sig}
 use Rattle.meta_model.specs.declared.object.MetaMethod.{MetaMethod}
 use Rattle.meta_model.specs.declared.object.MetaObject.{MetaObject}
 use Rattle.meta_model.specs.Loaded.{Loaded}
-use Rattle.meta_model.specs.Members.{IsClass, HasSig, IsMethodNamed}
+use Rattle.meta_model.specs.Members.{IsClass}
 use Rattle.meta_model.specs.Root.{root_methods}
 use Rattle.meta_model.specs.Sound.{IsSound, IsSoundClass}
-use Rattle.meta_model.proofs.OneAnswer.{one_class, one_named, one_property}
+use Rattle.meta_model.proofs.OneAnswer.{one_class}
 use Rattle.effect_scan.specs.declared.node.Node.{Node}
 use Rattle.effect_scan.specs.declared.node.Member.{Member}
 use Rattle.effect_scan.specs.declared.node.Member.TheVariants as member
@@ -21,9 +20,8 @@ use Rattle.effect_scan.specs.Laws.{IsNode}
 use Rattle.effect_scan.proofs.Numbered.{stands_among, stands_only, one_place}
 use Rattle.effect_scan.proofs.Whole.{made}
 use Rattle.certificate_lang.specs.declared.certificate.NodeName.{NodeName}
-use Rattle.certificate_lang.specs.declared.certificate.MemberName.{MemberName}
-use Rattle.certificate_lang.specs.declared.certificate.MemberName.TheVariants.{Method, Property, Destruction}
 use Rattle.rank_check.specs.Names.{IsMemberNamed, IsNodeNamed}
+use Rattle.rank_check.proofs.Named.{one_member}
 use Rattle.rank_make.specs.Solved.{HasMember}
 
 module _ (p : Loaded) where
@@ -102,26 +100,9 @@ module _ (p : Loaded) where
 
   module _ (sound : IsSound p) where
     -- ---- names
-    named_by_sig : (c : ℕ) (sig : Sig) (m : ℕ) → HasSig p c sig m → IsMethodNamed p c sig.name (length sig.types) m
-    named_by_sig c sig m h = record {
-      method = h.method;
-      is = h.is;
-      named = ap (λ (s : Sig). s.name) h.signed;
-      counted = ap (λ (s : Sig). length s.types) h.signed;
-    }
-
-    one_member : (c : ℕ) (name : MemberName) (m k : Member) → IsMemberNamed p c name m → IsMemberNamed p c name k → m ≡ k
-    one_member c (Method sig) m k h g =
-        let number : g.0 ≡ h.0 = one_named p sound c sig.name (length sig.types) h.0 g.0 (named_by_sig c sig h.0 h.1) (named_by_sig c sig g.0 g.1) in
-        h.2 ∙ ap (λ (n : ℕ). member.Method n) (sym number) ∙ sym g.2
-    one_member c (Property name) m k h g =
-        let number : g.0 ≡ h.0 = one_property p sound c name h.0 g.0 h.1 g.1 in
-        h.2 ∙ ap (λ (n : ℕ). member.Property n) (sym number) ∙ sym g.2
-    one_member c Destruction m k h g = h ∙ sym g
-
     pub one_name : (name : NodeName) (x y : Node) → IsNodeNamed p name x → IsNodeNamed p name y → x ≡ y
     one_name name x y h g =
         let class : y.class ≡ x.class = one_class p sound name.class x.class y.class h.class g.class in
         let here = subst (λ (c : ℕ). IsMemberNamed p c name.member y.member) class g.member in
-        let member : x.member ≡ y.member = one_member x.class name.member x.member y.member h.member here in
+        let member : x.member ≡ y.member = one_member p sound x.class name.member x.member y.member h.member here in
         sym (made x x.class x.member refl refl) ∙ ap (λ (m : Member). node x.class m) member ∙ made y x.class y.member class refl

@@ -108,14 +108,14 @@ fn member_name(alloc: Global, class: &MetaObject, member: Member) -> Result<Memb
     ensures { IfOk result (λ name. (p : Loaded) (c : ℕ) → IsClass p c class.now → IsMemberNamed p c name member) }
 {
     match member {
-        Member::Method(method) => match class.methods.get(method) {
+        Member::Method(method) => match class.method(method) {
             Some(found) => {
                 let sig = found.sig.copy(alloc)?;
                 Ok(MemberName::Method(sig))
             }
             None => unreachable!(),
         },
-        Member::Property(property) => match class.properties.get(property) {
+        Member::Property(property) => match class.property(property) {
             Some(found) => {
                 let name = found.name.copy()?;
                 Ok(MemberName::Property(name))

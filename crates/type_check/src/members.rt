@@ -49,7 +49,7 @@ fn property_flaw(meta: &Meta, class: usize, property: usize) -> Option<Flaw>
     let Some(object) = meta.object(class) else {
         return None;
     };
-    let Some(property) = object.properties.get(property) else {
+    let Some(property) = object.property(property) else {
         return None;
     };
     if meta.has_type(&property.initial, None, property.kind) {

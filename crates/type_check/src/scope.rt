@@ -80,7 +80,7 @@ impl<'m> Scope<'m> {
     fn kind_set(&self, path: &MetaPath, property: usize) -> Option<ValueType> {
         let class = self.mutable(path)?;
         let object = self.meta.object(class)?;
-        let property = object.properties.get(property)?;
+        let property = object.property(property)?;
         Some(property.kind)
     }
 
@@ -130,7 +130,7 @@ impl<'m> Scope<'m> {
         let Some(object) = self.meta.object(class) else {
             return Ok(false);
         };
-        match object.properties.get(property) {
+        match object.property(property) {
             Some(property) => self.is_given(property.kind, value),
             None => Ok(false),
         }

@@ -43,7 +43,7 @@ fn kind_in(meta: &Meta, class: usize, property: usize) -> Option<ValueType>
     ensures { result ≡ kind_in meta.now class property }
 {
     let object = meta.object(class)?;
-    let property = object.properties.get(property)?;
+    let property = object.property(property)?;
     Some(property.kind)
 }
 

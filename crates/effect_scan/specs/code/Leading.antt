@@ -28,6 +28,12 @@ pub record MethodLeads (places : Places) (c m : ℕ) (method : MetaMethod) (a b 
   pub has : WorkHas method.kinds method.work effect
   pub to : IsReached places c effect b
 
+-- what the method's work does something to, for an object of class c
+pub record WorkReaches (places : Places) (c : ℕ) (method : MetaMethod) (b : ℕ) : Type 0 where
+  pub effect : Effect
+  pub has : WorkHas method.kinds method.work effect
+  pub to : IsReached places c effect b
+
 abbrev pub MethodsLead : Places → ℕ → MetaObject → ℕ → ℕ → Type 0
 MethodsLead places c class = Among (MethodLeads places c) class.methods
 
@@ -37,6 +43,11 @@ pub record PropertyLeads (places : Places) (c q : ℕ) (property : MetaProperty)
   pub notifies : property.notify ≡ Some signal
   pub from : IsAt places.numbering (node c (Property q)) a
   pub to : IsAt places.numbering (node c (Method (named signal))) b
+
+-- property q of class c, whose notify signal is this one
+pub record Notifies (places : Places) (c q signal a b : ℕ) : Type 0 where
+  pub from : IsAt places.numbering (node c (Property q)) a
+  pub to : IsAt places.numbering (node c (Method signal)) b
 
 abbrev pub PropertiesLead : Places → ℕ → MetaObject → ℕ → ℕ → Type 0
 PropertiesLead places c class = Among (PropertyLeads places c) class.properties

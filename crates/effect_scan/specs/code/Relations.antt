@@ -1,13 +1,11 @@
--- Relations between classes, as rows of truth values, from which closures are made.
-use Rattle.std.specs.Prelude.{◌≡◌, ◌↔◌, ◌⊎◌, ℕ, ◌<◌, Bool, true, false, List, [], length, slice_index_or}
+-- Relations between classes, as a set of classes for each, from which closures are made.
+use Rattle.std.specs.Prelude.{◌≡◌, ◌↔◌, ◌⊎◌, ℕ, ◌<◌, Bool, List, [], length, slice_index_or}
 use Rattle.std.specs.List.{Contains, AllZip}
 use Rattle.meta_model.specs.declared.object.MetaOwns.{MetaOwns}
+pub use Rattle.class_sets.specs.Marks.{IsMarked, Marks}
 use Rattle.effect_scan.specs.Rows.{row}
 use Rattle.effect_scan.specs.code.Adding.{Among}
 use Rattle.effect_scan.specs.code.Places.{Lists}
-
-abbrev pub IsMarked : List Bool → ℕ → Type 0
-IsMarked marks j = slice_index_or marks j false ≡ true
 
 unfoldable pub marks_of : List (List Bool) → ℕ → List Bool
 marks_of relation i = slice_index_or relation i []
@@ -24,11 +22,6 @@ pub record IsSquare (n : ℕ) (relation : List (List Bool)) : Type 0 where
 pub record IsEmpty (n : ℕ) (relation : List (List Bool)) : Type 0 where
   pub square : IsSquare n relation
   pub none : (i j : ℕ) → ¬ Holds relation i j
-
--- just the numbers with P were marked
-pub record Marks (P : ℕ → Type 0) (before after : List Bool) : Type 0 where
-  pub count : length after ≡ length before
-  pub marks : (j : ℕ) → IsMarked after j ↔ (IsMarked before j ⊎ P j)
 
 -- just the classes with P were related
 pub record Extends (P : ℕ → ℕ → Type 0) (before after : List (List Bool)) : Type 0 where
@@ -47,8 +40,8 @@ abbrev pub IsOwn : ℕ → ℕ → ℕ → Type 0
 IsOwn n i j = (i < n) × (i ≡ j)
 
 -- the first is related to class k, the second is one of these
-abbrev pub Passes : List (List Bool) → ℕ → List ℕ → ℕ → ℕ → Type 0
-Passes relation k others i j = Holds relation i k × Contains others j
+abbrev pub Passes : List (List Bool) → ℕ → List Bool → ℕ → ℕ → Type 0
+Passes relation k others i j = Holds relation i k × IsMarked others j
 
 -- a chain of what is related leads from the one to the other
 pub data Chains (R : ℕ → ℕ → Type 0) : ℕ → ℕ → Type 0 where
@@ -67,6 +60,6 @@ pub record Closing (n : ℕ) (before after : List (List Bool)) : Type 0 where
   pub chains : (i j : ℕ) → Holds after i j → Chains (Holds before) i j
   pub closed : (i k j : ℕ) → k < n → Holds after i k → Holds after k j → Holds after i j
 
--- the numbers that are marked in each row
+-- the classes of each set
 abbrev pub AreListed : List (List Bool) → List (List ℕ) → Type 0
 AreListed relation lists = AllZip (λ marks list. Lists (IsMarked marks) (length marks) list) relation lists

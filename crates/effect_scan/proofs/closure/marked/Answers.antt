@@ -1,11 +1,18 @@
-use Rattle.std.proofs.Common.{◌∙◌}
+use Rattle.std.proofs.Common.{◌≡◌, ℕ, length, subst, arith, ◌∙◌}
+use Rattle.class_sets.specs.Marks.{IsMarked}
+use Rattle.effect_scan.specs.code.Places.{Lists}
 use Rattle.effect_scan.proofs.Listing.{lists_yes, lists_no}
-use Rattle.effect_scan.proofs.closure.marked.Goals.{then-is_marked+in_ok-push, else-is_marked}
+use Rattle.effect_scan.proofs.closure.marked.Goals.{then-contains+in_ok-push, else-contains}
 use Rattle.effect_scan.proofs.closure.marked.Goals as goal
 
-pub loop-number-preserved : goal.loop-number-preserved
-loop-number-preserved c =
-    elim c.if-is_marked.branch [
-      | then-is_marked+in_ok-push w ↦ lists_yes _ _ _ _ c.loop-number.invariant w.if-is_marked.true (w.numbers-is ∙ w.in_ok-push.ensures.ok)
-      | else-is_marked w ↦ rw w.numbers-is (lists_no _ _ _ c.loop-number.invariant (λ h. let off = w.if-is_marked.false in cc))
+pub loop-class-preserved : goal.loop-class-preserved
+loop-class-preserved c =
+    elim c.if-contains.branch [
+      | then-contains+in_ok-push w ↦ lists_yes _ _ _ _ c.loop-class.invariant (c.contains.ensures.0 w.if-contains.true) (w.classes-is ∙ w.in_ok-push.ensures.ok)
+      | else-contains w ↦ rw w.classes-is (lists_no _ _ _ c.loop-class.invariant (λ h. let on = c.contains.ensures.1 h in let off = w.if-contains.false in cc))
     ]
+
+pub returns : goal.returns
+returns c =
+    let end : c.loop-class.class ≡ length c.args.set.now = omega arith in
+    subst (λ (n : ℕ). Lists (IsMarked c.args.set.now) n c.loop-class.classes) end c.loop-class.invariant

@@ -1,6 +1,6 @@
-use Rattle.effect_scan.specs.code.Relations.{IsMarked}
+use Rattle.class_sets.specs.Marks.{IsMarked}
 use Rattle.effect_scan.specs.code.Places.{Lists}
 use Rattle.effect_scan.proofs.closure.marked.Given as goal
 
-abbrev pub invariant-loop-number : goal.invariant-loop-number
-invariant-loop-number l = Lists (IsMarked l.row) l.number l.numbers
+abbrev pub invariant-loop-class : goal.invariant-loop-class
+invariant-loop-class l = Lists (IsMarked l.set) l.class l.classes

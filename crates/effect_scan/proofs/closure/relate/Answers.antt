@@ -16,8 +16,8 @@ bounds-relation-first c =
     let inside : get_or c.args.firsts.now c.loop-first.first-index 0 < length c.loop-first.relation = omega (arith, low, c.loop-first.auto.relation) in
     inside
 
-pub mark-requires : goal.mark-requires
-mark-requires c = λ j h.
+pub add_all-requires : goal.add_all-requires
+add_all-requires c = λ j h.
     let low = c.requires.firsts _ (Contains-get_or c.args.firsts.now c.loop-first.first-index 0 c.loop-first-test.true) in
     let inside : get_or c.args.firsts.now c.loop-first.first-index 0 < length c.loop-first.relation = omega (arith, low, c.loop-first.auto.relation) in
     let width = row_width _ c.loop-first.relation _ c.index-relation-first.result c.loop-first.invariant.square low in
@@ -29,7 +29,7 @@ loop-first-preserved c =
     let low = c.requires.firsts _ (Contains-get_or c.args.firsts.now c.loop-first.first-index 0 c.loop-first-test.true) in
     let inside : get_or c.args.firsts.now c.loop-first.first-index 0 < length c.loop-first.relation = omega (arith, low, c.loop-first.auto.relation) in
     relate_more _ _ _ _ _ _ c.loop-first-test.true c.loop-first.invariant
-    (extends_at (Contains c.args.others.now) _ _ c.index-relation-first.result _ (square_after _ _ _ c.loop-first.invariant) inside c.mark.ensures)
+    (extends_at (Contains c.args.others.now) _ _ c.index-relation-first.result _ (square_after _ _ _ c.loop-first.invariant) inside c.add_all.ensures)
 
 pub returns : goal.returns
 returns c = relate_all _ _ _ _ _ c.loop-first-test.false c.loop-first.invariant

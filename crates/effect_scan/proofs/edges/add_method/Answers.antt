@@ -1,11 +1,26 @@
-use Rattle.std.proofs.Common.{subst}
-use Rattle.meta_model.specs.declared.object.Work.{Work}
-use Rattle.effect_scan.specs.Effects.{WorkHas}
-use Rattle.effect_scan.specs.code.Leading.{MethodLeads}
-use Rattle.effect_scan.proofs.Adding.{adds_none}
+use Rattle.std.proofs.Common.{◌<◌, length, get_or, set, arith}
+use Rattle.std.proofs.lemmas.Result.{IfOk-weaker}
+use Rattle.effect_scan.specs.declared.node.Member.TheVariants.{Method}
+use Rattle.effect_scan.specs.Nodes.{node}
+use Rattle.effect_scan.specs.Effects.{Gathers}
+use Rattle.effect_scan.specs.code.Adding.{Adds}
+use Rattle.effect_scan.specs.code.Leading.{MethodLeads, WorkReaches}
+use Rattle.effect_scan.proofs.Adding.{one_leads, none_leads}
+use Rattle.effect_scan.proofs.Listing.{at_low}
+use Rattle.effect_scan.proofs.Joined.{method_both}
 use Rattle.effect_scan.proofs.edges.add_method.Goals as goal
 
-pub returns-in-Signal : goal.returns-in-Signal
-returns-in-Signal c =
-    adds_none (MethodLeads c.args.places.now c.args.class c.args.number c.args.method.now) _
-    (λ a b h. subst (λ (w : Work). WorkHas c.args.method.now.kinds w h.effect) c.in-Signal.is h.has)
+pub bounds-rows-from : goal.bounds-rows-from
+bounds-rows-from c = let low = at_low c.args.places.now.numbering (node c.args.class (Method c.args.number)) c.in-Some.from c.in-Some.ensures.value in omega (arith, low, c.requires)
+
+pub returns-in-Some : goal.returns-in-Some
+returns-in-Some c =
+    let low = at_low c.args.places.now.numbering (node c.args.class (Method c.args.number)) c.in-Some.from c.in-Some.ensures.value in
+    let inside : c.in-Some.from < length c.args.rows.now = omega (arith, low, c.requires) in
+    IfOk-weaker c.add_work.result (λ _. Gathers (WorkReaches c.args.places.now c.args.class c.args.method.now) (get_or c.args.rows.now c.in-Some.from c.index-rows-from.result) c.add_work.new.numbers)
+    (λ _. Adds (MethodLeads c.args.places.now c.args.class c.args.number c.args.method.now) c.args.rows.now (set c.args.rows.now c.in-Some.from c.add_work.new.numbers))
+    (λ x g. one_leads _ _ (MethodLeads c.args.places.now c.args.class c.args.number c.args.method.now) (method_both c.args.places.now c.args.class c.args.number c.args.method.now) c.in-Some.from c.in-Some.ensures.value c.in-Some.ensures.only c.args.rows.now _ _ inside g)
+    c.add_work.ensures
+
+pub returns-in-None : goal.returns-in-None
+returns-in-None c = none_leads _ _ (MethodLeads c.args.places.now c.args.class c.args.number c.args.method.now) (method_both c.args.places.now c.args.class c.args.number c.args.method.now) c.in-None.ensures.value _

@@ -1,5 +1,5 @@
 use Rattle.std.proofs.Common.{◌<◌, ℕ, get_or}
-use Rattle.effect_scan.specs.code.Relations.{IsMarked}
+use Rattle.class_sets.specs.Marks.{IsMarked}
 use Rattle.rank_check.proofs.destroys.first_unmarked.Given as goal
 
 abbrev pub invariant-loop-class : goal.invariant-loop-class

@@ -1,7 +1,7 @@
 use Rattle.std.proofs.Common.{◌≡◌, ◌<◌, ℕ, length, get_or, slice_get, Some, refl, subst, below_more, arith}
 use Rattle.std.proofs.lemmas.List.Elements.{Contains-get_or}
 use Rattle.rank_check.specs.declared.entries.Entry.{Entry}
-use Rattle.rank_check.specs.ByNumbers.{IsWithin}
+use Rattle.class_sets.specs.Marks.{IsWithin}
 use Rattle.rank_check.proofs.Elements.{at_index, same_index, each_number}
 use Rattle.rank_check.proofs.destroys.lost_class.Goals as goal
 

@@ -1,6 +1,6 @@
 use Rattle.std.proofs.Common.{◌≡◌, ◌<◌, ℕ, get_or, slice_get, Some}
 use Rattle.rank_check.specs.declared.entries.Entry.{Entry}
-use Rattle.rank_check.specs.ByNumbers.{IsWithin}
+use Rattle.class_sets.specs.Marks.{IsWithin}
 use Rattle.rank_check.proofs.destroys.lost_class.Given as goal
 
 abbrev pub invariant-loop-target : goal.invariant-loop-target

@@ -1,0 +1,3 @@
+pub mod Firsts
+pub mod Marking
+pub mod Words

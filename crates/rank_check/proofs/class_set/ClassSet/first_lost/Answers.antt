@@ -1,9 +1,0 @@
-use Rattle.std.proofs.Common.{Bool, List, sym, subst, arith}
-use Rattle.effect_scan.specs.code.Relations.{IsMarked}
-use Rattle.rank_check.proofs.Words.{marked_has}
-use Rattle.rank_check.proofs.class_set.ClassSet.first_lost.Goals as goal
-
-pub returns : goal.returns
-returns c = λ d h.
-    let has = marked_has _ _ d (subst (λ (marks : List Bool). IsMarked marks d) (sym c.self.view_is) h) in
-    c.loop-class.invariant d (omega (arith, has.0, c.loop-class-test.false)) h
