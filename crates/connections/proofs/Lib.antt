@@ -11,3 +11,4 @@ pub mod Kept
 pub mod Laws
 pub mod Asked
 pub mod Noted
+mod Standing

@@ -6,7 +6,7 @@ ghost use Rattle.connections.specs.code.Listed.{AddsItem, KeepsOthers, SameItems
 ghost use Rattle.connections.specs.code.Store.{Gains, Grows, IsNoted, Stays, ends_in, has_pair, same_ends};
 
 use crate::link::Link;
-use crate::listed::{Listed, add_item, insert_first, push};
+use crate::listed::{Listed, add_item, add_near, index_near, insert_first, push_at};
 use crate::lists::{Lists, ends_between};
 use crate::place::Place;
 use indexmap::IndexMap;
@@ -30,8 +30,21 @@ pub fn add(
     let number = link.number;
     let ends = ends_between(sender, signal, link.receiver, link.method);
     lists.all.reserve(1)?;
-    note(alloc, &mut lists.pairs, objects, ends, number)?;
-    add_item(alloc, &mut lists.groups, (ends.0, ends.1), link)?;
+    note(
+        alloc,
+        &mut lists.pairs,
+        &mut lists.near_pair,
+        objects,
+        ends,
+        number,
+    )?;
+    add_near(
+        alloc,
+        &mut lists.groups,
+        &mut lists.near_group,
+        (ends.0, ends.1),
+        link,
+    )?;
     lists.all.push_reserved(Place {
         number,
         sender,
@@ -44,6 +57,7 @@ pub fn add(
 fn note(
     alloc: Global,
     pairs: &mut IndexMap<(usize, usize, usize, usize), Listed<u64>>,
+    near: &mut usize,
     objects: &mut IndexMap<usize, Listed<(usize, usize, usize, usize)>>,
     ends: (usize, usize, usize, usize),
     number: u64,
@@ -54,12 +68,9 @@ fn note(
     ensures noted { has_pair pairs.new ends ≡ true → (has_pair pairs.old ends ≡ true) ⊎ IsNoted (ends_in objects.new) ends }
     ensures grown { Grows (ends_in objects.old) (ends_in objects.new) }
 {
-    match pairs.get_mut(&ends) {
-        None => {}
-        Some(pair) => {
-            push(pair, number)?;
-            return Ok(());
-        }
+    if let Some(index) = index_near(pairs, *near, ends) {
+        *near = index;
+        return push_at(pairs, index, number);
     }
     note_ends(alloc, objects, ends)?;
     insert_first(alloc, pairs, ends, number)?;

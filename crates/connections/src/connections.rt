@@ -11,7 +11,7 @@ use crate::fault::{ConnectFault, DisconnectFault};
 use crate::groups::{links_near, links_of};
 use crate::hint::SignalHint;
 use crate::link::Link;
-use crate::listed::{Listed, items_of};
+use crate::listed::{Listed, items_near};
 use crate::lists::{Lists, ends_between};
 use crate::removing::{Removal, remove};
 use crate::search::{lead_to_any, next_above};
@@ -265,8 +265,8 @@ fn have_ends(lists: &Lists, ends: (usize, usize, usize, usize)) -> bool
     requires { EachRises (links_in lists.now.groups) }
     ensures { result ≡ list_any (λ n. list_any (is_due_link n ends.2 ends.3) (links_in lists.now.groups ends.0 ends.1)) (numbers_in lists.now.pairs ends) }
 {
-    let numbers = items_of(&lists.pairs, ends);
-    let links = items_of(&lists.groups, (ends.0, ends.1));
+    let numbers = items_near(&lists.pairs, lists.near_pair, ends);
+    let links = items_near(&lists.groups, lists.near_group, (ends.0, ends.1));
     lead_to_any(links, numbers, ends.2, ends.3)
 }
 

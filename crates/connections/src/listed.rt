@@ -1,8 +1,8 @@
 //! Lists under keys.
 
-ghost use Rattle.std.specs.Prelude.{◌≡◌, true, false, ◌∷◌, [], ◌++◌, None, OnOk, OnErr, IfOk};
-ghost use Rattle.indexmap.specs.IndexMap.{get};
-ghost use Rattle.connections.specs.code.Listed.{list_of, SameItems, NoNewKeys, KeepsItems, AddsItem, KeepsOthers};
+ghost use Rattle.std.specs.Prelude.{◌≡◌, ◌<◌, true, false, ◌∷◌, [], ◌++◌, None, OnOk, OnErr, IfOk, IfSome, IfNone, IsTrue};
+ghost use Rattle.indexmap.specs.IndexMap.{get, index_map_len};
+ghost use Rattle.connections.specs.code.Listed.{list_of, SameItems, NoNewKeys, KeepsItems, AddsItem, KeepsOthers, IsFoundAt, StandsAt};
 
 use indexmap::IndexMap;
 use std::alloc::{AllocError, Global};
@@ -30,6 +30,55 @@ where
     }
 }
 
+/// The same, found with no search where the key stands at the index `near`.
+pub fn items_near<K: Eq + Hash + Copy, T>(
+    lists: &IndexMap<K, Listed<T>>,
+    near: usize,
+    key: K,
+) -> &[T]
+where
+    K: Drop,
+    ensures { result.now ≡ list_of K.eq lists.now key }
+{
+    match lists.get_index(near) {
+        Some((found, listed)) if *found == key => &listed.items,
+        _ => items_of(lists, key),
+    }
+}
+
+/// The index of a key, found with no search where the key stands at the index `near`.
+pub fn index_near<K: Eq + Hash + Copy, T>(
+    lists: &IndexMap<K, Listed<T>>,
+    near: usize,
+    key: K,
+) -> Option<usize>
+where
+    K: Drop,
+    ensures found { IfSome result (λ index. StandsAt K.eq lists.now index key) }
+    ensures within { IfSome result (λ index. index < index_map_len lists.now) }
+    ensures none { IfNone result (get K.eq lists.now key ≡ None) }
+{
+    if near < lists.len() && is_found_at(lists, near, key) {
+        return Some(near);
+    }
+    match lists.get_full(&key) {
+        None => None,
+        Some((index, _, _)) => Some(index),
+    }
+}
+
+/// Whether the key stands at this index.
+fn is_found_at<K: Eq + Hash + Copy, T>(lists: &IndexMap<K, Listed<T>>, index: usize, key: K) -> bool
+where
+    K: Drop,
+    ensures { IsTrue result → IsFoundAt K.eq lists.now index key }
+{
+    match lists.get_index(index) {
+        None => false,
+        Some((found, _)) => *found == key,
+    }
+}
+
 /// One more item under a key. Without memory no key has other items than it had.
 pub fn add_item<K: Eq + Hash + Copy, T: Copy>(
     alloc: Global,
@@ -48,6 +97,48 @@ where
         return push(listed, item);
     }
     insert_first(alloc, lists, key, item)
+}
+
+/// The same, with no search where the key stands at the index `near`, which is set to where it stands if it was there.
+pub fn add_near<K: Eq + Hash + Copy, T: Copy>(
+    alloc: Global,
+    lists: &mut IndexMap<K, Listed<T>>,
+    near: &mut usize,
+    key: K,
+    item: T,
+) -> Result<(), AllocError>
+where
+    K: Drop,
+    T: Drop,
+    ensures added { OnOk result (AddsItem K.eq lists.old lists.new key item) }
+    ensures err { OnErr result (KeepsItems K.eq lists.old lists.new key) }
+    ensures others { KeepsOthers K.eq lists.old lists.new key }
+{
+    match index_near(lists, *near, key) {
+        None => insert_first(alloc, lists, key, item),
+        Some(index) => {
+            *near = index;
+            push_at(lists, index, item)
+        }
+    }
+}
+
+/// One more item under the key at an index. Without memory no key has other items than it had.
+pub fn push_at<K: Eq + Hash + Copy, T: Copy>(
+    lists: &mut IndexMap<K, Listed<T>>,
+    index: usize,
+    item: T,
+) -> Result<(), AllocError>
+where
+    K: Drop,
+    T: Drop,
+    requires { index < index_map_len lists.old }
+    ensures added { (key : K) → StandsAt K.eq lists.old index key → OnOk result (AddsItem K.eq lists.old lists.new key item) }
+    ensures err { (key : K) → StandsAt K.eq lists.old index key → OnErr result (KeepsItems K.eq lists.old lists.new key) }
+    ensures others { (key : K) → StandsAt K.eq lists.old index key → KeepsOthers K.eq lists.old lists.new key }
+{
+    let (_, listed) = lists.pair_mut(index);
+    push(listed, item)
 }
 
 /// One more item, or nothing changes that is seen.

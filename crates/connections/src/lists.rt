@@ -9,11 +9,16 @@ use signatures::ObjectId;
 use std::alloc::Global;
 
 /// The places of all connections, the links of each sender and signal, and the numbers of those with the same ends.
+///
+/// The last keys that were used mostly are the next ones too, so there is noted where they stand. Any index gives the same
+/// answers: one at which another key stands costs a search.
 #[derive(Drop)]
 pub struct Lists {
     pub all: Vec<Place>,
     pub groups: IndexMap<(usize, usize), Listed<Link>>,
     pub pairs: IndexMap<(usize, usize, usize, usize), Listed<u64>>,
+    pub near_group: usize,
+    pub near_pair: usize,
 }
 
 impl Lists {
@@ -25,6 +30,8 @@ impl Lists {
             all: Vec::new(alloc),
             groups: IndexMap::new(alloc),
             pairs: IndexMap::new(alloc),
+            near_group: 0,
+            near_pair: 0,
         }
     }
 }

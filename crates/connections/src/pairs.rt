@@ -1,20 +1,23 @@
 //! The numbers of the connections with the same ends.
 
-ghost use Rattle.std.specs.Prelude.{◌≡◌, ◌+◌, [], filter, count_by, slice_get};
+ghost use Rattle.std.specs.Prelude.{◌≡◌, ◌<◌, ◌+◌, [], filter, count_by, slice_get};
+ghost use Rattle.indexmap.specs.IndexMap.{index_map_len};
 ghost use Rattle.connections.specs.code.Links.{AreRising, is_live, is_held, is_held_by, marked_by, passes, Breaks, KeepsHeld};
-ghost use Rattle.connections.specs.code.Listed.{KeepsOthers};
+ghost use Rattle.connections.specs.code.Listed.{KeepsOthers, StandsAt};
 ghost use Rattle.connections.specs.code.Store.{EachRises, has_pair, links_in, numbers_in, same_ends, same_pair};
 
 use crate::link::Link;
-use crate::listed::{Listed, give_back, items_of};
+use crate::listed::{Listed, give_back, index_near, items_of};
 use crate::marking::break_in;
 use crate::search::from_number;
 use indexmap::IndexMap;
 
-/// Removes all connections with these ends: so many.
+/// Removes all connections with these ends: so many. The keys are looked for where they stood last.
 pub fn break_all(
     groups: &mut IndexMap<(usize, usize), Listed<Link>>,
+    near_group: &mut usize,
     pairs: &mut IndexMap<(usize, usize, usize, usize), Listed<u64>>,
+    near_pair: &mut usize,
     ends: (usize, usize, usize, usize),
 ) -> usize
     requires { EachRises (links_in groups.old) }
@@ -24,14 +27,36 @@ pub fn break_all(
     ensures other_pairs { KeepsOthers same_ends pairs.old pairs.new ends }
     ensures keys { has_pair pairs.new ends ≡ has_pair pairs.old ends }
 {
-    match pairs.get_mut(&ends) {
+    match index_near(pairs, *near_pair, ends) {
         None => 0,
-        Some(pair) => {
-            let count = break_links(groups, ends, &pair.items);
-            clear(pair);
-            count
+        Some(index) => {
+            *near_pair = index;
+            break_at(groups, near_group, pairs, index, ends)
         }
     }
+}
+
+/// The same, where the ends stand at an index.
+fn break_at(
+    groups: &mut IndexMap<(usize, usize), Listed<Link>>,
+    near: &mut usize,
+    pairs: &mut IndexMap<(usize, usize, usize, usize), Listed<u64>>,
+    index: usize,
+    ends: (usize, usize, usize, usize),
+) -> usize
+    requires rise { EachRises (links_in groups.old) }
+    requires within { index < index_map_len pairs.old }
+    requires stands { StandsAt same_ends pairs.old index ends }
+    ensures links { Breaks ends.2 ends.3 (numbers_in pairs.old ends) (links_in groups.old ends.0 ends.1) (links_in groups.new ends.0 ends.1) }
+    ensures others { KeepsOthers same_pair groups.old groups.new (ends.0, ends.1) }
+    ensures count { result + count_by is_live (marked_by ends.2 ends.3 (numbers_in pairs.old ends) (links_in groups.old ends.0 ends.1)) ≡ count_by is_live (links_in groups.old ends.0 ends.1) }
+    ensures other_pairs { KeepsOthers same_ends pairs.old pairs.new ends }
+    ensures keys { has_pair pairs.new ends ≡ has_pair pairs.old ends }
+{
+    let (_, pair) = pairs.pair_mut(index);
+    let count = break_links(groups, near, ends, &pair.items);
+    clear(pair);
+    count
 }
 
 /// No numbers are left.
@@ -43,9 +68,11 @@ fn clear(pair: &mut Listed<u64>)
     pair.stale = 0;
 }
 
-/// Removes, of the connections with these ends, those of these numbers: so many.
+/// Removes, of the connections with these ends, those of these numbers: so many. The sender and signal are looked for
+/// where they stood last.
 pub fn break_links(
     groups: &mut IndexMap<(usize, usize), Listed<Link>>,
+    near: &mut usize,
     ends: (usize, usize, usize, usize),
     numbers: &[u64],
 ) -> usize
@@ -54,10 +81,31 @@ pub fn break_links(
     ensures others { KeepsOthers same_pair groups.old groups.new (ends.0, ends.1) }
     ensures count { result + count_by is_live (marked_by ends.2 ends.3 numbers.now (links_in groups.old ends.0 ends.1)) ≡ count_by is_live (links_in groups.old ends.0 ends.1) }
 {
-    match groups.get_mut(&(ends.0, ends.1)) {
+    match index_near(groups, *near, (ends.0, ends.1)) {
         None => 0,
-        Some(group) => break_in(group, ends.2, ends.3, numbers),
+        Some(index) => {
+            *near = index;
+            break_group(groups, index, ends, numbers)
+        }
     }
+}
+
+/// The same, where the sender and signal stand at an index.
+fn break_group(
+    groups: &mut IndexMap<(usize, usize), Listed<Link>>,
+    index: usize,
+    ends: (usize, usize, usize, usize),
+    numbers: &[u64],
+) -> usize
+    requires rise { EachRises (links_in groups.old) }
+    requires within { index < index_map_len groups.old }
+    requires stands { StandsAt same_pair groups.old index (ends.0, ends.1) }
+    ensures links { Breaks ends.2 ends.3 numbers.now (links_in groups.old ends.0 ends.1) (links_in groups.new ends.0 ends.1) }
+    ensures others { KeepsOthers same_pair groups.old groups.new (ends.0, ends.1) }
+    ensures count { result + count_by is_live (marked_by ends.2 ends.3 numbers.now (links_in groups.old ends.0 ends.1)) ≡ count_by is_live (links_in groups.old ends.0 ends.1) }
+{
+    let (_, group) = groups.pair_mut(index);
+    break_in(group, ends.2, ends.3, numbers)
 }
 
 /// One more number under these ends is that of no connection any more. Once more than half of them are, these leave.

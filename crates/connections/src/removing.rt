@@ -54,7 +54,13 @@ fn break_ends(lists: &mut Lists, ends: (usize, usize, usize, usize)) -> usize
     requires { EachRises (links_in lists.old.groups) }
     ensures { (each : ℕ → List Ends) → Removes each (has_ends ends) result lists.old lists.new }
 {
-    break_all(&mut lists.groups, &mut lists.pairs, ends)
+    break_all(
+        &mut lists.groups,
+        &mut lists.near_group,
+        &mut lists.pairs,
+        &mut lists.near_pair,
+        ends,
+    )
 }
 
 /// Removes the connections with some of these ends, as far as they lead from or to the object: so many.
@@ -114,7 +120,7 @@ fn break_one(lists: &mut Lists, ends: (usize, usize, usize, usize), number: u64)
     requires { EachRises (links_in lists.old.groups) }
     ensures { (each : ℕ → List Ends) → Removes each (is_picked ends (number ∷ [])) result lists.old lists.new }
 {
-    let count = break_links(&mut lists.groups, ends, &[number]);
+    let count = break_links(&mut lists.groups, &mut lists.near_group, ends, &[number]);
     forget_number(&lists.groups, &mut lists.pairs, ends);
     count
 }

@@ -3,9 +3,8 @@
 ghost use Rattle.std.specs.Prelude.{◌≡◌, ℕ, List, filter, if◌then◌else◌, eqb};
 ghost use Rattle.connections.specs.code.Store.{EachRises, Ends, KeepsPaired, Stays, ends_in, has_pair, is_shown, links_in};
 
-use crate::groups::links_of;
 use crate::link::Link;
-use crate::listed::{Listed, drop_idle, give_back};
+use crate::listed::{Listed, drop_idle, give_back, items_near};
 use crate::lists::Lists;
 use crate::pairs::is_held;
 use crate::place::Place;
@@ -37,23 +36,24 @@ fn tidy_places(lists: &mut Lists, stale: usize) -> usize
     if stale <= FEW || stale <= lists.all.len() / 2 {
         return stale;
     }
-    keep_shown(&lists.groups, &mut lists.all);
+    keep_shown(&lists.groups, lists.near_group, &mut lists.all);
     0
 }
 
 /// Keeps the places of the connections that are there.
-fn keep_shown(groups: &IndexMap<(usize, usize), Listed<Link>>, all: &mut Vec<Place>)
+fn keep_shown(groups: &IndexMap<(usize, usize), Listed<Link>>, near: usize, all: &mut Vec<Place>)
     ensures { EachRises (links_in groups.now) → all.new.items ≡ filter (is_shown (links_in groups.now)) all.old.items }
 {
-    all.retain(|place| is_shown(groups, place));
+    all.retain(|place| is_shown(groups, near, place));
     give_back(all);
 }
 
-/// Whether the connection of a place is there.
-fn is_shown(groups: &IndexMap<(usize, usize), Listed<Link>>, place: &Place) -> bool
+/// Whether the connection of a place is there. Its sender and signal are looked for at the index `near` first.
+fn is_shown(groups: &IndexMap<(usize, usize), Listed<Link>>, near: usize, place: &Place) -> bool
     ensures { EachRises (links_in groups.now) → result ≡ is_shown (links_in groups.now) place.now }
 {
-    is_held(links_of(groups, place.sender, place.signal), place.number)
+    let pair = (place.sender.number(), place.signal);
+    is_held(items_near(groups, near, pair), place.number)
 }
 
 /// Once many pairs have no connections, their keys are dropped, and those of signals and objects with none.

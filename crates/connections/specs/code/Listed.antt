@@ -1,6 +1,6 @@
 -- Lists under keys.
-use Rattle.std.specs.Prelude.{◌≡◌, Bool, true, false, List, [], ◌∷◌, ◌++◌, Option, Some, None, is_some, if◌then◌else◌}
-use Rattle.indexmap.specs.IndexMap.{IndexMap, get}
+use Rattle.std.specs.Prelude.{◌≡◌, ℕ, Bool, true, false, List, [], ◌∷◌, ◌++◌, Option, Some, None, is_some, if◌then◌else◌, slice_get}
+use Rattle.indexmap.specs.IndexMap.{IndexMap, get, with_value_at}
 use Rattle.connections.specs.declared.listed.Listed.{Listed}
 
 abbrev pub items_of : {T : Type 0} → Option (Listed T) → List T
@@ -35,3 +35,20 @@ module _ {K T S : Type 0} (eq : K → K → Bool) where
   -- what is under other keys stays
   abbrev pub KeepsOthers : IndexMap K (Listed T) S → IndexMap K (Listed T) S → K → Type 0
   KeepsOthers old new key = (q : K) → eq key q ≡ false → get eq new q ≡ get eq old q
+
+  -- the key, in some form, is found at the index
+  pub record IsFoundAt (lists : IndexMap K (Listed T) S) (index : ℕ) (key : K) : Type 0 where
+    pub found : K
+    pub listed : Listed T
+    pub entry : slice_get lists.entries index ≡ Some (found, listed)
+    pub there : get eq lists key ≡ Some listed
+    pub same : eq key found ≡ true
+
+  -- and a list that is written there is the key's
+  pub record StandsAt (lists : IndexMap K (Listed T) S) (index : ℕ) (key : K) : Type 0 where
+    pub found : K
+    pub listed : Listed T
+    pub entry : slice_get lists.entries index ≡ Some (found, listed)
+    pub there : get eq lists key ≡ Some listed
+    pub self : eq key key ≡ true
+    pub written : (w : Listed T) (q : K) → get eq (with_value_at lists index w) q ≡ (if eq key q then Some w else get eq lists q)

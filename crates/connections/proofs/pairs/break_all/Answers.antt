@@ -1,4 +1,4 @@
-use Rattle.std.proofs.Common.{rules, ◌≡◌, ◌+◌, ◌∙◌, inl, refl, sym, subst, ap, List, ℕ, Some, None, count_by, arith}
+use Rattle.std.proofs.Common.{rules, ◌≡◌, inl, refl, sym, subst, ap, List, ℕ, None, count_by, arith}
 use Rattle.indexmap.specs.IndexMap.{get}
 use Rattle.connections.specs.code.Links.{Breaks, is_live, marked_by}
 use Rattle.connections.specs.code.Listed.{items_of}
@@ -17,15 +17,3 @@ returns-in-None-clause-count c =
     let count : count_by is_live (marked_by c.args.ends.2 c.args.ends.3 (numbers_in c.args.pairs.now c.args.ends) (links_in c.args.groups.now c.args.ends.0 c.args.ends.1)) ≡ count_by is_live (links_in c.args.groups.now c.args.ends.0 c.args.ends.1) =
     ap (λ ns. count_by is_live (marked_by c.args.ends.2 c.args.ends.3 ns (links_in c.args.groups.now c.args.ends.0 c.args.ends.1))) (ap items_of none) in
     omega (arith, count)
-
-pub returns-in-Some-clause-links : goal.returns-in-Some-clause-links
-returns-in-Some-clause-links c =
-    let there : get same_ends c.args.pairs.now c.args.ends ≡ Some c.in-Some.pair.now = search rules in
-    let P : List ℕ → Type 0 = λ ns. Breaks c.args.ends.2 c.args.ends.3 ns (links_in c.args.groups.now c.args.ends.0 c.args.ends.1) (links_in c.break_links-count.new.groups c.args.ends.0 c.args.ends.1) in
-    subst P (c.deref.ensures.value ∙ sym (ap items_of there)) c.break_links-count.ensures.links
-
-pub returns-in-Some-clause-count : goal.returns-in-Some-clause-count
-returns-in-Some-clause-count c =
-    let there : get same_ends c.args.pairs.now c.args.ends ≡ Some c.in-Some.pair.now = search rules in
-    let P : List ℕ → Type 0 = λ ns. c.break_links-count.result + count_by is_live (marked_by c.args.ends.2 c.args.ends.3 ns (links_in c.args.groups.now c.args.ends.0 c.args.ends.1)) ≡ count_by is_live (links_in c.args.groups.now c.args.ends.0 c.args.ends.1) in
-    subst P (c.deref.ensures.value ∙ sym (ap items_of there)) c.break_links-count.ensures.count

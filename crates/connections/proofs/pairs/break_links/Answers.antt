@@ -1,23 +1,15 @@
-use Rattle.std.proofs.Common.{rules, ◌≡◌, ◌∙◌, inl, sym, subst, ap, List, Some, None, count_by, arith}
+use Rattle.std.proofs.Common.{rules, ◌≡◌, ◌∙◌, inl, sym, ap, None, count_by, arith}
 use Rattle.indexmap.specs.IndexMap.{get}
-use Rattle.connections.specs.declared.link.Link.{Link}
-use Rattle.connections.specs.code.Links.{AreRising, is_live, marked_by}
+use Rattle.connections.specs.code.Links.{is_live, marked_by}
 use Rattle.connections.specs.code.Listed.{items_of}
 use Rattle.connections.specs.code.Store.{same_pair, links_in}
 use Rattle.connections.proofs.Marks.{marked-nothing}
 use Rattle.connections.proofs.pairs.break_links.Goals as goal
 
-pub break_in-requires : goal.break_in-requires
-break_in-requires c =
-    let same : get same_pair c.args.groups.now (c.args.ends.0, c.args.ends.1) ≡ Some c.in-Some.group.now = search rules in
-    let P : List Link → Type 0 = λ ls. AreRising ls in
-    subst P (ap items_of same) (c.requires c.args.ends.0 c.args.ends.1)
-
 pub returns-in-None-clause-links : goal.returns-in-None-clause-links
 returns-in-None-clause-links c =
     let none : get same_pair c.args.groups.now (c.args.ends.0, c.args.ends.1) ≡ None = search rules in
-    let then : get same_pair c.get_mut.follows.lender-at-none (c.args.ends.0, c.args.ends.1) ≡ None = search rules in
-    inl (ap items_of then ∙ sym (ap (λ ls. marked_by c.args.ends.2 c.args.ends.3 c.args.numbers.now ls) (ap items_of none) ∙ marked-nothing c.args.ends.2 c.args.ends.3 c.args.numbers.now))
+    inl (ap items_of none ∙ sym (ap (λ ls. marked_by c.args.ends.2 c.args.ends.3 c.args.numbers.now ls) (ap items_of none) ∙ marked-nothing c.args.ends.2 c.args.ends.3 c.args.numbers.now))
 
 pub returns-in-None-clause-count : goal.returns-in-None-clause-count
 returns-in-None-clause-count c =
