@@ -1,5 +1,5 @@
 -- The first item that passes a test, by its place.
-use Rattle.std.proofs.Common.{◌≡◌, ℕ, zero, suc, ◌<◌, Bool, List, [], ◌∷◌, length, None, Some, refl, arith, get_or}
+use Rattle.std.proofs.Common.{◌≡◌, ℕ, zero, suc, ◌<◌, Bool, true, List, [], ◌∷◌, length, drop, None, Some, refl, arith, ap, subst, get_or, if◌then◌else◌}
 use Rattle.std.specs.List.{find, remove}
 use Rattle.event_loops.specs.declared.item.Posted.{Posted}
 use Rattle.event_loops.specs.Queues.{without_first}
@@ -28,4 +28,26 @@ place_of-within test [] k e = grind arith
 place_of-within test (x ∷ xs) zero e = grind (arith)
 place_of-within test (x ∷ xs) (suc k) e = grind (arith, place_of-within test xs k)
 
-pub ruleset by_place = (find-nowhere, without_first-nowhere, find-place, without_first-place, place_of-within)
+-- the very first passes it
+pub find-front : (test : Posted → Bool) (xs : List Posted) (x : Posted) → 0 < length xs → x ≡ get_or xs 0 x → test x ≡ true → find test xs ≡ Some x
+find-front test [] x some is passes = absurd (omega (arith, some))
+find-front test (y ∷ xs) x some is passes =
+    let Found : Posted → Type 0 = λ z. find test (z ∷ xs) ≡ Some x in
+    subst Found is (ap (λ b. if b then Some x else find test xs) passes)
+
+pub without_first-front : (test : Posted → Bool) (xs : List Posted) (x : Posted) → 0 < length xs → x ≡ get_or xs 0 x → test x ≡ true → without_first test xs ≡ drop 1 xs
+without_first-front test [] x some is passes = absurd (omega (arith, some))
+without_first-front test (y ∷ xs) x some is passes =
+    let Left : Posted → Type 0 = λ z. without_first test (z ∷ xs) ≡ xs in
+    subst Left is (ap (λ b. if b then xs else x ∷ without_first test xs) passes)
+
+-- there is none
+pub find-empty : (test : Posted → Bool) (xs : List Posted) → length xs ≡ 0 → find test xs ≡ None
+find-empty test [] none = refl
+find-empty test (x ∷ xs) none = absurd (omega (arith, none))
+
+pub without_first-empty : (test : Posted → Bool) (xs : List Posted) → length xs ≡ 0 → without_first test xs ≡ xs
+without_first-empty test [] none = refl
+without_first-empty test (x ∷ xs) none = absurd (omega (arith, none))
+
+pub ruleset by_place = (find-nowhere, without_first-nowhere, find-place, without_first-place, place_of-within, find-front, without_first-front, find-empty, without_first-empty)

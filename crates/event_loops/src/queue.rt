@@ -24,7 +24,9 @@ pub fn push(items: &mut VecDeque<Posted>, posted: Posted) -> Result<(), AllocErr
     Ok(())
 }
 
-/// The first item that waits and was posted before the one of this number.
+/// The first item that waits and was posted before the one of this number. Where one is there, it mostly is the first of
+/// all.
+#[inline(always)]
 #[tactic(auto, using(crate::proofs::Places::by_place))]
 pub fn peek_before<'a>(
     items: &'a VecDeque<Posted>,
@@ -34,6 +36,10 @@ pub fn peek_before<'a>(
     requires { AreTold marks.now items.now.items }
     ensures { option_copied result ≡ find (is_due (since_of marks.now) number) items.now.items }
 {
+    let first = items.front()?;
+    if is_due(first, marks, number) {
+        return Some(first);
+    }
     match first_before(items, marks, number) {
         None => None,
         Some(place) => items.get(place),
@@ -60,15 +66,18 @@ fn remove_before(items: &mut VecDeque<Posted>, marks: &Marks, number: u64) -> Op
     ensures rest { items.new.items
         ≡ without_first (is_due (since_of marks.now) number) items.old.items }
 {
+    let first = items.front()?;
+    if is_due(first, marks, number) {
+        return items.pop_front();
+    }
     match first_before(items, marks, number) {
         None => None,
-        Some(0) => items.pop_front(),
         Some(place) => items.remove(place),
     }
 }
 
-/// The place of the first item that waits and was posted before the one of this number. Where one is there, it mostly is
-/// the first.
+/// The place of the first item that waits and was posted before the one of this number.
+#[inline(never)]
 fn first_before(items: &VecDeque<Posted>, marks: &Marks, number: u64) -> Option<usize>
     requires { AreTold marks.now items.now.items }
     ensures { result ≡ place_of_first (is_due (since_of marks.now) number) items.now.items }
@@ -82,6 +91,7 @@ fn first_before(items: &VecDeque<Posted>, marks: &Marks, number: u64) -> Option<
 }
 
 /// Whether an item waits and was posted before the one of this number.
+#[inline(always)]
 fn is_due(posted: &Posted, marks: &Marks, number: u64) -> bool
     requires { is_told marks.now posted.now ≡ true }
     ensures { result ≡ is_due (since_of marks.now) number posted.now }
@@ -90,6 +100,7 @@ fn is_due(posted: &Posted, marks: &Marks, number: u64) -> bool
 }
 
 /// Removes the items in front of the first that waits.
+#[inline(always)]
 pub fn trim(items: &mut VecDeque<Posted>, marks: &Marks)
     requires { AreTold marks.now items.old.items }
     ensures { items.new.items ≡ trimmed (since_of marks.now) items.old.items }
