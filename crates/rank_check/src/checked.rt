@@ -1,27 +1,35 @@
 //! Whether a certificate is valid for a program.
 
 ghost use Rattle.std.specs.Prelude.{◌≡◌, ◌≤◌};
+ghost use Rattle.effect_scan.specs.Scans.{IsScan};
 ghost use Rattle.rank_check.specs.Checks.{Checks, Examines};
 ghost use Rattle.rank_check.specs.Valid.{IsValid, most_bound};
 
 use crate::denied::Denied;
-use crate::judging::judge;
+use crate::judging::judge_scanned;
 use crate::no::No;
 use certificate_lang::Certificate;
+use effect_scan::Scan;
 use meta_objects::Meta;
 use std::alloc::Global;
 use std::marker::Model;
+use std::snapshot::Snapshot;
 
-/// A program that loads, with a certificate that is valid for it.
+/// A program that loads, with a certificate that is valid for it. Contracts see both; of the certificate the bound alone is
+/// kept, and of the check the scan of the program.
 pub struct Checked {
     meta: Meta,
-    certificate: Certificate,
+    scan: Scan,
+    bound: u32,
+    certificate: Snapshot<Certificate>,
 }
 
 impl Drop for Checked {
     fn drop(self) {
         let Checked {
             meta: _,
+            scan: _,
+            bound: _,
             certificate: _,
         } = self;
     }
@@ -30,6 +38,8 @@ impl Drop for Checked {
 impl Model for Checked {
     ghost use Rattle.rank_check.specs.Checks.{Checking};
     ghost use Rattle.rank_check.specs.Valid.{IsValid};
+    ghost use Rattle.effect_scan.specs.Scans.{IsScan};
+    ghost use Rattle.std.specs.Prelude.{◌≡◌};
     ghost use Rattle.std.specs.Coded.{codes};
     ghost use Rattle.syntax_trees.specs.contracts.syntax.Expr as expr;
     ghost use Rattle.meta_model.specs.contracts.object.Statement as statement;
@@ -39,12 +49,30 @@ impl Model for Checked {
 
     ghost coded = { Prim.hlevel (codes, statement.the_row.coded, (expr.the_row source.the_row).coded) };
 
-    ghost view = { λ checked. record { program = checked.meta; certificate = checked.certificate } };
+    ghost view = { λ checked. record { program = checked.meta; certificate = checked.certificate.value } };
 
-    ghost invariant = { λ checked. IsValid checked.meta checked.certificate };
+    ghost invariant = { λ checked.
+        IsValid checked.meta checked.certificate.value
+        × IsScan checked.meta checked.scan
+        × (checked.bound ≡ checked.certificate.value.bound) };
 }
 
 impl Checked {
+    /// The program with its scan, and with a certificate, which isn't needed any more.
+    fn new(meta: Meta, scan: Scan, certificate: Certificate) -> Checked
+        requires scan { IsScan meta scan }
+        requires valid { IsValid meta certificate }
+        ensures program { result.program ≡ meta }
+        ensures certificate { result.certificate ≡ certificate }
+    {
+        Checked {
+            meta,
+            scan,
+            bound: certificate.bound,
+            certificate: Snapshot::of(&certificate),
+        }
+    }
+
     /// The program.
     pub fn meta(&self) -> &Meta
         ensures value { result.now ≡ self.now.program }
@@ -63,7 +91,14 @@ impl Checked {
         // The contract of `classes` says that `QObject` is there, and so that there is a node, whose rank is below the
         // bound.
         let _classes = self.meta.classes();
-        self.certificate.bound as usize
+        self.bound as usize
+    }
+
+    /// The scan of the program.
+    pub fn scan(&self) -> &Scan
+        ensures { IsScan self.now.program result.now }
+    {
+        &self.scan
     }
 
     /// The program, without the certificate.
@@ -72,6 +107,8 @@ impl Checked {
     {
         let Checked {
             meta,
+            scan: _scan,
+            bound: _bound,
             certificate: _certificate,
         } = self;
         meta
@@ -99,8 +136,8 @@ pub fn check(alloc: Global, meta: Meta, certificate: Certificate) -> Result<Chec
 pub fn examine(alloc: Global, meta: Meta, certificate: Certificate) -> Result<Checked, Denied>
     ensures { Examines meta certificate result }
 {
-    match judge(alloc, &meta, &certificate) {
-        Ok(()) => Ok(Checked { meta, certificate }),
+    match judge_scanned(alloc, &meta, &certificate) {
+        Ok(scan) => Ok(Checked::new(meta, scan, certificate)),
         Err(cause) => Err(Denied::new(meta, certificate, cause)),
     }
 }

@@ -1,8 +1,10 @@
 //! What makes a certificate invalid for a program.
 
+ghost use Rattle.std.specs.Prelude.{IfOk, IfErr};
 ghost use Rattle.effect_scan.specs.Scans.{IsScan};
-ghost use Rattle.rank_check.specs.Checks.{Judges};
+ghost use Rattle.rank_check.specs.Checks.{Judges, IsCause};
 ghost use Rattle.rank_check.specs.Entries.{IsReady, NamesNodes, JudgesProgram};
+ghost use Rattle.rank_check.specs.Valid.{IsValid};
 
 use crate::causes::Cause;
 use crate::destroys::first_mistake;
@@ -19,10 +21,27 @@ use type_check::{unfit_wire, untyped};
 pub fn judge(alloc: Global, meta: &Meta, certificate: &Certificate) -> Result<(), Cause>
     ensures { Judges meta.now certificate.now result }
 {
+    match judge_scanned(alloc, meta, certificate) {
+        Ok(_scan) => Ok(()),
+        Err(cause) => Err(cause),
+    }
+}
+
+/// The same, with the scan of the program where the certificate is valid.
+pub(crate) fn judge_scanned(
+    alloc: Global,
+    meta: &Meta,
+    certificate: &Certificate,
+) -> Result<Scan, Cause>
+    ensures scan { IfOk result (IsScan meta.now) }
+    ensures valid { IfOk result (λ _. IsValid meta.now certificate.now) }
+    ensures cause { IfErr result (IsCause meta.now certificate.now) }
+{
     judge_program(alloc, meta)?;
     let scan = Scan::of(alloc, meta)?;
     let entries = entries(alloc, meta, &scan, certificate)?;
-    judge_entries(meta, &scan, entries.as_slice(), certificate)
+    judge_entries(meta, &scan, entries.as_slice(), certificate)?;
+    Ok(scan)
 }
 
 /// The first of the conditions on the program alone: its wires fit, its literals, bodies and bindings are typed.
