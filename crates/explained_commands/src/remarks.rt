@@ -46,12 +46,9 @@ pub fn remarks_on<N: Answering + Drop>(
 fn yes_of<N: Answering + Drop>(outcome: &Outcome<N>) -> Option<Yes<'_>> {
     match outcome {
         Outcome::Program(ProgramOutcome::Certificate(certified)) => {
-            Some(Yes::Certified(Ranked {
-                meta: certified.meta(),
-                ranks: certified.ranks(),
-            }))
+            Some(Yes::Certified(Ranked::of(certified.meta(), certified.ranks())))
         }
-        Outcome::Program(ProgramOutcome::Valid(checked)) => Some(Yes::Valid(checked.meta())),
+        Outcome::Program(ProgramOutcome::Valid(checked)) => Some(Yes::Valid(checked)),
         Outcome::Ran(_) => Some(Yes::Ran),
         _ => None,
     }

@@ -12,7 +12,7 @@ const BACK: usize = 2;
 impl Ranked<'_> {
     /// Adds a line that says how many members there are, and which chain of them is the longest.
     pub fn push_depth(&self, told: &mut String, alloc: Global) -> Result<(), AllocError> {
-        let count = self.ranks.scan.nodes().len();
+        let count = self.scan.nodes().len();
         let chain = self.deepest_chain(alloc)?;
         let length = chain.len();
         write!(told, "{count} members, deepest chain {length}: ")?;
@@ -33,7 +33,7 @@ impl Ranked<'_> {
                 told.push_str(" -> ")?;
             }
             if place < FRONT || place >= back {
-                if let Some(node) = self.ranks.scan.nodes().get(*number) {
+                if let Some(node) = self.scan.nodes().get(*number) {
                     told.push_str(node_text(alloc, self.meta, *node)?.as_str())?;
                 }
             } else if place == FRONT {

@@ -1,8 +1,8 @@
 //! A program with its ranks.
 
-use effect_scan::{Member, Node, row_at};
+use effect_scan::{Member, Node, Scan, row_at};
 use meta_objects::Meta;
-use rank_make::Ranks;
+use rank_make::{Ranks, Solution};
 use std::alloc::{AllocError, Global};
 
 /// A program that has a certificate, with its ranks.
@@ -10,8 +10,21 @@ use std::alloc::{AllocError, Global};
 pub struct Ranked<'p> {
     /// The program.
     pub meta: &'p Meta,
-    /// Its ranks: those of its least certificate.
-    pub ranks: &'p Ranks,
+    /// Its nodes and the edges between them.
+    pub scan: &'p Scan,
+    /// The nodes' ranks and destroy sets: those of its least certificate.
+    pub solution: &'p Solution,
+}
+
+impl<'p> Ranked<'p> {
+    /// The program with these ranks, which are its own.
+    pub fn of(meta: &'p Meta, ranks: &'p Ranks) -> Ranked<'p> {
+        Ranked {
+            meta,
+            scan: &ranks.scan,
+            solution: &ranks.solution,
+        }
+    }
 }
 
 impl Ranked<'_> {
@@ -23,7 +36,7 @@ impl Ranked<'_> {
         };
         chain.push(first)?;
         let mut last = first;
-        for rank in (0..self.ranks.solution.rank(first)).rev() {
+        for rank in (0..self.solution.rank(first)).rev() {
             if let Some(node) = self.target_of_rank(last, rank) {
                 chain.push(node)?;
                 last = node;
@@ -43,7 +56,7 @@ impl Ranked<'_> {
         let mut chain = Vec::new(alloc);
         let mut next = Some(from);
         // No chain from a node has more edges than its rank says.
-        for _ in 0..self.ranks.solution.rank(from).saturating_add(1) {
+        for _ in 0..self.solution.rank(from).saturating_add(1) {
             let Some(node) = next else {
                 break;
             };
@@ -59,18 +72,18 @@ impl Ranked<'_> {
 
     /// Whether the destroy set of the node holds the class.
     pub fn destroys(&self, node: usize, class: usize) -> bool {
-        self.ranks.solution.leads_to(node, class)
+        self.solution.leads_to(node, class)
     }
 
     /// Whether objects of the class may be destroyed at once with the node.
     fn is_destruction_of(&self, node: usize, class: usize) -> bool {
-        match self.ranks.scan.nodes().get(node) {
+        match self.scan.nodes().get(node) {
             Some(
                 Node {
                     class: parent,
                     member: Member::Destruction,
                 },
-            ) => row_at(self.ranks.scan.destroys(), *parent).contains(&class),
+            ) => row_at(self.scan.destroys(), *parent).contains(&class),
             _ => false,
         }
     }
@@ -79,8 +92,8 @@ impl Ranked<'_> {
     fn highest_node(&self) -> Option<usize> {
         let mut highest: Option<usize> = None;
         let mut most = 0usize;
-        for node in 0..self.ranks.scan.nodes().len() {
-            let rank = self.ranks.solution.rank(node);
+        for node in 0..self.scan.nodes().len() {
+            let rank = self.solution.rank(node);
             if highest.is_none() || rank > most {
                 highest = Some(node);
                 most = rank;
@@ -91,8 +104,8 @@ impl Ranked<'_> {
 
     /// The first node of this rank to which an edge leads from the node.
     fn target_of_rank(&self, node: usize, rank: usize) -> Option<usize> {
-        for target in self.ranks.scan.targets(node) {
-            if self.ranks.solution.rank(*target) == rank {
+        for target in self.scan.targets(node) {
+            if self.solution.rank(*target) == rank {
                 return Some(*target);
             }
         }
@@ -101,7 +114,7 @@ impl Ranked<'_> {
 
     /// The first node to which an edge leads from the node, and whose destroy set holds the class.
     fn target_destroying(&self, node: usize, class: usize) -> Option<usize> {
-        for target in self.ranks.scan.targets(node) {
+        for target in self.scan.targets(node) {
             if self.destroys(*target, class) {
                 return Some(*target);
             }

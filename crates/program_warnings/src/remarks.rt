@@ -14,7 +14,8 @@ use crate::telling::Subject;
 use crate::warning::Warning;
 use meta_objects::Meta;
 use program_flaws::{declarations_of, meta_of};
-use rank_make::{Ranks, Why, rank};
+use rank_check::Checked;
+use rank_make::{Ranks, Solution, Why, rank, rank_scan};
 use std::alloc::{AllocError, Global};
 use texts::{PlaceFault, placed_tokens};
 
@@ -24,7 +25,7 @@ pub enum Yes<'a> {
     /// It has a certificate; the program with its ranks.
     Certified(Ranked<'a>),
     /// The certificate that is given with this program is valid.
-    Valid(&'a Meta),
+    Valid(&'a Checked),
     /// The certificate that is given with it is valid, and the program ran.
     Ran,
 }
@@ -36,7 +37,7 @@ pub fn told_beside(alloc: Global, text: &[u8], yes: Yes<'_>) -> Result<Option<St
     let mut told = String::new(alloc);
     match yes {
         Yes::Certified(ranked) => push_ranked(&mut told, alloc, text, ranked)?,
-        Yes::Valid(meta) => push_checked(&mut told, alloc, text, meta)?,
+        Yes::Valid(checked) => push_checked(&mut told, alloc, text, checked)?,
         Yes::Ran => push_run(&mut told, alloc, text)?,
     }
     if told.is_empty() {
@@ -62,18 +63,17 @@ fn push_checked(
     told: &mut String,
     alloc: Global,
     text: &[u8],
-    meta: &Meta,
+    checked: &Checked,
 ) -> Result<(), AllocError> {
-    match ranks_of(alloc, meta)? {
-        Some(ranks) => push_ranked(
-            told,
-            alloc,
-            text,
-            Ranked {
-                meta,
-                ranks: &ranks,
-            },
-        ),
+    match solution_of(alloc, checked)? {
+        Some(solution) => {
+            let ranked = Ranked {
+                meta: checked.meta(),
+                scan: checked.scan(),
+                solution: &solution,
+            };
+            push_ranked(told, alloc, text, ranked)
+        }
         None => Ok(()),
     }
 }
@@ -89,10 +89,7 @@ fn push_run(told: &mut String, alloc: Global, text: &[u8]) -> Result<(), AllocEr
     }
     match ranks_of(alloc, &meta)? {
         Some(ranks) => {
-            let ranked = Ranked {
-                meta: &meta,
-                ranks: &ranks,
-            };
+            let ranked = Ranked::of(&meta, &ranks);
             push_warnings(told, alloc, text, &meta, Some(ranked))
         }
         None => Ok(()),
@@ -111,6 +108,15 @@ fn program_of(alloc: Global, text: &[u8]) -> Result<Option<Meta>, AllocError> {
 fn ranks_of(alloc: Global, meta: &Meta) -> Result<Option<Ranks>, AllocError> {
     match rank(alloc, meta) {
         Ok(ranks) => Ok(Some(ranks)),
+        Err(Why::Memory) => Err(AllocError),
+        Err(_) => Ok(None),
+    }
+}
+
+/// The ranks of the program that was checked, which was scanned for it, if no edges lead back to a node.
+fn solution_of(alloc: Global, checked: &Checked) -> Result<Option<Solution>, AllocError> {
+    match rank_scan(alloc, checked.meta(), checked.scan()) {
+        Ok(solution) => Ok(Some(solution)),
         Err(Why::Memory) => Err(AllocError),
         Err(_) => Ok(None),
     }

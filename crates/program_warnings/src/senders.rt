@@ -66,7 +66,7 @@ pub fn add_lost_senders(
 {
     // The nodes of which that is reported, of themselves or for a class above.
     let mut told = Vec::new(alloc);
-    for (number, node) in ranked.ranks.scan.nodes().iter().enumerate() {
+    for (number, node) in ranked.scan.nodes().iter().enumerate() {
         if let Some(signal) = signal_at(meta, *node)
             && ranked.destroys(number, node.class)
         {
@@ -102,7 +102,7 @@ fn is_told_above(ranked: Ranked<'_>, told: &[usize], node: Node) -> bool {
         class: base,
         member: node.member,
     };
-    match ranked.ranks.scan.number(above) {
+    match ranked.scan.number(above) {
         Some(number) => told.binary_search(&number).is_ok(),
         None => false,
     }

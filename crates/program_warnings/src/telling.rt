@@ -137,7 +137,7 @@ impl Subject<'_> {
         let Some(ranked) = self.ranked else {
             return Ok(());
         };
-        if let Some(number) = ranked.ranks.scan.number(node) {
+        if let Some(number) = ranked.scan.number(node) {
             let chain = ranked.chain_to_destruction(alloc, number, class)?;
             told.push_str(" (")?;
             ranked.push_chain(told, alloc, chain.as_slice())?;

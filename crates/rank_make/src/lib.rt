@@ -13,6 +13,7 @@ pub use certificate_lang::{Certificate, Line, MemberName, NodeName};
 pub use effect_scan::{Member, Node};
 pub use making::{make, make_ranked};
 pub use naming::node_name;
-pub use ranking::{Ranks, rank};
+pub use rank_graph::Solution;
+pub use ranking::{Ranks, rank, rank_scan};
 pub use type_check::Spot;
 pub use why::Why;

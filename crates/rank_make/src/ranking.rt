@@ -44,8 +44,9 @@ pub fn rank(alloc: Global, meta: &Meta) -> Result<Ranks, Why>
     }
 }
 
-/// The ranks and classes of the program's nodes, which this scan has, or the cycle because of which there are none.
-fn rank_scan(alloc: Global, meta: &Meta, scan: &Scan) -> Result<Solution, Why>
+/// The same for a program that was scanned before, with this scan: the nodes' ranks, and the classes of the objects that may be
+/// destroyed from them. The errors are those of `rank`.
+pub fn rank_scan(alloc: Global, meta: &Meta, scan: &Scan) -> Result<Solution, Why>
     requires { IsScan meta.now scan.now }
     ensures { RanksScan meta.now scan.now result }
 {
