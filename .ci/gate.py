@@ -8,7 +8,7 @@ import subprocess
 import sys
 
 ROOT = os.path.dirname(os.path.dirname(os.path.abspath(__file__)))
-DRIVERS = [f"tests/{it}" for it in ("editors/run.py", "tools/run.py", "wrapper/run.py", "pages/run.py", "memory/sweep.py", "hostile/attack.py")]
+DRIVERS = [".ci/edits_fit.py"] + [f"tests/{it}" for it in ("editors/run.py", "tools/run.py", "wrapper/run.py", "pages/run.py", "memory/sweep.py", "hostile/attack.py")]
 NUMBERS = re.compile(r"(\d+) passed, (\d+) failed")
 # So many bytes are enough for a check: the largest crate's was measured to take 3,100 MB.
 ENOUGH = 5_000_000_000

@@ -1,0 +1,35 @@
+#!/usr/bin/env python3
+"""Tries the wrong bodies that the gate leaves out: each edit of tests/wrong_bodies/CRATE, which the prover has to refuse, with
+those of the crate's own must-fail folder. It works on a copy of the repository, into whose crates it puts them, and `rt ci`
+proves these crates and those below, and keeps what passed. The last lines are rt's.
+Usage: run.py [CRATE..]   (default: every crate that has some, which takes about half as long as the gate)"""
+import glob
+import os
+import shutil
+import subprocess
+import sys
+import tempfile
+
+HERE = os.path.dirname(os.path.abspath(__file__))
+ROOT = os.path.dirname(os.path.dirname(HERE))
+
+
+def main(names):
+    known = sorted(it for it in os.listdir(HERE) if os.path.isdir(f"{HERE}/{it}"))
+    strange = [it for it in names if it not in known]
+    if strange:
+        sys.exit(f"no wrong bodies here for {' '.join(strange)}; there are some for {' '.join(known)}")
+    with tempfile.TemporaryDirectory(prefix="wrong-bodies-") as copy:
+        for part in ("HANDLES", "crates.txt"):
+            shutil.copy(f"{ROOT}/{part}", copy)
+        shutil.copytree(f"{ROOT}/crates", f"{copy}/crates", ignore=shutil.ignore_patterns("out"))
+        for name in names or known:
+            folder = f"{copy}/crates/{name}/must-fail"
+            os.makedirs(folder, exist_ok=True)
+            for edit in glob.glob(f"{HERE}/{name}/*.edit"):
+                shutil.copy(edit, folder)
+        return subprocess.run(["rt", "ci", *(names or known)], cwd=copy, stdin=subprocess.DEVNULL).returncode
+
+
+if __name__ == "__main__":
+    sys.exit(main(sys.argv[1:]))
