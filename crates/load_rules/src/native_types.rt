@@ -11,7 +11,7 @@ ghost use Rattle.class_outlines.specs.declared.reason.Reason.TheVariants as reas
 
 use crate::site_references::reference_in;
 use class_outlines::{
-    Breach, Declaration, IndexedOutline, Member, Offence, Reason, Unfit, names_before_parameter,
+    Breach, ClassTable, Declaration, Member, Offence, Reason, Unfit, names_before_parameter,
     names_before_work, names_of_sig,
 };
 use signatures::{Name, QType, Sig};
@@ -22,7 +22,7 @@ use syntax_trees::{Class, EffectNames, Parameter, Program, Slot, SlotWork};
 pub fn touched_reference(
     alloc: Global,
     program: &Program,
-    outlines: &[IndexedOutline],
+    outlines: &ClassTable,
 ) -> Result<Option<Offence>, AllocError>
     ensures { IfOk result (TellsOffence program.now fault.NoType (Any (HasReferenceNative outlines.now) program.now.classes)) }
 {
@@ -37,7 +37,7 @@ pub fn touched_reference(
 /// The first of those that the class of this number declares.
 fn touched_in_class(
     alloc: Global,
-    outlines: &[IndexedOutline],
+    outlines: &ClassTable,
     number: usize,
     class: &Class,
 ) -> Result<Option<Offence>, AllocError>
@@ -55,7 +55,7 @@ fn touched_in_class(
 /// The reference that the slot takes, reads, emits or sets, where it is a native of the class of this name.
 fn touched_by(
     alloc: Global,
-    outlines: &[IndexedOutline],
+    outlines: &ClassTable,
     class: &Name,
     slot: &Slot,
 ) -> Result<Option<Breach>, AllocError>
@@ -103,7 +103,7 @@ fn taken_reference(parameters: &[Parameter]) -> Result<Option<Breach>, AllocErro
 /// number.
 fn affected_reference(
     alloc: Global,
-    outlines: &[IndexedOutline],
+    outlines: &ClassTable,
     class: &Name,
     first: usize,
     effects: &EffectNames,
@@ -123,7 +123,7 @@ fn affected_reference(
 /// The first reference among what the native of this class emits or sets.
 fn acted_reference(
     alloc: Global,
-    outlines: &[IndexedOutline],
+    outlines: &ClassTable,
     class: &Name,
     first: usize,
     effects: &EffectNames,
@@ -139,7 +139,7 @@ fn acted_reference(
 
 /// The first of these properties of the class that is a reference.
 fn named_reference(
-    outlines: &[IndexedOutline],
+    outlines: &ClassTable,
     class: &Name,
     first: usize,
     names: &[Name],

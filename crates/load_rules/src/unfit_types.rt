@@ -9,7 +9,7 @@ ghost use Rattle.class_outlines.specs.declared.fault.MetaFault.TheVariants as fa
 use crate::native_types::touched_reference;
 use crate::site_references::bound_reference;
 use crate::unknown_types::unknown_type;
-use class_outlines::{IndexedOutline, Offence};
+use class_outlines::{ClassTable, Offence};
 use std::alloc::{AllocError, Global};
 use syntax_trees::Program;
 
@@ -19,7 +19,7 @@ use syntax_trees::Program;
 pub fn unfit_type(
     alloc: Global,
     program: &Program,
-    outlines: &[IndexedOutline],
+    outlines: &ClassTable,
 ) -> Result<Option<Offence>, AllocError>
     requires { Outlines program.now.classes outlines.now }
     ensures { IfOk result (TellsOffence program.now fault.NoType (NoType program.now outlines.now)) }
@@ -34,7 +34,7 @@ pub fn unfit_type(
 fn misused_reference(
     alloc: Global,
     program: &Program,
-    outlines: &[IndexedOutline],
+    outlines: &ClassTable,
 ) -> Result<Option<Offence>, AllocError>
     ensures { IfOk result (TellsOffence program.now fault.NoType (MisusesReference program.now outlines.now)) }
 {

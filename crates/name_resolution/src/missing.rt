@@ -5,9 +5,7 @@ ghost use Rattle.class_outlines.specs.Offences.{fault_in};
 ghost use Rattle.class_outlines.specs.declared.fault.MetaFault.TheVariants.{NoMember};
 ghost use Rattle.class_outlines.specs.declared.offence.PartFault.TheVariants.{Memory};
 
-use class_outlines::{
-    Breach, End, IndexedOutline, Missing, PartFault, Reason, Sought, find, place_of,
-};
+use class_outlines::{Breach, ClassTable, End, IndexedOutline, Missing, PartFault, Reason, Sought};
 use signatures::{Name, Sig};
 use std::alloc::Global;
 
@@ -22,10 +20,10 @@ pub fn undeclared(name: usize, missing: Missing) -> PartFault
 }
 
 /// That the property isn't there whose name has this number, behind that of its class; or that the class isn't.
-pub fn no_property(outlines: &[IndexedOutline], class: &Name, name: usize) -> PartFault
+pub fn no_property(outlines: &ClassTable, class: &Name, name: usize) -> PartFault
     ensures { fault_in result ≡ NoMember }
 {
-    match place_of(outlines, class) {
+    match outlines.place_of(class) {
         Some(number) => undeclared(name, Missing::Property(number)),
         None => undeclared(name.saturating_sub(1), Missing::Class),
     }
@@ -51,7 +49,7 @@ pub fn no_call(
 /// That the method isn't there whose name has this number, behind that of its class; or that the class isn't.
 pub fn no_end(
     alloc: Global,
-    outlines: &[IndexedOutline],
+    outlines: &ClassTable,
     name: usize,
     class: &Name,
     end: End,
@@ -59,7 +57,7 @@ pub fn no_end(
 ) -> PartFault
     ensures { (result ≡ Memory) ⊎ (fault_in result ≡ NoMember) }
 {
-    match find(outlines, class) {
+    match outlines.find(class) {
         Some((number, outline)) => no_method(alloc, name, number, outline, end, sig),
         None => undeclared(name.saturating_sub(1), Missing::Class),
     }

@@ -15,6 +15,7 @@ use meta_model::MetaObject;
 use meta_objects::Meta;
 use rank_check::{ClassSet, Line, MemberName, NodeName, SetItem};
 use rank_graph::Solution;
+use signatures::Sig;
 use sqlite_items::Items;
 use std::alloc::{AllocError, Global};
 
@@ -37,8 +38,8 @@ pub fn lines(
     Ok(lines)
 }
 
-/// The line of this node. Its error is that memory was refused.
-fn line_of(
+/// The line of this node, which has this number. Its error is that memory was refused.
+pub fn line_of(
     alloc: Global,
     meta: &Meta,
     scan: &Scan,
@@ -76,7 +77,8 @@ fn set_items(
         return Ok(Items::new(alloc));
     }
     let classes = meta.classes();
-    let mut items = Items::new(alloc);
+    // Most sets are written by one item, and there is a list for each node.
+    let mut items = Items::from_vec(Vec::with_capacity(alloc, 1)?);
     // The classes in the closures of those that are written.
     let mut implied = ClassSet::with_room(alloc, classes.len())?;
     for (class, object) in classes.iter().enumerate() {
@@ -110,7 +112,7 @@ fn member_name(alloc: Global, class: &MetaObject, member: Member) -> Result<Memb
     match member {
         Member::Method(method) => match class.method(method) {
             Some(found) => {
-                let sig = found.sig.copy(alloc)?;
+                let sig = fitting_copy(alloc, &found.sig)?;
                 Ok(MemberName::Method(sig))
             }
             None => unreachable!(),
@@ -124,4 +126,18 @@ fn member_name(alloc: Global, class: &MetaObject, member: Member) -> Result<Memb
         },
         Member::Destruction => Ok(MemberName::Destruction),
     }
+}
+
+/// The same signature, with room for its own types and no more: there is a copy for each node of a method. Its error is that
+/// memory was refused.
+fn fitting_copy(alloc: Global, sig: &Sig) -> Result<Sig, AllocError>
+    ensures { IfOk result (λ copy. copy ≡ sig.now) }
+{
+    let name = sig.name.copy()?;
+    let mut types = Items::from_vec(Vec::with_capacity(alloc, sig.types.len())?);
+    for kind in sig.types.as_slice() {
+        let kind = kind.copy()?;
+        types.push(kind)?;
+    }
+    Ok(Sig { name, types })
 }

@@ -83,7 +83,7 @@ impl<'a> Scope<'a> {
 
     /// That the slot has no parameter of this name, and whether its class has a property of it.
     fn no_parameter(&self, name: &Name) -> Missing {
-        match find(self.outlines, self.me) {
+        match self.outlines.find(self.me) {
             Some((_, class)) => Missing::Parameter(class.find_property(name).is_some()),
             None => Missing::Parameter(false),
         }
@@ -135,7 +135,7 @@ impl<'a> Scope<'a> {
         ensures { FindsClass self.now.outlines.now kind.now result }
     {
         if kind.pointer {
-            let Some((number, outline)) = find(self.outlines, &kind.name) else {
+            let Some((number, outline)) = self.outlines.find(&kind.name) else {
                 return None;
             };
             Some((number, outline))
