@@ -16,8 +16,6 @@ mod place;
 mod removing;
 mod search;
 mod sweeping;
-#[cfg(test)]
-mod tests;
 
 pub use connection::Connection;
 pub use connections::Connections;
