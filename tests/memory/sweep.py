@@ -11,8 +11,8 @@ thing, or a part of what is told beside a yes: all of that or nothing. Past the 
 
 What is told on standard error comes behind all output, and asks for memory too: of the requests behind the last one that
 matters to the output each sixteenth is refused. Of those up to it, of the examples and of the first cases of each topic of
-`runs` and `commands`, each is refused, up to 1,500 of a run, and of the others 400 that are spread over them. Of each other run
-of the case files 30 are refused and, where it runs a script, each from there down to the first that is made outside the machine.
+`runs` and `commands`, each is refused, up to 700 of a run, and of the others 200 that are spread over them. Of each other run
+of the case files 15 are refused and, where it runs a script, each from there down to the first that is made outside the machine.
 
 Then each call that can want memory is made by itself (`calls.py`), by the programs `memory_calls` and `memory_runs`.
 
@@ -32,10 +32,10 @@ import case_files
 from calls import RefusedCalls, calls
 from fronts import rule_ends
 
-EVERY, SPREAD = 1500, 400
+EVERY, SPREAD = 700, 200
 # How many of a topic's cases are as examples: its first ones, which are the plain ones.
 WHOLE_CASES = {"runs": 4, "commands": 2}
-OF_CASE, MOST_OF_CASE = 30, 400
+OF_CASE, MOST_OF_CASE = 15, 200
 # Of the requests at the end without which the output is the ample one, one of so many is refused.
 STRIDE = 16
 # The answers that are wanted.
