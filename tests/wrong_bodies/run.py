@@ -2,7 +2,8 @@
 """Tries the wrong bodies that the gate leaves out: each edit of tests/wrong_bodies/CRATE, which the prover has to refuse, with
 those of the crate's own must-fail folder. It works on a copy of the repository, into whose crates it puts them, and `rt ci`
 proves these crates and those below, and keeps what passed. The last lines are rt's.
-Usage: run.py [CRATE..]   (default: every crate that has some, which takes about half as long as the gate)"""
+Usage: run.py [CRATE..]         (default: every crate that has some, which takes as long as the gate)
+       run.py --since COMMIT    those of each crate that has some and was changed since"""
 import glob
 import os
 import shutil
@@ -14,8 +15,20 @@ HERE = os.path.dirname(os.path.abspath(__file__))
 ROOT = os.path.dirname(os.path.dirname(HERE))
 
 
+def changed_since(commit):
+    """The crates whose code, definitions or proofs are others than in the commit."""
+    words = ["git", "diff", "--name-only", commit, "--", "crates/*/src", "crates/*/specs", "crates/*/proofs"]
+    files = subprocess.run(words, cwd=ROOT, check=True, capture_output=True, text=True).stdout.splitlines()
+    return {it.split("/")[1] for it in files}
+
+
 def main(names):
     known = sorted(it for it in os.listdir(HERE) if os.path.isdir(f"{HERE}/{it}"))
+    if names[:1] == ["--since"] and len(names) == 2:
+        changed = changed_since(names[1])
+        names = [it for it in known if it in changed]
+        if not names:
+            return print("no crate with wrong bodies here has changed") or 0
     strange = [it for it in names if it not in known]
     if strange:
         sys.exit(f"no wrong bodies here for {' '.join(strange)}; there are some for {' '.join(known)}")
