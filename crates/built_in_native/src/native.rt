@@ -25,7 +25,7 @@ pub fn twice(alloc: Global) -> Result<Sig, AllocError>
     let int = Name::new(alloc, b"int")?;
     let mut types = Items::new(alloc);
     types.push(QType::value(int))?;
-    Ok(Sig { name, types })
+    Sig::new(alloc, name, types)
 }
 
 /// It takes an `int`, emits `done(int)` and sets `out`.

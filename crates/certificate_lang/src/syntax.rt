@@ -69,7 +69,8 @@ fn member(cursor: &mut Cursor) -> Result<MemberName, ParseFault>
         return Ok(MemberName::Property(name));
     }
     let types = list::<TypePart>(cursor)?;
-    Ok(MemberName::Method(Sig { name, types }))
+    let sig = Sig::new(cursor.alloc(), name, types)?;
+    Ok(MemberName::Method(sig))
 }
 
 /// Whether `(` comes next.

@@ -10,6 +10,7 @@ pub mod OwnPlaces
 pub mod TwinMembers
 pub mod Nexts
 pub mod Loading
+pub mod NamedClasses
 pub use Rattle.name_indexes.proofs.Searches
 pub use Rattle.name_indexes.proofs.Zips
 pub use Rattle.name_indexes.proofs.Once

@@ -5,7 +5,9 @@ use Rattle.syntax_trees.specs.declared.program.Program.{Program}
 use Rattle.class_outlines.specs.declared.fault.MetaFault.TheVariants as fault
 use Rattle.class_outlines.specs.declared.outline.Heading.{Heading}
 use Rattle.class_outlines.specs.declared.outline.Outline.{Outline}
-use Rattle.name_indexes.specs.CallPlaces.{Layers, IndexesCalls}
+use Rattle.name_indexes.specs.NamePlaces.{place_in}
+use Rattle.name_indexes.specs.CallPlaces.{Index, Layers, IndexesCalls}
+use Rattle.name_indexes.specs.Places.{IsPlace}
 use Rattle.class_outlines.specs.Clashes.{HasTwoMembers}
 use Rattle.class_outlines.specs.declared.offence.LoadFault.{LoadFault}
 use Rattle.class_outlines.specs.Offences.{LoadsOf}
@@ -30,6 +32,10 @@ pub record IndexesOutline (outline : Outline) (methods properties : Layers) : Ty
   pub methods_by : IndexesHeadings outline.methods methods
   pub properties_by : IndexesDeclared outline.properties properties
   pub once : ¬ HasTwoMembers outline
+
+-- under each name stands the number of the first class that has it
+abbrev pub IndexesNames : List Outline → Index → Type 0
+IndexesNames classes index = (name : List ℕ) → IsPlace (λ (o : Outline). o.name ≡ name) classes (place_in index name)
 
 -- a class with its indexes is the class that was given, and each of its members appears once
 pub record IsIndexed (outline indexed : Outline) : Type 0 where

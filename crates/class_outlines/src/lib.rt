@@ -3,6 +3,7 @@
 #![tactic(auto)]
 
 mod bases;
+mod class_table;
 mod fault;
 mod indexed;
 mod names;
@@ -14,6 +15,7 @@ mod qobject;
 mod reason;
 mod twin_members;
 
+pub use class_table::ClassTable;
 pub use fault::MetaFault;
 pub use indexed::{IndexedOutline, index_outlines};
 pub use name_indexes::{CallIndex, NameIndex};
@@ -24,7 +26,7 @@ pub use names::{
 pub use offence::{Breach, Declaration, LoadFault, Member, Offence, PartFault};
 pub use outline::{Heading, Outline, Sort};
 pub use outlining::outline_classes;
-pub use places::{Named, find, place_of};
+pub use places::{Named, find};
 pub use qobject::{
     DELETE_LATER, DESTROYED, DESTROYED_ALONE, OBJECT_NAME, OBJECT_NAME_CHANGED, QOBJECT,
     reference_to,

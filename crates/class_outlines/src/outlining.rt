@@ -157,7 +157,7 @@ fn own_headings(
 fn signal_headings(alloc: Global, signals: &[Signal]) -> Result<Items<Shared<Heading>>, AllocError>
     ensures { IfOk result (λ headings. headings ≡ map signal_heading signals.now) }
 {
-    let mut headings = Items::new(alloc);
+    let mut headings = Items::from_vec(Vec::with_capacity(alloc, signals.len())?);
     for signal in signals {
         let sig = declared_sig(alloc, &signal.name, signal.parameters.as_slice())?;
         let heading = Heading::shared(alloc, sig, Sort::Signal)?;
@@ -174,7 +174,7 @@ fn slot_headings(
 ) -> Result<Items<Shared<Heading>>, AllocError>
     ensures { IfOk result (λ headings. headings ≡ slot_headings number 0 slots.now) }
 {
-    let mut headings = Items::new(alloc);
+    let mut headings = Items::from_vec(Vec::with_capacity(alloc, slots.len())?);
     for (place, slot) in slots.iter().enumerate() {
         let sig = declared_sig(alloc, &slot.name, slot.parameters.as_slice())?;
         let heading = Heading::shared(alloc, sig, Sort::Slot(number, place))?;
@@ -193,7 +193,7 @@ fn declared_sig(alloc: Global, name: &Name, parameters: &[Parameter]) -> Result<
         let kind = parameter.kind.copy()?;
         types.push(kind)?;
     }
-    Ok(Sig { name, types })
+    Sig::new(alloc, name, types)
 }
 
 /// The properties, as declared.
@@ -205,7 +205,7 @@ fn own_properties(
 {
     let mut own = Items::new(alloc);
     for property in properties {
-        let property = copy_property(alloc, property)?;
+        let property = copy_property(property)?;
         let property = Shared::new(alloc, property)?;
         own.push(property)?;
     }
@@ -213,13 +213,13 @@ fn own_properties(
 }
 
 /// The same property, which shares its names.
-fn copy_property(alloc: Global, property: &Property) -> Result<Property, AllocError>
+fn copy_property(property: &Property) -> Result<Property, AllocError>
     ensures { IfOk result (λ copy. copy ≡ property.now) }
 {
     let kind = property.kind.copy()?;
     let name = property.name.copy()?;
     let initial = copy_literal(&property.initial)?;
-    let notify = copy_sig(alloc, &property.notify)?;
+    let notify = copy_sig(&property.notify)?;
     Ok(Property {
         kind,
         name,
@@ -242,12 +242,12 @@ fn copy_literal(literal: &Option<Literal>) -> Result<Option<Literal>, AllocError
 }
 
 /// The same signature, if there is one.
-fn copy_sig(alloc: Global, sig: &Option<Sig>) -> Result<Option<Sig>, AllocError>
+fn copy_sig(sig: &Option<Sig>) -> Result<Option<Sig>, AllocError>
     ensures { IfOk result (λ copy. copy ≡ sig.now) }
 {
     match sig {
         Some(found) => {
-            let found = found.copy(alloc)?;
+            let found = found.copy()?;
             Ok(Some(found))
         }
         None => Ok(None),

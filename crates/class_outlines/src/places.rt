@@ -1,9 +1,8 @@
-//! The places of classes and members in their lists.
+//! What has a name, in lists.
 
 ghost use Rattle.std.specs.Prelude.{◌≡◌, ◌↔◌, ℕ, List, IsTrue, Some};
-ghost use Rattle.name_indexes.specs.Places.{IsPlace, IsFirst};
+ghost use Rattle.name_indexes.specs.Places.{IsFirst};
 
-use crate::indexed::IndexedOutline;
 use crate::outline::Outline;
 use signatures::Name;
 use syntax_trees::{Formal, Parameter};
@@ -22,14 +21,6 @@ impl Named for Outline {
 
     fn is_named(&self, name: &Name) -> bool {
         name.is_same(&self.name)
-    }
-}
-
-impl Named for IndexedOutline {
-    ghost has_name = { λ class name. class.name ≡ name };
-
-    fn is_named(&self, name: &Name) -> bool {
-        name.is_same(self.name())
     }
 }
 
@@ -62,14 +53,4 @@ pub fn find<'a, T: Named>(items: &'a [T], name: &Name) -> Option<(usize, &'a T)>
         }
     }
     None
-}
-
-/// The place of an item of this name.
-pub fn place_of<T: Named>(items: &[T], name: &Name) -> Option<usize>
-    ensures { IsPlace (λ item. T.has_name item name.now) items.now result }
-{
-    match find(items, name) {
-        Some((place, _)) => Some(place),
-        None => None,
-    }
 }

@@ -95,10 +95,7 @@ fn sig_of_none(alloc: Global, name: &[u8]) -> Result<Sig, AllocError>
     ensures { IfOk result (λ sig. sig ≡ sig_of name.now []) }
 {
     let name = Name::new(alloc, name)?;
-    Ok(Sig {
-        name,
-        types: Items::new(alloc),
-    })
+    Sig::new(alloc, name, Items::new(alloc))
 }
 
 /// The signature of this name with one parameter.
@@ -109,7 +106,7 @@ fn sig_of_one(alloc: Global, name: &[u8], kind: QType) -> Result<Sig, AllocError
     let name = Name::new(alloc, name)?;
     let mut types = Items::new(alloc);
     types.push(kind)?;
-    Ok(Sig { name, types })
+    Sig::new(alloc, name, types)
 }
 
 /// The type `C*` of references to objects of this class.

@@ -3,36 +3,26 @@
 ghost use Rattle.std.specs.Prelude.{◌++◌, codes, decimal};
 ghost use Rattle.std.specs.List.{flat_map};
 ghost use Rattle.signatures.specs.Spelling.{text_of_sig};
-ghost use Rattle.certificate_texts.specs.Texts.{node_text, item_text, listed_text, node_line, certificate_text};
+ghost use Rattle.certificate_texts.specs.Texts.{node_text, item_text, listed_text, node_line};
 ghost use Rattle.command_output.specs.Lines.{member_text};
 ghost use Rattle.command_output.specs.Sent.{Puts};
 
 use crate::output::Output;
-use certificate_lang::{Certificate, Line, MemberName, NodeName, SetItem};
+use certificate_lang::{Line, MemberName, NodeName, SetItem};
 use signatures::{Name, Sig};
 use std::io::Write;
 
 impl<W: Write> Output<'_, W> {
-    /// Adds a certificate's lines.
-    pub fn certificate(&mut self, certificate: &Certificate)
-        ensures { Puts W.contents self.old self.new (certificate_text certificate.now) }
+    /// Adds what a certificate with this bound begins with; the lines of its nodes come behind it.
+    pub fn certificate_head(&mut self, bound: u32)
+        ensures { Puts W.contents self.old self.new (codes "certificate 2\n" ++ (codes "bound " ++ decimal bound ++ codes "\n")) }
     {
         self.put_word(b"certificate 2\n");
-        self.numbered(b"bound ", certificate.bound);
-        self.node_lines(certificate.lines.as_slice());
-    }
-
-    /// Adds the lines of nodes.
-    fn node_lines(&mut self, lines: &[Line])
-        ensures { Puts W.contents self.old self.new (flat_map node_line lines.now) }
-    {
-        for line in lines {
-            self.node_line(line);
-        }
+        self.numbered(b"bound ", bound);
     }
 
     /// Adds the line of a node.
-    fn node_line(&mut self, line: &Line)
+    pub fn node_line(&mut self, line: &Line)
         ensures { Puts W.contents self.old self.new (node_line line.now) }
     {
         self.node(&line.node);

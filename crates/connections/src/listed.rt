@@ -210,11 +210,12 @@ where
     }
 }
 
-/// Gives back memory, where most of it is unused.
+/// Gives back a quarter of the memory, where most of it is unused: what was filled once is often filled again.
 pub fn give_back<T>(items: &mut Vec<T>)
     ensures { items.new.items ≡ items.old.items }
 {
     if items.len() < items.capacity() / 4 {
-        items.shrink_to(FEW);
+        let kept = items.capacity().saturating_sub(items.capacity() / 4);
+        items.shrink_to(kept.max(FEW));
     }
 }

@@ -3,7 +3,6 @@ use Rattle.std.proofs.Common.{◌≡◌, ◌≢◌, ◌↔◌, ◌⊎◌, inl, i
 use Rattle.std.specs.List.{Contains}
 use Rattle.std.proofs.lemmas.Bool.{cases_eq, cases_lt}
 use Rattle.std.proofs.lemmas.List.{take_all, length-set, get_or_past, get_or_default, get_or-replicate, length-replicate}
-use Rattle.std.proofs.lemmas.List.Elements.{length_all_zip, AllZip-get_or}
 use Rattle.std.proofs.lemmas.Option.{slice_get_within, same_Some, none-some, get_or_from_slice_get}
 pub use Rattle.class_sets.proofs.Firsts.{no_members, first_more}
 use Rattle.effect_scan.specs.Rows.{row, Edge}
@@ -159,18 +158,6 @@ empty_row n a =
 pub empty_edge : (n a b : ℕ) → ¬ Edge (replicate n []) a b
 empty_edge n a b e = no_members b (subst (λ (r : List ℕ). Contains r b) (empty_row n a) e)
 
-pub ordered_row : (rows lists : List (List ℕ)) (a : ℕ) → AreOrdered rows lists → IsOrdered (row rows a) (row lists a)
-unfolding row
-ordered_row rows lists a h =
-    let same = length_all_zip IsOrdered rows lists h in
-    elim (cases_lt a (length rows)) [
-      | inl l ↦ AllZip-get_or IsOrdered rows lists a [] [] h l
-      | inr m ↦
-          let none : get_or rows a [] ≡ [] = get_or_past rows a [] m in
-          let past : get_or lists a [] ≡ [] = get_or_past lists a [] (omega arith) in
-          rw (none, past) (record { same = λ n. (λ k. k, λ k. k); increasing = λ k k_in. absurd (omega (arith, k_in)) })
-    ]
-
 -- ---- a row that is looked up
 pub row_found : (rows : List (List ℕ)) (a : ℕ) (r : List ℕ) → slice_get rows a ≡ Some r → r ≡ row rows a
 unfolding row
@@ -216,6 +203,38 @@ left_rows initial now after k r count same e = (
   λ n past. ap (λ (l : List (List ℕ)). row l n) e ∙ row_set_other now k r n (λ is. absurd (omega (arith, past, is))) ∙ same n (omega (arith, past)),
 )
 
-pub row_taken : (initial now : List (List ℕ)) (k : ℕ) (taken d : List ℕ) → k < length now → length now ≡ length initial → ((n : ℕ) → k ≤ n → row now n ≡ row initial n) → taken ≡ get_or now k d → taken ≡ get_or initial k taken
-row_taken initial now k taken d inside count same is =
-    is ∙ row_default now k d inside ∙ same k (omega arith) ∙ sym (row_default initial k taken (omega (arith, inside, count)))
+-- ---- rows that are put in order one by one
+pub order_step : (initial now after : List (List ℕ)) (k : ℕ) (d r : List ℕ) → k < length now → length now ≡ length initial → ((n : ℕ) → n < k → IsOrdered (row initial n) (row now n)) → ((n : ℕ) → k ≤ n → row now n ≡ row initial n)
+    → IsOrdered (get_or now k d) r → after ≡ set now k r
+    → (length after ≡ length initial) × ((n : ℕ) → n < k + 1 → IsOrdered (row initial n) (row after n)) × ((n : ℕ) → k + 1 ≤ n → row after n ≡ row initial n)
+order_step initial now after k d r inside count before same ordered e =
+    let left = left_rows initial now after k r count same e in (
+      left.0,
+      λ n low.
+          elim (cases_eq n k) [
+            | inl is ↦
+                let first : get_or now k d ≡ row initial n = row_default now k d inside ∙ same k (omega arith) ∙ ap (row initial) (sym is) in
+                let last : row after n ≡ r = ap (λ (l : List (List ℕ)). row l n) e ∙ ap (row (set now k r)) is ∙ row_set_same now k r inside in
+                subst (λ (l : List ℕ). IsOrdered l (row after n)) first (subst (λ (l : List ℕ). IsOrdered (get_or now k d) l) (sym last) ordered)
+            | inr ne ↦
+                let stays : row after n ≡ row now n = ap (λ (l : List (List ℕ)). row l n) e ∙ row_set_other now k r n ne in
+                subst (λ (l : List ℕ). IsOrdered (row initial n) l) (sym stays) (before n (omega (arith, ne, low)))
+          ],
+      left.1,
+    )
+
+pub nothing_ordered : IsOrdered [] []
+nothing_ordered = record { same = λ n. (λ h. h, λ h. h); increasing = λ k inside. absurd (omega (arith, inside)) }
+
+pub order_all : (initial now : List (List ℕ)) (k : ℕ) → length initial ≤ k → length now ≡ length initial → ((n : ℕ) → n < k → IsOrdered (row initial n) (row now n)) → ((n : ℕ) → k ≤ n → row now n ≡ row initial n) → AreOrdered initial now
+order_all initial now k past count before same = record {
+  count = count;
+  each = λ a.
+      elim (cases_lt a k) [
+        | inl l ↦ before a l
+        | inr m ↦
+            let none : row initial a ≡ [] = row_past initial a (omega (arith, past, m)) in
+            let none_now : row now a ≡ [] = same a m ∙ none in
+            subst (λ (l : List ℕ). IsOrdered l (row now a)) (sym none) (subst (λ (l : List ℕ). IsOrdered [] l) (sym none_now) nothing_ordered)
+      ];
+}

@@ -1,5 +1,5 @@
 -- Numbers that are added to others.
-use Rattle.std.proofs.Common.{◌≡◌, ◌↔◌, ◌⊎◌, inl, inr, ℕ, ◌+◌, ◌<◌, ◌≤◌, List, [], ◌++◌, length, get_or, take, refl, sym, ◌∙◌, subst, arith}
+use Rattle.std.proofs.Common.{◌≡◌, ◌↔◌, ◌⊎◌, inl, inr, ℕ, ◌+◌, ◌<◌, ◌≤◌, List, [], ◌++◌, length, get_or, take, refl, sym, ap, ◌∙◌, subst, arith}
 use Rattle.std.specs.List.{Contains}
 use Rattle.std.proofs.lemmas.List.{take_all}
 use Rattle.std.proofs.lemmas.List.Elements.{Contains-append_left, Contains-append_right, Contains-append_cases}
@@ -38,6 +38,13 @@ gathers_same P Q before more same g n = (
   λ h. elim ((g n).0 h) [ inl old ↦ inl old | inr new ↦ inr ((same n).1 new) ],
   λ h. (g n).1 (elim h [ inl old ↦ inl old | inr new ↦ inr ((same n).0 new) ]),
 )
+
+-- what was found is added behind
+pub gathers_found : (P Q : ℕ → Type 0) (none found ns before more : List ℕ) → ((n : ℕ) → Q n ↔ P n) → none ≡ [] → Gathers P none found → ns ≡ found → more ≡ before ++ ns → Gathers Q before more
+gathers_found P Q none found ns before more same start g is e =
+    let just = just_gathered P none found start g in
+    let listed : Gathers (Contains found) before more = gathers_list before more found (e ∙ ap (λ (l : List ℕ). before ++ l) is) in
+    gathers_same (Contains found) Q before more (λ n. (λ q. (just n).1 ((same n).0 q), λ h. (same n).1 ((just n).0 h))) listed
 
 -- ---- one class after another
 module _ (nodes : List Node) (classes : List ℕ) (member : Member) where

@@ -1,5 +1,5 @@
 -- Lists of numbers, one number after another.
-use Rattle.std.proofs.Common.{◌≡◌, ◌↔◌, inl, inr, ℕ, ◌+◌, ◌<◌, ◌≤◌, List, [], ◌∷◌, ◌++◌, length, get_or, take, slice_get, Some, eqb, IsPermutation, refl, sym, ap, ◌∙◌, subst, arith}
+use Rattle.std.proofs.Common.{◌≡◌, ◌↔◌, inl, inr, ℕ, ◌+◌, ◌-◌, ◌<◌, ◌≤◌, List, [], ◌∷◌, ◌++◌, length, get_or, take, slice_get, Some, eqb, IsPermutation, refl, sym, ap, ◌∙◌, subst, arith}
 use Rattle.std.specs.List.{Contains, dedup}
 use Rattle.std.specs.List.Sorted.{IsStrictlyIncreasing, IsSorted}
 use Rattle.std.specs.Ordering.{nat_cmp}
@@ -39,6 +39,26 @@ increasing_more xs n up low k inside =
           let at_next : get_or (xs ++ n ∷ []) (k + 1) 0 ≡ n = ap (λ (j : ℕ). get_or (xs ++ n ∷ []) j 0) last ∙ get_or-append_seam xs n [] 0 in
           rw (at_k, at_next) (low (get_or xs k 0) (Contains-get_or xs k 0 (omega arith)))
     ]
+
+-- ---- lists that are looked at number by number
+-- each number up to this place is above the one before it
+pub rises_more : (xs : List ℕ) (i : ℕ) → 1 ≤ i → ((k : ℕ) → k + 1 < i → get_or xs k 0 < get_or xs (k + 1) 0) → get_or xs (i - 1) 0 < get_or xs i 0 → (k : ℕ) → k + 1 < i + 1 → get_or xs k 0 < get_or xs (k + 1) 0
+rises_more xs i least before now k low =
+    elim (cases_eq (k + 1) i) [
+      | inl same ↦
+          let e : i - 1 ≡ k = omega (arith, same) in
+          subst (λ (j : ℕ). get_or xs k 0 < get_or xs j 0) (sym same) (subst (λ (j : ℕ). get_or xs j 0 < get_or xs i 0) e now)
+      | inr ne ↦ before k (omega (arith, low, ne))
+    ]
+
+-- a list of one number is that number alone
+pub one_number : (xs : List ℕ) → length xs ≡ 1 → get_or xs 0 0 ∷ [] ≡ xs
+one_number [] e = absurd (omega (arith, e))
+one_number (x ∷ []) e = refl
+one_number (x ∷ y ∷ ys) e = absurd (omega (arith, e))
+
+pub increasing_ordered : (xs : List ℕ) → IsStrictlyIncreasing xs → IsOrdered xs xs
+increasing_ordered xs up = record { same = λ n. (λ h. h, λ h. h); increasing = up }
 
 module _ (P : ℕ → Type 0) where
   pub lists_none : Lists P 0 []

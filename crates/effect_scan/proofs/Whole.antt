@@ -2,7 +2,6 @@
 use Rattle.std.proofs.Common.{◌≡◌, ◌⊎◌, inl, inr, ℕ, List, [], length, replicate, refl, sym, ap, ◌∙◌, subst}
 use Rattle.std.specs.List.{Contains}
 use Rattle.std.proofs.lemmas.List.{length-replicate}
-use Rattle.std.proofs.lemmas.List.Elements.{length_all_zip}
 use Rattle.std.proofs.lemmas.Option.{slice_get-get_or, get_or_from_slice_get}
 use Rattle.class_outlines.specs.declared.qobject.TheConstants.{DESTROYED}
 use Rattle.meta_model.specs.Loaded.{Loaded}
@@ -15,13 +14,13 @@ use Rattle.effect_scan.specs.declared.effect.Reach.TheVariants as reach
 use Rattle.effect_scan.specs.declared.places.Places.{Places}
 use Rattle.effect_scan.specs.Nodes.{node, named, nodes_of, IsAt}
 use Rattle.effect_scan.specs.Rows.{row, Edge}
-use Rattle.effect_scan.specs.code.Adding.{Adds, IsOrdered, AreOrdered}
+use Rattle.effect_scan.specs.code.Adding.{Adds, AreOrdered}
 use Rattle.effect_scan.specs.code.Places.{InBelow, ReachedBy, ArePlaces}
 use Rattle.effect_scan.specs.Destroying.{AreClosures}
 use Rattle.effect_scan.specs.Edges.{AtOrBelow, ReachedAs, ByWork, ByWire, ByNotify, BySite, ByDestruction, MayLead, by_work, by_wire, by_notify, by_site, by_destruction, LeadsAt}
 use Rattle.effect_scan.specs.code.Leading.{WiresLead, WorksLead, NotifiersLead, SitesLead, ClosuresLead}
 use Rattle.effect_scan.specs.Scans.{AreEdges}
-use Rattle.effect_scan.proofs.Adding.{edge_inside, empty_edge, ordered_row}
+use Rattle.effect_scan.proofs.Adding.{edge_inside, empty_edge}
 
 -- a member of class c is that node
 pub made : (x : Node) (c : ℕ) (member : Member) → x.class ≡ c → x.member ≡ member → node c member ≡ x
@@ -262,13 +261,13 @@ module _ (p : Loaded) (places : Places) (are : ArePlaces p places) where
         → Adds (NotifiersLead places p.classes) r2 r3 → Adds (SitesLead places p.sites) r3 r4 → Adds (ClosuresLead places closures) r4 r5 → AreOrdered r5 lists → AreEdges p lists
     edges_are r0 r1 r2 r3 r4 r5 lists empty a1 a2 a3 a4 a5 ordered = record {
       count =
-          sym (length_all_zip IsOrdered r5 lists ordered) ∙ a5.count ∙ a4.count ∙ a3.count ∙ a2.count ∙ a1.count ∙ ap length empty ∙ length-replicate (length places.numbering) []
+          ordered.count ∙ a5.count ∙ a4.count ∙ a3.count ∙ a2.count ∙ a1.count ∙ ap length empty ∙ length-replicate (length places.numbering) []
           ∙ ap length are.numbering;
       edges = λ a b. (
-        λ h. leads_to a b (split a b (((ordered_row r5 lists a ordered).same b).0 h)),
-        λ h. ((ordered_row r5 lists a ordered).same b).1 (joined a b (leads_from a b h)),
+        λ h. leads_to a b (split a b (((ordered.each a).same b).0 h)),
+        λ h. ((ordered.each a).same b).1 (joined a b (leads_from a b h)),
       );
-      increasing = λ a. (ordered_row r5 lists a ordered).increasing;
+      increasing = λ a. (ordered.each a).increasing;
     }
       where
         split : (a b : ℕ) → Edge r5 a b → Leads a b

@@ -3,3 +3,4 @@ pub mod Adding
 pub mod Places
 pub mod Relations
 pub mod Leading
+pub mod Holding

@@ -10,10 +10,12 @@ ghost use Rattle.effect_scan.specs.code.Adding.{Adds};
 ghost use Rattle.effect_scan.specs.code.Places.{AreJust, IsReached, IsRead, OfSome};
 ghost use Rattle.effect_scan.specs.code.Leading.{WireLeads, WiresLead, MethodLeads, MethodsLead, WorksLead, WorkReaches, PropertyLeads, Notifies, PropertiesLead, NotifiersLead, SiteLeads, SitesLead, ClosureLeads, ClosuresLead};
 
+use crate::added::Added;
 use crate::effect::{Effect, gather, gather_native};
 use crate::node::{Member, Node};
 use crate::places::Places;
-use crate::rows::{Added, join};
+use crate::rows::join;
+use crate::targets::Targets;
 use class_outlines::{DESTROYED, DESTROYED_ALONE};
 use meta_model::{
     MetaMethod, MetaObject, MetaProperty, MetaSite, MetaWire, SourceProperty, ValueType, Work,
@@ -39,7 +41,7 @@ pub fn add_wires(
     alloc: Global,
     places: &Places,
     wires: &[MetaWire],
-    rows: &mut [Added],
+    rows: &mut [Targets],
 ) -> Result<(), AllocError>
     requires { length rows.old ≡ length places.now.numbering }
     ensures { IfOk result (λ _. Adds (WiresLead places.now wires.now) rows.old rows.new) }
@@ -55,7 +57,7 @@ fn add_wire(
     alloc: Global,
     places: &Places,
     wire: &MetaWire,
-    rows: &mut [Added],
+    rows: &mut [Targets],
 ) -> Result<(), AllocError>
     requires { length rows.old ≡ length places.now.numbering }
     ensures { IfOk result (λ _. Adds (WireLeads places.now wire.now) rows.old rows.new) }
@@ -66,7 +68,7 @@ fn add_wire(
             let signal = Member::Method(named(wire.signal));
             let from = places.below(alloc, wire.sender, signal)?;
             let to = places.below(alloc, wire.receiver, Member::Method(wire.method))?;
-            join(rows, from.as_slice(), to.as_slice())
+            join(alloc, rows, from.as_slice(), to.as_slice())
         }
     }
 }
@@ -76,7 +78,7 @@ pub fn add_works(
     alloc: Global,
     places: &Places,
     classes: &[MetaObject],
-    rows: &mut [Added],
+    rows: &mut [Targets],
 ) -> Result<(), AllocError>
     requires { length rows.old ≡ length places.now.numbering }
     ensures { IfOk result (λ _. Adds (WorksLead places.now classes.now) rows.old rows.new) }
@@ -93,7 +95,7 @@ fn add_methods(
     places: &Places,
     number: usize,
     class: &MetaObject,
-    rows: &mut [Added],
+    rows: &mut [Targets],
 ) -> Result<(), AllocError>
     requires { length rows.old ≡ length places.now.numbering }
     ensures { IfOk result (λ _. Adds (MethodsLead places.now number class.now) rows.old rows.new) }
@@ -111,7 +113,7 @@ fn add_method(
     class: usize,
     number: usize,
     method: &MetaMethod,
-    rows: &mut [Added],
+    rows: &mut [Targets],
 ) -> Result<(), AllocError>
     requires { length rows.old ≡ length places.now.numbering }
     ensures { IfOk result (λ _.
@@ -124,19 +126,21 @@ fn add_method(
     }
 }
 
-/// Adds the numbers of what the method's work does something to, for an object of this class, and puts all in order.
+/// Adds the numbers of what the method's work does something to, for an object of this class.
 fn add_work(
     alloc: Global,
     places: &Places,
     class: usize,
     method: &MetaMethod,
-    numbers: &mut Added,
+    numbers: &mut Targets,
 ) -> Result<(), AllocError>
     ensures { IfOk result (λ _.
         Gathers (WorkReaches places.now class method.now) numbers.old numbers.new) }
 {
     let effects = effects_of(alloc, method.kinds.as_slice(), &method.work)?;
-    add_all_reached(places, class, effects.as_slice(), numbers)
+    let mut found = Added::new(alloc);
+    add_all_reached(places, class, effects.as_slice(), &mut found)?;
+    numbers.add_all(alloc, found.as_slice())
 }
 
 /// What is done at once when the method is called, whose parameters are of these types.
@@ -178,61 +182,65 @@ fn add_all_reached(
 
 /// Adds the edges from properties to their notify signals.
 pub fn add_notifiers(
+    alloc: Global,
     places: &Places,
     classes: &[MetaObject],
-    rows: &mut [Added],
+    rows: &mut [Targets],
 ) -> Result<(), AllocError>
     requires { length rows.old ≡ length places.now.numbering }
     ensures { IfOk result (λ _. Adds (NotifiersLead places.now classes.now) rows.old rows.new) }
 {
     for (number, class) in classes.iter().enumerate() {
-        add_properties(places, number, class, rows)?;
+        add_properties(alloc, places, number, class, rows)?;
     }
     Ok(())
 }
 
 /// Adds the edges from the properties of the class of this number.
 fn add_properties(
+    alloc: Global,
     places: &Places,
     number: usize,
     class: &MetaObject,
-    rows: &mut [Added],
+    rows: &mut [Targets],
 ) -> Result<(), AllocError>
     requires { length rows.old ≡ length places.now.numbering }
     ensures { IfOk result (λ _.
         Adds (PropertiesLead places.now number class.now) rows.old rows.new) }
 {
     for (place, property) in class.properties.as_slice().iter().enumerate() {
-        add_property(places, number, place, property.get(), rows)?;
+        add_property(alloc, places, number, place, property.get(), rows)?;
     }
     Ok(())
 }
 
 /// Adds the edges from the property of this number in the class.
 fn add_property(
+    alloc: Global,
     places: &Places,
     class: usize,
     number: usize,
     property: &MetaProperty,
-    rows: &mut [Added],
+    rows: &mut [Targets],
 ) -> Result<(), AllocError>
     requires { length rows.old ≡ length places.now.numbering }
     ensures { IfOk result (λ _.
         Adds (PropertyLeads places.now class number property.now) rows.old rows.new) }
 {
     match property.notify {
-        Some(signal) => add_notifier(places, class, number, named(signal), rows),
+        Some(signal) => add_notifier(alloc, places, class, number, named(signal), rows),
         None => Ok(()),
     }
 }
 
 /// Adds the edge from the property of this number in the class to the signal.
 fn add_notifier(
+    alloc: Global,
     places: &Places,
     class: usize,
     property: usize,
     signal: usize,
-    rows: &mut [Added],
+    rows: &mut [Targets],
 ) -> Result<(), AllocError>
     requires { length rows.old ≡ length places.now.numbering }
     ensures { IfOk result (λ _.
@@ -241,7 +249,7 @@ fn add_notifier(
     let member = Member::Property(property);
     let to = Member::Method(signal);
     match places.numbering.number(Node { class, member }) {
-        Some(from) => places.add_one(Node { class, member: to }, &mut rows[from]),
+        Some(from) => places.lead_to_one(alloc, Node { class, member: to }, &mut rows[from]),
         None => Ok(()),
     }
 }
@@ -251,7 +259,7 @@ pub fn add_sites(
     alloc: Global,
     places: &Places,
     sites: &[MetaSite],
-    rows: &mut [Added],
+    rows: &mut [Targets],
 ) -> Result<(), AllocError>
     requires { length rows.old ≡ length places.now.numbering }
     ensures { IfOk result (λ _. Adds (SitesLead places.now sites.now) rows.old rows.new) }
@@ -267,7 +275,7 @@ fn add_site(
     alloc: Global,
     places: &Places,
     site: &MetaSite,
-    rows: &mut [Added],
+    rows: &mut [Targets],
 ) -> Result<(), AllocError>
     requires { length rows.old ≡ length places.now.numbering }
     ensures { IfOk result (λ _. Adds (SiteLeads places.now site.now) rows.old rows.new) }
@@ -276,7 +284,7 @@ fn add_site(
     gather_sources(site.formula.expression(), &mut sources)?;
     let from = read(alloc, places, site.formals.as_slice(), sources.as_slice())?;
     let to = places.below(alloc, site.class, Member::Property(site.property))?;
-    join(rows, from.as_slice(), to.as_slice())
+    join(alloc, rows, from.as_slice(), to.as_slice())
 }
 
 /// The properties that the expression names, from left to right.
@@ -303,7 +311,7 @@ fn read(
     places: &Places,
     formals: &[usize],
     sources: &[SourceProperty],
-) -> Result<Items<usize>, AllocError>
+) -> Result<Added, AllocError>
     ensures { IfOk result (AreJust (OfSome (IsRead places.now formals.now) sources.now)) }
 {
     let mut all = Added::new(alloc);
@@ -311,7 +319,7 @@ fn read(
         let found = read_one(alloc, places, formals, *source)?;
         all.add_all(found.as_slice())?;
     }
-    Ok(all.ordered())
+    Ok(all.fitted())
 }
 
 /// The numbers of the property, where the source is of its class or below it.
@@ -331,25 +339,27 @@ fn read_one(
 
 /// Adds the edges from destructions to the announcements of those that are destroyed with an object.
 pub fn add_closures(
+    alloc: Global,
     places: &Places,
     closures: &[Items<usize>],
-    rows: &mut [Added],
+    rows: &mut [Targets],
 ) -> Result<(), AllocError>
     requires { length rows.old ≡ length places.now.numbering }
     ensures { IfOk result (λ _. Adds (ClosuresLead places.now closures.now) rows.old rows.new) }
 {
     for (class, closure) in closures.iter().enumerate() {
-        add_closure(places, class, closure.as_slice(), rows)?;
+        add_closure(alloc, places, class, closure.as_slice(), rows)?;
     }
     Ok(())
 }
 
 /// Adds the edges from the destruction of an object of this class.
 fn add_closure(
+    alloc: Global,
     places: &Places,
     class: usize,
     closure: &[usize],
-    rows: &mut [Added],
+    rows: &mut [Targets],
 ) -> Result<(), AllocError>
     requires { length rows.old ≡ length places.now.numbering }
     ensures { IfOk result (λ _.
@@ -357,7 +367,12 @@ fn add_closure(
 {
     let member = Member::Destruction;
     match places.numbering.number(Node { class, member }) {
-        Some(from) => places.add_each(closure, Member::Method(DESTROYED), &mut rows[from]),
+        Some(from) => places.lead_to_each(
+            alloc,
+            closure,
+            Member::Method(DESTROYED),
+            &mut rows[from],
+        ),
         None => Ok(()),
     }
 }

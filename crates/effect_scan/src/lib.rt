@@ -1,6 +1,7 @@
 //! What the members of a program's classes may do at once, told from its declarations and bodies alone.
 #![tactic(auto)]
 
+mod added;
 mod closure;
 mod edges;
 mod effect;
@@ -12,11 +13,13 @@ mod places;
 mod reasons;
 mod rows;
 mod scan;
+mod targets;
 
 pub use effect::{Effect, Reach, effect_of};
 pub use laws::edges_join_nodes;
 pub use node::{Member, Node};
 pub use numbering::Numbering;
 pub use reasons::{Reason, reason_for};
-pub use rows::row_at;
+pub use rows::{row_at, targets_at};
 pub use scan::Scan;
+pub use targets::Targets;

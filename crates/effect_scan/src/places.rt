@@ -5,11 +5,12 @@ ghost use Rattle.effect_scan.specs.Nodes.{IsAt};
 ghost use Rattle.effect_scan.specs.Effects.{Gathers};
 ghost use Rattle.effect_scan.specs.code.Places.{AreJust, ArePlaces, InEach, InBelow, IsReached};
 
+use crate::added::Added;
 use crate::effect::{Effect, Reach};
 use crate::lineage::lineage;
 use crate::node::{Member, Node};
 use crate::numbering::Numbering;
-use crate::rows::Added;
+use crate::targets::Targets;
 use meta_objects::Meta;
 use sqlite_items::Items;
 use std::alloc::{AllocError, Global};
@@ -95,6 +96,38 @@ impl Places {
             Reach::Own => self.add_one(Node { class, member }, numbers),
             Reach::Below(other) => self.add_below(other, member, numbers),
         }
+    }
+
+    /// Adds the number of the node to those that edges lead to, and nothing where it is no node of the program.
+    pub fn lead_to_one(
+        &self,
+        alloc: Global,
+        node: Node,
+        numbers: &mut Targets,
+    ) -> Result<(), AllocError>
+        ensures { IfOk result (λ _.
+            Gathers (IsAt self.now.numbering node) numbers.old numbers.new) }
+    {
+        match self.numbering.number(node) {
+            Some(number) => numbers.add(alloc, number),
+            None => Ok(()),
+        }
+    }
+
+    /// Adds the numbers of this member in the classes to those that edges lead to.
+    pub fn lead_to_each(
+        &self,
+        alloc: Global,
+        classes: &[usize],
+        member: Member,
+        numbers: &mut Targets,
+    ) -> Result<(), AllocError>
+        ensures { IfOk result (λ _.
+            Gathers (InEach self.now.numbering classes.now member) numbers.old numbers.new) }
+    {
+        let mut found = Added::new(alloc);
+        self.add_each(classes, member, &mut found)?;
+        numbers.add_all(alloc, found.as_slice())
     }
 
     /// The numbers of this member in the class and those below it.

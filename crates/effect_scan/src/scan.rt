@@ -13,7 +13,8 @@ use crate::edges::{add_closures, add_notifiers, add_sites, add_wires, add_works}
 use crate::node::Node;
 use crate::numbering::Numbering;
 use crate::places::Places;
-use crate::rows::{Added, empty_rows, ordered_rows, row_at};
+use crate::rows::{empty_rows, order_rows, targets_at};
+use crate::targets::Targets;
 use meta_objects::Meta;
 use sqlite_items::Items;
 use std::alloc::{AllocError, Global};
@@ -22,7 +23,7 @@ use std::marker::Model;
 /// The nodes of a program, the edges between them, and for each class those whose objects are destroyed with one of it.
 pub struct Scan {
     numbering: Numbering,
-    rows: Items<Items<usize>>,
+    rows: Items<Targets>,
     closures: Items<Items<usize>>,
 }
 
@@ -82,11 +83,11 @@ impl Scan {
     pub fn targets(&self, node: usize) -> &[usize]
         ensures { result.now ≡ row self.now.rows node }
     {
-        row_at(self.rows.as_slice(), node)
+        targets_at(self.rows.as_slice(), node)
     }
 
     /// For each node, by number, the numbers of the nodes that it may lead to.
-    pub fn rows(&self) -> &[Items<usize>]
+    pub fn rows(&self) -> &[Targets]
         ensures { result.now ≡ self.now.rows }
     {
         self.rows.as_slice()
@@ -119,13 +120,14 @@ fn edges(
     meta: &Meta,
     places: &Places,
     closures: &[Items<usize>],
-) -> Result<Items<Items<usize>>, AllocError>
+) -> Result<Items<Targets>, AllocError>
     requires places { ArePlaces meta.now places.now }
     requires closures { AreClosures meta.now closures.now }
     ensures { IfOk result (AreEdges meta.now) }
 {
     let mut rows = empty_rows(alloc, places.numbering.nodes().len())?;
-    add_edges(alloc, meta, places, closures, rows.as_mut_slice())
+    add_edges(alloc, meta, places, closures, rows.as_mut_slice())?;
+    Ok(Items::from_vec(rows))
 }
 
 /// The edges of the program, in rows that are empty at first.
@@ -134,17 +136,17 @@ fn add_edges(
     meta: &Meta,
     places: &Places,
     closures: &[Items<usize>],
-    rows: &mut [Added],
-) -> Result<Items<Items<usize>>, AllocError>
+    rows: &mut [Targets],
+) -> Result<(), AllocError>
     requires places { ArePlaces meta.now places.now }
     requires closures { AreClosures meta.now closures.now }
     requires empty { rows.old ≡ replicate (length places.now.numbering) [] }
-    ensures { IfOk result (AreEdges meta.now) }
+    ensures { IfOk result (λ _. AreEdges meta.now rows.new) }
 {
     add_works(alloc, places, meta.classes(), rows)?;
     add_wires(alloc, places, meta.wires(), rows)?;
-    add_notifiers(places, meta.classes(), rows)?;
+    add_notifiers(alloc, places, meta.classes(), rows)?;
     add_sites(alloc, places, meta.sites(), rows)?;
-    add_closures(places, closures, rows)?;
-    ordered_rows(alloc, rows)
+    add_closures(alloc, places, closures, rows)?;
+    order_rows(alloc, rows)
 }

@@ -11,23 +11,22 @@ ghost use Rattle.class_outlines.specs.declared.reason.Reason.TheVariants as reas
 
 use crate::site_references::reference_in;
 use class_outlines::{
-    Breach, Declaration, IndexedOutline, Member, Offence, Reason, Unfit, names_before_parameter,
+    Breach, ClassTable, Declaration, Member, Offence, Reason, Unfit, names_before_parameter,
     names_before_work, names_of_sig,
 };
 use signatures::{Name, QType, Sig};
-use std::alloc::{AllocError, Global};
+use std::alloc::AllocError;
 use syntax_trees::{Class, EffectNames, Parameter, Program, Slot, SlotWork};
 
 /// The first native that takes, reads, emits or sets a reference. The error is that memory was refused.
 pub fn touched_reference(
-    alloc: Global,
     program: &Program,
-    outlines: &[IndexedOutline],
+    outlines: &ClassTable,
 ) -> Result<Option<Offence>, AllocError>
     ensures { IfOk result (TellsOffence program.now fault.NoType (Any (HasReferenceNative outlines.now) program.now.classes)) }
 {
     for (number, class) in program.classes.as_slice().iter().enumerate() {
-        if let Some(offence) = touched_in_class(alloc, outlines, number, class)? {
+        if let Some(offence) = touched_in_class(outlines, number, class)? {
             return Ok(Some(offence));
         }
     }
@@ -36,15 +35,14 @@ pub fn touched_reference(
 
 /// The first of those that the class of this number declares.
 fn touched_in_class(
-    alloc: Global,
-    outlines: &[IndexedOutline],
+    outlines: &ClassTable,
     number: usize,
     class: &Class,
 ) -> Result<Option<Offence>, AllocError>
     ensures { IfOk result (TellsOffenceIn number class.now fault.NoType (HasReferenceNative outlines.now class.now)) }
 {
     for (place, slot) in class.slots.as_slice().iter().enumerate() {
-        if let Some(breach) = touched_by(alloc, outlines, &class.name, slot)? {
+        if let Some(breach) = touched_by(outlines, &class.name, slot)? {
             let declaration = Declaration::Member(number, Member::Slot(place));
             return Ok(Some(breach.of(declaration)));
         }
@@ -54,8 +52,7 @@ fn touched_in_class(
 
 /// The reference that the slot takes, reads, emits or sets, where it is a native of the class of this name.
 fn touched_by(
-    alloc: Global,
-    outlines: &[IndexedOutline],
+    outlines: &ClassTable,
     class: &Name,
     slot: &Slot,
 ) -> Result<Option<Breach>, AllocError>
@@ -69,7 +66,7 @@ fn touched_by(
             Some(breach) => Ok(Some(breach)),
             None => {
                 let first = names_before_work(parameters);
-                affected_reference(alloc, outlines, class, first, effects)
+                affected_reference(outlines, class, first, effects)
             }
         },
     }
@@ -102,8 +99,7 @@ fn taken_reference(parameters: &[Parameter]) -> Result<Option<Breach>, AllocErro
 /// The first reference among what the native of this class reads, emits or sets. The names of its lists begin with this
 /// number.
 fn affected_reference(
-    alloc: Global,
-    outlines: &[IndexedOutline],
+    outlines: &ClassTable,
     class: &Name,
     first: usize,
     effects: &EffectNames,
@@ -115,15 +111,14 @@ fn affected_reference(
         Some(breach) => Ok(Some(breach)),
         None => {
             let second = first.saturating_add(reads.len());
-            acted_reference(alloc, outlines, class, second, effects)
+            acted_reference(outlines, class, second, effects)
         }
     }
 }
 
 /// The first reference among what the native of this class emits or sets.
 fn acted_reference(
-    alloc: Global,
-    outlines: &[IndexedOutline],
+    outlines: &ClassTable,
     class: &Name,
     first: usize,
     effects: &EffectNames,
@@ -131,7 +126,7 @@ fn acted_reference(
     ensures { IfOk result (TellsBreach fault.NoType (ActsOnReference outlines.now class.now effects.now)) }
 {
     let mut names = first;
-    match emitted_reference(alloc, effects.emits.as_slice(), &mut names)? {
+    match emitted_reference(effects.emits.as_slice(), &mut names)? {
         Some(breach) => Ok(Some(breach)),
         None => named_reference(outlines, class, names, effects.sets.as_slice()),
     }
@@ -139,7 +134,7 @@ fn acted_reference(
 
 /// The first of these properties of the class that is a reference.
 fn named_reference(
-    outlines: &[IndexedOutline],
+    outlines: &ClassTable,
     class: &Name,
     first: usize,
     names: &[Name],
@@ -157,17 +152,13 @@ fn named_reference(
 
 /// The first of the signals with a reference. So many names stand before them; those of the signals that have none are
 /// added.
-fn emitted_reference(
-    alloc: Global,
-    signals: &[Sig],
-    names: &mut usize,
-) -> Result<Option<Breach>, AllocError>
+fn emitted_reference(signals: &[Sig], names: &mut usize) -> Result<Option<Breach>, AllocError>
     ensures { IfOk result (TellsBreach fault.NoType (Any (λ sig. Any IsPointer sig.types) signals.now)) }
 {
     for sig in signals {
         if let Some((place, kind)) = first_pointer(sig.types.as_slice()) {
             let kind = kind.copy()?;
-            let sig = sig.copy(alloc)?;
+            let sig = sig.copy()?;
             let name = names.saturating_add(place).saturating_add(1);
             return Ok(Some(reference(name, Unfit::Emitted(sig, kind))));
         }

@@ -7,7 +7,7 @@ ghost use Rattle.meta_model.specs.Sites.{IsReferenceIn, ReadsReference, UsesRefe
 ghost use Rattle.class_outlines.specs.declared.fault.MetaFault.TheVariants as fault;
 
 use class_outlines::{
-    Breach, Declaration, IndexedOutline, Offence, Reason, Unfit, names_before_expression,
+    Breach, ClassTable, Declaration, Offence, Reason, Unfit, names_before_expression,
 };
 use meta_model::{property_in, source_property};
 use signatures::{Name, QType};
@@ -17,7 +17,7 @@ use syntax_trees::{Expr, Path, Program, Site};
 /// The first binding site whose target, or a property that it reads, is a reference. The error is that memory was refused.
 pub fn bound_reference(
     program: &Program,
-    outlines: &[IndexedOutline],
+    outlines: &ClassTable,
 ) -> Result<Option<Offence>, AllocError>
     ensures { IfOk result (TellsOffence program.now fault.NoType (Any (UsesReference outlines.now) program.now.sites)) }
 {
@@ -30,7 +30,7 @@ pub fn bound_reference(
 }
 
 /// The site's target, or the first property that it reads, which is a reference.
-fn used_reference(outlines: &[IndexedOutline], site: &Site) -> Result<Option<Breach>, AllocError>
+fn used_reference(outlines: &ClassTable, site: &Site) -> Result<Option<Breach>, AllocError>
     ensures { IfOk result (TellsBreach fault.NoType (UsesReference outlines.now site.now)) }
 {
     if let Some(kind) = reference_in(outlines, &site.class, &site.property) {
@@ -59,11 +59,7 @@ fn bound(name: usize, kind: &QType) -> Result<Breach, AllocError>
 }
 
 /// The type of the property of this name, in the class of this name, where it is a reference.
-pub fn reference_in<'a>(
-    outlines: &'a [IndexedOutline],
-    class: &Name,
-    name: &Name,
-) -> Option<&'a QType>
+pub fn reference_in<'a>(outlines: &'a ClassTable, class: &Name, name: &Name) -> Option<&'a QType>
     ensures { Tells (IsReferenceIn outlines.now class.now name.now) result }
 {
     let Some(found) = property_in(outlines, class, name) else {
@@ -79,7 +75,7 @@ pub fn reference_in<'a>(
 /// The type of the first path of the expression that is a reference. So many names stand before the expression; those in
 /// front of that property are added.
 fn read_reference<'a>(
-    outlines: &'a [IndexedOutline],
+    outlines: &'a ClassTable,
     site: &Site,
     expression: &Expr<Path>,
     names: &mut usize,
@@ -109,7 +105,7 @@ fn read_reference<'a>(
 }
 
 /// The type of the property that the path leads to, where it is a reference.
-fn reference_at<'a>(outlines: &'a [IndexedOutline], site: &Site, path: &Path) -> Option<&'a QType>
+fn reference_at<'a>(outlines: &'a ClassTable, site: &Site, path: &Path) -> Option<&'a QType>
     ensures { Tells (ReadsReference outlines.now site.now path.now) result }
 {
     let Some(found) = source_property(outlines, site, path) else {

@@ -9,37 +9,32 @@ ghost use Rattle.class_outlines.specs.declared.fault.MetaFault.TheVariants as fa
 use crate::native_types::touched_reference;
 use crate::site_references::bound_reference;
 use crate::unknown_types::unknown_type;
-use class_outlines::{IndexedOutline, Offence};
-use std::alloc::{AllocError, Global};
+use class_outlines::{ClassTable, Offence};
+use std::alloc::AllocError;
 use syntax_trees::Program;
 
 /// The first property or method with a type that isn't there; or else the first binding whose target or a property that it
 /// reads is a reference; or else the first native that takes, reads, emits or sets one. The error is that memory was
 /// refused.
-pub fn unfit_type(
-    alloc: Global,
-    program: &Program,
-    outlines: &[IndexedOutline],
-) -> Result<Option<Offence>, AllocError>
+pub fn unfit_type(program: &Program, outlines: &ClassTable) -> Result<Option<Offence>, AllocError>
     requires { Outlines program.now.classes outlines.now }
     ensures { IfOk result (TellsOffence program.now fault.NoType (NoType program.now outlines.now)) }
 {
     match unknown_type(program, outlines) {
         Some(offence) => Ok(Some(offence)),
-        None => misused_reference(alloc, program, outlines),
+        None => misused_reference(program, outlines),
     }
 }
 
 /// The first binding or native that takes a reference.
 fn misused_reference(
-    alloc: Global,
     program: &Program,
-    outlines: &[IndexedOutline],
+    outlines: &ClassTable,
 ) -> Result<Option<Offence>, AllocError>
     ensures { IfOk result (TellsOffence program.now fault.NoType (MisusesReference program.now outlines.now)) }
 {
     match bound_reference(program, outlines)? {
         Some(offence) => Ok(Some(offence)),
-        None => touched_reference(alloc, program, outlines),
+        None => touched_reference(program, outlines),
     }
 }

@@ -11,15 +11,14 @@ ghost use Rattle.syntax_trees.specs.declared.program.Signal.{Signal as ASignal};
 ghost use Rattle.syntax_trees.specs.declared.program.Slot.{Slot as ASlot};
 
 use class_outlines::{
-    Breach, Declaration, IndexedOutline, Member, Offence, Reason, Unfit, names_before_parameter,
-    place_of,
+    Breach, ClassTable, Declaration, Member, Offence, Reason, Unfit, names_before_parameter,
 };
 use meta_model::kind_of;
 use signatures::QType;
 use syntax_trees::{Class, Parameter, Program};
 
 /// The first property or method, in the order of the classes, whose type or one of whose parameters' isn't there.
-pub fn unknown_type(program: &Program, outlines: &[IndexedOutline]) -> Option<Offence>
+pub fn unknown_type(program: &Program, outlines: &ClassTable) -> Option<Offence>
     requires { Outlines program.now.classes outlines.now }
     ensures { TellsOffence program.now fault.NoType (LacksAnyType outlines.now) result }
 {
@@ -32,7 +31,7 @@ pub fn unknown_type(program: &Program, outlines: &[IndexedOutline]) -> Option<Of
 }
 
 /// The first of those that the class of this number declares.
-fn unknown_type_in(number: usize, class: &Class, outlines: &[IndexedOutline]) -> Option<Offence>
+fn unknown_type_in(number: usize, class: &Class, outlines: &ClassTable) -> Option<Offence>
     ensures { TellsOffenceIn number class.now fault.NoType (DeclaresUnknown outlines.now class.now) result }
 {
     if let Some(offence) = unknown_of_property(number, class, outlines) {
@@ -45,7 +44,7 @@ fn unknown_type_in(number: usize, class: &Class, outlines: &[IndexedOutline]) ->
 }
 
 /// The first property whose type isn't there.
-fn unknown_of_property(number: usize, class: &Class, outlines: &[IndexedOutline]) -> Option<Offence>
+fn unknown_of_property(number: usize, class: &Class, outlines: &ClassTable) -> Option<Offence>
     ensures { TellsOffenceIn number class.now fault.NoType (Any (LacksPropertyType outlines.now) class.now.properties) result }
 {
     for (place, property) in class.properties.as_slice().iter().enumerate() {
@@ -57,7 +56,7 @@ fn unknown_of_property(number: usize, class: &Class, outlines: &[IndexedOutline]
 }
 
 /// The first signal with a parameter whose type isn't there.
-fn unknown_in_signals(number: usize, class: &Class, outlines: &[IndexedOutline]) -> Option<Offence>
+fn unknown_in_signals(number: usize, class: &Class, outlines: &ClassTable) -> Option<Offence>
     ensures { TellsOffenceIn number class.now fault.NoType
         (Any (λ (signal : ASignal). Any (LacksType outlines.now) (kinds_of signal.parameters)) class.now.signals) result }
 {
@@ -70,7 +69,7 @@ fn unknown_in_signals(number: usize, class: &Class, outlines: &[IndexedOutline])
 }
 
 /// The first slot or native with a parameter whose type isn't there.
-fn unknown_in_slots(number: usize, class: &Class, outlines: &[IndexedOutline]) -> Option<Offence>
+fn unknown_in_slots(number: usize, class: &Class, outlines: &ClassTable) -> Option<Offence>
     ensures { TellsOffenceIn number class.now fault.NoType
         (Any (λ (slot : ASlot). Any (LacksType outlines.now) (kinds_of slot.parameters)) class.now.slots) result }
 {
@@ -83,7 +82,7 @@ fn unknown_in_slots(number: usize, class: &Class, outlines: &[IndexedOutline]) -
 }
 
 /// The first parameter whose type isn't there.
-fn unknown_of_parameter(outlines: &[IndexedOutline], parameters: &[Parameter]) -> Option<Breach>
+fn unknown_of_parameter(outlines: &ClassTable, parameters: &[Parameter]) -> Option<Breach>
     ensures { TellsBreach fault.NoType (Any (LacksType outlines.now) (kinds_of parameters.now)) result }
 {
     for (place, parameter) in parameters.iter().enumerate() {
@@ -96,7 +95,7 @@ fn unknown_of_parameter(outlines: &[IndexedOutline], parameters: &[Parameter]) -
 }
 
 /// The type of this name among the declaration's, where it isn't there.
-fn unknown(outlines: &[IndexedOutline], kind: &QType, name: usize) -> Option<Breach>
+fn unknown(outlines: &ClassTable, kind: &QType, name: usize) -> Option<Breach>
     ensures { TellsBreach fault.NoType (LacksType outlines.now kind.now) result }
 {
     match kind_of(outlines, kind) {
@@ -109,13 +108,13 @@ fn unknown(outlines: &[IndexedOutline], kind: &QType, name: usize) -> Option<Bre
 }
 
 /// What is wrong with a type that isn't there.
-fn unfit_of(outlines: &[IndexedOutline], kind: &QType) -> Unfit {
+fn unfit_of(outlines: &ClassTable, kind: &QType) -> Unfit {
     if kind.pointer {
         match kind.name.bytes() {
             b"int" | b"bool" | b"QString" => Unfit::PointerToValue,
             _ => Unfit::PointerToNothing,
         }
-    } else if place_of(outlines, &kind.name).is_some() {
+    } else if outlines.place_of(&kind.name).is_some() {
         Unfit::ClassAlone
     } else {
         Unfit::Unknown

@@ -8,17 +8,17 @@ ghost use Rattle.class_outlines.specs.LookUps.{LooksUp};
 ghost use Rattle.signatures.specs.Types.{value_type};
 
 use crate::object::ValueType;
-use class_outlines::{IndexedOutline, place_of};
+use class_outlines::ClassTable;
 use signatures::QType;
 use sqlite_items::Items;
 use std::alloc::{AllocError, Global};
 
 /// What the type stands for, or `None` where there is no such type.
-pub fn kind_of(outlines: &[IndexedOutline], declared: &QType) -> Option<ValueType>
+pub fn kind_of(outlines: &ClassTable, declared: &QType) -> Option<ValueType>
     ensures { LooksUp (IsKindIn outlines.now declared.now) result }
 {
     if declared.pointer {
-        match place_of(outlines, &declared.name) {
+        match outlines.place_of(&declared.name) {
             Some(class) => Some(ValueType::Reference(class, declared.constant)),
             None => None,
         }
@@ -41,7 +41,7 @@ fn is_value_type(declared: &QType, name: &[u8]) -> bool
 }
 
 /// What the type is read as: what it stands for, and `int` where there is no such type.
-pub fn read_kind(outlines: &[IndexedOutline], declared: &QType) -> ValueType
+pub fn read_kind(outlines: &ClassTable, declared: &QType) -> ValueType
     ensures { IsReadAs outlines.now declared.now result }
 {
     match kind_of(outlines, declared) {
@@ -53,12 +53,12 @@ pub fn read_kind(outlines: &[IndexedOutline], declared: &QType) -> ValueType
 /// What the types are read as, in their order.
 pub fn read_kinds(
     alloc: Global,
-    outlines: &[IndexedOutline],
+    outlines: &ClassTable,
     declared: &[QType],
 ) -> Result<Items<ValueType>, AllocError>
     ensures { IfOk result (λ kinds. AllZip (IsReadAs outlines.now) declared.now kinds) }
 {
-    let mut kinds = Items::new(alloc);
+    let mut kinds = Items::from_vec(Vec::with_capacity(alloc, declared.len())?);
     for one in declared {
         let kind = read_kind(outlines, one);
         kinds.push(kind)?;

@@ -131,7 +131,7 @@ pub enum Work {
 /// A method of a class.
 pub struct MetaMethod {
     /// Its name and its parameters' types, as declared.
-    pub sig: Sig,
+    pub sig: Shared<Sig>,
     /// Its parameters' types, by the numbers of their classes.
     pub kinds: Items<ValueType>,
     /// What a call of it does.

@@ -3,7 +3,7 @@
 ghost use Rattle.meta_model.specs.Sites.{FindsProperty, FindsSource};
 
 use crate::site::SourceProperty;
-use class_outlines::{IndexedOutline, find};
+use class_outlines::{ClassTable, find};
 use signatures::Name;
 use syntax_trees::{Path, Property, Root, Site};
 
@@ -24,13 +24,13 @@ pub struct FoundSource<'a> {
 
 /// The property of this name of the class of this name.
 pub fn property_in<'a>(
-    outlines: &'a [IndexedOutline],
+    outlines: &'a ClassTable,
     class: &Name,
     name: &Name,
 ) -> Option<FoundProperty<'a>>
     ensures { FindsProperty outlines.now class.now name.now result }
 {
-    let (class, outline) = find(outlines, class)?;
+    let (class, outline) = outlines.find(class)?;
     let (place, property) = outline.find_property(name)?;
     Some(FoundProperty {
         class,
@@ -41,7 +41,7 @@ pub fn property_in<'a>(
 
 /// The property of a formal source that the path leads to, or `None` where the path is none.
 pub fn source_property<'a>(
-    outlines: &'a [IndexedOutline],
+    outlines: &'a ClassTable,
     site: &Site,
     path: &Path,
 ) -> Option<FoundSource<'a>>

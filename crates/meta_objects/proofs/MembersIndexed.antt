@@ -1,5 +1,5 @@
 -- The indexes of outlines' members are those of the classes that are made of them.
-use Rattle.std.proofs.Common.{◌≡◌, ℕ, ◌<◌, List, [], ◌∷◌, length, Option, None, Some, refl, sym, ap, ◌∙◌}
+use Rattle.std.proofs.Common.{◌≡◌, ℕ, List, [], ◌∷◌, length, Option, None, Some, refl, sym, ap, ◌∙◌}
 use Rattle.std.specs.List.{AllZip}
 use Rattle.signatures.specs.declared.sig.Sig.{Sig}
 use Rattle.syntax_trees.specs.declared.program.Property.{Property}

@@ -1,5 +1,5 @@
 -- A loaded program is sound.
-use Rattle.std.proofs.Common.{◌≡◌, ℕ, zero, suc, ◌<◌, ◌+◌, Bool, false, List, [], ◌∷◌, ◌++◌, map, length, get_or, slice_get, Option, Some, None, Any, ◌⊎◌, inl, inr, refl, sym, ap, ◌∙◌, subst, arith, append_assoc}
+use Rattle.std.proofs.Common.{◌≡◌, ℕ, zero, suc, ◌<◌, ◌+◌, List, [], ◌∷◌, ◌++◌, map, length, get_or, slice_get, Option, Some, None, Any, ◌⊎◌, inl, inr, refl, sym, ap, ◌∙◌, subst, arith, append_assoc}
 use Rattle.std.specs.Prelude.{codes}
 use Rattle.std.specs.List.{AllZip}
 use Rattle.std.specs.Option.{option_and_then}
@@ -31,13 +31,13 @@ use Rattle.class_outlines.specs.declared.outline.Sort.TheVariants as sort
 use Rattle.class_outlines.specs.declared.outline.Heading.{Heading}
 use Rattle.class_outlines.specs.declared.outline.Outline.{Outline}
 use Rattle.meta_model.specs.Loaded.{Loaded}
-use Rattle.class_outlines.specs.Places.{StandsAt, StandsFirst}
+use Rattle.class_outlines.specs.Places.{StandsFirst}
 use Rattle.meta_model.specs.Members.{IsClass, IsProperty, methods_in, method_count, methods_before, method_offset, Declares, base_of, Below, same, under, IsIn}
 use Rattle.meta_model.specs.Sound.{IsKind, IsSoundWork, IsSoundMethod, IsNotifier, IsSoundProperty, IsUnder, HasDistinctMethods, HasDistinctProperties, IsSoundClass, IsSoundWire, IsSoundOwns, IsSoundSite, AreDistinctSites, IsSound}
 use Rattle.meta_model.specs.Literals.{HoldsNoObject}
 use Rattle.meta_model.specs.Sites.{UsesReference}
 use Rattle.meta_model.specs.Root.{root_methods, root_class, BeginsAsRoot}
-use Rattle.class_outlines.specs.Outlines.{IsOutlineNamed, kinds_of, signal_heading, slot_headings, own_methods, heading, destroyed, destroyed_alone, name_changed, qobject}
+use Rattle.class_outlines.specs.Outlines.{IsOutlineNamed, kinds_of, signal_heading, slot_headings, own_methods, qobject}
 use Rattle.meta_model.specs.Kinds.{LacksType}
 use Rattle.meta_model.specs.code.ReadTypes.{IsReadAs}
 use Rattle.class_outlines.specs.Clashes.{AreOneCall, HasTwoMembers}
@@ -58,7 +58,7 @@ use Rattle.meta_objects.specs.LoadedEnds.{Connects}
 use Rattle.meta_objects.specs.LoadedProgram.{IsLoadedSignal, IsLoadedWork, IsLoadedSlot, HasNotifier, IsLoadedProperty, IsLoadedClass, HasLoadedClass, IsLoadedWire, IsLoadedOwns, IsLoadedProgram}
 use Rattle.class_outlines.proofs.Zips.{zip_left, zip_right, zip_split, zip_also, zip_both, same_zip_by, get_front, get_back}
 use Rattle.meta_model.proofs.InLists.{place_in}
-use Rattle.class_outlines.proofs.Once.{once, none_at, get_split_at}
+use Rattle.class_outlines.proofs.Once.{once, none_at}
 use Rattle.class_outlines.proofs.Firsts.{first_in_front}
 use Rattle.load_rules.proofs.OwnMembers.{name_changed_first}
 use Rattle.meta_model.proofs.ReadTypes.{same_read}

@@ -10,7 +10,9 @@ ghost use Rattle.meta_objects.specs.Typed.{TellsType, TellsReference};
 ghost use Rattle.meta_objects.specs.Wiring.{IsWired};
 
 use crate::class_index::{ClassIndex, index_sites};
-use class_outlines::{LoadFault, MetaFault, NameIndex, index_outlines, outline_classes};
+use class_outlines::{
+    ClassTable, LoadFault, MetaFault, NameIndex, index_outlines, outline_classes,
+};
 use load_rules::{bad_notifier, duplicate_class, repeated_name, unfit_type};
 use meta_model::{MetaMethod, MetaObject, MetaOwns, MetaSite, MetaWire, ValueType};
 use name_resolution::{Uses, resolve_objects, resolve_uses};
@@ -100,7 +102,8 @@ impl Meta {
         }
         let outlines = outline_classes(alloc, program)?;
         let indexed = index_outlines(alloc, program, outlines)?;
-        let all = indexed.as_slice();
+        let table = ClassTable::of(alloc, indexed)?;
+        let all = table.as_slice();
         if let Some(offence) = repeated_name(program) {
             return Err(LoadFault::Offence(offence));
         }
@@ -109,14 +112,14 @@ impl Meta {
             wires,
             owns,
             sites,
-        } = resolve_uses(alloc, program, all)?;
+        } = resolve_uses(alloc, program, &table)?;
         if let Some(offence) = bad_notifier(program, all) {
             return Err(LoadFault::Offence(offence));
         }
-        if let Some(offence) = unfit_type(alloc, program, all)? {
+        if let Some(offence) = unfit_type(program, &table)? {
             return Err(LoadFault::Offence(offence));
         }
-        let classes = resolve_objects(alloc, all, works.as_slice())?;
+        let classes = resolve_objects(alloc, &table, works.as_slice())?;
         let index = ClassIndex::new(alloc, all, classes.as_slice())?;
         let site_names = index_sites(alloc, sites.as_slice())?;
         Ok(Meta {

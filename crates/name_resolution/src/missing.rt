@@ -5,11 +5,8 @@ ghost use Rattle.class_outlines.specs.Offences.{fault_in};
 ghost use Rattle.class_outlines.specs.declared.fault.MetaFault.TheVariants.{NoMember};
 ghost use Rattle.class_outlines.specs.declared.offence.PartFault.TheVariants.{Memory};
 
-use class_outlines::{
-    Breach, End, IndexedOutline, Missing, PartFault, Reason, Sought, find, place_of,
-};
+use class_outlines::{Breach, ClassTable, End, IndexedOutline, Missing, PartFault, Reason, Sought};
 use signatures::{Name, Sig};
-use std::alloc::Global;
 
 /// That the declaration's name of this number isn't declared.
 pub fn undeclared(name: usize, missing: Missing) -> PartFault
@@ -22,10 +19,10 @@ pub fn undeclared(name: usize, missing: Missing) -> PartFault
 }
 
 /// That the property isn't there whose name has this number, behind that of its class; or that the class isn't.
-pub fn no_property(outlines: &[IndexedOutline], class: &Name, name: usize) -> PartFault
+pub fn no_property(outlines: &ClassTable, class: &Name, name: usize) -> PartFault
     ensures { fault_in result ≡ NoMember }
 {
-    match place_of(outlines, class) {
+    match outlines.place_of(class) {
         Some(number) => undeclared(name, Missing::Property(number)),
         None => undeclared(name.saturating_sub(1), Missing::Class),
     }
@@ -49,25 +46,17 @@ pub fn no_call(
 }
 
 /// That the method isn't there whose name has this number, behind that of its class; or that the class isn't.
-pub fn no_end(
-    alloc: Global,
-    outlines: &[IndexedOutline],
-    name: usize,
-    class: &Name,
-    end: End,
-    sig: &Sig,
-) -> PartFault
+pub fn no_end(outlines: &ClassTable, name: usize, class: &Name, end: End, sig: &Sig) -> PartFault
     ensures { (result ≡ Memory) ⊎ (fault_in result ≡ NoMember) }
 {
-    match find(outlines, class) {
-        Some((number, outline)) => no_method(alloc, name, number, outline, end, sig),
+    match outlines.find(class) {
+        Some((number, outline)) => no_method(name, number, outline, end, sig),
         None => undeclared(name.saturating_sub(1), Missing::Class),
     }
 }
 
 /// That the class of this number has no such method, whose name has the first number.
 pub fn no_method(
-    alloc: Global,
     name: usize,
     number: usize,
     class: &IndexedOutline,
@@ -77,7 +66,7 @@ pub fn no_method(
     ensures { (result ≡ Memory) ⊎ (fault_in result ≡ NoMember) }
 {
     let near = class.near_signed(sig);
-    match sig.copy(alloc) {
+    match sig.copy() {
         Ok(sig) => undeclared(
             name,
             Missing::Method(number, Sought::Signed(end, sig), near),

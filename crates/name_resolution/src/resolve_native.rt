@@ -7,7 +7,7 @@ ghost use Rattle.name_resolution.specs.code.Resolving.{Resolves, ResolvesEach};
 
 use crate::missing::{no_end, no_property};
 use crate::resolve_wire::signal_end;
-use class_outlines::{End, IndexedOutline, OBJECT_NAME_CHANGED, PartFault, names_of_sig};
+use class_outlines::{ClassTable, End, OBJECT_NAME_CHANGED, PartFault, names_of_sig};
 use meta_model::{MetaEffects, property_in};
 use signatures::{Name, Sig};
 use sqlite_items::Items;
@@ -19,7 +19,7 @@ use syntax_trees::EffectNames;
 /// names were met, to which those of the effects are added.
 pub fn resolve_effects(
     alloc: Global,
-    outlines: &[IndexedOutline],
+    outlines: &ClassTable,
     class: &Name,
     effects: &EffectNames,
     met: &mut usize,
@@ -35,7 +35,7 @@ pub fn resolve_effects(
 /// The numbers of the class's properties of these names.
 fn resolve_named(
     alloc: Global,
-    outlines: &[IndexedOutline],
+    outlines: &ClassTable,
     class: &Name,
     names: &[Name],
     met: &mut usize,
@@ -56,7 +56,7 @@ fn resolve_named(
 /// The numbers of the class's signals of these signatures.
 fn resolve_emitted(
     alloc: Global,
-    outlines: &[IndexedOutline],
+    outlines: &ClassTable,
     class: &Name,
     signals: &[Sig],
     met: &mut usize,
@@ -66,7 +66,7 @@ fn resolve_emitted(
     let mut numbers = Items::new(alloc);
     for sig in signals {
         let Some(signal) = emitted(outlines, class, sig) else {
-            return Err(no_end(alloc, outlines, *met, class, End::Effect, sig));
+            return Err(no_end(outlines, *met, class, End::Effect, sig));
         };
         numbers.push(signal)?;
         *met = met.saturating_add(names_of_sig(sig));
@@ -76,7 +76,7 @@ fn resolve_emitted(
 
 /// The number of the signal of this signature, of the class of this name, which a native of the class may emit; `None` where
 /// the class has no such signal, or the runtime emits it.
-pub fn emitted(outlines: &[IndexedOutline], class: &Name, sig: &Sig) -> Option<usize>
+pub fn emitted(outlines: &ClassTable, class: &Name, sig: &Sig) -> Option<usize>
     ensures { LooksUp (HasSignalIn outlines.now class.now sig.now) result }
 {
     let Some((_, signal)) = signal_end(outlines, class, sig) else {

@@ -9,7 +9,7 @@ ghost use Rattle.name_resolution.specs.code.Loading.{IsNotify, IsPropertyOf, Are
 ghost use Rattle.name_resolution.specs.code.Loading.{IsObject, AreObjects};
 
 use crate::body_resolution::ResolvedWork;
-use class_outlines::{Heading, IndexedOutline, Sort};
+use class_outlines::{ClassTable, Heading, IndexedOutline, Sort};
 use meta_model::{
     MetaMethod, MetaObject, MetaProperty, SlotBody, ValueType, Work, delete_later_body, read_kind,
     read_kinds,
@@ -24,15 +24,16 @@ use syntax_trees::{Literal, Property};
 /// that notifies an inherited property has the same number in both, as each that is declared is there.
 pub fn resolve_objects(
     alloc: Global,
-    outlines: &[IndexedOutline],
+    outlines: &ClassTable,
     works: &[Items<ResolvedWork>],
 ) -> Result<Items<MetaObject>, AllocError>
     requires outlined { AreOutlined outlines.now }
     requires notified { ¬ BadNotify outlines.now }
     ensures { IfOk result (AreObjects outlines.now works.now) }
 {
+    let all = outlines.as_slice();
     let mut objects = Items::new(alloc);
-    for outline in outlines {
+    for outline in all {
         let object = resolve_object(alloc, outlines, works, objects.as_slice(), outline)?;
         objects.push(object)?;
     }
@@ -42,7 +43,7 @@ pub fn resolve_objects(
 /// The class with its methods and its properties, behind those that stand before it.
 fn resolve_object(
     alloc: Global,
-    outlines: &[IndexedOutline],
+    outlines: &ClassTable,
     works: &[Items<ResolvedWork>],
     before: &[MetaObject],
     outline: &IndexedOutline,
@@ -64,7 +65,7 @@ fn resolve_object(
 /// The methods in their order: the base's, which are shared, and the class's own.
 fn resolve_methods(
     alloc: Global,
-    outlines: &[IndexedOutline],
+    outlines: &ClassTable,
     works: &[Items<ResolvedWork>],
     before: &[MetaObject],
     outline: &IndexedOutline,
@@ -97,7 +98,7 @@ fn inherited_method(
 /// The method that is inherited, if one is; else it is resolved.
 fn method_over(
     alloc: Global,
-    outlines: &[IndexedOutline],
+    outlines: &ClassTable,
     works: &[Items<ResolvedWork>],
     inherited: Option<&Shared<MetaMethod>>,
     heading: &Heading,
@@ -117,13 +118,14 @@ fn method_over(
 /// The method with its types and what it does.
 fn resolve_method(
     alloc: Global,
-    outlines: &[IndexedOutline],
+    outlines: &ClassTable,
     works: &[Items<ResolvedWork>],
     heading: &Heading,
 ) -> Result<MetaMethod, AllocError>
     ensures { IfOk result (IsMethodOf outlines.now works.now heading.now) }
 {
-    let sig = heading.sig.copy(alloc)?;
+    let copy = heading.sig.copy()?;
+    let sig = Shared::new(alloc, copy)?;
     let kinds = read_kinds(alloc, outlines, heading.sig.types.as_slice())?;
     let work = work_of(alloc, works, heading.sort)?;
     Ok(MetaMethod { sig, kinds, work })
@@ -185,7 +187,7 @@ fn work_at(works: &[Items<ResolvedWork>], class: usize, slot: usize) -> Option<&
 /// The properties in their order: the base's, which are shared, and the class's own.
 fn resolve_properties(
     alloc: Global,
-    outlines: &[IndexedOutline],
+    outlines: &ClassTable,
     before: &[MetaObject],
     outline: &IndexedOutline,
 ) -> Result<Items<Shared<MetaProperty>>, AllocError>
@@ -217,7 +219,7 @@ fn inherited_property(
 /// The property that is inherited, if one is; else it is resolved.
 fn property_over(
     alloc: Global,
-    outlines: &[IndexedOutline],
+    outlines: &ClassTable,
     outline: &IndexedOutline,
     inherited: Option<&Shared<MetaProperty>>,
     declared: &Property,
@@ -237,7 +239,7 @@ fn property_over(
 /// The property with its type, its first value and its notify signal.
 fn resolve_property(
     alloc: Global,
-    outlines: &[IndexedOutline],
+    outlines: &ClassTable,
     outline: &IndexedOutline,
     declared: &Property,
 ) -> Result<MetaProperty, AllocError>

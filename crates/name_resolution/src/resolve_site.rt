@@ -9,8 +9,7 @@ ghost use Rattle.name_resolution.specs.code.Sites.{IsFormalOf, IsFormula, IsSite
 use crate::literals::literal_of;
 use crate::missing::{no_property, undeclared};
 use class_outlines::{
-    Declaration, IndexedOutline, LoadFault, Missing, PartFault, find, names_before_expression,
-    place_of,
+    ClassTable, Declaration, LoadFault, Missing, PartFault, find, names_before_expression,
 };
 use meta_model::{Formula, MetaSite, SourceProperty, property_in, source_property};
 use sqlite_items::{Boxed, Items};
@@ -21,7 +20,7 @@ use syntax_trees::{Expr, Formal, Path, Program, Root, Site};
 pub fn resolve_sites(
     alloc: Global,
     program: &Program,
-    outlines: &[IndexedOutline],
+    outlines: &ClassTable,
 ) -> Result<Items<MetaSite>, LoadFault>
     ensures { ResolvesAll program.now (IsSite outlines.now) program.now.sites result }
 {
@@ -36,11 +35,7 @@ pub fn resolve_sites(
 }
 
 /// The site; `NoMember` where a name in it isn't there.
-fn resolve_site(
-    alloc: Global,
-    outlines: &[IndexedOutline],
-    site: &Site,
-) -> Result<MetaSite, PartFault>
+fn resolve_site(alloc: Global, outlines: &ClassTable, site: &Site) -> Result<MetaSite, PartFault>
     ensures { Resolves (IsSite outlines.now site.now) result }
 {
     let Some(target) = property_in(outlines, &site.class, &site.property) else {
@@ -63,7 +58,7 @@ fn resolve_site(
 /// The classes of the formal sources.
 fn resolve_formals(
     alloc: Global,
-    outlines: &[IndexedOutline],
+    outlines: &ClassTable,
     formals: &[Formal],
 ) -> Result<Items<usize>, PartFault>
     ensures { ResolvesEach (IsFormalOf outlines.now) formals.now result }
@@ -71,7 +66,7 @@ fn resolve_formals(
     let mut classes = Items::new(alloc);
     let mut met = 3usize;
     for formal in formals {
-        let Some(class) = place_of(outlines, &formal.class) else {
+        let Some(class) = outlines.place_of(&formal.class) else {
             return Err(undeclared(met, Missing::Class));
         };
         classes.push(class)?;
@@ -84,7 +79,7 @@ fn resolve_formals(
 /// met, to which those of the expression are added.
 fn resolve_formula(
     alloc: Global,
-    outlines: &[IndexedOutline],
+    outlines: &ClassTable,
     site: &Site,
     expression: &Expr<Path>,
     met: &mut usize,
@@ -119,7 +114,7 @@ fn resolve_formula(
 }
 
 /// That the path, whose first name has this number, is no property of a formal source.
-fn no_source(outlines: &[IndexedOutline], site: &Site, path: &Path, name: usize) -> PartFault
+fn no_source(outlines: &ClassTable, site: &Site, path: &Path, name: usize) -> PartFault
     ensures { fault_in result ≡ NoMember }
 {
     let Root::Name(root) = &path.root else {

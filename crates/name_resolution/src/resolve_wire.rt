@@ -8,8 +8,7 @@ ghost use Rattle.name_resolution.specs.code.Resolving.{FindsEnd, Resolves, Resol
 
 use crate::missing::{no_end, undeclared};
 use class_outlines::{
-    Declaration, End, IndexedOutline, LoadFault, Missing, OBJECT_NAME_CHANGED, PartFault, find,
-    names_of_sig, place_of,
+    ClassTable, Declaration, End, LoadFault, Missing, OBJECT_NAME_CHANGED, PartFault, names_of_sig,
 };
 use meta_model::{MetaOwns, MetaWire};
 use signatures::{Name, Sig};
@@ -21,13 +20,13 @@ use syntax_trees::{Owns, Program, Wire};
 pub fn resolve_wires(
     alloc: Global,
     program: &Program,
-    outlines: &[IndexedOutline],
+    outlines: &ClassTable,
 ) -> Result<Items<MetaWire>, LoadFault>
     ensures { ResolvesAll program.now (IsWire outlines.now) program.now.wires result }
 {
     let mut loaded = Items::new(alloc);
     for (place, wire) in program.wires.as_slice().iter().enumerate() {
-        match resolve_wire(alloc, outlines, wire) {
+        match resolve_wire(outlines, wire) {
             Ok(wire) => loaded.push(wire)?,
             Err(fault) => return Err(fault.of(Declaration::Wire(place))),
         }
@@ -36,26 +35,15 @@ pub fn resolve_wires(
 }
 
 /// The wire; `NoMember` where an end of it isn't there.
-fn resolve_wire(
-    alloc: Global,
-    outlines: &[IndexedOutline],
-    wire: &Wire,
-) -> Result<MetaWire, PartFault>
+fn resolve_wire(outlines: &ClassTable, wire: &Wire) -> Result<MetaWire, PartFault>
     ensures { Resolves (IsWire outlines.now wire.now) result }
 {
     let Some((sender, signal)) = signal_end(outlines, &wire.sender, &wire.signal) else {
-        return Err(no_end(alloc, outlines, 1, &wire.sender, End::Sender, &wire.signal));
+        return Err(no_end(outlines, 1, &wire.sender, End::Sender, &wire.signal));
     };
     let name = names_of_sig(&wire.signal).saturating_add(2);
     let Some((receiver, method)) = method_end(outlines, &wire.receiver, &wire.method) else {
-        return Err(no_end(
-            alloc,
-            outlines,
-            name,
-            &wire.receiver,
-            End::Receiver,
-            &wire.method,
-        ));
+        return Err(no_end(outlines, name, &wire.receiver, End::Receiver, &wire.method));
     };
     if OBJECT_NAME_CHANGED < method {
         Ok(MetaWire {
@@ -66,22 +54,15 @@ fn resolve_wire(
             kind: wire.kind,
         })
     } else {
-        Err(no_end(
-            alloc,
-            outlines,
-            name,
-            &wire.receiver,
-            End::Receiver,
-            &wire.method,
-        ))
+        Err(no_end(outlines, name, &wire.receiver, End::Receiver, &wire.method))
     }
 }
 
 /// The numbers of the class of this name and of its signal of this signature; `None` where either isn't there.
-pub fn signal_end(outlines: &[IndexedOutline], name: &Name, sig: &Sig) -> Option<(usize, usize)>
+pub fn signal_end(outlines: &ClassTable, name: &Name, sig: &Sig) -> Option<(usize, usize)>
     ensures { FindsEnd (IsSignalOf sig.now) outlines.now name.now result }
 {
-    let Some((class, found)) = find(outlines, name) else {
+    let Some((class, found)) = outlines.find(name) else {
         return None;
     };
     match found.place_of_signal(sig) {
@@ -91,10 +72,10 @@ pub fn signal_end(outlines: &[IndexedOutline], name: &Name, sig: &Sig) -> Option
 }
 
 /// The numbers of the class of this name and of its method of this signature.
-fn method_end(outlines: &[IndexedOutline], name: &Name, sig: &Sig) -> Option<(usize, usize)>
+fn method_end(outlines: &ClassTable, name: &Name, sig: &Sig) -> Option<(usize, usize)>
     ensures { FindsEnd (IsSigned sig.now) outlines.now name.now result }
 {
-    let Some((class, found)) = find(outlines, name) else {
+    let Some((class, found)) = outlines.find(name) else {
         return None;
     };
     match found.place_of_signed(sig) {
@@ -107,7 +88,7 @@ fn method_end(outlines: &[IndexedOutline], name: &Name, sig: &Sig) -> Option<(us
 pub fn resolve_owns(
     alloc: Global,
     program: &Program,
-    outlines: &[IndexedOutline],
+    outlines: &ClassTable,
 ) -> Result<Items<MetaOwns>, LoadFault>
     ensures { ResolvesAll program.now (IsOwns outlines.now) program.now.owns result }
 {
@@ -122,13 +103,13 @@ pub fn resolve_owns(
 }
 
 /// The declaration; `NoMember` where one of its classes isn't there.
-fn resolve_one_owns(outlines: &[IndexedOutline], owns: &Owns) -> Result<MetaOwns, PartFault>
+fn resolve_one_owns(outlines: &ClassTable, owns: &Owns) -> Result<MetaOwns, PartFault>
     ensures { Resolves (IsOwns outlines.now owns.now) result }
 {
-    let Some(parent) = place_of(outlines, &owns.parent) else {
+    let Some(parent) = outlines.place_of(&owns.parent) else {
         return Err(undeclared(0, Missing::Class));
     };
-    let Some(child) = place_of(outlines, &owns.child) else {
+    let Some(child) = outlines.place_of(&owns.child) else {
         return Err(undeclared(1, Missing::Class));
     };
     Ok(MetaOwns { parent, child })

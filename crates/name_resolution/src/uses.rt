@@ -5,7 +5,7 @@ ghost use Rattle.name_resolution.specs.code.Resolving.{ResolvesUses};
 use crate::body_resolution::{ResolvedWork, resolve_works};
 use crate::resolve_site::resolve_sites;
 use crate::resolve_wire::{resolve_owns, resolve_wires};
-use class_outlines::{IndexedOutline, LoadFault};
+use class_outlines::{ClassTable, LoadFault};
 use meta_model::{MetaOwns, MetaSite, MetaWire};
 use sqlite_items::Items;
 use std::alloc::Global;
@@ -24,7 +24,7 @@ pub struct Uses {
 pub fn resolve_uses(
     alloc: Global,
     program: &Program,
-    outlines: &[IndexedOutline],
+    outlines: &ClassTable,
 ) -> Result<Uses, LoadFault>
     ensures { ResolvesUses program.now outlines.now result }
 {

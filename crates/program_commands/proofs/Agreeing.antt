@@ -14,6 +14,7 @@ use Rattle.program_commands.specs.declared.refusal.Refusal.TheVariants as refusa
 use Rattle.program_commands.specs.Commands.{CertifyComesTo, CheckComesTo, IsAgreed, CertifiedIsAgreed}
 use Rattle.program_commands.specs.Loading.{LoadsProgram, with_certificate}
 use Rattle.program_commands.specs.Outcomes.{outcome_status}
+use Rattle.program_commands.specs.Texts.{with_text}
 use Rattle.program_commands.specs.Reasons.{reason_status}
 use Rattle.program_commands.specs.Refusals.{refusal_status, status_of}
 use Rattle.program_commands.specs.Steps.{First, Is, fails, goes_on}
@@ -51,7 +52,7 @@ agreed program loaded certificate steps makes =
     refl
 
 made_agreed : {program : List ℕ} {loaded : Loaded} {outcome : Outcome} → LoadsProgram program (Ok loaded) →
-    First (Makes loaded) (Uncertified loaded) (λ certificate. Is (Certified (with_certificate loaded certificate))) outcome → outcome_status outcome ≡ 0 →
+    First (Makes loaded) (Uncertified loaded) (λ certificate. Is (Certified (with_text loaded (certificate_text certificate)))) outcome → outcome_status outcome ≡ 0 →
     IsAgreed program outcome
 made_agreed steps (fails w reason) zero = absurd (reason_some w zero)
 made_agreed {program} {loaded} steps (goes_on certificate end makes is) zero =

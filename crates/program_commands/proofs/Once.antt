@@ -33,7 +33,9 @@ use Rattle.program_commands.specs.declared.outcome.Outcome.{Outcome}
 use Rattle.program_commands.specs.declared.outcome.Outcome.TheVariants.{Refused, Uncertified, Certificate as Certified}
 use Rattle.program_commands.specs.declared.refusal.Refusal.{Refusal}
 use Rattle.program_commands.specs.declared.refusal.Refusal.TheVariants as refusal
-use Rattle.program_commands.specs.Loading.{LoadsProgram, LoadsCertified, LoadsValid, with_certificate}
+use Rattle.certificate_texts.specs.Texts.{certificate_text}
+use Rattle.program_commands.specs.Loading.{LoadsProgram, LoadsCertified, LoadsValid}
+use Rattle.program_commands.specs.Texts.{with_text}
 use Rattle.program_commands.specs.Outcomes.{IsShort}
 use Rattle.program_commands.specs.Refusals.{refusal_number, line_of, status_of}
 use Rattle.program_commands.specs.Steps.{First, Is, fails, goes_on}
@@ -238,12 +240,12 @@ short_reason : (loaded : Loaded) (w : Why) → w ≡ why.Memory → IsShort (Unc
 short_reason loaded w is = subst (λ (v : Why). IsShort (Uncertified loaded v)) (sym is) (record { line = refl; status_is = refl })
 
 abbrev MakesAs : Loaded → Outcome → Type 0
-MakesAs loaded = First (Makes loaded) (Uncertified loaded) (λ certificate. Is (Certified (with_certificate loaded certificate)))
+MakesAs loaded = First (Makes loaded) (Uncertified loaded) (λ certificate. Is (Certified (with_text loaded (certificate_text certificate))))
 
-made_same : (loaded : Loaded) (c d : Certificate) {a b : Outcome} → a ≡ Certified (with_certificate loaded c) → b ≡ Certified (with_certificate loaded d) → c ≡ d → IsSameOutcome a b
+made_same : (loaded : Loaded) (c d : Certificate) {a b : Outcome} → a ≡ Certified (with_text loaded (certificate_text c)) → b ≡ Certified (with_text loaded (certificate_text d)) → c ≡ d → IsSameOutcome a b
 made_same loaded c d {a} {b} is also same =
     subst (λ (o : Outcome). IsSameOutcome o b) (sym is)
-    (subst (λ (o : Outcome). IsSameOutcome (Certified (with_certificate loaded c)) o) (sym also) (ap (λ (x : Certificate). Certified (with_certificate loaded x)) same))
+    (subst (λ (o : Outcome). IsSameOutcome (Certified (with_text loaded (certificate_text c))) o) (sym also) (ap (λ (x : Certificate). Certified (with_text loaded (certificate_text x))) same))
 
 one_made : (loaded : Loaded) → IsSound loaded → (a b : Outcome) → MakesAs loaded a → MakesAs loaded b → IsShort a ⊎ IsShort b ⊎ IsSameOutcome a b
 one_made loaded is a b (fails v h) (fails w k) = elim (one_making loaded is (Err v) (Err w) h k) [

@@ -2,11 +2,14 @@
 -- comes only where a growth of memory was refused is not stated here.
 use Rattle.std.specs.Prelude.{◌≡◌, ◌⊎◌, ℕ, List}
 use Rattle.certificate_laws.specs.Laws.{IsSameReason}
+use Rattle.certificate_texts.specs.Texts.{certificate_text}
+use Rattle.meta_model.specs.Loaded.{Loaded}
 use Rattle.rank_check.specs.Checks.{Checking}
 use Rattle.rank_make.specs.Makes.{Makes}
 use Rattle.program_commands.specs.declared.outcome.Outcome.{Outcome}
 use Rattle.program_commands.specs.declared.outcome.Outcome.TheVariants.{Refused, Classes, Certificate as Certified, Uncertified, Valid}
-use Rattle.program_commands.specs.Loading.{LoadsProgram, LoadsValid, with_certificate}
+use Rattle.program_commands.specs.Loading.{LoadsProgram, LoadsValid}
+use Rattle.program_commands.specs.Texts.{with_text}
 use Rattle.program_commands.specs.Outcomes.{outcome_text, outcome_status, IsShort}
 use Rattle.program_commands.specs.Steps.{First, Is}
 
@@ -14,11 +17,15 @@ use Rattle.program_commands.specs.Steps.{First, Is}
 abbrev pub MetaComesTo : List ℕ → Outcome → Type 0
 MetaComesTo program = First (LoadsProgram program) Refused (λ loaded. Is (Classes loaded))
 
+-- `certify`, from the program
+abbrev pub CertifiedComesTo : Loaded → Outcome → Type 0
+CertifiedComesTo loaded = First (Makes loaded) (Uncertified loaded) (λ certificate. Is (Certified (with_text loaded (certificate_text certificate))))
+
 -- `certify`, from the program's text
 abbrev pub CertifyComesTo : List ℕ → Outcome → Type 0
 CertifyComesTo program =
     First (LoadsProgram program) Refused (λ loaded.
-    First (Makes loaded) (Uncertified loaded) (λ certificate. Is (Certified (with_certificate loaded certificate))))
+    CertifiedComesTo loaded)
 
 -- `check`, from the texts of the program and the certificate
 abbrev pub CheckComesTo : List ℕ → List ℕ → Outcome → Type 0
@@ -26,9 +33,10 @@ CheckComesTo program certificate = First (LoadsValid program certificate) Refuse
 
 -- ---- laws
 
--- the outcome is a program with its certificate, and `check` comes to these from the outcome's text
+-- the outcome is a program with its certificate's text, and `check` comes to these from the outcome's text
 abbrev pub IsAgreed : List ℕ → Outcome → Type 0
-IsAgreed program outcome = (checked : Checking) × (outcome ≡ Certified checked) × CheckComesTo program (outcome_text outcome) (Valid checked)
+IsAgreed program outcome =
+    (checked : Checking) × (outcome ≡ Certified (with_text checked.program (certificate_text checked.certificate))) × CheckComesTo program (outcome_text outcome) (Valid checked)
 
 -- what `certify` writes of a program with status 0, `check` says yes to, byte for byte
 abbrev pub CertifiedIsAgreed : Type 0

@@ -1,9 +1,11 @@
+pub mod Certifying
 pub mod Commands
 pub mod Loading
 pub mod Outcomes
 pub mod Reasons
 pub mod Refusals
 pub mod Steps
+pub mod Texts
 pub use Rattle.class_lang.specs.Reads as ClassLangReads
 pub use Rattle.class_outlines.specs.FaultNumbers as MetaModelFaultNumbers
 pub use Rattle.native_slots.specs.FaultNumbers as NativeSlotsFaultNumbers

@@ -1,6 +1,5 @@
 -- What commands write of what they come to, and their exit status (docs/commands.md, "Exit status").
 use Rattle.std.specs.Prelude.{◌≡◌, ℕ, List, Option, Result}
-use Rattle.certificate_texts.specs.Texts.{certificate_text}
 use Rattle.command_output.specs.MetaLines.{meta_text}
 use Rattle.command_output.specs.Sent.{TakesWith}
 use Rattle.program_commands.specs.declared.outcome.Outcome.{Outcome}
@@ -12,7 +11,7 @@ use Rattle.program_commands.specs.Refusals.{yes_line, memory_line, refusal_line,
 abbrev pub outcome_text : Outcome → List ℕ
 outcome_text (Refused refusal) = refusal_line refusal
 outcome_text (Classes p) = meta_text p
-outcome_text (Certificate certified) = certificate_text certified.certificate
+outcome_text (Certificate certified) = certified.text
 outcome_text (Uncertified p why) = reason_line p why
 outcome_text (Valid checked) = yes_line
 

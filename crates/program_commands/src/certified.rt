@@ -1,18 +1,18 @@
-//! Programs with their least certificates.
+//! Programs with the texts of their least certificates.
 
 ghost use Rattle.std.specs.Prelude.{◌≡◌};
-ghost use Rattle.program_commands.specs.Loading.{with_certificate};
+ghost use Rattle.program_commands.specs.Texts.{with_text};
 ghost use Rattle.rank_make.specs.Ranked.{AreRanksOf};
 
 use meta_objects::Meta;
-use rank_make::{Certificate, Ranks};
+use rank_make::Ranks;
 use std::marker::Model;
 
-/// A program that loads, with its least valid certificate and the ranks of which that was made. Contracts see the program and
-/// the certificate, and the ranks by their call.
+/// A program that loads, with the text of its least valid certificate and the ranks of which that was made. Contracts see the
+/// program and the text, and the ranks by their call.
 pub struct Certified {
     meta: Meta,
-    certificate: Certificate,
+    text: Vec<u8>,
     ranks: Ranks,
 }
 
@@ -20,43 +20,39 @@ impl Drop for Certified {
     fn drop(self) {
         let Certified {
             meta: _,
-            certificate: _,
+            text: _,
             ranks: _,
         } = self;
     }
 }
 
 impl Model for Certified {
-    ghost use Rattle.rank_check.specs.Checks.{Checking};
+    ghost use Rattle.program_commands.specs.Texts.{ProgramText};
     ghost use Rattle.rank_make.specs.Ranked.{AreRanksOf};
     ghost use Rattle.std.specs.Coded.{codes};
     ghost use Rattle.syntax_trees.specs.contracts.syntax.Expr as expr;
     ghost use Rattle.meta_model.specs.contracts.object.Statement as statement;
     ghost use Rattle.meta_model.specs.contracts.site.SourceProperty as source;
 
-    ghost Value = { Checking };
+    ghost Value = { ProgramText };
 
     ghost coded = { Prim.hlevel (codes, statement.the_row.coded, (expr.the_row source.the_row).coded) };
 
     ghost view = { λ certified. record {
       program = certified.meta;
-      certificate = certified.certificate;
+      text = certified.text.items;
     } };
 
     ghost invariant = { λ certified. AreRanksOf certified.meta certified.ranks };
 }
 
 impl Certified {
-    /// The program with its certificate and its ranks.
-    pub(crate) fn new(meta: Meta, certificate: Certificate, ranks: Ranks) -> Certified
+    /// The program with this text and its ranks.
+    pub(crate) fn new(meta: Meta, text: Vec<u8>, ranks: Ranks) -> Certified
         requires { AreRanksOf meta ranks }
-        ensures { result ≡ with_certificate meta certificate }
+        ensures { result ≡ with_text meta text.items }
     {
-        Certified {
-            meta,
-            certificate,
-            ranks,
-        }
+        Certified { meta, text, ranks }
     }
 
     /// The program.
@@ -66,11 +62,11 @@ impl Certified {
         &self.meta
     }
 
-    /// Its least valid certificate.
-    pub fn certificate(&self) -> &Certificate
-        ensures { result.now ≡ self.now.certificate }
+    /// The text of its least valid certificate.
+    pub fn text(&self) -> &[u8]
+        ensures { result.now ≡ self.now.text }
     {
-        &self.certificate
+        self.text.as_slice()
     }
 
     /// Its ranks.

@@ -1,13 +1,16 @@
 //! The commands `meta`, `certify` and `check`.
 
-ghost use Rattle.program_commands.specs.Commands.{MetaComesTo, CertifyComesTo, CheckComesTo};
+ghost use Rattle.program_commands.specs.Commands.{MetaComesTo, CertifyComesTo, CertifiedComesTo, CheckComesTo};
 ghost use Rattle.program_commands.specs.Outcomes.{Writes};
+ghost use Rattle.rank_make.specs.Ranked.{IsBoundOf};
 
 use crate::certified::Certified;
+use crate::certifying::least_text;
 use crate::loading::{load_program, load_valid};
 use crate::outcome::Outcome;
 use command_output::WriteFault;
-use rank_make::make_ranked;
+use meta_objects::Meta;
+use rank_make::{Ranks, Why, make_bound};
 use std::alloc::Global;
 use std::io::Write;
 
@@ -41,11 +44,20 @@ pub fn certify_outcome(alloc: Global, program: &[u8]) -> Outcome
         Ok(meta) => meta,
         Err(refusal) => return Outcome::Refused(refusal),
     };
-    match make_ranked(alloc, &meta) {
-        Ok((certificate, ranks)) => {
-            Outcome::Certificate(Certified::new(meta, certificate, ranks))
-        }
+    match make_bound(alloc, &meta) {
+        Ok((bound, ranks)) => with_least_text(alloc, meta, bound, ranks),
         Err(why) => Outcome::Uncertified(meta, why),
+    }
+}
+
+/// The program with the text of its least valid certificate, which has this bound; or that memory was refused.
+fn with_least_text(alloc: Global, meta: Meta, bound: u32, ranks: Ranks) -> Outcome
+    requires { IsBoundOf meta bound ranks }
+    ensures { CertifiedComesTo meta result }
+{
+    match least_text(alloc, &meta, bound, &ranks) {
+        Ok(text) => Outcome::Certificate(Certified::new(meta, text, ranks)),
+        Err(_) => Outcome::Uncertified(meta, Why::Memory),
     }
 }
 

@@ -3,6 +3,7 @@
 #![tactic(auto)]
 
 mod certified;
+mod certifying;
 mod commands;
 mod laws;
 mod loading;

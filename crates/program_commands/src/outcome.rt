@@ -24,7 +24,7 @@ pub enum Outcome {
     Refused(Refusal),
     /// The program loads, and these are its classes.
     Classes(Meta),
-    /// The program has this certificate, its least valid one.
+    /// The program has a certificate, and this is the text of its least valid one.
     Certificate(Certified),
     /// No certificate is valid for this program, for this reason.
     Uncertified(Meta, Why),
@@ -52,7 +52,7 @@ impl Outcome {
         match self {
             Outcome::Refused(refusal) => refusal.put(output),
             Outcome::Classes(meta) => output.classes(meta),
-            Outcome::Certificate(certified) => output.certificate(certified.certificate()),
+            Outcome::Certificate(certified) => output.put(certified.text()),
             Outcome::Uncertified(meta, why) => put_reason(output, meta, why),
             Outcome::Valid(_) => output.put(b"yes\n"),
         }

@@ -30,7 +30,7 @@ pub fn first_mistake(meta: &Meta, scan: &Scan, entries: &[Entry]) -> Option<Mist
             node: number,
             line: entry.line,
         };
-        let set = &entry.destroys;
+        let set = entry.destroys.get();
         if let Some(mistake) = own_mistake(meta, scan, *node, set, place) {
             return Some(mistake);
         }
@@ -49,7 +49,7 @@ fn lost_class(targets: &[usize], entries: &[Entry], set: &ClassSet) -> Option<(N
 {
     for target in targets {
         let entry = &entries[*target];
-        if let Some(class) = entry.destroys.first_lost(set) {
+        if let Some(class) = entry.destroys.get().first_lost(set) {
             let to = NodeLine {
                 node: *target,
                 line: entry.line,

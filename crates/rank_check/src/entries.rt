@@ -1,6 +1,6 @@
 //! The ranks and destroy sets of nodes, by their numbers.
 
-ghost use Rattle.std.specs.Prelude.{ℕ, ◌≡◌, ◌<◌, length, slice_get, Some, IfOk};
+ghost use Rattle.std.specs.Prelude.{ℕ, ◌≡◌, ◌<◌, [], length, slice_get, Some, IfOk};
 ghost use Rattle.effect_scan.specs.Scans.{IsScan};
 ghost use Rattle.rank_check.specs.Entries.{AreNumbers, ArePlaces, FindsEntry, FindsEntries, GivesEntries};
 ghost use Rattle.effect_scan.specs.Nodes.{nodes_of};
@@ -8,11 +8,12 @@ ghost use Rattle.effect_scan.specs.Nodes.{nodes_of};
 use crate::causes::{Cause, Extra};
 use crate::naming::line_numbers;
 use crate::places::{first_extra, line_places};
-use crate::sets::set_of;
+use crate::sets::shared_set;
 use certificate_lang::{Certificate, Line};
 use class_sets::ClassSet;
 use effect_scan::Scan;
 use meta_objects::Meta;
+use shared_values::Shared;
 use sqlite_items::Items;
 use std::alloc::{AllocError, Global};
 
@@ -23,8 +24,8 @@ pub struct Entry {
     pub line: usize,
     /// Its rank.
     pub rank: u32,
-    /// Its destroy set.
-    pub destroys: ClassSet,
+    /// Its destroy set; other nodes may have the same one.
+    pub destroys: Shared<ClassSet>,
 }
 
 /// The entries of all nodes, in their order. `Missing`, where a node has no line; else `Extra`, where a line is for nothing
@@ -88,9 +89,10 @@ fn entries_at(
     requires inside { (n k : ℕ) → slice_get places.now n ≡ Some k → k < length lines.now }
     ensures { IfOk result (FindsEntries meta.now lines.now places.now) }
 {
-    let mut entries = Items::new(alloc);
+    let empty = Shared::new(alloc, ClassSet::empty(alloc))?;
+    let mut entries = Items::from_vec(Vec::with_capacity(alloc, places.len())?);
     for place in places {
-        match entry_of(alloc, meta, scan, *place, &lines[*place])? {
+        match entry_of(alloc, meta, scan, *place, &lines[*place], &empty)? {
             Ok(entry) => entries.push(entry)?,
             Err(item) => return Ok(Err(Extra::Class(*place, item))),
         }
@@ -98,18 +100,21 @@ fn entries_at(
     Ok(Ok(entries))
 }
 
-/// The entry of the line at this place, or the place of the first item of its set whose class isn't there.
+/// The entry of the line at this place, or the place of the first item of its set whose class isn't there. A line without items
+/// has the empty set.
 fn entry_of(
     alloc: Global,
     meta: &Meta,
     scan: &Scan,
     place: usize,
     line: &Line,
+    empty: &Shared<ClassSet>,
 ) -> Result<Result<Entry, usize>, AllocError>
-    requires { IsScan meta.now scan.now }
+    requires scan { IsScan meta.now scan.now }
+    requires empty { empty.now ≡ [] }
     ensures { IfOk result (FindsEntry meta.now line.now place) }
 {
-    match set_of(alloc, meta, scan, line.destroys.as_slice())? {
+    match shared_set(alloc, meta, scan, line.destroys.as_slice(), empty)? {
         Ok(destroys) => Ok(Ok(Entry {
             line: place,
             rank: line.rank,

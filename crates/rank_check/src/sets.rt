@@ -1,6 +1,6 @@
 //! The sets of classes that certificates name.
 
-ghost use Rattle.std.specs.Prelude.{◌≡◌, length, IfOk};
+ghost use Rattle.std.specs.Prelude.{◌≡◌, [], length, IfOk};
 ghost use Rattle.effect_scan.specs.Scans.{IsScan};
 ghost use Rattle.rank_check.specs.Entries.{FindsSet, AddsItem};
 
@@ -8,11 +8,38 @@ use certificate_lang::SetItem;
 use class_sets::ClassSet;
 use effect_scan::{Scan, row_at};
 use meta_objects::Meta;
+use shared_values::Shared;
 use std::alloc::{AllocError, Global};
+
+/// The set of the classes that these items stand for, or the place of the first one whose class isn't there; without items it is
+/// the empty set that is given. Its error is that memory was refused.
+pub fn shared_set(
+    alloc: Global,
+    meta: &Meta,
+    scan: &Scan,
+    items: &[SetItem],
+    empty: &Shared<ClassSet>,
+) -> Result<Result<Shared<ClassSet>, usize>, AllocError>
+    requires scan { IsScan meta.now scan.now }
+    requires empty { empty.now ≡ [] }
+    ensures { IfOk result (FindsSet meta.now items.now) }
+{
+    if items.is_empty() {
+        let set = empty.copy()?;
+        return Ok(Ok(set));
+    }
+    match set_of(alloc, meta, scan, items)? {
+        Ok(set) => {
+            let set = Shared::new(alloc, set)?;
+            Ok(Ok(set))
+        }
+        Err(place) => Ok(Err(place)),
+    }
+}
 
 /// The set of the classes that these items stand for, or the place of the first one whose class isn't there. Its error is
 /// that memory was refused. Time is linear in the items, each with the classes that it stands for.
-pub fn set_of(
+fn set_of(
     alloc: Global,
     meta: &Meta,
     scan: &Scan,

@@ -5,3 +5,4 @@ pub mod Turning
 pub mod Ranking
 pub mod Grouping
 pub mod Walking
+pub mod Sharing

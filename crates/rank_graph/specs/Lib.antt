@@ -3,6 +3,7 @@ pub mod Graphs
 pub mod Bits
 pub mod Entries
 pub mod Searching
+pub mod Shared
 pub mod Faults
 pub mod Groups
 pub mod Solutions

@@ -7,6 +7,9 @@ ghost use Rattle.rank_graph.specs.Bits.{has};
 /// How many numbers there are.
 pub const SIZE: usize = 128;
 
+/// Above the numbers of 64 bits.
+const WORD: u128 = 0x1_0000_0000_0000_0000;
+
 /// A set of numbers below 128, a bit for each of them.
 #[derive(Clone, Copy)]
 pub struct Bits {
@@ -16,9 +19,24 @@ pub struct Bits {
 impl Bits {
     /// No numbers.
     pub fn none() -> Bits
-        ensures { (c : ℕ) → has result c ≡ false }
+        ensures has { (c : ℕ) → has result c ≡ false }
+        ensures zero { result.bits ≡ 0 }
     {
         Bits { bits: 0 }
+    }
+
+    /// Whether both sets have the same numbers.
+    pub fn is_same(self, other: Bits) -> bool
+        ensures { IsTrue result ↔ (self ≡ other) }
+    {
+        self.bits == other.bits
+    }
+
+    /// A number for the set, which is mostly another one for another set.
+    pub fn mixed(self) -> usize {
+        let low = (self.bits % WORD) as usize;
+        let high = (self.bits / WORD) as usize;
+        low.wrapping_mul(31).wrapping_add(high)
     }
 
     /// Whether the set has no number.

@@ -11,6 +11,7 @@ use crate::bits::{Bits, SIZE};
 use crate::fault::Unranked;
 use crate::search::search;
 use crate::solution::Solution;
+use effect_scan::Targets;
 use sqlite_items::Items;
 use std::alloc::{AllocError, Global};
 
@@ -19,7 +20,7 @@ use std::alloc::{AllocError, Global};
 /// Takes time linear in the nodes, edges and own classes, for each 128 classes.
 pub fn solve(
     alloc: Global,
-    rows: &[Items<usize>],
+    rows: &[Targets],
     own: &[Items<usize>],
     classes: usize,
 ) -> Result<Solution, Unranked>
@@ -43,7 +44,7 @@ pub fn solve(
 fn group_of(alloc: Global, own: &[Items<usize>], group: usize) -> Result<Items<Bits>, AllocError>
     ensures { IfOk result (AreGroup group own.now) }
 {
-    let mut all = Items::new(alloc);
+    let mut all = Items::from_vec(Vec::with_capacity(alloc, own.len())?);
     for row in own {
         all.push(bits_of(row.as_slice(), group))?;
     }

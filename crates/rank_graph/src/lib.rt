@@ -9,6 +9,7 @@ mod groups;
 mod path;
 mod search;
 mod solution;
+mod states;
 mod witness;
 
 pub use fault::Unranked;

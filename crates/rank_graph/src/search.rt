@@ -1,98 +1,56 @@
 //! Search in depth: the ranks of the nodes, and the classes of a group that they lead to.
 
-ghost use Rattle.std.specs.Prelude.{◌≡◌, ℕ, ◌<◌, ◌+◌, ◌^◌, ◌||◌, length, map, replicate, max, IfOk, IfErr, OnOk};
+ghost use Rattle.std.specs.Prelude.{◌≡◌, ℕ, ◌<◌, ◌+◌, ◌^◌, ◌||◌, length, max, IfOk, IfErr, OnOk};
 ghost use Rattle.rank_graph.specs.Bits.{has};
 ghost use Rattle.rank_graph.specs.Graphs.{InRange};
 ghost use Rattle.rank_graph.specs.Entries.{IsSearched};
 ghost use Rattle.rank_graph.specs.Faults.{IsUnranked};
 ghost use Rattle.rank_graph.specs.Searching.{AllDone, Finished, Visited, NoneOpen, state_of};
-ghost use Rattle.rank_graph.specs.declared.path.State.TheVariants.{New, Done};
+ghost use Rattle.rank_graph.specs.declared.path.State.TheVariants.{New};
 
 use crate::bits::Bits;
 use crate::cycle::back_to;
 use crate::fault::Unranked;
 use crate::path::{Entry, Path, State, Visit};
-use effect_scan::row_at;
-use sqlite_items::Items;
-use std::alloc::{AllocError, Global};
+use crate::states::{Found, States};
+use effect_scan::{Targets, targets_at};
+use std::alloc::Global;
 
 /// The longest chains of the nodes, and the classes that they lead to, where each has these classes itself; or why there are
 /// none.
-pub fn search(alloc: Global, rows: &[Items<usize>], own: &[Bits]) -> Result<Items<Entry>, Unranked>
+pub fn search(alloc: Global, rows: &[Targets], own: &[Bits]) -> Result<Found, Unranked>
     requires inside { InRange rows.now }
     requires own { length own.now ≡ length rows.now }
     ensures ok { IfOk result (IsSearched rows.now own.now) }
     ensures err { IfErr result (IsUnranked rows.now) }
 {
-    let mut states = fresh(alloc, rows.len())?;
-    explore(alloc, rows, own, states.as_mut_slice())
-}
-
-/// The search, over states of its own.
-fn explore(
-    alloc: Global,
-    rows: &[Items<usize>],
-    own: &[Bits],
-    states: &mut [State],
-) -> Result<Items<Entry>, Unranked>
-    requires inside { InRange rows.now }
-    requires states { length states.old ≡ length rows.now }
-    requires own { length own.now ≡ length rows.now }
-    requires fresh { (a : ℕ) → state_of states.old a ≡ New }
-    ensures ok { IfOk result (IsSearched rows.now own.now) }
-    ensures err { IfErr result (IsUnranked rows.now) }
-{
-    visit_all(alloc, rows, own, states)?;
-    let entries = entries_of(alloc, states)?;
-    Ok(entries)
-}
-
-/// The state of each node before a search.
-fn fresh(alloc: Global, count: usize) -> Result<Vec<State>, AllocError>
-    ensures { IfOk result (λ states. states.items ≡ replicate count New) }
-{
-    let mut states = Vec::with_capacity(alloc, count)?;
-    for _node in 0..count {
-        states.push(State::New)?;
-    }
-    Ok(states)
+    let mut states = States::fresh(alloc, rows.len())?;
+    visit_all(alloc, rows, own, &mut states)?;
+    let found = states.found(alloc)?;
+    Ok(found)
 }
 
 /// Visits each node that no earlier visit came to.
 fn visit_all(
     alloc: Global,
-    rows: &[Items<usize>],
+    rows: &[Targets],
     own: &[Bits],
-    states: &mut [State],
+    states: &mut States,
 ) -> Result<(), Unranked>
     requires inside { InRange rows.now }
     requires states { length states.old ≡ length rows.now }
     requires own { length own.now ≡ length rows.now }
     requires fresh { (a : ℕ) → state_of states.old a ≡ New }
     ensures ok { OnOk result (Finished rows.now own.now states.new × AllDone states.new) }
+    ensures len { OnOk result (length states.new ≡ length rows.now) }
     ensures err { IfErr result (IsUnranked rows.now) }
 {
     for root in 0..rows.len() {
-        if let State::New = states[root] {
+        if let State::New = states.get(root) {
             visit(alloc, rows, own, states, root)?;
         }
     }
     Ok(())
-}
-
-/// The entries of nodes that are done.
-fn entries_of(alloc: Global, states: &[State]) -> Result<Items<Entry>, AllocError>
-    requires { AllDone states.now }
-    ensures { IfOk result (λ entries. map Done entries ≡ states.now) }
-{
-    let mut entries = Vec::with_capacity(alloc, states.len())?;
-    for state in states {
-        match state {
-            State::Done(entry) => entries.push(*entry)?,
-            _ => unreachable!(),
-        }
-    }
-    Ok(Items::from_vec(entries))
 }
 
 /// The entry of a node that has an edge to a node with the entry `below`.
@@ -111,9 +69,9 @@ fn over(entry: Entry, below: Entry) -> Entry
 /// met.
 fn visit(
     alloc: Global,
-    rows: &[Items<usize>],
+    rows: &[Targets],
     own: &[Bits],
-    states: &mut [State],
+    states: &mut States,
     root: usize,
 ) -> Result<(), Unranked>
     requires inside { InRange rows.now }
@@ -128,7 +86,7 @@ fn visit(
 {
     let _count = states.len();
     let mut path = Path::new(alloc);
-    states[root] = State::Open;
+    states.enter(root);
     let mut at = Visit {
         node: root,
         next: 0,
@@ -138,17 +96,17 @@ fn visit(
         },
     };
     'search: loop {
-        let row = row_at(rows, at.node);
+        let row = targets_at(rows, at.node);
         if at.next < row.len() {
             let target = row[at.next];
-            match states[target] {
+            match states.get(target) {
                 State::Done(entry) => {
                     at.entry = over(at.entry, entry);
                     at.next += 1;
                 }
                 State::New => {
                     path.push(at)?;
-                    states[target] = State::Open;
+                    states.enter(target);
                     at = Visit {
                         node: target,
                         next: 0,
@@ -164,7 +122,7 @@ fn visit(
                 }
             }
         } else {
-            states[at.node] = State::Done(at.entry);
+            states.leave(at.node, at.entry)?;
             match path.pop() {
                 Some(visit) => at = visit,
                 None => return Ok(()),

@@ -1,18 +1,18 @@
 //! What is known of a graph without cycles.
 
 ghost use Rattle.std.specs.Prelude.{◌≡◌, ◌↔◌, ◌<◌, ℕ, false, slice_get, IsTrue};
-ghost use Rattle.std.specs.Option.{option_copied};
 ghost use Rattle.rank_graph.specs.declared.bits.TheConstants.{SIZE};
 ghost use Rattle.rank_graph.specs.Entries.{leads_at};
 ghost use Rattle.rank_graph.specs.Solutions.{entries_of, rank_of, leads_of};
 
 use crate::bits::SIZE;
 use crate::path::Entry;
+use crate::states::Found;
 use sqlite_items::{Items, at};
 
 /// The ranks of nodes, and the classes that they lead to.
 pub struct Solution {
-    groups: Items<Items<Entry>>,
+    groups: Items<Found>,
 }
 
 impl Drop for Solution {
@@ -23,7 +23,7 @@ impl Drop for Solution {
 
 impl Solution {
     /// Made of what was found for each group of 128 classes.
-    pub(crate) fn of(groups: Items<Items<Entry>>) -> Solution
+    pub(crate) fn of(groups: Items<Found>) -> Solution
         ensures { result.groups ≡ groups }
     {
         Solution { groups }
@@ -72,11 +72,11 @@ impl Solution {
     }
 
     /// What was found of the node for this group of classes.
-    fn entry(&self, group: usize, node: usize) -> Option<&Entry>
-        ensures { option_copied result ≡ slice_get (entries_of self.now group) node }
+    fn entry(&self, group: usize, node: usize) -> Option<Entry>
+        ensures { result ≡ slice_get (entries_of self.now group) node }
     {
         match at(self.groups.as_slice(), group) {
-            Some(entries) => at(entries.as_slice(), node),
+            Some(found) => found.entry(node),
             None => None,
         }
     }

@@ -8,7 +8,7 @@ ghost use Rattle.rank_graph.specs.Solutions.{AreRanks, AreClasses, rank_of, lead
 ghost use Rattle.rank_graph.specs.Walks.{IsChain};
 
 use crate::solution::Solution;
-use effect_scan::row_at;
+use effect_scan::{Targets, row_at, targets_at};
 use sqlite_items::Items;
 use std::alloc::{AllocError, Global};
 
@@ -16,7 +16,7 @@ use std::alloc::{AllocError, Global};
 /// its nodes appears twice. Its error is that memory was refused.
 pub fn path_to(
     alloc: Global,
-    rows: &[Items<usize>],
+    rows: &[Targets],
     own: &[Items<usize>],
     solution: &Solution,
     from: usize,
@@ -31,7 +31,7 @@ pub fn path_to(
     nodes.push(from)?;
     let mut at = from;
     while !row_at(own, at).contains(&class) {
-        match next_leading(row_at(rows, at), solution, class) {
+        match next_leading(targets_at(rows, at), solution, class) {
             Some(node) => {
                 at = node;
                 nodes.push(at)?;
@@ -60,7 +60,7 @@ fn next_leading(nodes: &[usize], solution: &Solution, class: usize) -> Option<us
 /// memory was refused.
 pub fn chain_from(
     alloc: Global,
-    rows: &[Items<usize>],
+    rows: &[Targets],
     solution: &Solution,
     from: usize,
     count: usize,
@@ -74,7 +74,7 @@ pub fn chain_from(
     let mut at = from;
     for _edge in 0..count {
         let rank = solution.rank(at);
-        match next_ranked(row_at(rows, at), solution, rank - 1) {
+        match next_ranked(targets_at(rows, at), solution, rank - 1) {
             Some(node) => {
                 at = node;
                 nodes.push(at)?;

@@ -1,8 +1,8 @@
 -- The ranks and the destroy sets of a program's nodes, and why there are none (docs/certificate.md, "The maker").
-use Rattle.std.specs.Prelude.{Result, Ok, Err}
+use Rattle.std.specs.Prelude.{ℕ, Bool, List, length, Result, Ok, Err}
 use Rattle.meta_model.specs.Loaded.{Loaded}
 use Rattle.effect_scan.specs.Scans.{Scanned, IsScan}
-use Rattle.certificate_lang.specs.declared.certificate.Certificate.{Certificate}
+use Rattle.certificate_lang.specs.declared.certificate.Line.{Line}
 use Rattle.rank_check.specs.Entries.{IsReady}
 use Rattle.rank_graph.specs.Solutions.{rank_of, leads_of}
 use Rattle.rank_graph.specs.declared.solution.Solution.{Solution}
@@ -12,7 +12,7 @@ use Rattle.rank_make.specs.declared.why.Why.TheVariants.{Wire, BodyType, Cycle, 
 use Rattle.rank_make.specs.Walks.{IsToldCycle}
 use Rattle.rank_make.specs.Least.{IsLeastValid}
 use Rattle.rank_make.specs.Makes.{NoneIsValid, IsReason}
-use Rattle.rank_make.specs.Solved.{IsSolved}
+use Rattle.rank_make.specs.Solved.{IsSolved, AreLow, AreLinesFor}
 
 -- of the program's nodes and edges: the rank of a node is how many edges its longest chain has, and its classes are those of the
 -- objects that may be destroyed from it
@@ -44,7 +44,22 @@ abbrev pub RanksReady : Loaded → Result Ranks Why → Type 0
 RanksReady p (Ok ranks) = IsReady p × AreRanksOf p ranks
 RanksReady p (Err why) = IsReason p why
 
--- a valid certificate that is least, with the program's ranks, or the first reason why none is valid
-abbrev pub MakesRanked : Loaded → Result (Certificate × Ranks) Why → Type 0
-MakesRanked p (Ok made) = IsLeastValid p made.0 × AreRanksOf p made.1
-MakesRanked p (Err why) = IsReason p why
+-- the ranks of so many nodes are low, and with the lines of all nodes this bound is the least valid certificate
+pub record IsLeastBound (p : Loaded) (count : ℕ) (rank : ℕ → ℕ) (leads : ℕ → ℕ → Bool) (bound : ℕ) : Type 0 where
+  pub low : AreLow count rank
+  pub least : (lines : List Line) → AreLinesFor p rank leads lines → IsLeastValid p (record { bound = bound; lines = lines })
+
+-- this bound, or the reason that ranks and sets give
+abbrev pub BoundsSolved : Loaded → Scanned → (ℕ → ℕ) → (ℕ → ℕ → Bool) → Result ℕ Why → Type 0
+BoundsSolved p scan rank leads (Ok bound) = IsLeastBound p (length scan.nodes) rank leads bound
+BoundsSolved p scan rank leads (Err why) = IsReason p why
+
+-- the bound of the least valid certificate, of whose lines these are the ranks
+pub record IsBoundOf (p : Loaded) (bound : ℕ) (ranks : Ranks) : Type 0 where
+  pub are : AreRanksOf p ranks
+  pub bounds : IsLeastBound p (length ranks.scan.nodes) (rank_of ranks.solution) (leads_of ranks.solution) bound
+
+-- such a bound with the program's ranks, or the first reason why no certificate is valid
+abbrev pub MakesBound : Loaded → Result (ℕ × Ranks) Why → Type 0
+MakesBound p (Ok made) = IsBoundOf p made.0 made.1
+MakesBound p (Err why) = IsReason p why

@@ -11,8 +11,8 @@ mod why;
 
 pub use certificate_lang::{Certificate, Line, MemberName, NodeName};
 pub use effect_scan::{Member, Node};
-pub use making::{make, make_ranked};
-pub use naming::node_name;
+pub use making::{make, make_bound};
+pub use naming::{line_of, node_name};
 pub use rank_graph::Solution;
 pub use ranking::{Ranks, rank, rank_scan};
 pub use type_check::Spot;

@@ -4,7 +4,7 @@ ghost use Rattle.effect_scan.specs.Scans.{IsScan};
 ghost use Rattle.rank_check.specs.Entries.{IsReady};
 ghost use Rattle.rank_graph.specs.Solutions.{rank_of, leads_of};
 ghost use Rattle.rank_make.specs.Makes.{Makes, ReadyOrReason};
-ghost use Rattle.rank_make.specs.Ranked.{MakesRanked, RanksReady};
+ghost use Rattle.rank_make.specs.Ranked.{BoundsSolved, MakesBound, RanksReady};
 ghost use Rattle.rank_make.specs.Solved.{IsSolved};
 
 use crate::bounds::bound_of;
@@ -32,17 +32,19 @@ use type_check::{unfit_wire, untyped};
 pub fn make(alloc: Global, meta: &Meta) -> Result<Certificate, Why>
     ensures { Makes meta.now result }
 {
-    let (certificate, _ranks) = make_ranked(alloc, meta)?;
-    Ok(certificate)
+    let (bound, ranks) = make_bound(alloc, meta)?;
+    let lines = lines(alloc, meta, &ranks.scan, &ranks.solution)?;
+    Ok(Certificate { bound, lines })
 }
 
-/// The same, with the program's ranks, of which the certificate was made.
-pub fn make_ranked(alloc: Global, meta: &Meta) -> Result<(Certificate, Ranks), Why>
-    ensures { MakesRanked meta.now result }
+/// The bound of the same certificate, with the program's ranks, of which `line_of` makes its lines one by one: so they needn't
+/// be in memory together. The errors are those of `make`.
+pub fn make_bound(alloc: Global, meta: &Meta) -> Result<(u32, Ranks), Why>
+    ensures { MakesBound meta.now result }
 {
     let ranks = rank_ready(alloc, meta)?;
-    let certificate = make_solved(alloc, meta, &ranks.scan, &ranks.solution)?;
-    Ok((certificate, ranks))
+    let bound = bound_solved(alloc, meta, &ranks.scan, &ranks.solution)?;
+    Ok((bound, ranks))
 }
 
 /// The ranks of a program whose wires, literals, bodies and bindings are as they should be, or the first reason of these and
@@ -70,17 +72,12 @@ fn judge_program(alloc: Global, meta: &Meta) -> Result<(), Why>
     }
 }
 
-/// The certificate, or the reason that ranks and sets give.
-fn make_solved(
-    alloc: Global,
-    meta: &Meta,
-    scan: &Scan,
-    solution: &Solution,
-) -> Result<Certificate, Why>
+/// The bound of the certificate, or the reason that ranks and sets give.
+fn bound_solved(alloc: Global, meta: &Meta, scan: &Scan, solution: &Solution) -> Result<u32, Why>
     requires scan { IsScan meta.now scan.now }
     requires ready { IsReady meta.now }
     requires solved { IsSolved scan.now (rank_of solution.now) (leads_of solution.now) }
-    ensures { Makes meta.now result }
+    ensures { BoundsSolved meta.now scan.now (rank_of solution.now) (leads_of solution.now) result }
 {
     // All edges are between nodes, and names are those of one member.
     edges_join_nodes(meta);
@@ -92,6 +89,5 @@ fn make_solved(
         return Err(Why::TooHigh(nodes));
     }
     let bound = bound_of(solution, scan.nodes().len());
-    let lines = lines(alloc, meta, scan, solution)?;
-    Ok(Certificate { bound, lines })
+    Ok(bound)
 }

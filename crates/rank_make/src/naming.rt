@@ -15,6 +15,7 @@ use meta_model::MetaObject;
 use meta_objects::Meta;
 use rank_check::{ClassSet, Line, MemberName, NodeName, SetItem};
 use rank_graph::Solution;
+use signatures::Sig;
 use sqlite_items::Items;
 use std::alloc::{AllocError, Global};
 
@@ -37,8 +38,8 @@ pub fn lines(
     Ok(lines)
 }
 
-/// The line of this node. Its error is that memory was refused.
-fn line_of(
+/// The line of this node, which has this number. Its error is that memory was refused.
+pub fn line_of(
     alloc: Global,
     meta: &Meta,
     scan: &Scan,
@@ -51,7 +52,7 @@ fn line_of(
     requires low { rank_of solution.now number < most_bound }
     ensures { IfOk result (IsLineFor meta.now (rank_of solution.now) (leads_of solution.now) number node) }
 {
-    let name = node_name(alloc, meta, node)?;
+    let name = node_name(meta, node)?;
     let destroys = set_items(alloc, meta, scan, solution, number)?;
     Ok(Line {
         node: name,
@@ -76,7 +77,8 @@ fn set_items(
         return Ok(Items::new(alloc));
     }
     let classes = meta.classes();
-    let mut items = Items::new(alloc);
+    // Most sets are written by one item, and there is a list for each node.
+    let mut items = Items::from_vec(Vec::with_capacity(alloc, 1)?);
     // The classes in the closures of those that are written.
     let mut implied = ClassSet::with_room(alloc, classes.len())?;
     for (class, object) in classes.iter().enumerate() {
@@ -90,27 +92,27 @@ fn set_items(
 }
 
 /// The name of the node. Its error is that memory was refused.
-pub fn node_name(alloc: Global, meta: &Meta, node: Node) -> Result<NodeName, AllocError>
+pub fn node_name(meta: &Meta, node: Node) -> Result<NodeName, AllocError>
     requires { IsNode meta.now node }
     ensures { IfOk result (λ name. IsNodeNamed meta.now name node) }
 {
     let Some(class) = meta.object(node.class) else {
         unreachable!();
     };
-    let member = member_name(alloc, class, node.member)?;
+    let member = member_name(class, node.member)?;
     let class = class.name.copy()?;
     Ok(NodeName { class, member })
 }
 
 /// The name of the member, which the class has. Its error is that memory was refused.
-fn member_name(alloc: Global, class: &MetaObject, member: Member) -> Result<MemberName, AllocError>
+fn member_name(class: &MetaObject, member: Member) -> Result<MemberName, AllocError>
     requires { HasMember class.now member }
     ensures { IfOk result (λ name. (p : Loaded) (c : ℕ) → IsClass p c class.now → IsMemberNamed p c name member) }
 {
     match member {
         Member::Method(method) => match class.method(method) {
             Some(found) => {
-                let sig = found.sig.copy(alloc)?;
+                let sig = found.sig.get().copy()?;
                 Ok(MemberName::Method(sig))
             }
             None => unreachable!(),

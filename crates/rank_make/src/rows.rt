@@ -14,7 +14,7 @@ use std::alloc::{AllocError, Global};
 pub fn own_rows(alloc: Global, scan: &Scan) -> Result<Items<Items<usize>>, AllocError>
     ensures { IfOk result (λ rows. rows ≡ own_rows scan.now) }
 {
-    let mut rows = Items::new(alloc);
+    let mut rows = Items::from_vec(Vec::with_capacity(alloc, scan.nodes().len())?);
     for node in scan.nodes() {
         let row = own_row(alloc, scan, *node)?;
         rows.push(row)?;

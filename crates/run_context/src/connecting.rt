@@ -114,6 +114,7 @@ impl RunContext {
     }
 
     /// The names at two ends; `BadType` where an object or its method isn't there.
+    #[inline(always)]
     fn names(&self, world: &World, ends: &Endpoints) -> Result<syntax_trees::Endpoints<Name>, Fault>
         ensures ok { IfOk result (NamesEnds self.now.meta world.now.store.tree ends.now) }
         ensures err { IfErr result (LacksNames self.now.meta world.now.store.tree ends.now) }
@@ -126,9 +127,9 @@ impl RunContext {
         };
         Ok(syntax_trees::Endpoints {
             sender: sender.name.copy()?,
-            signal: signal.sig.copy(self.alloc)?,
+            signal: signal.sig.copy()?,
             receiver: receiver.name.copy()?,
-            method: method.sig.copy(self.alloc)?,
+            method: method.sig.copy()?,
         })
     }
 }

@@ -122,6 +122,7 @@ pub(crate) fn push_types(types: &[QType], text: &mut Vec<u8>) -> Result<(), Allo
 }
 
 /// Whether both lists hold the same types in the same order.
+#[inline(always)]
 pub fn types_are_same(left: &[QType], right: &[QType]) -> bool
     ensures { IsTrue result ↔ (left.now ≡ right.now) }
 {
@@ -129,6 +130,7 @@ pub fn types_are_same(left: &[QType], right: &[QType]) -> bool
 }
 
 /// Whether the second list is a front of the first.
+#[inline(always)]
 pub fn types_begin_with(types: &[QType], front: &[QType]) -> bool
     ensures { IsTrue result ↔ BeginsWith types.now front.now }
 {

@@ -45,7 +45,8 @@ pub fn normalise(alloc: Global, text: &str) -> Result<Sig, SigFault>
         return Err(SigFault::TooMany);
     }
     let name = Name::new(alloc, name)?;
-    Ok(Sig { name, types })
+    let sig = Sig::new(alloc, name, types)?;
+    Ok(sig)
 }
 
 /// A text has at most one normal form, with at most 8 parameters, and at most one answer, unless memory runs out.

@@ -4,14 +4,15 @@ ghost use Rattle.signatures.specs.Spelling.{text_of_sig};
 ghost use Rattle.signatures.specs.Types.{Fits};
 
 use crate::name::Name;
+use crate::parameter_types::ParameterTypes;
 use crate::qtype::{QType, push_types, types_are_same, types_begin_with};
 use sqlite_items::Items;
 use std::alloc::{AllocError, Global};
 
-/// A signature in its normal form: a method's name and its parameters' types.
+/// A signature in its normal form: a method's name and its parameters' types. Copies share both.
 pub struct Sig {
     pub name: Name,
-    pub types: Items<QType>,
+    pub types: ParameterTypes,
 }
 
 impl Drop for Sig {
@@ -21,16 +22,20 @@ impl Drop for Sig {
 }
 
 impl Sig {
-    /// The same signature, which shares the names.
-    pub fn copy(&self, alloc: Global) -> Result<Sig, AllocError>
+    /// The signature of this name and these types. The error is that memory was refused.
+    pub fn new(alloc: Global, name: Name, types: Items<QType>) -> Result<Sig, AllocError>
+        ensures { IfOk result (λ sig. sig ≡ record { name = name; types = types }) }
+    {
+        let types = ParameterTypes::new(alloc, types)?;
+        Ok(Sig { name, types })
+    }
+
+    /// The same signature, which takes no memory. The error is that there are more copies than can be counted.
+    pub fn copy(&self) -> Result<Sig, AllocError>
         ensures { IfOk result (λ copy. copy ≡ self.now) }
     {
         let name = self.name.copy()?;
-        let mut types = Items::new(alloc);
-        for kind in self.types.as_slice() {
-            let kind = kind.copy()?;
-            types.push(kind)?;
-        }
+        let types = self.types.copy()?;
         Ok(Sig { name, types })
     }
 
@@ -46,6 +51,7 @@ impl Sig {
     }
 
     /// Whether both signatures have one name and the same types.
+    #[inline(always)]
     pub fn is_same(&self, other: &Sig) -> bool
         ensures { IsTrue result ↔ (self.now ≡ other.now) }
     {

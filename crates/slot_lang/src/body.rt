@@ -81,6 +81,9 @@ pub fn one_body()
     ensures { OneBody }
 {}
 
+/// A block has room at first for so many statements. Most have no more.
+const MOSTLY: usize = 2;
+
 /// Takes the block that has to come next: `{`, statements and `}`.
 ///
 /// `Syntax` where the tokens begin with no block, and only there; `Memory` where a growth of memory was refused.
@@ -90,7 +93,7 @@ pub fn block(cursor: &mut Cursor) -> Result<Body, ParseFault>
     ensures shorter { OnOk result (length cursor.new < length cursor.old) }
 {
     cursor.expect(Symbol::OpenBrace)?;
-    let mut found = Items::new(cursor.alloc());
+    let mut found = Items::from_vec(Vec::with_capacity(cursor.alloc(), MOSTLY)?);
     while !cursor.eat(Symbol::CloseBrace) {
         let statement = statement(cursor)?;
         found.push(statement)?;

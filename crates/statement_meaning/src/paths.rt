@@ -1,10 +1,10 @@
 //! What the paths and expressions of a body give.
 
-ghost use Rattle.std.specs.Prelude.{◌≡◌};
+ghost use Rattle.std.specs.Prelude.{◌≡◌, Some};
 ghost use Rattle.std.specs.Option.{option_copied};
 ghost use Rattle.expressions.specs.Evaluation.{Evaluates, EvaluatesAll};
 ghost use Rattle.statement_meaning.specs.code.Coded.{Finds, FindsTruth};
-ghost use Rattle.statement_meaning.specs.Paths.{root_value, step_value};
+ghost use Rattle.statement_meaning.specs.Paths.{root_value, step_value, steps_value};
 ghost use Rattle.statement_meaning.specs.code.Scope.{objects_in, path_in, value_in, values_in};
 ghost use Rattle.object_tree.specs.Objects.{stored};
 ghost use Rattle.object_tree.specs.Seen.{seen};
@@ -35,12 +35,10 @@ impl<'w> expressions::World<MetaPath> for Scope<'w> {
 
     ghost read = { λ scope path. path_in scope path };
 
+    #[inline(always)]
     fn value(&self, path: &MetaPath) -> Result<Value, EvalFault> {
-        let mut found = self.seen(self.root(path.root)?);
-        for step in path.steps.as_slice() {
-            found = self.step(step, &found)?;
-        }
-        Ok(found)
+        let begun = self.root(path.root)?;
+        self.from(self.seen(begun), path.steps.as_slice())
     }
 }
 
@@ -102,7 +100,31 @@ impl<'w> Scope<'w> {
         }
     }
 
+    /// What properties of this value lead to, each one's of what the one before led to; most paths have none.
+    #[inline(always)]
+    fn from(&self, begun: Value, steps: &[Step]) -> Result<Value, EvalFault>
+        ensures { Evaluates (steps_value (objects_in self.now) steps.now (Some begun)) result }
+    {
+        if steps.is_empty() {
+            return Ok(begun);
+        }
+        self.along(begun, steps)
+    }
+
+    /// The same, where there are some.
+    #[inline(never)]
+    fn along(&self, begun: Value, steps: &[Step]) -> Result<Value, EvalFault>
+        ensures { Evaluates (steps_value (objects_in self.now) steps.now (Some begun)) result }
+    {
+        let mut found = begun;
+        for step in steps {
+            found = self.step(step, &found)?;
+        }
+        Ok(found)
+    }
+
     /// Where a path begins.
+    #[inline(always)]
     fn root(&self, root: MetaRoot) -> Result<Value, EvalFault>
         ensures { Evaluates (root_value self.now.this self.now.arguments.now root) result }
     {

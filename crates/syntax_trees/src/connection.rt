@@ -3,19 +3,20 @@
 ghost use Rattle.std.specs.Prelude.{◌↔◌, IsTrue, All};
 ghost use Rattle.syntax_trees.specs.Connections.{HasFewTypes, signatures_at};
 
+use shared_values::Shared;
 use signatures::{Kind, MOST_PARAMETERS, Sig};
 
 /// The two ends of a connection: a signal of the sender and a method of the receiver. An O names an object: a path in a
-/// slot's body, a name in a script.
+/// slot's body, a name in a script. Copies share the signatures.
 pub struct Endpoints<O: Drop> {
     /// The object whose signal is connected.
     pub sender: O,
     /// The sender's signal, with at most 8 types.
-    pub signal: Sig,
+    pub signal: Shared<Sig>,
     /// The object whose method is called.
     pub receiver: O,
     /// The receiver's slot or signal, with at most 8 types.
-    pub method: Sig,
+    pub method: Shared<Sig>,
 }
 
 impl<O: Drop> Drop for Endpoints<O> {

@@ -1,11 +1,9 @@
 -- The line at the front of a text.
-use Rattle.std.proofs.Common.{◌≡◌, ◌≢◌, ℕ, zero, suc, ◌<◌, ◌≤◌, ◌+◌, ◌-◌, false, nat_eq, List, [], ◌∷◌, ◌++◌, length, take, drop, get_or, refl, sym, ◌∙◌, ap, inl, inr, ◌⊎◌, Some, None, arith, ◌==◌}
-use Rattle.std.proofs.lemmas.Bool.{eqb-true}
+use Rattle.std.proofs.Common.{◌≡◌, ◌≢◌, ℕ, zero, suc, ◌<◌, ◌+◌, ◌-◌, false, List, [], ◌∷◌, ◌++◌, length, take, drop, get_or, refl, sym, ◌∙◌, ap, inl, inr, ◌⊎◌, Some, None, arith, ◌==◌}
+use Rattle.std.proofs.lemmas.Bool.{eq-eqb, eqb-true}
 use Rattle.std.proofs.lemmas.List.{take_all, drop_all, length-drop}
-use Rattle.std.proofs.lemmas.Bool.Decides.{nat_tests}
-use Rattle.std.proofs.lemmas.List.Quantifiers.{position-Some}
-use Rattle.std.proofs.lemmas.List.Sums.{fails_before_first}
-use Rattle.std.specs.List.{AllByRecursion, position, position_or_len}
+use Rattle.std.specs.List.{AllByRecursion}
+use Rattle.memchr.specs.Find.{Passes, is_byte, IsFirstByte}
 use Rattle.texts.specs.Lines.{IsFrontLine, AreFrontLines}
 
 -- the bytes before the first newline, the newline, and what follows it
@@ -20,29 +18,25 @@ all_of_each : (text : List ℕ) → ((k : ℕ) → k < length text → get_or te
 all_of_each [] each = tt
 all_of_each (b ∷ bs) each = (each 0 (omega arith), all_of_each bs (λ k h. each (suc k) (omega arith)))
 
-not_newline : (b : ℕ) → nat_eq b 10 ≡ false → b ≢ 10
-not_newline b h e = grind (arith, nat_tests)
+-- a byte that the search for newlines passes is none
+not_newline : (text : List ℕ) (k : ℕ) → ¬ Passes (is_byte 10) text k → get_or text k 0 ≢ 10
+not_newline text k passed same = passed (eq-eqb (get_or text k 0) 10 same)
 
 -- the slice from `n` to the end
 from_there : (text : List ℕ) (n : ℕ) → take (length text - n) (drop n text) ≡ drop n text
 from_there text n = take_all (length text - n) (drop n text) (omega (arith, length-drop n text))
 
-pub ended_line : (text : List ℕ) (at : ℕ) → position (λ b. nat_eq b 10) text ≡ Some at → IsFrontLine text (take at text) (take (length text - (at + 1)) (drop (at + 1) text))
-ended_line text at e =
-    let p = position-Some (λ b. nat_eq b 10) text at 0 e in
-    let s = split_at text at p.0 (eqb-true (get_or text at 0) 10 p.1) (λ k h. not_newline (get_or text k 0) (p.2 k h)) in
+pub ended_line : (text : List ℕ) (at : ℕ) → IsFirstByte (is_byte 10) text (Some at) → IsFrontLine text (take at text) (take (length text - (at + 1)) (drop (at + 1) text))
+ended_line text at found =
+    let s = split_at text at found.0.high (eqb-true (get_or text at 0) 10 found.1) (λ k h. not_newline text k (found.0.before k (omega arith) h)) in
     let next : at + 1 ≡ suc at = omega arith in
     rw (from_there text (at + 1), next) record { unbroken = s.0; ends = inl s.1 }
 
-none_before_end : (text : List ℕ) → position (λ b. nat_eq b 10) text ≡ None → length text ≤ position_or_len (λ b. nat_eq b 10) text
-none_before_end text e = grind (arith, nat_tests)
-
-pub last_line : (text : List ℕ) → text ≢ [] → position (λ b. nat_eq b 10) text ≡ None → IsFrontLine text text (take (length text - length text) (drop (length text) text))
-last_line text some e =
-    let n = none_before_end text e in
+pub last_line : (text : List ℕ) → text ≢ [] → IsFirstByte (is_byte 10) text None → IsFrontLine text text (take (length text - length text) (drop (length text) text))
+last_line text some none =
     let end : drop (length text) text ≡ [] = drop_all (length text) text (omega arith) in
     rw (from_there text (length text), end) record {
-      unbroken = all_of_each text (λ k h. not_newline (get_or text k 0) (fails_before_first (λ b. nat_eq b 10) text k 0 (omega arith)));
+      unbroken = all_of_each text (λ k h. not_newline text k (none k (omega arith) h));
       ends = inr (refl, some, refl);
     }
 

@@ -6,11 +6,13 @@ use signatures::SharedBytes;
 use sqlite_items::Items;
 use std::alloc::{AllocError, Global};
 
-/// How many places there are for bytes that may come again.
-const PLACES: usize = 512;
-
-/// How long a text is for which places are made: in a shorter one too little comes again.
+/// How long a text is, in bytes, for which places are made: in a shorter one too little comes again.
 const WORTH_PLACES: usize = 2048;
+
+/// How long a text is, in bytes, that is worth more places, and one that is worth many.
+const LONG: usize = 1 << 16;
+
+const VERY_LONG: usize = 1 << 19;
 
 /// Gives shared bytes. Where the same ones were asked for a short time ago, it gives those, and takes no memory.
 pub struct Interner {
@@ -30,11 +32,7 @@ impl Drop for Interner {
 impl Interner {
     /// One for texts of so many bytes in all, which has met nothing.
     pub fn new(alloc: Global, text: usize) -> Result<Interner, AllocError> {
-        let places = if text < WORTH_PLACES {
-            Items::new(alloc)
-        } else {
-            free_places(alloc)?
-        };
+        let places = free_places(alloc, places_for(text))?;
         Ok(Interner { alloc, places })
     }
 
@@ -42,11 +40,21 @@ impl Interner {
     pub fn share(&mut self, bytes: &[u8]) -> Result<SharedBytes, AllocError>
         ensures { IfOk result (λ shared. shared ≡ bytes.now) }
     {
-        let at = place_of(bytes);
+        let at = self.place_of(bytes);
         if let Some(known) = self.known(at, bytes)? {
             return Ok(known);
         }
         self.add(at, bytes)
+    }
+
+    /// In which place the bytes are kept, if there are any places: a number that all of the bytes go into.
+    #[inline(always)]
+    fn place_of(&self, bytes: &[u8]) -> usize {
+        let mut number = 0u32;
+        for byte in bytes {
+            number = number.wrapping_mul(31).wrapping_add(u32::from(*byte));
+        }
+        number as usize & self.places.len().wrapping_sub(1)
     }
 
     /// What is kept in the place, if it is these bytes.
@@ -77,21 +85,24 @@ impl Interner {
     }
 }
 
-/// Places in which nothing is kept.
-fn free_places(alloc: Global) -> Result<Items<Option<SharedBytes>>, AllocError> {
-    let mut places = Vec::with_capacity(alloc, PLACES)?;
-    for _ in 0..PLACES {
+/// How many places there are for the bytes of so long a text that may come again: a power of two, or none.
+fn places_for(text: usize) -> usize {
+    if text < WORTH_PLACES {
+        0
+    } else if text < LONG {
+        512
+    } else if text < VERY_LONG {
+        4096
+    } else {
+        16384
+    }
+}
+
+/// So many places in which nothing is kept.
+fn free_places(alloc: Global, count: usize) -> Result<Items<Option<SharedBytes>>, AllocError> {
+    let mut places = Vec::with_capacity(alloc, count)?;
+    for _ in 0..count {
         places.push(None)?;
     }
     Ok(Items::from_vec(places))
-}
-
-/// In which place the bytes are kept: a number that all of them go into.
-#[inline(always)]
-fn place_of(bytes: &[u8]) -> usize {
-    let mut number = 0u32;
-    for byte in bytes {
-        number = number.wrapping_mul(31).wrapping_add(u32::from(*byte));
-    }
-    number as usize % PLACES
 }

@@ -1,8 +1,9 @@
 //! The lines of a text.
 
-ghost use Rattle.std.specs.Prelude.{◌≡◌, ◌<◌, nat_eq, length, IfSome};
-ghost use Rattle.std.specs.List.{position};
+ghost use Rattle.std.specs.Prelude.{◌<◌, length, IfSome};
 ghost use Rattle.texts.specs.code.Splitting.{SplitsLine, SplitsAtLine};
+
+use memchr::memchr;
 
 /// What ends a line.
 const NEWLINE: u8 = 10;
@@ -15,7 +16,7 @@ pub fn split_line(text: &[u8]) -> Option<(&[u8], &[u8])>
     if text.is_empty() {
         return None;
     }
-    match first_newline(text) {
+    match memchr(NEWLINE, text) {
         Some(at) => Some((&text[..at], &text[at + 1..])),
         None => Some((text, &text[text.len()..])),
     }
@@ -35,11 +36,4 @@ pub fn split_at_line<'a>(text: &'a [u8], line: &[u8]) -> Option<(&'a [u8], &'a [
         left = rest;
     }
     None
-}
-
-/// Where the first newline stands.
-fn first_newline(text: &[u8]) -> Option<usize>
-    ensures { result ≡ position (λ b. nat_eq b NEWLINE) text.now }
-{
-    text.iter().position(|byte| *byte == NEWLINE)
 }

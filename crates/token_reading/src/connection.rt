@@ -6,6 +6,7 @@ ghost use Rattle.token_reading.specs.code.Connections.{EndsAtSig, TakesSeparator
 use crate::cursor::Cursor;
 use crate::fault::ParseFault;
 use crate::lists::Part;
+use shared_values::Shared;
 use signatures::{Sig, Word};
 use syntax_trees::{ConnectionType, Endpoints};
 use texts::Symbol;
@@ -39,7 +40,7 @@ pub fn both_ends<P: Part>(
 fn end<P: Part>(
     cursor: &mut Cursor,
     separator: Option<Symbol>,
-) -> Result<(P::Tree, Sig), ParseFault>
+) -> Result<(P::Tree, Shared<Sig>), ParseFault>
     requires { EndsAtSig P.Ends separator }
     ensures reads { ReadsEnd P.spell P.tree separator cursor.old result cursor.new }
     ensures shorter { OnOk result (length cursor.new < length cursor.old) }
@@ -47,7 +48,8 @@ fn end<P: Part>(
     let object = P::read(cursor)?;
     cursor.separator(separator)?;
     let sig = cursor.sig()?;
-    Ok((object, sig))
+    let shared = Shared::new(cursor.alloc(), sig)?;
+    Ok((object, shared))
 }
 
 impl<'a> Cursor<'a> {

@@ -36,6 +36,9 @@ pub trait Part {
         ensures shorter { OnOk result (length cursor.new < length cursor.old) };
 }
 
+/// A list has room at first for so many parts. Most have no more.
+const MOSTLY: usize = 2;
+
 /// `part {"," part}`
 ///
 /// `Syntax` where the tokens begin with no such list, and only there; `Memory` where a growth of memory was refused.
@@ -46,7 +49,7 @@ fn parts<P: Part>(cursor: &mut Cursor) -> Result<Items<P::Tree>, ParseFault>
     ensures reads { ReadsParts P.spell P.tree P.Ends cursor.old result cursor.new }
     ensures shorter { OnOk result (length cursor.new < length cursor.old) }
 {
-    let mut parts = Items::new(cursor.alloc());
+    let mut parts = Items::from_vec(Vec::with_capacity(cursor.alloc(), MOSTLY)?);
     let first = P::read(cursor)?;
     parts.push(first)?;
     while cursor.eat(Symbol::Comma) {

@@ -69,7 +69,8 @@ impl<'a> Cursor<'a> {
     {
         let name = self.name()?;
         let types = list::<TypePart>(self)?;
-        Ok(Sig { name, types })
+        let sig = Sig::new(self.alloc(), name, types)?;
+        Ok(sig)
     }
 
     /// `"auto" | "direct" | "queued"`

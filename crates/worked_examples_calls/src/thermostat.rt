@@ -53,7 +53,7 @@ fn measured(alloc: Global) -> Result<Sig, AllocError> {
     let int = Name::new(alloc, b"int")?;
     let mut types = Items::new(alloc);
     types.push(QType::value(int))?;
-    Ok(Sig { name, types })
+    Sig::new(alloc, name, types)
 }
 
 /// What the program declares of it: it takes an `int`, reads `wanted` and `heating`, emits `switched(bool)`, and sets

@@ -1,8 +1,8 @@
 -- Edges that are added to rows, and rows in their order.
 use Rattle.std.specs.Prelude.{◌≡◌, ◌↔◌, ◌⊎◌, ℕ, ◌<◌, List, length, Some, slice_get}
-use Rattle.std.specs.List.{Contains, AllZip}
+use Rattle.std.specs.List.{Contains}
 use Rattle.std.specs.List.Sorted.{IsStrictlyIncreasing}
-use Rattle.effect_scan.specs.Rows.{Edge}
+use Rattle.effect_scan.specs.Rows.{row, Edge}
 
 -- just the edges with P were added
 pub record Adds (P : ℕ → ℕ → Type 0) (before more : List (List ℕ)) : Type 0 where
@@ -30,5 +30,7 @@ pub record IsOrdered (numbers list : List ℕ) : Type 0 where
   pub same : (n : ℕ) → Contains list n ↔ Contains numbers n
   pub increasing : IsStrictlyIncreasing list
 
-abbrev pub AreOrdered : List (List ℕ) → List (List ℕ) → Type 0
-AreOrdered rows ordered = AllZip IsOrdered rows ordered
+-- the same rows, each in its order
+pub record AreOrdered (rows ordered : List (List ℕ)) : Type 0 where
+  pub count : length ordered ≡ length rows
+  pub each : (a : ℕ) → IsOrdered (row rows a) (row ordered a)

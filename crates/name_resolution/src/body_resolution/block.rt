@@ -9,7 +9,7 @@ ghost use Rattle.name_resolution.specs.code.Resolving.{scope, Resolves};
 use crate::body_resolution::path::Target;
 use crate::body_resolution::scope::Scope;
 use crate::missing::{no_call, undeclared};
-use class_outlines::{Missing, OBJECT_NAME_CHANGED, PartFault, Sought, find};
+use class_outlines::{Missing, OBJECT_NAME_CHANGED, PartFault, Sought};
 use meta_model::Statement;
 use signatures::Name;
 use sqlite_items::Items;
@@ -40,7 +40,7 @@ impl<'a> Scope<'a> {
     ) -> Result<Items<Statement>, PartFault>
         ensures { Resolves (AreStatements (scope self.now) body.now) result }
     {
-        let mut statements = Items::new(self.alloc);
+        let mut statements = Items::from_vec(Vec::with_capacity(self.alloc, body.len())?);
         for statement in body {
             let statement = self.resolve_statement(statement, met)?;
             statements.push(statement)?;
@@ -126,7 +126,7 @@ impl<'a> Scope<'a> {
     ) -> Result<Statement, PartFault>
         ensures { Resolves (IsStatementOf (scope self.now) (Emit name.now values.now)) result }
     {
-        let Some((number, class)) = find(self.outlines, self.me) else {
+        let Some((number, class)) = self.outlines.find(self.me) else {
             return Err(undeclared(*met, Missing::Class));
         };
         let Some((signal, heading)) = class.find_call(name, values.len()) else {

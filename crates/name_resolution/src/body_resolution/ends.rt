@@ -26,7 +26,7 @@ impl<'a> Scope<'a> {
             class: from,
         } = self.resolve_object(&ends.sender, met)?;
         let Some(signal) = from.place_of_signal(&ends.signal) else {
-            return Err(no_method(self.alloc, *met, number, from, End::Sender, &ends.signal));
+            return Err(no_method(*met, number, from, End::Sender, &ends.signal));
         };
         *met = met.saturating_add(names_of_sig(&ends.signal));
         let Target {
@@ -35,10 +35,10 @@ impl<'a> Scope<'a> {
             class: to,
         } = self.resolve_object(&ends.receiver, met)?;
         let Some(method) = to.place_of_signed(&ends.method) else {
-            return Err(no_method(self.alloc, *met, second, to, End::Receiver, &ends.method));
+            return Err(no_method(*met, second, to, End::Receiver, &ends.method));
         };
         if method <= OBJECT_NAME_CHANGED {
-            return Err(no_method(self.alloc, *met, second, to, End::Receiver, &ends.method));
+            return Err(no_method(*met, second, to, End::Receiver, &ends.method));
         }
         *met = met.saturating_add(names_of_sig(&ends.method));
         Ok(MetaEndpoints {

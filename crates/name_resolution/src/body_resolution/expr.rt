@@ -22,7 +22,7 @@ impl<'a> Scope<'a> {
     ) -> Result<Items<Expr<MetaPath>>, PartFault>
         ensures { Resolves (AreExprs (scope self.now) expressions.now) result }
     {
-        let mut loaded = Items::new(self.alloc);
+        let mut loaded = Items::from_vec(Vec::with_capacity(self.alloc, expressions.len())?);
         for expression in expressions {
             let expression = self.resolve_expr(expression, met)?;
             loaded.push(expression)?;

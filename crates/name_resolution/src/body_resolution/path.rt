@@ -83,7 +83,7 @@ impl<'a> Scope<'a> {
 
     /// That the slot has no parameter of this name, and whether its class has a property of it.
     fn no_parameter(&self, name: &Name) -> Missing {
-        match find(self.outlines, self.me) {
+        match self.outlines.find(self.me) {
             Some((_, class)) => Missing::Parameter(class.find_property(name).is_some()),
             None => Missing::Parameter(false),
         }
@@ -100,7 +100,7 @@ impl<'a> Scope<'a> {
         ensures { ResolvesFrom self.now.outlines.now root start names.now result }
     {
         let mut kind = start;
-        let mut steps = Items::new(self.alloc);
+        let mut steps = Items::from_vec(Vec::with_capacity(self.alloc, names.len())?);
         for name in names {
             let Some((property, found)) = self.find_member(&kind, name) else {
                 return Err(self.no_member(*met, kind));
@@ -135,7 +135,7 @@ impl<'a> Scope<'a> {
         ensures { FindsClass self.now.outlines.now kind.now result }
     {
         if kind.pointer {
-            let Some((number, outline)) = find(self.outlines, &kind.name) else {
+            let Some((number, outline)) = self.outlines.find(&kind.name) else {
                 return None;
             };
             Some((number, outline))

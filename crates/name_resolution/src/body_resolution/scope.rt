@@ -1,6 +1,6 @@
 //! Where slot bodies stand.
 
-use class_outlines::IndexedOutline;
+use class_outlines::ClassTable;
 use signatures::Name;
 use std::alloc::Global;
 use syntax_trees::Parameter;
@@ -11,7 +11,7 @@ pub struct Scope<'a> {
     /// What resolved parts are built with.
     pub alloc: Global,
     /// The program's classes.
-    pub outlines: &'a [IndexedOutline],
+    pub outlines: &'a ClassTable,
     /// The name of the slot's class.
     pub me: &'a Name,
     /// The slot's parameters.

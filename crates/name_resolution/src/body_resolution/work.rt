@@ -6,9 +6,7 @@ ghost use Rattle.name_resolution.specs.code.Resolving.{Resolves, ResolvesClassWo
 
 use crate::body_resolution::scope::Scope;
 use crate::resolve_native::resolve_effects;
-use class_outlines::{
-    Declaration, IndexedOutline, LoadFault, Member, PartFault, names_before_work,
-};
+use class_outlines::{ClassTable, Declaration, LoadFault, Member, PartFault, names_before_work};
 use meta_model::{MetaEffects, SlotBody};
 use sqlite_items::Items;
 use std::alloc::Global;
@@ -27,7 +25,7 @@ pub enum ResolvedWork {
 pub fn resolve_works(
     alloc: Global,
     program: &Program,
-    outlines: &[IndexedOutline],
+    outlines: &ClassTable,
 ) -> Result<Items<Items<ResolvedWork>>, LoadFault>
     ensures { ResolvesWorks program.now outlines.now result }
 {
@@ -42,7 +40,7 @@ pub fn resolve_works(
 /// What the slots and natives of the class of this number do.
 fn resolve_class_works(
     alloc: Global,
-    outlines: &[IndexedOutline],
+    outlines: &ClassTable,
     number: usize,
     class: &Class,
 ) -> Result<Items<ResolvedWork>, LoadFault>
@@ -64,7 +62,7 @@ fn resolve_class_works(
 /// What the class's slot or native does; `NoMember` where a name in it isn't there.
 fn resolve_slot_work(
     alloc: Global,
-    outlines: &[IndexedOutline],
+    outlines: &ClassTable,
     class: &Class,
     slot: &Slot,
 ) -> Result<ResolvedWork, PartFault>
@@ -86,7 +84,7 @@ fn resolve_slot_work(
 /// The body of the class's slot.
 fn resolve_body(
     alloc: Global,
-    outlines: &[IndexedOutline],
+    outlines: &ClassTable,
     class: &Class,
     slot: &Slot,
     body: &Body,

@@ -9,4 +9,4 @@ returns-then-not-is_at_open c =
     rw c.ahead.ensures.same (property_found c.in_ok-name.ensures.reads (λ after e. other (after, c.ahead.ensures.tokens ∙ e)))
 
 pub returns : goal.returns
-returns c = method_found c.in_ok-name.ensures.reads (rw c.ahead.ensures.same at c.in_ok-types.ensures.reads)
+returns c = rw c.in_ok-sig.ensures (method_found c.in_ok-name.ensures.reads (rw c.ahead.ensures.same at c.in_ok-types.ensures.reads))

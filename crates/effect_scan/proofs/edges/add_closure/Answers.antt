@@ -19,10 +19,10 @@ pub returns-in-Some : goal.returns-in-Some
 returns-in-Some c =
     let low = at_low c.args.places.now.numbering (node c.args.class Destruction) c.in-Some.from c.in-Some.ensures.value in
     let inside : c.in-Some.from < length c.args.rows.now = omega (arith, low, c.requires) in
-    IfOk-weaker c.add_each.result (λ _. Gathers (InEach c.args.places.now.numbering c.args.closure.now (Method DESTROYED)) (get_or c.args.rows.now c.in-Some.from c.index-rows-from.result) c.add_each.new.numbers)
-    (λ _. Adds (ClosureLeads c.args.places.now c.args.class c.args.closure.now) c.args.rows.now (set c.args.rows.now c.in-Some.from c.add_each.new.numbers))
+    IfOk-weaker c.lead_to_each.result (λ _. Gathers (InEach c.args.places.now.numbering c.args.closure.now (Method DESTROYED)) (get_or c.args.rows.now c.in-Some.from c.index-rows-from.result) c.lead_to_each.new.numbers)
+    (λ _. Adds (ClosureLeads c.args.places.now c.args.class c.args.closure.now) c.args.rows.now (set c.args.rows.now c.in-Some.from c.lead_to_each.new.numbers))
     (λ x g. one_leads _ _ (ClosureLeads c.args.places.now c.args.class c.args.closure.now) (closure_both c.args.places.now c.args.class c.args.closure.now) c.in-Some.from c.in-Some.ensures.value c.in-Some.ensures.only c.args.rows.now _ _ inside g)
-    c.add_each.ensures
+    c.lead_to_each.ensures
 
 pub returns-in-None : goal.returns-in-None
 returns-in-None c = none_leads _ _ (ClosureLeads c.args.places.now c.args.class c.args.closure.now) (closure_both c.args.places.now c.args.class c.args.closure.now) c.in-None.ensures.value _

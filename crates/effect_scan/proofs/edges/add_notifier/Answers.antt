@@ -17,10 +17,10 @@ pub returns-in-Some : goal.returns-in-Some
 returns-in-Some c =
     let low = at_low c.args.places.now.numbering (node c.args.class (Property c.args.property)) c.in-Some.from c.in-Some.ensures.value in
     let inside : c.in-Some.from < length c.args.rows.now = omega (arith, low, c.requires) in
-    IfOk-weaker c.add_one.result (λ _. Gathers (IsAt c.args.places.now.numbering (node c.args.class (Method c.args.signal))) (get_or c.args.rows.now c.in-Some.from c.index-rows-from.result) c.add_one.new.numbers)
-    (λ _. Adds (Notifies c.args.places.now c.args.class c.args.property c.args.signal) c.args.rows.now (set c.args.rows.now c.in-Some.from c.add_one.new.numbers))
+    IfOk-weaker c.lead_to_one.result (λ _. Gathers (IsAt c.args.places.now.numbering (node c.args.class (Method c.args.signal))) (get_or c.args.rows.now c.in-Some.from c.index-rows-from.result) c.lead_to_one.new.numbers)
+    (λ _. Adds (Notifies c.args.places.now c.args.class c.args.property c.args.signal) c.args.rows.now (set c.args.rows.now c.in-Some.from c.lead_to_one.new.numbers))
     (λ x g. one_leads _ _ (Notifies c.args.places.now c.args.class c.args.property c.args.signal) (notify_both c.args.places.now c.args.class c.args.property c.args.signal) c.in-Some.from c.in-Some.ensures.value c.in-Some.ensures.only c.args.rows.now _ _ inside g)
-    c.add_one.ensures
+    c.lead_to_one.ensures
 
 pub returns-in-None : goal.returns-in-None
 returns-in-None c = none_leads _ _ (Notifies c.args.places.now c.args.class c.args.property c.args.signal) (notify_both c.args.places.now c.args.class c.args.property c.args.signal) c.in-None.ensures.value _

@@ -10,4 +10,4 @@ loop-source-preserved c =
     (c.in_ok-add_all.ensures ∙ ap (λ (l : List ℕ). c.loop-source.all ++ l) c.as_slice.ensures)
 
 pub returns : goal.returns
-returns c = some_all (IsRead c.args.places.now c.args.formals.now) c.args.sources.now _ _ _ c.loop-source-test.false c.loop-source.invariant c.ordered.ensures.same
+returns c = some_all (IsRead c.args.places.now c.args.formals.now) c.args.sources.now _ _ _ c.loop-source-test.false c.loop-source.invariant c.fitted.ensures.same

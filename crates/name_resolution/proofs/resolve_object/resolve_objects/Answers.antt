@@ -8,8 +8,8 @@ resolve_object-requires c = record {
   outlined = c.requires.outlined;
   notified = c.requires.notified;
   number = c.loop-outline.outline-index;
-  is = slice_get_read _ _ _ _ refl c.loop-outline-test.true c.outline-item.is;
-  resolved = rw c.as_slice.ensures c.loop-outline.invariant;
+  is = rw c.as_slice-all.ensures at (slice_get_read _ _ _ _ refl c.loop-outline-test.true c.outline-item.is);
+  resolved = rw c.as_slice.ensures (rw c.as_slice-all.ensures at c.loop-outline.invariant);
 }
 
 pub loop-outline-preserved : goal.loop-outline-preserved

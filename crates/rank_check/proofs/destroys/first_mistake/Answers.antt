@@ -14,7 +14,7 @@ pub returns-in-Some-lost_class : goal.returns-in-Some-lost_class
 returns-in-Some-lost_class c =
     let count = ap (λ (ns : List Node). length ns) c.nodes-node-items.ensures in
     let inside : c.loop-number.number < length c.args.entries.now = omega (arith, count, c.requires.count, c.loop-number-test.true) in
-    let lost = c.in-Some-lost_class.ensures in
+    let lost = rw c.get-set.ensures at c.in-Some-lost_class.ensures in
     record {
       edge = subst (λ (ts : List ℕ). Contains ts c.in-Some-lost_class.to.node) c.targets.ensures lost.held;
       upper = c.index-entries-number.result;
@@ -33,7 +33,7 @@ returns-in-Some c =
     mistake_of_one c.args.meta.now c.args.scan.now.nodes c.args.scan.now.rows c.args.entries.now items c.loop-number.number (node 0 (Method 0)) c.index-entries-number.result
     c.nodes-node-items.ensures c.loop-number-test.true
     (at_index c.args.entries.now c.loop-number.number c.index-entries-number.result inside c.index-entries-number.is)
-    c.in-Some.mistake c.in-Some.ensures
+    c.in-Some.mistake (rw c.get-set.ensures at c.in-Some.ensures)
 
 pub loop-number-preserved : goal.loop-number-preserved
 loop-number-preserved c =
@@ -41,7 +41,7 @@ loop-number-preserved c =
     let inside : c.loop-number.number < length c.args.entries.now = omega (arith, count, c.requires.count, c.loop-number-test.true) in
     let here = at_index c.args.entries.now c.loop-number.number c.index-entries-number.result inside c.index-entries-number.is in
     hold_more c.args.meta.now c.args.scan.now.nodes c.args.scan.now.rows c.args.entries.now c.nodes-node-items.result.now c.loop-number.number (node 0 (Method 0)) c.index-entries-number.result _ _ c.nodes-node-items.ensures c.loop-number-test.true here
-    c.targets.ensures refl c.in_default-lost_class.ensures c.in_default.ensures c.loop-number.invariant
+    c.targets.ensures c.get-set.ensures c.in_default-lost_class.ensures c.in_default.ensures c.loop-number.invariant
 
 pub returns : goal.returns
 returns c =

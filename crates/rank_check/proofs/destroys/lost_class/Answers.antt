@@ -20,7 +20,7 @@ returns-in-Some c =
       held = held;
       entry = c.index-entries-target.result;
       is = record { stands = at_index c.args.entries.now _ _ (c.requires _ held) c.index-entries-target.is; line = refl };
-      holds = c.in-Some.ensures.0;
+      holds = rw c.get.ensures at c.in-Some.ensures.0;
       lacks = c.in-Some.ensures.1;
     }
 
@@ -30,7 +30,7 @@ loop-target-preserved c =
     below_more _ _ c.loop-target.invariant
     (λ y at.
     subst (λ (z : Entry). IsWithin z.destroys c.args.set.now) (same_index c.args.entries.now _ _ y (c.requires _ held) c.index-entries-target.is at)
-    c.in_default.ensures)
+    (rw c.get.ensures at c.in_default.ensures))
 
 pub returns : goal.returns
 returns c = λ b y held at.

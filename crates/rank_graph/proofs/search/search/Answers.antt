@@ -1,6 +1,17 @@
-use Rattle.std.proofs.Common.{◌∙◌}
-use Rattle.rank_graph.proofs.Driving.{all_fresh}
+use Rattle.std.proofs.Common.{ap, List, length, ◌∙◌}
+use Rattle.std.proofs.lemmas.List.{length-replicate}
+use Rattle.rank_graph.specs.declared.path.State.{State}
+use Rattle.rank_graph.proofs.Driving.{all_fresh, solves}
 use Rattle.rank_graph.proofs.search.search.Goals as goal
 
-pub explore-requires-clause-fresh : goal.explore-requires-clause-fresh
-explore-requires-clause-fresh c = all_fresh _ _ (c.as_mut_slice.ensures.value ∙ c.in_ok-states.ensures)
+pub visit_all-requires-clause-states : goal.visit_all-requires-clause-states
+visit_all-requires-clause-states c = ap (λ (s : List State). length s) c.in_ok-states.ensures ∙ length-replicate _ _
+
+pub visit_all-requires-clause-fresh : goal.visit_all-requires-clause-fresh
+visit_all-requires-clause-fresh c = all_fresh _ _ c.in_ok-states.ensures
+
+pub found-requires : goal.found-requires
+found-requires c = c.in_ok-visit_all.ensures.ok.1
+
+pub returns-clause-ok : goal.returns-clause-ok
+returns-clause-ok c = solves _ _ _ _ c.in_ok-found.ensures c.requires.own c.in_ok-visit_all.ensures.len c.in_ok-visit_all.ensures.ok

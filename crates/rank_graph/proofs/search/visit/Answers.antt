@@ -1,4 +1,4 @@
-use Rattle.std.proofs.Common.{ℕ, ◌<◌, arith, get_or, length, List, subst}
+use Rattle.std.proofs.Common.{ℕ, ◌<◌, arith, get_or, length, List, subst, sym, ◌∙◌}
 use Rattle.std.proofs.lemmas.Option.{slice_get-get_or}
 use Rattle.std.specs.List.{Contains}
 use Rattle.std.proofs.lemmas.List.Elements.{Contains-get_or}
@@ -9,77 +9,65 @@ use Rattle.rank_graph.proofs.search.visit.Goals as goal
 pub search-init : goal.search-init
 search-init c =
     let inside : c.args.root < length c.args.own.now = omega (arith, c.requires.root, c.requires.own) in
-    begins _ _ _ _ _ _ c.new-path.ensures c.requires.states c.requires.root c.requires.fresh c.requires.finished c.requires.closed (slice_get-get_or _ _ _ inside)
-
-pub bounds : goal.bounds
-bounds c =
-    let inside = target_inside _ _ _ _ c.row_at-row.ensures c.requires.inside c.if-at-row.true in
-    omega (arith, inside, c.search.invariant.1.len, c.requires.states)
-
-pub offset_bounds-states-target : goal.offset_bounds-states-target
-offset_bounds-states-target c =
-    let inside = target_inside _ _ _ _ c.row_at-row.ensures c.requires.inside c.if-at-row.true in
-    let within : get_or c.row_at-row.result.now c.search.at.next 0 < length c.search.states = omega (arith, inside, c.search.invariant.1.len, c.requires.states) in
-    omega arith
-
-pub offset_bounds-states-target-in-New : goal.offset_bounds-states-target-in-New
-offset_bounds-states-target-in-New c =
-    let inside = target_inside _ _ _ _ c.row_at-row.ensures c.requires.inside c.if-at-row.true in
-    let within : get_or c.row_at-row.result.now c.search.at.next 0 < length c.search.states = omega (arith, inside, c.search.invariant.1.len, c.requires.states) in
-    omega arith
+    rw c.enter.ensures (begins _ _ _ _ _ _ c.new-path.ensures c.requires.states c.requires.root c.requires.fresh c.requires.finished c.requires.closed (slice_get-get_or _ _ _ inside))
 
 pub offset_bounds-own-target : goal.offset_bounds-own-target
 offset_bounds-own-target c =
-    let inside = target_inside _ _ _ _ c.row_at-row.ensures c.requires.inside c.if-at-row.true in
-    let within : get_or c.row_at-row.result.now c.search.at.next 0 < length c.args.own.now = omega (arith, inside, c.requires.own) in
+    let inside = target_inside _ _ _ _ c.targets_at-row.ensures c.requires.inside c.if-at-row.true in
+    let within : get_or c.targets_at-row.result.now c.search.at.next 0 < length c.args.own.now = omega (arith, inside, c.requires.own) in
     omega arith
+
+pub get-requires : goal.get-requires
+get-requires c =
+    let inside = target_inside _ _ _ _ c.targets_at-row.ensures c.requires.inside c.if-at-row.true in
+    omega (arith, inside, c.search.invariant.1.len, c.requires.states)
+
+pub enter-requires-in-New : goal.enter-requires-in-New
+enter-requires-in-New c =
+    let inside = target_inside _ _ _ _ c.targets_at-row.ensures c.requires.inside c.if-at-row.true in
+    omega (arith, inside, c.search.invariant.1.len, c.requires.states)
 
 pub over-at-requires : goal.over-at-requires
 unfolding state_of
-over-at-requires c = let low = c.search.invariant.0.finished.ranked _ _ c.in-Done.is in omega (arith, low, c.requires.states)
+over-at-requires c = let low = c.search.invariant.0.finished.ranked _ _ (sym c.get.ensures ∙ c.in-Done.is) in omega (arith, low, c.requires.states)
 
 pub search-preserved-in-Done : goal.search-preserved-in-Done
 unfolding state_of
-search-preserved-in-Done c = over_step _ _ _ _ _ _ _ _ _ _ c.search.invariant c.row_at-row.ensures c.if-at-row.true c.in-Done.is c.over-at.ensures.rank c.over-at.ensures.classes
-
-pub bounds-states-target-in-New : goal.bounds-states-target-in-New
-bounds-states-target-in-New c =
-    let inside = target_inside _ _ _ _ c.row_at-row.ensures c.requires.inside c.if-at-row.true in
-    omega (arith, inside, c.search.invariant.1.len, c.requires.states)
+search-preserved-in-Done c = over_step _ _ _ _ _ _ _ _ _ _ c.search.invariant c.targets_at-row.ensures c.if-at-row.true (sym c.get.ensures ∙ c.in-Done.is) c.over-at.ensures.rank c.over-at.ensures.classes
 
 pub bounds-own-target : goal.bounds-own-target
 bounds-own-target c =
-    let inside = target_inside _ _ _ _ c.row_at-row.ensures c.requires.inside c.if-at-row.true in
+    let inside = target_inside _ _ _ _ c.targets_at-row.ensures c.requires.inside c.if-at-row.true in
     omega (arith, inside, c.requires.own)
 
 pub search-smaller-in-New : goal.search-smaller-in-New
 unfolding state_of
-search-smaller-in-New c = into_smaller _ _ _ _ _ _ _ _ _ c.search.invariant c.requires.states c.requires.inside c.row_at-row.ensures c.if-at-row.true c.in-New.is c.in_ok-push-in-New.ensures
+search-smaller-in-New c = rw c.enter-in-New.ensures (into_smaller _ _ _ _ _ _ _ _ _ c.search.invariant c.requires.states c.requires.inside c.targets_at-row.ensures c.if-at-row.true (sym c.get.ensures ∙ c.in-New.is) c.in_ok-push-in-New.ensures)
 
 pub search-preserved-in-New : goal.search-preserved-in-New
 unfolding state_of
 search-preserved-in-New c =
-    let inside = target_inside _ _ _ _ c.row_at-row.ensures c.requires.inside c.if-at-row.true in
-    let within : get_or c.row_at-row.result.now c.search.at.next 0 < length c.args.own.now = omega (arith, inside, c.requires.own) in
-    into_step _ _ _ _ _ _ _ _ _ _ c.search.invariant c.requires.states c.requires.inside c.row_at-row.ensures c.if-at-row.true c.in-New.is (slice_get-get_or _ _ _ within) c.in_ok-push-in-New.ensures
+    let inside = target_inside _ _ _ _ c.targets_at-row.ensures c.requires.inside c.if-at-row.true in
+    let within : get_or c.targets_at-row.result.now c.search.at.next 0 < length c.args.own.now = omega (arith, inside, c.requires.own) in
+    rw c.enter-in-New.ensures (into_step _ _ _ _ _ _ _ _ _ _ c.search.invariant c.requires.states c.requires.inside c.targets_at-row.ensures c.if-at-row.true (sym c.get.ensures ∙ c.in-New.is) (slice_get-get_or _ _ _ within) c.in_ok-push-in-New.ensures)
 
 pub returns-in-Open : goal.returns-in-Open
 returns-in-Open c =
-    let edge = subst (λ (x : List ℕ). Contains x (get_or c.row_at-row.result.now c.search.at.next 0)) c.row_at-row.ensures (Contains-get_or c.row_at-row.result.now c.search.at.next 0 c.if-at-row.true) in
+    let edge = subst (λ (x : List ℕ). Contains x (get_or c.targets_at-row.result.now c.search.at.next 0)) c.targets_at-row.ensures (Contains-get_or c.targets_at-row.result.now c.search.at.next 0 c.if-at-row.true) in
     record { ok = tt; err = c.in_ok-cycle-in-Open.ensures c.args.rows.now (held_climbs _ _ _ _ _ c.search.invariant.0.held) edge }
 
 pub search-smaller : goal.search-smaller
-search-smaller c = out_smaller _ _ _ _ _ _ _ _ _ c.search.invariant c.in-Some.ensures
+search-smaller c = rw c.in_ok-leave.ensures (out_smaller _ _ _ _ _ _ _ _ _ c.search.invariant c.in-Some.ensures)
 
 pub search-preserved : goal.search-preserved
-search-preserved c = out_step _ _ _ _ _ _ _ _ _ _ c.search.invariant c.requires.states c.row_at-row.ensures (omega (arith, c.if-at-row.false)) c.in-Some.ensures
+search-preserved c = rw c.in_ok-leave.ensures (out_step _ _ _ _ _ _ _ _ _ _ c.search.invariant c.requires.states c.targets_at-row.ensures (omega (arith, c.if-at-row.false)) c.in-Some.ensures)
 
 pub returns-in-None : goal.returns-in-None
-returns-in-None c = record { ok = ends _ _ _ _ _ _ _ _ c.search.invariant c.requires.states c.row_at-row.ensures (omega (arith, c.if-at-row.false)) c.in-None.ensures.0; err = tt }
+returns-in-None c = record { ok = rw c.in_ok-leave.ensures (ends _ _ _ _ _ _ _ _ c.search.invariant c.requires.states c.targets_at-row.ensures (omega (arith, c.if-at-row.false)) c.in-None.ensures.0); err = tt }
 
 pub back_to-requires-clause-target : goal.back_to-requires-clause-target
 unfolding state_of
-back_to-requires-clause-target c = c.search.invariant.0.only _ c.in-Open.is
+back_to-requires-clause-target c = c.search.invariant.0.only _ (sym c.get.ensures ∙ c.in-Open.is)
 
 pub back_to-requires-clause-once : goal.back_to-requires-clause-once
 back_to-requires-clause-once c = held_once _ _ _ _ _ c.search.invariant.0.held c.search.invariant.0.once

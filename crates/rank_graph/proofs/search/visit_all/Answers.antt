@@ -1,4 +1,4 @@
-use Rattle.std.proofs.Common.{arith}
+use Rattle.std.proofs.Common.{sym, ◌∙◌, arith}
 use Rattle.rank_graph.specs.Searching.{state_of}
 use Rattle.rank_graph.proofs.Driving.{all_new, come_visit, come_past}
 use Rattle.rank_graph.proofs.search.visit_all.Goals as goal
@@ -9,12 +9,12 @@ loop-root-init c = let f = all_new c.args.rows.now c.args.own.now c.args.states.
 
 pub visit-requires-clause-fresh : goal.visit-requires-clause-fresh
 unfolding state_of
-visit-requires-clause-fresh c = c.in-New.is
+visit-requires-clause-fresh c = sym c.get.ensures ∙ c.in-New.is
 
 pub loop-root-preserved : goal.loop-root-preserved
 unfolding state_of
 loop-root-preserved c =
-    elim c.match-states-root.branch [
+    elim c.match-get.branch [
       | in-New+in_ok-visit w ↦ rw w.states-is (come_visit _ _ _ _ _ c.loop-root.invariant w.in_ok-visit.ensures.ok)
-      | in_default w ↦ rw w.states-is (come_past _ _ _ _ c.loop-root.invariant w.in_default.not-New)
+      | in_default w ↦ rw w.states-is (come_past _ _ _ _ c.loop-root.invariant (λ is. w.in_default.not-New (c.get.ensures ∙ is)))
     ]

@@ -6,13 +6,13 @@ use Rattle.rank_graph.proofs.witness.chain_from.Goals as goal
 pub unreachable-requires : goal.unreachable-requires
 unreachable-requires c =
     let left = c.loop-edge.invariant.2 in
-    no_next _ _ _ _ _ c.requires.ranks c.rank-rank.ensures (omega (arith, c.loop-edge-test.true)) c.row_at.ensures c.in-None.ensures
+    no_next _ _ _ _ _ c.requires.ranks c.rank-rank.ensures (omega (arith, c.loop-edge-test.true)) c.targets_at.ensures c.in-None.ensures
 
 pub loop-edge-preserved : goal.loop-edge-preserved
 loop-edge-preserved c =
     let left = c.loop-edge.invariant.2 in
     let found = c.in-Some.ensures in (
-      walk_step _ _ _ _ _ _ _ c.row_at.ensures found.0 c.in_ok-push-in-Some.ensures.ok c.loop-edge.invariant.0,
+      walk_step _ _ _ _ _ _ _ c.targets_at.ensures found.0 c.in_ok-push-in-Some.ensures.ok c.loop-edge.invariant.0,
       ap length c.in_ok-push-in-Some.ensures.ok ∙ length_push _ _ ∙ ap (λ (n : ℕ). n + 1) c.loop-edge.invariant.1,
       omega (arith, c.loop-edge-test.true, c.rank-rank.ensures, found.1),
     )

@@ -17,7 +17,7 @@ returns-then-leads_nowhere c =
 
 pub loop-class-init : goal.loop-class-init
 loop-class-init c =
-    rw (c.new-items.ensures, c.in_ok-implied.ensures)
+    rw (c.from_vec-items.ensures ∙ c.in_ok-with_capacity.ensures.items, c.in_ok-implied.ensures)
     (items_none c.args.meta.now (λ d. leads_of c.args.solution.now c.args.node d ≡ true) (length c.classes-classes.result.now) (ap (λ (cs : List MetaObject). length cs) c.classes-classes.ensures.value))
 
 pub add_all-requires : goal.add_all-requires

@@ -25,7 +25,7 @@ pub returns : goal.returns
 returns c =
     let named = c.in-Some.ensures.found in
     let opened : tokens_of c.args.text.now ≡ word c.in-Some.name.now ∷ c.name.new.self = ap tokens_of (sym c.as_bytes.ensures.value) ∙ (sym c.new-scanner.ensures ∙ named.0) in
-    rw c.in_ok-name.ensures (record {
+    rw (c.in_ok-sig.ensures, c.in_ok-name.ensures) (record {
       typed = typed_text c.args.text.now c.in-Some.name.now c.name.new.self c.eat.new.self opened c.if-not-eat.ensures.found named.1 (c.if-not-is_closed.ensures.0 refl) c.in_ok-types.types c.types.new.self c.in_ok-types.ensures;
       few = omega arith;
     })

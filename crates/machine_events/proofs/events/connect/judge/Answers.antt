@@ -11,7 +11,7 @@ returns-in_err-found-clause-refused g c =
     err-is {Judged = connect c.args.interpreter.now.context.meta (at c.args.world.now []) c.args.named.now c.args.how} c.from_residual.result (then-ends c.in_err-found.ensures.refused) c.from_residual.ensures.1
 
 pub returns-in-Ok-clause-accepted : goal.returns-in-Ok-clause-accepted
-returns-in-Ok-clause-accepted g c = goes_on c.in_ok-found.found c.in_ok-found.ensures.found (goes_on tt (rw c.in-Ok.is at c.may_connect.ensures) gives)
+returns-in-Ok-clause-accepted g c = goes_on c.in_ok-found.found c.in_ok-found.ensures.found (goes_on tt (rw (c.in-Ok.is, c.deref.ensures, c.deref-2.ensures) at c.may_connect.ensures) gives)
 
 pub returns-in-Err-clause-refused : goal.returns-in-Err-clause-refused
-returns-in-Err-clause-refused g c = refused (goes_on c.in_ok-found.found c.in_ok-found.ensures.found (ends (rw c.in-Err.is at c.may_connect.ensures)))
+returns-in-Err-clause-refused g c = refused (goes_on c.in_ok-found.found c.in_ok-found.ensures.found (ends (rw (c.in-Err.is, c.deref.ensures, c.deref-2.ensures) at c.may_connect.ensures)))

@@ -14,12 +14,12 @@ returns-in_err-receiver-clause-refused g c =
     err-is {Judged = find_ends c.args.interpreter.now.context.meta c.args.world.now.store.tree c.args.named.now} c.from_residual-in_err-receiver.result (then-on _ (living-ok _ c.in_ok-sender.ensures.found) (then-ends c.in_err-receiver.ensures.refused)) c.from_residual-in_err-receiver.ensures.1
 
 pub returns-in_default-clause-refused : goal.returns-in_default-clause-refused
-returns-in_default-clause-refused g c = refused (no-signal c.args.interpreter.now.context.meta c.args.world.now.store.tree c.args.named.now _ _ c.in_ok-sender.ensures.found c.in_ok-receiver.ensures.found c.in_default.ensures)
+returns-in_default-clause-refused g c = refused (no-signal c.args.interpreter.now.context.meta c.args.world.now.store.tree c.args.named.now _ _ c.in_ok-sender.ensures.found c.in_ok-receiver.ensures.found (rw c.deref.ensures at c.in_default.ensures))
 
 pub returns-in_default-method-clause-refused : goal.returns-in_default-method-clause-refused
 returns-in_default-method-clause-refused g c =
-    refused (no-method c.args.interpreter.now.context.meta c.args.world.now.store.tree c.args.named.now _ _ c.in_ok-sender.ensures.found c.in_ok-receiver.ensures.found _ c.in-Some.ensures.1 c.in_default-method.ensures.value)
+    refused (no-method c.args.interpreter.now.context.meta c.args.world.now.store.tree c.args.named.now _ _ c.in_ok-sender.ensures.found c.in_ok-receiver.ensures.found _ (rw c.deref.ensures at c.in-Some.ensures.1) (rw c.deref-2.ensures at c.in_default-method.ensures.value))
 
 pub returns-clause-found : goal.returns-clause-found
 returns-clause-found g c =
-    rw (c.named_signal.ensures, c.new.ensures, c.new-2.ensures) (finds-ends c.args.interpreter.now.context.meta c.args.world.now.store.tree c.args.named.now _ _ c.in_ok-sender.ensures.found c.in_ok-receiver.ensures.found _ c.in-Some.ensures.1 c.in-Some-method.ensures.value)
+    rw (c.named_signal.ensures, c.new.ensures, c.new-2.ensures) (finds-ends c.args.interpreter.now.context.meta c.args.world.now.store.tree c.args.named.now _ _ c.in_ok-sender.ensures.found c.in_ok-receiver.ensures.found _ (rw c.deref.ensures at c.in-Some.ensures.1) (rw c.deref-2.ensures at c.in-Some-method.ensures.value))

@@ -1,4 +1,4 @@
-use Rattle.std.proofs.Common.{inl, inr}
+use Rattle.std.proofs.Common.{inr}
 use Rattle.class_outlines.specs.declared.fault.MetaFault.TheVariants as fault
 use Rattle.class_outlines.specs.Indexed.{AreIndexed}
 use Rattle.name_resolution.specs.code.Loading.{HasUses}
@@ -12,20 +12,20 @@ pub index_outlines-requires : goal.index_outlines-requires
 index_outlines-requires c = c.in_ok-outlines.ensures
 
 pub bad_notifier-requires : goal.bad_notifier-requires
-bad_notifier-requires c = rw (c.as_slice-all.ensures, c.in_ok-indexed.ensures.same) c.in_ok-outlines.ensures
+bad_notifier-requires c = rw (c.as_slice-all.ensures, c.in_ok-table.ensures, c.in_ok-indexed.ensures.same) c.in_ok-outlines.ensures
 
 pub unfit_type-requires : goal.unfit_type-requires
-unfit_type-requires c = rw (c.as_slice-all.ensures, c.in_ok-indexed.ensures.same) c.in_ok-outlines.ensures
+unfit_type-requires c = rw (c.in_ok-table.ensures, c.in_ok-indexed.ensures.same) c.in_ok-outlines.ensures
 
 pub resolve_objects-requires-clause-outlined : goal.resolve_objects-requires-clause-outlined
 resolve_objects-requires-clause-outlined c =
-    (c.args.program.now.classes, rw (c.as_slice-all.ensures, c.in_ok-indexed.ensures.same) c.in_ok-outlines.ensures)
+    (c.args.program.now.classes, rw (c.in_ok-table.ensures, c.in_ok-indexed.ensures.same) c.in_ok-outlines.ensures)
 
 pub resolve_objects-requires-clause-notified : goal.resolve_objects-requires-clause-notified
-resolve_objects-requires-clause-notified c = c.in_default-bad_notifier.ensures
+resolve_objects-requires-clause-notified c = rw c.as_slice-all.ensures at c.in_default-bad_notifier.ensures
 
 pub new-requires : goal.new-requires
-new-requires c = (c.as_slice.result.now, rw c.as_slice-2.ensures c.in_ok-classes.ensures)
+new-requires c = (c.as_slice.result.now, rw (c.as_slice-all.ensures, c.as_slice-2.ensures) c.in_ok-classes.ensures)
 
 pub returns-in-Some : goal.returns-in-Some
 returns-in-Some c = refused _ fault.DuplicateClass _ c.in-Some.ensures.1 c.in-Some.ensures.0
@@ -50,56 +50,56 @@ returns-in_err-works c =
     (refused_use _ _ _ (outlined _ _ c.in_default.ensures c.in_ok-outlines.ensures)
     (members_once c.args.program.now c.in_ok-outlines.outlines.items _ c.in_ok-indexed.ensures c.in_default-repeated_name.ensures)
     (λ (uses : Uses). HasUses c.args.program.now c.in_ok-outlines.outlines.items uses.works uses.wires uses.owns uses.sites)
-    (rw (c.as_slice-all.ensures, c.in_ok-indexed.ensures.same) at c.in_err-works.ensures))
+    (rw (c.in_ok-table.ensures, c.in_ok-indexed.ensures.same) at c.in_err-works.ensures))
     _ c.from_residual-in_err-works.ensures.0 c.from_residual-in_err-works.ensures.1
 
 pub returns-in-Some-bad_notifier : goal.returns-in-Some-bad_notifier
 returns-in-Some-bad_notifier c =
-    let bad = rw (c.as_slice-all.ensures, c.in_ok-indexed.ensures.same) at c.in-Some-bad_notifier.ensures in
+    let bad = rw (c.as_slice-all.ensures, c.in_ok-table.ensures, c.in_ok-indexed.ensures.same) at c.in-Some-bad_notifier.ensures in
     refused _ fault.BadNotify _ bad.1 (
       _,
       (outlined _ _ c.in_default.ensures c.in_ok-outlines.ensures),
       (members_once c.args.program.now c.in_ok-outlines.outlines.items _ c.in_ok-indexed.ensures c.in_default-repeated_name.ensures),
-      nothing_lacks _ _ _ _ _ _ (rw (c.as_slice-all.ensures, c.in_ok-indexed.ensures.same) at c.in_ok-works.ensures),
+      nothing_lacks _ _ _ _ _ _ (rw (c.in_ok-table.ensures, c.in_ok-indexed.ensures.same) at c.in_ok-works.ensures),
       bad.0,
     )
 
 pub returns-in-Some-2 : goal.returns-in-Some-2
 returns-in-Some-2 c =
-    let unfit = rw (c.as_slice-all.ensures, c.in_ok-indexed.ensures.same) at (rw c.in-Some-2.is at c.in_ok-offence.ensures) in
+    let unfit = rw (c.in_ok-table.ensures, c.in_ok-indexed.ensures.same) at (rw c.in-Some-2.is at c.in_ok-offence.ensures) in
     refused _ fault.NoType _ unfit.1 (
       _,
       (outlined _ _ c.in_default.ensures c.in_ok-outlines.ensures),
       (members_once c.args.program.now c.in_ok-outlines.outlines.items _ c.in_ok-indexed.ensures c.in_default-repeated_name.ensures),
-      nothing_lacks _ _ _ _ _ _ (rw (c.as_slice-all.ensures, c.in_ok-indexed.ensures.same) at c.in_ok-works.ensures),
-      rw (c.as_slice-all.ensures, c.in_ok-indexed.ensures.same) at c.in_default-bad_notifier.ensures,
+      nothing_lacks _ _ _ _ _ _ (rw (c.in_ok-table.ensures, c.in_ok-indexed.ensures.same) at c.in_ok-works.ensures),
+      rw (c.as_slice-all.ensures, c.in_ok-table.ensures, c.in_ok-indexed.ensures.same) at c.in_default-bad_notifier.ensures,
       unfit.0,
     )
 
 pub returns : goal.returns
 returns c =
-    let uses = rw (c.as_slice-all.ensures, c.in_ok-indexed.ensures.same) at c.in_ok-works.ensures in
+    let uses = rw (c.in_ok-table.ensures, c.in_ok-indexed.ensures.same) at c.in_ok-works.ensures in
     let outlines = outlined _ _ c.in_default.ensures c.in_ok-outlines.ensures in
     let clean : IsClean c.args.program.now c.in_ok-outlines.outlines.items = record {
       members = members_once c.args.program.now c.in_ok-outlines.outlines.items _ c.in_ok-indexed.ensures c.in_default-repeated_name.ensures;
       names = nothing_lacks _ _ _ _ _ _ uses;
-      notifiers = rw (c.as_slice-all.ensures, c.in_ok-indexed.ensures.same) at c.in_default-bad_notifier.ensures;
-      types = rw (c.as_slice-all.ensures, c.in_ok-indexed.ensures.same) at (rw c.in_default-2.is at c.in_ok-offence.ensures);
+      notifiers = rw (c.as_slice-all.ensures, c.in_ok-table.ensures, c.in_ok-indexed.ensures.same) at c.in_default-bad_notifier.ensures;
+      types = rw (c.in_ok-table.ensures, c.in_ok-indexed.ensures.same) at (rw c.in_default-2.is at c.in_ok-offence.ensures);
     } in
-    loaded_form _ _ _ _ outlines clean uses (rw (c.as_slice-all.ensures, c.in_ok-indexed.ensures.same, c.as_slice.ensures) at c.in_ok-classes.ensures)
+    loaded_form _ _ _ _ outlines clean uses (rw (c.in_ok-table.ensures, c.in_ok-indexed.ensures.same, c.as_slice.ensures) at c.in_ok-classes.ensures)
 
 pub invariant_of-result : goal.invariant_of-result
 invariant_of-result c =
-    let uses = rw (c.as_slice-all.ensures, c.in_ok-indexed.ensures.same) at c.in_ok-works.ensures in
+    let uses = rw (c.in_ok-table.ensures, c.in_ok-indexed.ensures.same) at c.in_ok-works.ensures in
     let outlines = outlined _ _ c.in_default.ensures c.in_ok-outlines.ensures in
     let clean : IsClean c.args.program.now c.in_ok-outlines.outlines.items = record {
       members = members_once c.args.program.now c.in_ok-outlines.outlines.items _ c.in_ok-indexed.ensures c.in_default-repeated_name.ensures;
       names = nothing_lacks _ _ _ _ _ _ uses;
-      notifiers = rw (c.as_slice-all.ensures, c.in_ok-indexed.ensures.same) at c.in_default-bad_notifier.ensures;
-      types = rw (c.as_slice-all.ensures, c.in_ok-indexed.ensures.same) at (rw c.in_default-2.is at c.in_ok-offence.ensures);
+      notifiers = rw (c.as_slice-all.ensures, c.in_ok-table.ensures, c.in_ok-indexed.ensures.same) at c.in_default-bad_notifier.ensures;
+      types = rw (c.in_ok-table.ensures, c.in_ok-indexed.ensures.same) at (rw c.in_default-2.is at c.in_ok-offence.ensures);
     } in (
       sound c.args.program.now _ outlines clean _
-          (record { works = _; uses = uses; objects = rw (c.as_slice-all.ensures, c.in_ok-indexed.ensures.same, c.as_slice.ensures) at c.in_ok-classes.ensures }),
+          (record { works = _; uses = uses; objects = rw (c.in_ok-table.ensures, c.in_ok-indexed.ensures.same, c.as_slice.ensures) at c.in_ok-classes.ensures }),
       rw c.as_slice-2.ensures at c.in_ok-index.ensures,
       rw c.as_slice-3.ensures at c.in_ok-site_names.ensures,
     )

@@ -1,7 +1,7 @@
 use Rattle.std.proofs.Common.{subst}
-use Rattle.rank_check.specs.Checks.{Checking}
+use Rattle.program_commands.specs.Texts.{ProgramText}
 use Rattle.rank_make.specs.Ranked.{AreRanksOf}
 use Rattle.program_commands.proofs.certified.Certified.ranks.Goals as goal
 
 pub returns : goal.returns
-returns c = subst (λ (checked : Checking). AreRanksOf checked.program c.self.inside.ranks) c.self.view_is c.self.invariant
+returns c = subst (λ (checked : ProgramText). AreRanksOf checked.program c.self.inside.ranks) c.self.view_is c.self.invariant

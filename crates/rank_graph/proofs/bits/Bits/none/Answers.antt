@@ -3,6 +3,6 @@ use Rattle.std.proofs.lemmas.Nat.Bits.{bit_at-zero}
 use Rattle.rank_graph.specs.Bits.{has}
 use Rattle.rank_graph.proofs.bits.Bits.none.Goals as goal
 
-pub returns : goal.returns
+pub returns-clause-has : goal.returns-clause-has
 unfolding has
-returns c = λ n. ap (λ (x : ℕ). eqb x 1) (bit_at-zero n)
+returns-clause-has c = λ n. ap (λ (x : ℕ). eqb x 1) (bit_at-zero n)

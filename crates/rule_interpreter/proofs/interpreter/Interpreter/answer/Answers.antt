@@ -31,7 +31,7 @@ answer-requires g c =
     let is_class : IsClass c.args.self.now.context.meta c.declaring-number.result c.in-Some-object.class.now = record { is = sym c.in-Some-object.ensures.value } in
     let are = rw c.as_slice.ensures at c.in_ok-reads.ensures in
     let kept = promised (g.N.Answering.takes c.args.self.now.natives) (g.N.Answering.gives c.args.self.now.natives) c.requires.sound.program c.requires.promises c.requires.sound.is.agree.typed c.requires.fit c.requires.native is declared is_class are in
-    rw c.as_slice-2.ensures.value kept.0
+    rw (c.deref.ensures, c.as_slice-2.ensures.value) kept.0
 
 pub returns-clause-may : goal.returns-clause-may
 returns-clause-may g c =
@@ -41,7 +41,7 @@ returns-clause-may g c =
     let are = rw c.as_slice.ensures at c.in_ok-reads.ensures in
     let Gives : List Action → Type 0 = λ actions. g.N.Answering.gives c.args.self.now.natives c.in-Some-object.class.now.name c.in-Some.declared.now.sig c.args.call.now.arguments.now c.in_ok-reads.reads.items actions in
     let May : List Action → Type 0 = λ actions. MayAnswer c.args.self.now.context.meta (g.N.Answering.gives c.args.self.now.natives) c.args.world.now.store.tree c.args.call.now.object c.args.call.now.method c.args.call.now.arguments.now c.args.effects.now actions in
-    if_ok-map c.answer.result (λ actions. Gives actions.items) (λ actions. May actions.items) (rw c.as_slice-2.ensures.value at c.answer.ensures) (λ actions gives. record {
+    if_ok-map c.answer.result (λ actions. Gives actions.items) (λ actions. May actions.items) (rw (c.deref.ensures, c.as_slice-2.ensures.value) at c.answer.ensures) (λ actions gives. record {
       object = c.in-Some.field-0-0.now;
       method = c.in-Some.declared.now;
       is = is;
@@ -63,5 +63,5 @@ returns-clause-within g c =
     let kept = promised (g.N.Answering.takes c.args.self.now.natives) (g.N.Answering.gives c.args.self.now.natives) c.requires.sound.program c.requires.promises c.requires.sound.is.agree.typed c.requires.fit c.requires.native is declared is_class are in
     let Gives : List Action → Type 0 = λ actions. g.N.Answering.gives c.args.self.now.natives c.in-Some-object.class.now.name c.in-Some.declared.now.sig c.args.call.now.arguments.now c.in_ok-reads.reads.items actions in
     let Told : List Action → Type 0 = λ actions. AreTellable c.args.self.now.context.meta c.args.world.now.store.tree c.args.call.now.object c.args.effects.now actions in
-    if_ok-map c.answer.result (λ actions. Gives actions.items) (λ actions. Told actions.items) (rw c.as_slice-2.ensures.value at c.answer.ensures) (λ actions gives.
+    if_ok-map c.answer.result (λ actions. Gives actions.items) (λ actions. Told actions.items) (rw (c.deref.ensures, c.as_slice-2.ensures.value) at c.answer.ensures) (λ actions gives.
     answer-told c.args.effects.now c.requires.sound.program c.requires.sound.is.agree.typed is declared is_class actions.items (kept.1 actions.items gives))

@@ -17,5 +17,5 @@ returns c = record {
     method = c.in-Some-method_at-2.method.now;
     receives = record { life = c.in-Some-get.receiver.now; lives = c.in-Some-get.ensures.value; is_method = c.in-Some-method_at-2.ensures.value };
   };
-  is = rw c.kept_ends.ensures at c.may_connect.ensures;
+  is = rw (c.kept_ends.ensures, c.deref.ensures, c.deref-2.ensures) at c.may_connect.ensures;
 }

@@ -5,4 +5,4 @@ pub list-requires : goal.list-requires
 list-requires c = types_are_parts
 
 pub returns-clause-reads : goal.returns-clause-reads
-returns-clause-reads c = sig_found c.in_ok-name.ensures.reads c.in_ok-types.ensures.reads
+returns-clause-reads c = rw c.in_ok-sig.ensures (sig_found c.in_ok-name.ensures.reads c.in_ok-types.ensures.reads)

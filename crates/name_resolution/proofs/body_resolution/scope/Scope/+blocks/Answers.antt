@@ -27,7 +27,7 @@ resolve_block-returns-in_err-statement t c =
     let at = slice_get_read _ _ _ _ refl c.loop-statement-test.true c.statement-item.is in
     failed fault.NoMember ((y : Statement) → ¬ IsStatementOf s c.statement-item.result y) (LacksInBody s c.args.body.now)
     (λ y. IsStatementOf s c.statement-item.result y) (λ ys. AreStatements s c.args.body.now ys) _ c.in_err-statement.ensures
-    (λ lacks. block_stuck s _ _ _ at c.loop-statement.invariant.only lacks) _ c.from_residual.ensures.0 c.from_residual.ensures.1
+    (λ lacks. block_stuck s _ _ _ at c.loop-statement.invariant.only lacks) _ c.from_residual-in_err-statement.ensures.0 c.from_residual-in_err-statement.ensures.1
 
 pub resolve_block-returns : goal.resolve_block-returns
 resolve_block-returns t c = block_end _ _ _ _ c.loop-statement-test.false c.loop-statement.invariant.left

@@ -18,7 +18,7 @@ returns-in_err-sender c =
     (no_sender s _) _ c.from_residual.ensures.0 c.from_residual.ensures.1
 
 pub returns-in_default : goal.returns-in_default
-returns-in_default c = lacking fault.NoMember _ _ c.no_method.ensures (no_signal (scope c.args.self.now) _ _ _ c.in_ok-sender.ensures c.in_default.ensures)
+returns-in_default c = lacking fault.NoMember _ _ c.no_method.ensures (no_signal (scope c.args.self.now) _ _ _ c.in_ok-sender.ensures (rw c.deref.ensures at c.in_default.ensures))
 
 pub returns-in_err-receiver : goal.returns-in_err-receiver
 returns-in_err-receiver c =
@@ -29,9 +29,9 @@ returns-in_err-receiver c =
 
 pub returns-in_default-place_of_signed : goal.returns-in_default-place_of_signed
 returns-in_default-place_of_signed c =
-    lacking fault.NoMember _ _ c.no_method-in_default-place_of_signed.ensures (no_method (scope c.args.self.now) _ _ _ c.in_ok-receiver.ensures c.in_default-place_of_signed.ensures)
+    lacking fault.NoMember _ _ c.no_method-in_default-place_of_signed.ensures (no_method (scope c.args.self.now) _ _ _ c.in_ok-receiver.ensures (rw c.deref-3.ensures at c.in_default-place_of_signed.ensures))
 
 pub returns-then-method-le-OBJECT_NAME_CHANGED : goal.returns-then-method-le-OBJECT_NAME_CHANGED
 returns-then-method-le-OBJECT_NAME_CHANGED c =
     lacking fault.NoMember _ _ c.no_method-then-method-le-OBJECT_NAME_CHANGED.ensures
-    (no_called (scope c.args.self.now) _ _ _ c.in_ok-receiver.ensures _ c.in-Some-place_of_signed.ensures c.if-method-le-OBJECT_NAME_CHANGED.true)
+    (no_called (scope c.args.self.now) _ _ _ c.in_ok-receiver.ensures _ (rw c.deref-3.ensures at c.in-Some-place_of_signed.ensures) c.if-method-le-OBJECT_NAME_CHANGED.true)

@@ -23,7 +23,7 @@ returns-in_err-expression c =
     let at = slice_get_read _ _ _ _ refl c.loop-expression-test.true c.expression-item.is in
     failed fault.NoMember ((f : Expr MetaPath) → ¬ IsExpr s c.expression-item.result f) ((fs : List (Expr MetaPath)) → ¬ AreExprs s c.args.expressions.now fs)
     (λ f. IsExpr s c.expression-item.result f) (λ fs. AreExprs s c.args.expressions.now fs) _ c.in_err-expression.ensures
-    (λ lacks. exprs_stuck s _ _ _ at c.loop-expression.invariant.only lacks) _ c.from_residual.ensures.0 c.from_residual.ensures.1
+    (λ lacks. exprs_stuck s _ _ _ at c.loop-expression.invariant.only lacks) _ c.from_residual-in_err-expression.ensures.0 c.from_residual-in_err-expression.ensures.1
 
 pub returns : goal.returns
 returns c = exprs_end _ _ _ _ c.loop-expression-test.false c.loop-expression.invariant.left

@@ -1,0 +1,190 @@
+//! The numbers that the edges from a node lead to, in little memory: most nodes have one of them, and many the same list.
+
+ghost use Rattle.std.specs.Prelude.{◌≡◌, ◌++◌, ◌∷◌, [], length, IfOk, OnOk, IsTrue};
+ghost use Rattle.std.specs.List.Sorted.{IsStrictlyIncreasing};
+ghost use Rattle.effect_scan.specs.code.Adding.{IsOrdered};
+ghost use Rattle.effect_scan.specs.code.Holding.{held_list};
+
+use crate::added::Added;
+use shared_values::Shared;
+use sqlite_items::Items;
+use std::alloc::{AllocError, Global};
+use std::marker::Model;
+use std::mem;
+
+/// How numbers are held.
+#[derive(Drop)]
+pub enum Held {
+    /// There are none.
+    Nothing,
+    /// There is one.
+    One([usize; 1]),
+    /// They are a list that other nodes have too.
+    Common(Shared<Items<usize>>),
+    /// They are a list of the node's own.
+    Own(Added),
+}
+
+impl Held {
+    /// Whether there are none, and no list either.
+    fn is_nothing(&self) -> bool
+        ensures { IsTrue result → held_list self.now ≡ [] }
+    {
+        matches!(self, Held::Nothing)
+    }
+
+    /// The numbers.
+    fn as_slice(&self) -> &[usize]
+        ensures { result.now ≡ held_list self.now }
+    {
+        match self {
+            Held::Nothing => &[],
+            Held::One(number) => number.as_slice(),
+            Held::Common(list) => list.get().as_slice(),
+            Held::Own(list) => list.as_slice(),
+        }
+    }
+
+    /// Just these numbers; the error is that memory was refused.
+    fn just(alloc: Global, numbers: &[usize]) -> Result<Held, AllocError>
+        ensures { IfOk result (λ held. held_list held ≡ numbers.now) }
+    {
+        if numbers.len() == 1 {
+            return Ok(Held::One([numbers[0]]));
+        }
+        let list = Added::with_room(alloc, numbers, 0)?;
+        Ok(Held::Own(list))
+    }
+
+    /// The numbers in a list of their own, which has room for so many more; the error is that memory was refused.
+    fn into_own(self, alloc: Global, more: usize) -> Result<Added, AllocError>
+        ensures { IfOk result (λ own. own ≡ held_list self) }
+    {
+        match self {
+            Held::Own(list) => Ok(list),
+            held => Added::with_room(alloc, held.as_slice(), more),
+        }
+    }
+
+    /// The numbers with these behind them; the error is that memory was refused.
+    fn with_all(self, alloc: Global, numbers: &[usize]) -> Result<Held, AllocError>
+        ensures { IfOk result (λ held. held_list held ≡ held_list self ++ numbers.now) }
+    {
+        match self {
+            Held::Nothing => Held::just(alloc, numbers),
+            held => {
+                let mut list = held.into_own(alloc, numbers.len())?;
+                list.add_all(numbers)?;
+                Ok(Held::Own(list))
+            }
+        }
+    }
+
+    /// The numbers in their order, each once; the error is that memory was refused. A list that is in order stays the one that
+    /// other nodes have too.
+    fn in_order(self, alloc: Global) -> Result<Held, AllocError>
+        ensures { IfOk result (λ held. IsOrdered (held_list self) (held_list held)) }
+    {
+        match self {
+            Held::Own(list) => Ok(Held::Own(list.fitted())),
+            held => {
+                if is_increasing(held.as_slice()) {
+                    return Ok(held);
+                }
+                let list = Added::with_room(alloc, held.as_slice(), 0)?;
+                Ok(Held::Own(list.fitted()))
+            }
+        }
+    }
+}
+
+/// Whether each of the numbers is above the one before it.
+fn is_increasing(numbers: &[usize]) -> bool
+    ensures { IsTrue result → IsStrictlyIncreasing numbers.now }
+{
+    for place in 1..numbers.len() {
+        let before = numbers[place - 1];
+        let here = numbers[place];
+        if before >= here {
+            return false;
+        }
+    }
+    true
+}
+
+/// The numbers that the edges from a node lead to.
+#[derive(Drop)]
+pub struct Targets {
+    held: Held,
+}
+
+impl Model for Targets {
+    ghost use Rattle.std.specs.Prelude.{List, ℕ};
+    ghost use Rattle.effect_scan.specs.code.Holding.{held_list};
+
+    ghost Value = { List ℕ };
+
+    ghost view = { λ targets. held_list targets.held };
+}
+
+impl Targets {
+    /// No numbers.
+    pub fn new() -> Targets
+        ensures { result ≡ [] }
+    {
+        Targets {
+            held: Held::Nothing,
+        }
+    }
+
+    /// The numbers.
+    pub fn as_slice(&self) -> &[usize]
+        ensures { result.now ≡ self.now }
+    {
+        self.held.as_slice()
+    }
+
+    /// Adds the number to the end.
+    pub fn add(&mut self, alloc: Global, number: usize) -> Result<(), AllocError>
+        ensures { OnOk result (self.new ≡ self.old ++ number ∷ []) }
+    {
+        self.add_all(alloc, &[number])
+    }
+
+    /// Adds the numbers to the end.
+    pub fn add_all(&mut self, alloc: Global, numbers: &[usize]) -> Result<(), AllocError>
+        ensures { OnOk result (self.new ≡ self.old ++ numbers.now) }
+    {
+        if numbers.is_empty() {
+            return Ok(());
+        }
+        let held = mem::replace(&mut self.held, Held::Nothing);
+        self.held = held.with_all(alloc, numbers)?;
+        Ok(())
+    }
+
+    /// Adds the numbers of the list to the end. Where there were none before, the list is kept, and takes no memory more.
+    pub fn add_common(
+        &mut self,
+        alloc: Global,
+        list: &Shared<Items<usize>>,
+    ) -> Result<(), AllocError>
+        ensures { OnOk result (self.new ≡ self.old ++ list.now) }
+    {
+        if self.held.is_nothing() {
+            let list = list.copy()?;
+            self.held = Held::Common(list);
+            return Ok(());
+        }
+        self.add_all(alloc, list.get().as_slice())
+    }
+
+    /// Puts the numbers in their order, each once.
+    pub fn put_in_order(&mut self, alloc: Global) -> Result<(), AllocError>
+        ensures { IfOk result (λ _. IsOrdered self.old self.new) }
+    {
+        let held = mem::replace(&mut self.held, Held::Nothing);
+        self.held = held.in_order(alloc)?;
+        Ok(())
+    }
+}
