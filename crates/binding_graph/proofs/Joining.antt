@@ -3,7 +3,7 @@ use Rattle.std.proofs.Common.{◌≡◌, ℕ, zero, suc, ◌+◌, arith, drop, M
 use Rattle.std.specs.Prelude.{slice_get}
 use Rattle.std.specs.List.{list_any}
 use Rattle.std.proofs.lemmas.Bool.{cases_Bool, eq-eqb, eqb-true, false≢true}
-use Rattle.object_tree.specs.Children.{is_among}
+use Rattle.meta_model.specs.Among.{is_among}
 use Rattle.binding_graph.specs.declared.binding.Binding.{Binding}
 use Rattle.binding_graph.specs.Bindings.{binding_at, AreApart, touches, joined_by, leads_out, lead_out}
 use Rattle.binding_graph.specs.declared.place.Place.{Place}

@@ -3,7 +3,7 @@ use Rattle.std.proofs.Common.{◌≡◌, ℕ, zero, suc, ◌+◌, ◌<◌, ◌�
 use Rattle.std.proofs.lemmas.Bool.{cases_Bool, eqb-true, false≢true}
 use Rattle.std.proofs.lemmas.List.{take_more}
 use Rattle.indexmap.specs.IndexSet.{IndexSet, Updates, contains}
-use Rattle.object_tree.specs.Children.{is_among}
+use Rattle.meta_model.specs.Among.{is_among}
 
 module _ {S : Type 0} (m n : IndexSet ℕ S) (k : ℕ) (u : Updates eqb m n k true) where
   pub set-kept : (o : ℕ) → contains eqb m o ≡ true → contains eqb n o ≡ true

@@ -8,7 +8,7 @@ use Rattle.syntax_trees.specs.declared.syntax.Expr.{Expr}
 use Rattle.syntax_trees.specs.declared.syntax.Expr.TheOpen as layer
 use Rattle.syntax_trees.specs.declared.syntax.Expr.TheFolds.{fold-Expr}
 use Rattle.expressions.specs.Evaluation.{value}
-use Rattle.object_tree.specs.Children.{is_among}
+use Rattle.meta_model.specs.Among.{is_among}
 use Rattle.meta_model.specs.declared.site.SourceProperty.{SourceProperty}
 use Rattle.binding_graph.specs.declared.place.Place.{Place}
 use Rattle.binding_graph.specs.declared.binding.Binding.{Binding}

@@ -2,7 +2,7 @@
 
 ghost use Rattle.std.specs.Prelude.{◌≡◌, ◌∷◌, [], ◌++◌, filter_map, not, IfOk, OnOk};
 ghost use Rattle.std.specs.List.{list_any};
-ghost use Rattle.object_tree.specs.Children.{is_among};
+ghost use Rattle.meta_model.specs.Among.{is_among};
 ghost use Rattle.binding_graph.specs.Bindings.{leads_out, named_in, source_place, read_by, touches};
 
 use crate::place::Place;

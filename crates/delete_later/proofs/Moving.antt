@@ -11,7 +11,7 @@ use Rattle.std.proofs.lemmas.Option.{same_Some}
 use Rattle.meta_model.specs.Loaded.{Loaded}
 use Rattle.object_tree.specs.declared.life.Life.{Life}
 use Rattle.object_tree.specs.declared.object.Object.{Object}
-use Rattle.object_tree.specs.Children.{is_among}
+use Rattle.meta_model.specs.Among.{is_among}
 use Rattle.object_tree.specs.Family.{parent_of}
 use Rattle.object_tree.specs.Moving.{AreBelow, all_in_loop, in_loop}
 use Rattle.object_tree.specs.Objects.{life_of, home_of}

@@ -7,7 +7,7 @@ use Rattle.std.proofs.lemmas.List.{length-map}
 use Rattle.std.proofs.lemmas.Option.{same_Some}
 use Rattle.meta_model.specs.Loaded.{Loaded}
 use Rattle.object_tree.specs.declared.object.Object.{Object}
-use Rattle.object_tree.specs.Children.{is_among}
+use Rattle.meta_model.specs.Among.{is_among}
 use Rattle.object_tree.specs.Moving.{in_loop, all_in_loop}
 use Rattle.object_tree.specs.Objects.{change_life, home_of}
 use Rattle.object_tree.proofs.Moving.{home-in_loop}

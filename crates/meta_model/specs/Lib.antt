@@ -1,4 +1,5 @@
 pub mod Loaded
+pub mod Among
 pub mod Members
 pub mod Values
 pub mod Literals

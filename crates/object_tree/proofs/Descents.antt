@@ -5,7 +5,8 @@ use Rattle.std.proofs.lemmas.Bool.{eqb-true, eq-eqb}
 use Rattle.std.proofs.lemmas.Option.{slice_get_within, same_Some}
 use Rattle.object_tree.specs.declared.life.Life.{Life}
 use Rattle.object_tree.specs.declared.object.Object.{Object}
-use Rattle.object_tree.specs.Children.{is_among, are_distinct}
+use Rattle.meta_model.specs.Among.{is_among}
+use Rattle.object_tree.specs.Children.{are_distinct}
 use Rattle.object_tree.specs.Objects.{Lives, life_of}
 use Rattle.object_tree.specs.Family.{parent_of, children_of, IsChild, Above, itself, over_parent}
 use Rattle.object_tree.specs.Forest.{Forest, is_the}

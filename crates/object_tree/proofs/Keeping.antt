@@ -7,7 +7,7 @@ use Rattle.std.proofs.lemmas.Option.{same_Some}
 use Rattle.class_outlines.specs.NamePlaces.{place_in, Adds}
 use Rattle.object_tree.specs.declared.life.Life.{Life}
 use Rattle.object_tree.specs.declared.object.Object.{Object}
-use Rattle.object_tree.specs.Children.{is_among}
+use Rattle.meta_model.specs.Among.{is_among}
 use Rattle.object_tree.specs.Objects.{Lives, IsNamed, IsFree, change_life, with_life, name_of, home_of}
 use Rattle.object_tree.specs.Family.{leaves, moved, dead, without_life, parent_of, children_of, IsChild, IsChildless}
 use Rattle.object_tree.specs.Forest.{Forest, is_the}

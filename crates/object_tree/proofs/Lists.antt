@@ -5,7 +5,8 @@ use Rattle.std.proofs.lemmas.Bool.{eqb-true, eq-eqb, ne_eqb, ltb-true, ltb-false
 use Rattle.std.specs.Prelude.{OnSome, MatchOption, slice_get}
 use Rattle.std.proofs.lemmas.Option.{slice_get_within, same_Some}
 use Rattle.std.specs.Bool.{◌==◌}
-use Rattle.object_tree.specs.Children.{without, is_child, is_among, are_distinct}
+use Rattle.meta_model.specs.Among.{is_among}
+use Rattle.object_tree.specs.Children.{without, is_child, are_distinct}
 
 -- ---- taking a child out, where it stands first
 

@@ -7,7 +7,8 @@ use Rattle.std.proofs.lemmas.Option.{same_Some}
 use Rattle.meta_model.specs.Loaded.{Loaded}
 use Rattle.object_tree.specs.declared.life.Life.{Life}
 use Rattle.object_tree.specs.declared.object.Object.{Object}
-use Rattle.object_tree.specs.Children.{is_among, are_distinct}
+use Rattle.meta_model.specs.Among.{is_among}
+use Rattle.object_tree.specs.Children.{are_distinct}
 use Rattle.object_tree.specs.Objects.{change_life, with_life, life_of, name_of, home_of}
 use Rattle.object_tree.specs.Family.{parent_of, children_in, children_of, IsChild, Above, itself, over_parent}
 use Rattle.object_tree.specs.Forest.{Forest, is_the}

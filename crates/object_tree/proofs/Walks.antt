@@ -2,7 +2,8 @@
 use Rattle.std.proofs.Common.{◌≡◌, ℕ, zero, suc, ◌<◌, ◌≤◌, eqb, Bool, true, false, ◌||◌, ◌&&◌, not, List, [], ◌∷◌, length, Option, None, Some, refl, sym, ap, ◌∙◌, subst, arith}
 use Rattle.std.proofs.lemmas.Bool.{eqb-true, eq-eqb}
 use Rattle.object_tree.specs.declared.object.Object.{Object}
-use Rattle.object_tree.specs.Children.{without, is_among, are_distinct}
+use Rattle.meta_model.specs.Among.{is_among}
+use Rattle.object_tree.specs.Children.{without, are_distinct}
 use Rattle.object_tree.specs.Family.{parent_of, Above, itself, over_parent}
 use Rattle.object_tree.specs.Forest.{Forest}
 use Rattle.object_tree.proofs.Above.{child-is}

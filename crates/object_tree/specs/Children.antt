@@ -1,15 +1,11 @@
 -- Lists of children (docs/machine.md, "Objects"; Qt 6, `QObject::children`).
-use Rattle.std.specs.Prelude.{ℕ, eqb, Bool, true, false, ◌||◌, ◌&&◌, not, List, [], ◌∷◌, Option, None, Some, if◌then◌else◌}
+use Rattle.std.specs.Prelude.{ℕ, eqb, Bool, true, false, ◌&&◌, not, List, [], ◌∷◌, Option, None, Some, if◌then◌else◌}
+use Rattle.meta_model.specs.Among.{is_among}
 
 -- a list without the first place where the child stands
 abbrev pub without : ℕ → List ℕ → List ℕ
 without c [] = []
 without c (k ∷ ks) = if eqb k c then ks else k ∷ without c ks
-
--- whether the child is in the list
-abbrev pub is_among : ℕ → List ℕ → Bool
-is_among c [] = false
-is_among c (k ∷ ks) = eqb k c || is_among c ks
 
 -- whether no child appears in the list twice
 abbrev pub are_distinct : List ℕ → Bool

@@ -1,7 +1,8 @@
 -- What every tree keeps (docs/machine.md, "What every run keeps").
 use Rattle.std.specs.Prelude.{◌≡◌, ℕ, eqb, Bool, true, false, List, Option, None, Some}
 use Rattle.object_tree.specs.declared.object.Object.{Object}
-use Rattle.object_tree.specs.Children.{is_among, are_distinct}
+use Rattle.meta_model.specs.Among.{is_among}
+use Rattle.object_tree.specs.Children.{are_distinct}
 use Rattle.object_tree.specs.Objects.{home_of}
 use Rattle.object_tree.specs.Family.{parent_of, children_of, IsChild, Above}
 

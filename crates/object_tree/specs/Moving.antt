@@ -2,7 +2,8 @@
 use Rattle.std.specs.Prelude.{◌≡◌, ◌↔◌, ℕ, true, List, [], ◌∷◌}
 use Rattle.object_tree.specs.declared.life.Life.{Life}
 use Rattle.object_tree.specs.declared.object.Object.{Object}
-use Rattle.object_tree.specs.Children.{is_among, are_distinct}
+use Rattle.meta_model.specs.Among.{is_among}
+use Rattle.object_tree.specs.Children.{are_distinct}
 use Rattle.object_tree.specs.Objects.{change_life}
 use Rattle.object_tree.specs.Family.{IsChild, Above}
 

@@ -11,7 +11,7 @@ use Rattle.meta_model.specs.Loaded.{Loaded}
 use Rattle.meta_model.specs.Members.{IsProperty}
 use Rattle.object_tree.specs.declared.life.Life.{Life}
 use Rattle.object_tree.specs.declared.object.Object.{Object}
-use Rattle.object_tree.specs.Children.{is_among}
+use Rattle.meta_model.specs.Among.{is_among}
 use Rattle.object_tree.specs.Family.{dead, leaves, parent_of, without_life}
 use Rattle.object_tree.specs.Objects.{life_of, home_of}
 use Rattle.object_tree.specs.Typed.{AreTyped}

@@ -1,5 +1,5 @@
 use Rattle.std.proofs.Common.{◌≡◌, drop}
-use Rattle.object_tree.specs.Children.{is_among}
+use Rattle.meta_model.specs.Among.{is_among}
 use Rattle.binding_graph.proofs.binding.is_among.Given as goal
 
 -- of those that are left it is one exactly where it is one of all

@@ -1,6 +1,6 @@
 use Rattle.std.proofs.Common.{◌≡◌, ◌||◌, ◌&&◌, not, ℕ, Bool, true, List, sym, ap, ◌∙◌}
 use Rattle.std.specs.List.{list_any}
-use Rattle.object_tree.specs.Children.{is_among}
+use Rattle.meta_model.specs.Among.{is_among}
 use Rattle.binding_graph.proofs.binding.Binding.leads_out.Goals as goal
 
 pub returns-then-is_among : goal.returns-then-is_among
