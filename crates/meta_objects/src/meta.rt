@@ -335,6 +335,7 @@ impl Meta {
     }
 
     /// Whether the method of this number has this signature.
+    #[inline(always)]
     fn has_sig(&self, class: usize, method: usize, sig: &Sig) -> bool
         ensures { IsTrue result ↔ HasSig self.now class sig.now method }
     {

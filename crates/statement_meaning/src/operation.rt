@@ -163,7 +163,7 @@ impl<'w> Scope<'w> {
     }
 
     /// A signal is connected to a method.
-    #[inline(never)]
+    #[inline(always)]
     fn connection<'p>(
         &self,
         ends: &MetaEndpoints,
@@ -211,6 +211,7 @@ impl<'w> Scope<'w> {
     }
 
     /// The ends whose objects two paths lead to, or `None` where one leads to null.
+    #[inline(always)]
     fn ends_at(&self, ends: &MetaEndpoints) -> Result<Option<Endpoints>, EvalFault>
         ensures { FindsBetween self.now ends.now result }
     {

@@ -196,6 +196,7 @@ impl Trace {
     }
 
     /// Adds an entry; without memory the trace stays as it was.
+    #[inline(always)]
     pub fn push(&mut self, entry: Entry) -> Result<(), AllocError>
         ensures ok { OnOk result (self.new ≡ self.old ++ entry ∷ []) }
         ensures err { OnErr result (self.new ≡ self.old) }
