@@ -2,6 +2,7 @@
 
 use crate::usage::push_usage;
 use check_flaws::broken_condition;
+use command_outcomes::{Fault, Outcome, ProgramOutcome, Refusal, ScriptFault, Why};
 use declaration_flaws::{declaration_flaw, native_flaw};
 use diagnostics::{Flaw, Severity, Span, TextKind, meaning, push_flaw, text_spans};
 use meta_objects::Meta;
@@ -10,7 +11,6 @@ use program_flaws::missing_certificate;
 use rank_check::Denied;
 use std::alloc::{AllocError, Global};
 use text_flaws::{certificate_flaw, program_flaw, script_flaw, size_flaw, wire_flaw};
-use trace_tool::{Fault, Outcome, ProgramOutcome, Refusal, ScriptFault, Why};
 
 /// Explains what the words come to on this input: what it means, in one sentence; and where the input is at fault, what is
 /// wrong there, its line and column in the input and in its text, that line with a caret below the place, and what to write

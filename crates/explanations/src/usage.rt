@@ -1,9 +1,9 @@
 //! What is wrong with a command line, or with the number of its texts.
 
+use command_lines::{LARGEST_INPUT, UsageFault};
 use diagnostics::text_spans;
 use std::alloc::{AllocError, Global};
 use texts::{MOST_DEPTH, number, split_line};
-use trace_tool::{LARGEST_INPUT, UsageFault};
 
 /// The commands, as a person writes them.
 const COMMANDS: &str =

@@ -20,9 +20,9 @@ use Rattle.program_commands.specs.declared.refusal.Refusal.TheVariants as refusa
 use Rattle.program_commands.specs.Outcomes.{IsShort as IsShortProgram}
 use Rattle.program_commands.specs.Refusals.{refusal_number, script_number}
 use Rattle.program_commands.proofs.Once.{OneOf, one_first, one_is, goes_with, loads_once, certified_once, check_once, check_short, never_denied, IsShortCheck, IsShortResult, never_short, same_short, short_refusal}
-use Rattle.trace_tool.specs.declared.outcome.Outcome.{Outcome}
+use Rattle.command_outcomes.specs.declared.outcome.Outcome.{Outcome}
+use Rattle.command_outcomes.specs.Outcomes.{IsShort}
 use Rattle.trace_tool.specs.Commands.{Accepting, Accepts, AcceptedComesTo, MayRun, RunComesTo, refused}
-use Rattle.trace_tool.specs.Outcomes.{IsShort}
 
 -- ---- each step comes to one thing
 

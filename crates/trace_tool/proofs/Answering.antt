@@ -6,8 +6,8 @@ use Rattle.machine_rules.specs.Natives.{NativeAnswers}
 use Rattle.qt_runtime.specs.Checked.{Claims, StopsAtLimit}
 use Rattle.qt_runtime.specs.Seen.{Seen, begun}
 use Rattle.trace_entries.specs.declared.fault.Fault.{Fault}
+use Rattle.command_lines.specs.Cut.{AreTexts}
 use Rattle.trace_tool.specs.Commands.{EndsAtLimit}
-use Rattle.trace_tool.specs.Cut.{AreTexts}
 
 -- a run of a machine that had done nothing ends for no other reason than a limit
 pub ends_at_limit : {N : Type 0} {before : Seen N} {loaded : Loaded} {natives : N} {depth steps : ℕ} (ended : Result (Unit {0}) Fault) →

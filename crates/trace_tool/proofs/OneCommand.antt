@@ -9,20 +9,20 @@ use Rattle.program_commands.specs.declared.outcome.Outcome.{Outcome as ProgramOu
 use Rattle.program_commands.specs.declared.outcome.Outcome.TheVariants as of_program
 use Rattle.program_commands.specs.Steps.{Is}
 use Rattle.program_commands.proofs.Once.{OneOf, one_description, one_certifying, one_check}
+use Rattle.command_lines.specs.Words.{IsNumber, IsLimit, IsCommand}
+use Rattle.command_lines.specs.declared.input.InputFault.{InputFault}
+use Rattle.command_lines.specs.declared.usage.UsageFault.{UsageFault}
+use Rattle.command_lines.specs.declared.usage.UsageFault.TheVariants.{Words, TooLarge, Texts}
+use Rattle.command_lines.specs.declared.words.Command.{Command}
+use Rattle.command_lines.specs.declared.words.Command.TheVariants.{Meta, Certify, Check, Run, RunUnchecked}
+use Rattle.command_lines.specs.declared.words.Options.{Options}
+use Rattle.command_lines.proofs.Partings.{texts_once}
+use Rattle.command_outcomes.specs.Outcomes.{IsShort}
+use Rattle.command_outcomes.specs.declared.outcome.Outcome.{Outcome}
+use Rattle.command_outcomes.specs.declared.outcome.Outcome.TheVariants.{Program}
 use Rattle.trace_tool.specs.Commands.{Says, Cuts, Does, IsOfProgram}
 use Rattle.trace_tool.specs.Laws.{IsSameOutcome, OneCommandOutcome}
-use Rattle.trace_tool.specs.Outcomes.{IsShort}
-use Rattle.trace_tool.specs.Words.{IsNumber, IsLimit, IsCommand}
-use Rattle.trace_tool.specs.declared.input.InputFault.{InputFault}
-use Rattle.trace_tool.specs.declared.outcome.Outcome.{Outcome}
-use Rattle.trace_tool.specs.declared.outcome.Outcome.TheVariants.{Program}
-use Rattle.trace_tool.specs.declared.outcome.UsageFault.{UsageFault}
-use Rattle.trace_tool.specs.declared.outcome.UsageFault.TheVariants.{Words, TooLarge, Texts}
-use Rattle.trace_tool.specs.declared.words.Command.{Command}
-use Rattle.trace_tool.specs.declared.words.Command.TheVariants.{Meta, Certify, Check, Run, RunUnchecked}
-use Rattle.trace_tool.specs.declared.words.Options.{Options}
 use Rattle.trace_tool.proofs.OneRun.{OneAs, same_first, one_run_outcome, one_unchecked_outcome}
-use Rattle.trace_tool.proofs.Partings.{texts_once}
 use Rattle.texts.specs.Numerals.{value_of}
 
 -- ---- the words are one command's

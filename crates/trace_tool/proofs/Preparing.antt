@@ -15,13 +15,13 @@ use Rattle.program_commands.specs.Refusals.{fault_line}
 use Rattle.command_output.specs.Lines.{entry_line, trace_text}
 use Rattle.command_output.specs.Sent.{TakesWith}
 use Rattle.command_output.specs.declared.output.Output.{Output}
+use Rattle.command_outcomes.specs.Outcomes.{Writes, outcome_text, outcome_status, run_text, run_status}
+use Rattle.command_outcomes.specs.declared.outcome.Outcome.{Outcome}
+use Rattle.command_outcomes.specs.declared.outcome.Outcome.TheVariants.{Usage, NoInput, Program, Ran as OfRun, Memory}
+use Rattle.command_outcomes.specs.declared.outcome.Ran.{Ran}
 use Rattle.trace_tool.specs.Commands.{Runs, RunsFaultless, ran, ran_faultless}
-use Rattle.trace_tool.specs.Outcomes.{Writes, outcome_text, outcome_status, run_text, run_status}
 use Rattle.trace_tool.specs.Prepared.{RunsSo, Prepares, ComesOf, ComesOfRun, CarriesOut, with_gone}
 use Rattle.trace_tool.specs.code.Streaming.{Streams}
-use Rattle.trace_tool.specs.declared.outcome.Outcome.{Outcome}
-use Rattle.trace_tool.specs.declared.outcome.Outcome.TheVariants.{Usage, NoInput, Program, Ran as OfRun, Memory}
-use Rattle.trace_tool.specs.declared.outcome.Ran.{Ran}
 use Rattle.trace_tool.specs.declared.prepared.Prepared.{Prepared}
 use Rattle.trace_tool.specs.declared.prepared.Prepared.TheVariants.{Done, Ready as OfReady}
 use Rattle.trace_tool.specs.declared.prepared.Ready.{Ready}

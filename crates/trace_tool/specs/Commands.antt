@@ -21,17 +21,17 @@ use Rattle.program_commands.specs.declared.refusal.Refusal.TheVariants.{Script, 
 use Rattle.program_commands.specs.Commands.{CheckComesTo, CertifyComesTo, MetaComesTo}
 use Rattle.program_commands.specs.Loading.{LoadsProgram, LoadsCertified}
 use Rattle.program_commands.specs.Steps.{First, Is, Gives}
-use Rattle.trace_tool.specs.Cut.{AreTexts}
-use Rattle.trace_tool.specs.Outcomes.{IsShort, Writes}
-use Rattle.trace_tool.specs.Words.{IsCommand, IsNoCommand}
-use Rattle.trace_tool.specs.declared.input.InputFault.{InputFault}
-use Rattle.trace_tool.specs.declared.outcome.Outcome.{Outcome}
-use Rattle.trace_tool.specs.declared.outcome.Outcome.TheVariants.{Usage, NoInput, Program, Ran as OfRun, Memory}
-use Rattle.trace_tool.specs.declared.outcome.Ran.{Ran}
-use Rattle.trace_tool.specs.declared.outcome.UsageFault.{UsageFault}
-use Rattle.trace_tool.specs.declared.outcome.UsageFault.TheVariants.{Words, TooLarge, Texts}
-use Rattle.trace_tool.specs.declared.words.Command.{Command}
-use Rattle.trace_tool.specs.declared.words.Command.TheVariants.{Meta, Certify, Check, Run, RunUnchecked}
+use Rattle.command_lines.specs.Cut.{AreTexts}
+use Rattle.command_lines.specs.Words.{IsCommand, IsNoCommand}
+use Rattle.command_lines.specs.declared.input.InputFault.{InputFault}
+use Rattle.command_lines.specs.declared.usage.UsageFault.{UsageFault}
+use Rattle.command_lines.specs.declared.usage.UsageFault.TheVariants.{Words, TooLarge, Texts}
+use Rattle.command_lines.specs.declared.words.Command.{Command}
+use Rattle.command_lines.specs.declared.words.Command.TheVariants.{Meta, Certify, Check, Run, RunUnchecked}
+use Rattle.command_outcomes.specs.Outcomes.{IsShort, Writes}
+use Rattle.command_outcomes.specs.declared.outcome.Outcome.{Outcome}
+use Rattle.command_outcomes.specs.declared.outcome.Outcome.TheVariants.{Usage, NoInput, Program, Ran as OfRun, Memory}
+use Rattle.command_outcomes.specs.declared.outcome.Ran.{Ran}
 
 -- a program is refused, and doesn't run
 abbrev pub refused : {N : Type 0} → Refusal → Outcome N

@@ -17,12 +17,12 @@ use Rattle.machine_events.specs.Runs.{RunsWhole}
 use Rattle.qt_runtime.specs.Seen.{Seen, Halts, begun}
 use Rattle.program_commands.specs.Commands.{IsSameOutcome as IsSameOfProgram}
 use Rattle.program_commands.specs.Refusals.{usage_line, memory_line}
-use Rattle.trace_tool.specs.declared.input.InputFault.{InputFault}
-use Rattle.trace_tool.specs.declared.outcome.Outcome.{Outcome}
-use Rattle.trace_tool.specs.declared.outcome.Outcome.TheVariants.{Program, Ran as OfRun}
-use Rattle.trace_tool.specs.declared.outcome.Ran.{Ran}
+use Rattle.command_lines.specs.declared.input.InputFault.{InputFault}
+use Rattle.command_outcomes.specs.declared.outcome.Outcome.{Outcome}
+use Rattle.command_outcomes.specs.declared.outcome.Outcome.TheVariants.{Program, Ran as OfRun}
+use Rattle.command_outcomes.specs.declared.outcome.Ran.{Ran}
+use Rattle.command_outcomes.specs.Outcomes.{outcome_text, outcome_status, IsShort}
 use Rattle.trace_tool.specs.Commands.{RunComesTo, UncheckedRunComesTo, CommandComesTo}
-use Rattle.trace_tool.specs.Outcomes.{outcome_text, outcome_status, IsShort}
 
 -- Where nothing was done nothing comes before `usage` or `memory`, nor after it; after a read that failed nothing is
 -- written at all.

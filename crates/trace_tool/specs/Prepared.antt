@@ -8,10 +8,10 @@ use Rattle.machine_rules.specs.Natives.{NativeAnswers}
 use Rattle.qt_runtime.specs.Checked.{IsChecked, Claims, StopsAtLimit}
 use Rattle.qt_runtime.specs.Seen.{Seen, AreKept, RunsAll, with_front}
 use Rattle.command_output.specs.Sent.{TakesWith}
-use Rattle.trace_tool.specs.Outcomes.{outcome_text, outcome_status}
-use Rattle.trace_tool.specs.declared.outcome.Outcome.{Outcome}
-use Rattle.trace_tool.specs.declared.outcome.Outcome.TheVariants.{Ran as OfRun}
-use Rattle.trace_tool.specs.declared.outcome.Ran.{Ran}
+use Rattle.command_outcomes.specs.Outcomes.{outcome_text, outcome_status}
+use Rattle.command_outcomes.specs.declared.outcome.Outcome.{Outcome}
+use Rattle.command_outcomes.specs.declared.outcome.Outcome.TheVariants.{Ran as OfRun}
+use Rattle.command_outcomes.specs.declared.outcome.Ran.{Ran}
 use Rattle.trace_tool.specs.declared.prepared.Prepared.{Prepared}
 use Rattle.trace_tool.specs.declared.prepared.Prepared.TheVariants.{Done, Ready as OfReady}
 use Rattle.trace_tool.specs.declared.prepared.Ready.{Ready}

@@ -1,19 +1,19 @@
 ghost use Rattle.std.specs.Prelude.{◌≡◌, map};
+ghost use Rattle.command_lines.specs.declared.usage.UsageFault.TheVariants.{Words};
+ghost use Rattle.command_lines.specs.Words.{IsCommand, IsWithinLimits};
+ghost use Rattle.command_lines.specs.declared.words.Command.{Command as ACommand};
+ghost use Rattle.command_outcomes.specs.Outcomes.{Writes};
+ghost use Rattle.command_outcomes.specs.declared.outcome.Outcome.TheVariants.{Program, Usage};
 ghost use Rattle.trace_tool.specs.Commands.{CommandComesTo, ReadsAndComesTo, InputComesTo, WritesCommand, read_of};
-ghost use Rattle.trace_tool.specs.Outcomes.{Writes};
 ghost use Rattle.trace_tool.specs.Prepared.{CarriesOut, Prepares};
-ghost use Rattle.trace_tool.specs.declared.outcome.Outcome.TheVariants.{Program, Usage};
-ghost use Rattle.trace_tool.specs.declared.outcome.UsageFault.TheVariants.{Words};
 ghost use Rattle.trace_tool.specs.declared.prepared.Prepared.TheVariants.{Done};
-ghost use Rattle.trace_tool.specs.Words.{IsCommand, IsWithinLimits};
-ghost use Rattle.trace_tool.specs.declared.words.Command.{Command as ACommand};
 
-use crate::cut::{one_text, three_texts, two_texts};
-use crate::input::{InputFault, LARGEST_INPUT, read_input};
-use crate::outcome::{Outcome, UsageFault};
 use crate::prepared::{Carried, Prepared};
 use crate::runs::{prepare_run, prepare_unchecked_run, written};
-use crate::words::Command;
+use command_lines::{
+    Command, InputFault, LARGEST_INPUT, UsageFault, one_text, read_input, three_texts, two_texts,
+};
+use command_outcomes::Outcome;
 use command_output::WriteFault;
 use native_slots::{Answering, Natives};
 use program_commands::{Outcome as ProgramOutcome, certify_outcome, check_outcome, meta_outcome};

@@ -6,7 +6,7 @@ ghost use Rattle.qt_runtime.specs.Seen.{AreKept};
 ghost use Rattle.trace_tool.specs.Prepared.{ComesOf, ComesOfRun, CarriesOut, MayBeDone, RunsSo};
 ghost use Rattle.trace_tool.specs.code.Streaming.{Streams};
 
-use crate::outcome::{Outcome, Ran};
+use command_outcomes::{Outcome, Ran};
 use command_output::{Output, WriteFault};
 use native_slots::Answering;
 use qt_runtime::{Entry, Event, Fault, Machine, Trace};

@@ -6,13 +6,13 @@ ghost use Rattle.certificate_lang.specs.declared.certificate.Certificate.{Certif
 ghost use Rattle.native_slots.specs.Promises.{Promises};
 ghost use Rattle.texts.specs.Limits.{most_depth};
 ghost use Rattle.script_lang.specs.declared.event.Event.{Event as AnEvent};
+ghost use Rattle.command_outcomes.specs.Outcomes.{Writes};
 ghost use Rattle.trace_tool.specs.Commands.{Accepting, Accepts, AcceptedComesTo, MayRun, RunComesTo, UncheckedRunComesTo, refused};
-ghost use Rattle.trace_tool.specs.Outcomes.{Writes};
 ghost use Rattle.trace_tool.specs.Prepared.{Prepares};
 ghost use Rattle.trace_tool.specs.declared.prepared.Prepared.TheVariants.{Done};
 
-use crate::outcome::Outcome;
 use crate::prepared::{Carried, Prepared, Ready};
+use command_outcomes::Outcome;
 use command_output::WriteFault;
 use native_slots::{Answering, Natives};
 use program_commands::{Outcome as ProgramOutcome, Refusal, load_certified, load_program};

@@ -1,6 +1,6 @@
 use Rattle.std.proofs.Common.{◌≡◌, List, ℕ, take, Ok, Err, IfSome, subst, sym}
 use Rattle.program_commands.specs.Steps.{fails}
-use Rattle.trace_tool.specs.declared.input.InputFault.TheVariants.{Memory}
+use Rattle.command_lines.specs.declared.input.InputFault.TheVariants.{Memory}
 use Rattle.trace_tool.proofs.Preparing.{carried-as, carried-of, carried-at-once}
 use Rattle.trace_tool.proofs.commands.answer.Goals as goal
 

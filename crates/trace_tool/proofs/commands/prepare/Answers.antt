@@ -1,6 +1,6 @@
 use Rattle.std.proofs.Common.{◌<◌, ◌≤◌, [], ◌∷◌, length, refl, arith}
 use Rattle.program_commands.specs.Steps.{fails, goes_on}
-use Rattle.trace_tool.specs.declared.outcome.UsageFault.TheVariants.{TooLarge, Texts}
+use Rattle.command_lines.specs.declared.usage.UsageFault.TheVariants.{TooLarge, Texts}
 use Rattle.trace_tool.proofs.Answering.{one_only, two_only, three_only}
 use Rattle.trace_tool.proofs.Preparing.{done-prepares, prepares-as}
 use Rattle.trace_tool.proofs.commands.prepare.Goals as goal

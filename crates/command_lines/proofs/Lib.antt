@@ -1,0 +1,3 @@
+pub mod Inputs
+pub mod Partings
+pub mod Saying

@@ -1,0 +1,82 @@
+-- The words of a command line (docs/commands.md, "The command line").
+use Rattle.std.specs.Prelude.{◌≡◌, ◌≢◌, ℕ, ◌-◌, ◌^◌, ◌<◌, ◌≤◌, ◌⊎◌, List, [], ◌∷◌, codes}
+use Rattle.texts.specs.Limits.{most_depth}
+use Rattle.texts.specs.Numerals.{IsNumeral}
+use Rattle.command_lines.specs.declared.words.Command.{Command}
+use Rattle.command_lines.specs.declared.words.Command.TheVariants.{Meta, Certify, Check, Run, RunUnchecked}
+
+-- decimal digits that write a number from 1 to the largest one
+pub record IsNumber (largest : ℕ) (word : List ℕ) (n : ℕ) : Type 0 where
+  pub written : IsNumeral word n
+  pub least : 1 ≤ n
+  pub most : n ≤ largest
+
+-- `--steps M`, or nothing for the limit of 1,000,000 steps
+abbrev pub IsLimit : List (List ℕ) → ℕ → Type 0
+IsLimit words steps = ((words ≡ []) × (steps ≡ 1000000))
+    ⊎ ((word : List ℕ) × (words ≡ codes "--steps" ∷ word ∷ []) × IsNumber (2 ^ 63 - 1) word steps)
+
+-- `run`, and then the limit
+pub record IsRun (words : List (List ℕ)) (steps : ℕ) : Type 0 where
+  pub options : List (List ℕ)
+  pub are : words ≡ codes "run" ∷ options
+  pub limited : IsLimit options steps
+
+-- `run --unchecked N`, and then the limit
+pub record IsUncheckedRun (words : List (List ℕ)) (depth steps : ℕ) : Type 0 where
+  pub word : List ℕ
+  pub options : List (List ℕ)
+  pub are : words ≡ codes "run" ∷ codes "--unchecked" ∷ word ∷ options
+  pub deep : IsNumber most_depth word depth
+  pub limited : IsLimit options steps
+
+-- the first of the words writes this number, and the rest come after it
+pub record IsFirstNumber (largest : ℕ) (words : List (List ℕ)) (n : ℕ) (rest : List (List ℕ)) : Type 0 where
+  pub word : List ℕ
+  pub are : words ≡ word ∷ rest
+  pub is : IsNumber largest word n
+
+-- the words are this command's
+abbrev pub IsCommand : List (List ℕ) → Command → Type 0
+IsCommand words Meta = words ≡ codes "meta" ∷ []
+IsCommand words Certify = words ≡ codes "certify" ∷ []
+IsCommand words Check = words ≡ codes "check" ∷ []
+IsCommand words (Run steps) = IsRun words steps
+IsCommand words (RunUnchecked options) = IsUncheckedRun words options.depth options.steps
+
+-- the numbers of steps from 1 to the largest
+abbrev pub AreSteps : ℕ → Type 0
+AreSteps steps = (1 ≤ steps) × (steps < 2 ^ 63)
+
+-- a command's numbers are within their limits
+abbrev pub IsWithinLimits : Command → Type 0
+IsWithinLimits Meta = Unit {0}
+IsWithinLimits Certify = Unit {0}
+IsWithinLimits Check = Unit {0}
+IsWithinLimits (Run steps) = AreSteps steps
+IsWithinLimits (RunUnchecked options) = (1 ≤ options.depth) × (options.depth ≤ most_depth) × AreSteps options.steps
+
+-- what the words don't say
+abbrev pub IsNoNumber : ℕ → List ℕ → Type 0
+IsNoNumber largest word = (n : ℕ) → IsNumber largest word n → ⊥
+
+abbrev pub IsNoLimit : List (List ℕ) → Type 0
+IsNoLimit words = (steps : ℕ) → IsLimit words steps → ⊥
+
+abbrev pub IsNoRun : List (List ℕ) → Type 0
+IsNoRun words = (steps : ℕ) → IsRun words steps → ⊥
+
+abbrev pub IsNoUncheckedRun : List (List ℕ) → Type 0
+IsNoUncheckedRun words = (depth steps : ℕ) → IsUncheckedRun words depth steps → ⊥
+
+abbrev pub IsNoCommand : List (List ℕ) → Type 0
+IsNoCommand words = (command : Command) → IsCommand words command → ⊥
+
+-- the first word isn't this one
+abbrev pub BeginsOtherwise : List ℕ → List (List ℕ) → Type 0
+BeginsOtherwise word words = (rest : List (List ℕ)) → words ≢ word ∷ rest
+
+-- the first word writes no number
+abbrev pub BeginsWithNoNumber : ℕ → List (List ℕ) → Type 0
+BeginsWithNoNumber largest words =
+    (word : List ℕ) (rest : List (List ℕ)) (n : ℕ) → words ≡ word ∷ rest → IsNumber largest word n → ⊥
