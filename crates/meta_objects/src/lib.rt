@@ -8,7 +8,7 @@ mod refusal;
 
 pub use class_outlines::{Declaration, LoadFault, Member, MetaFault, Offence};
 pub use laws::{one_answer, one_as_declared, one_loading};
-pub use meta::{Meta, Wired};
+pub use meta::{ConnectionEnd, Meta, Wired};
 pub use meta_model::{
     Formula, MetaEffects, MetaEndpoints, MetaMethod, MetaObject, MetaOwns, MetaPath, MetaProperty,
     MetaRoot, MetaSite, MetaWire, SlotBody, SourceProperty, Statement, Step, ValueType, Work,

@@ -8,6 +8,7 @@ ghost use Rattle.meta_model.specs.Sound.{IsSound, IsSoundClass, IsSoundMethod, I
 ghost use Rattle.meta_model.specs.Sites.{IsSiteNamed};
 ghost use Rattle.meta_objects.specs.Typed.{TellsType, TellsReference};
 ghost use Rattle.meta_objects.specs.Wiring.{IsWired};
+ghost use Rattle.meta_objects.specs.code.Ends.{IsEndOf};
 
 use crate::class_index::{ClassIndex, index_sites};
 use class_outlines::{
@@ -72,6 +73,17 @@ pub enum Wired {
     Unfit,
     /// A wire covers it, and the method fits the signal.
     Fit,
+}
+
+/// A signal or a method at an end of a connection.
+#[derive(Clone, Copy)]
+pub struct ConnectionEnd<'s> {
+    /// The class of the object at this end.
+    pub class: usize,
+    /// The number of the signal or the method in that class, where it is known.
+    pub number: Option<usize>,
+    /// How it is spelled.
+    pub sig: &'s Sig,
 }
 
 impl Meta {
@@ -293,9 +305,28 @@ impl Meta {
     ) -> Wired
         ensures { IsWired self.now sender signal.now receiver method.now kind result }
     {
-        if !self.covers(sender, signal, receiver, method, kind) {
+        let from = ConnectionEnd {
+            class: sender,
+            number: None,
+            sig: signal,
+        };
+        let to = ConnectionEnd {
+            class: receiver,
+            number: None,
+            sig: method,
+        };
+        self.wired_ends(&from, &to, kind)
+    }
+
+    /// The same of two ends. A wire of the very classes is compared by its numbers, where the ends have them.
+    pub fn wired_ends(&self, from: &ConnectionEnd<'_>, to: &ConnectionEnd<'_>, kind: Kind) -> Wired
+        requires from { IsEndOf self.now from.now }
+        requires to { IsEndOf self.now to.now }
+        ensures { IsWired self.now from.now.class from.now.sig.now to.now.class to.now.sig.now kind result }
+    {
+        if !self.covers(from, to, kind) {
             Wired::No
-        } else if fits(signal, method) {
+        } else if fits(from.sig, to.sig) {
             Wired::Fit
         } else {
             Wired::Unfit
@@ -303,11 +334,13 @@ impl Meta {
     }
 
     /// Whether a wire covers the connection.
-    fn covers(&self, sender: usize, signal: &Sig, receiver: usize, method: &Sig, kind: Kind) -> bool
-        ensures { IsTrue result ↔ Covers self.now sender signal.now receiver method.now kind }
+    fn covers(&self, from: &ConnectionEnd<'_>, to: &ConnectionEnd<'_>, kind: Kind) -> bool
+        requires from { IsEndOf self.now from.now }
+        requires to { IsEndOf self.now to.now }
+        ensures { IsTrue result ↔ Covers self.now from.now.class from.now.sig.now to.now.class to.now.sig.now kind }
     {
         for wire in self.wires() {
-            if self.is_covered_by(sender, signal, receiver, method, kind, wire) {
+            if self.is_covered_by(from, to, kind, wire) {
                 return true;
             }
         }
@@ -317,21 +350,33 @@ impl Meta {
     /// Whether this wire covers the connection.
     fn is_covered_by(
         &self,
-        sender: usize,
-        signal: &Sig,
-        receiver: usize,
-        method: &Sig,
+        from: &ConnectionEnd<'_>,
+        to: &ConnectionEnd<'_>,
         kind: Kind,
         wire: &MetaWire,
     ) -> bool
+        requires from { IsEndOf self.now from.now }
+        requires to { IsEndOf self.now to.now }
         ensures { IsTrue result
-            ↔ CoversBy self.now sender signal.now receiver method.now kind wire.now }
+            ↔ CoversBy self.now from.now.class from.now.sig.now to.now.class to.now.sig.now kind wire.now }
     {
         wire.kind == kind
-            && self.inherits(sender, wire.sender)
-            && self.inherits(receiver, wire.receiver)
-            && self.has_sig(wire.sender, wire.signal, signal)
-            && self.has_sig(wire.receiver, wire.method, method)
+            && self.inherits(from.class, wire.sender)
+            && self.inherits(to.class, wire.receiver)
+            && self.is_end_at(from, wire.sender, wire.signal)
+            && self.is_end_at(to, wire.receiver, wire.method)
+    }
+
+    /// Whether the method of this number has the signature of the end.
+    #[inline(always)]
+    fn is_end_at(&self, end: &ConnectionEnd<'_>, class: usize, method: usize) -> bool
+        requires { IsEndOf self.now end.now }
+        ensures { IsTrue result ↔ HasSig self.now class end.now.sig.now method }
+    {
+        match end.number {
+            Some(number) if end.class == class && number == method => true,
+            _ => self.has_sig(class, method, end.sig),
+        }
     }
 
     /// Whether the method of this number has this signature.

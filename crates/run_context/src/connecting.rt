@@ -1,6 +1,7 @@
 //! Connections that statements make and remove.
 
 ghost use Rattle.std.specs.Prelude.{◌≡◌, ◌<◌, ◌^◌, ◌-◌, IfOk, IfErr, MatchOption};
+ghost use Rattle.meta_objects.specs.code.Ends.{IsEndOf};
 ghost use Rattle.trace_entries.specs.Refusals.{refusal_number};
 ghost use Rattle.trace_entries.specs.declared.entry.Entry.TheVariants.{At};
 ghost use Rattle.trace_entries.specs.declared.entry.EntryKind.TheVariants.{Refused};
@@ -8,10 +9,10 @@ ghost use Rattle.machine_rules.specs.Connecting.{may_connect};
 ghost use Rattle.run_context.specs.code.Statements.{IsJudged, LacksEnds, NamesEnds, LacksNames, ConnectsIn, DisconnectsIn};
 
 use crate::context::RunContext;
-use machine_rules::{FoundEnds, kept_ends};
+use machine_rules::kept_ends;
 use machine_state::{Endpoints, World};
-use meta_objects::Wired;
-use signatures::{Name, Sig};
+use meta_objects::{ConnectionEnd, Wired};
+use signatures::Name;
 use syntax_trees::{self, ConnectionType};
 use trace_entries::{Entry, EntryKind, Fault, Refusal};
 
@@ -59,26 +60,26 @@ impl RunContext {
         world.disconnect(line, &kept)
     }
 
-    /// Whether a connection may be made from a signal to a method, as both are spelled: why not, the first of `NotWired`,
-    /// `Incompatible` and `Exists` that holds.
+    /// Whether a connection may be made from a signal to a method, as both are spelled, where these ends would be kept: why not,
+    /// the first of `NotWired`, `Incompatible` and `Exists` that holds.
     pub fn may_connect(
         &self,
         world: &World,
-        found: &FoundEnds,
-        signal: &Sig,
-        method: &Sig,
+        from: &ConnectionEnd<'_>,
+        to: &ConnectionEnd<'_>,
+        ends: &Endpoints,
         how: ConnectionType,
     ) -> Result<(), Refusal>
-        ensures { may_connect self.now.meta world.now.store.connections found.now
-            signal.now method.now how result }
+        requires from { IsEndOf self.now.meta from.now }
+        requires to { IsEndOf self.now.meta to.now }
+        ensures { may_connect self.now.meta world.now.store.connections
+            (record { from = from.now.class; to = to.now.class; ends = ends.now })
+            from.now.sig.now to.now.sig.now how result }
     {
-        match self
-            .meta
-            .wired(found.from, signal, found.to, method, how.kind)
-        {
+        match self.meta.wired_ends(from, to, how.kind) {
             Wired::No => Err(Refusal::NotWired),
             Wired::Unfit => Err(Refusal::Incompatible),
-            Wired::Fit if how.unique && world.are_joined(&found.ends) => Err(Refusal::Exists),
+            Wired::Fit if how.unique && world.are_joined(ends) => Err(Refusal::Exists),
             Wired::Fit => Ok(()),
         }
     }
@@ -105,12 +106,17 @@ impl RunContext {
         let Some(method) = self.meta.method_at(receiver.class, ends.method) else {
             return None;
         };
-        let found = FoundEnds {
-            from: sender.class,
-            to: receiver.class,
-            ends: kept_ends(ends),
+        let from = ConnectionEnd {
+            class: sender.class,
+            number: Some(ends.signal),
+            sig: &signal.sig,
         };
-        Some(self.may_connect(world, &found, &signal.sig, &method.sig, how))
+        let to = ConnectionEnd {
+            class: receiver.class,
+            number: Some(ends.method),
+            sig: &method.sig,
+        };
+        Some(self.may_connect(world, &from, &to, &kept_ends(ends), how))
     }
 
     /// The names at two ends; `BadType` where an object or its method isn't there.

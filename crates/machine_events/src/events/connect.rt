@@ -10,6 +10,7 @@ ghost use Rattle.machine_events.specs.Events.{connect};
 use crate::events::ends::find_ends;
 use crate::judgement::{NotAccepted, refuse};
 use machine_state::{Endpoints, World};
+use meta_objects::ConnectionEnd;
 use native_slots::Answering;
 use rule_interpreter::Interpreter;
 use signatures::Name;
@@ -50,9 +51,19 @@ fn judge<N: Answering>(
         (connect interpreter.now.context.meta (at world.now []) named.now how)) }
 {
     let found = find_ends(interpreter, world, named)?;
+    let from = ConnectionEnd {
+        class: found.from,
+        number: None,
+        sig: &named.signal,
+    };
+    let to = ConnectionEnd {
+        class: found.to,
+        number: None,
+        sig: &named.method,
+    };
     match interpreter
         .context
-        .may_connect(world, &found, &named.signal, &named.method, how)
+        .may_connect(world, &from, &to, &found.ends, how)
     {
         Ok(()) => Ok(found.ends),
         Err(refusal) => Err(NotAccepted::Refused(refusal)),
