@@ -13,9 +13,9 @@ specs/code, which a reader needn't know."""
 import os, re, sys
 
 BESIDE = ['IsChecked', 'AreKept', 'StopsFor']
-PARTS = [('the claims, and runs', r'qt_runtime|checked_runs|machine_events/specs/Runs|machine_rules/specs/Good'),
+PARTS = [('the claims, and runs', r'qt_runtime|machine_events/specs/Runs|machine_rules/specs/Good'),
          ('why a run stops', r'machine_events/specs/Causes|machine_rules/specs/Faults'),
-         ('events', r'machine_events'), ('rules', r'machine_rules|statement_meaning'), ('the state', r'machine_state|trace_entries'),
+         ('events', r'machine_events|event_judgement'), ('rules', r'machine_rules|statement_meaning'), ('the state', r'machine_state|change_lines|trace_entries'),
          ('objects, connections, event loops, bindings', r'object_tree|connections|event_loops|binding_graph|prop_bindings|delete_later'),
          ('values, expressions, classes', r'')]
 WORD = re.compile(r'[^\s(){},;.\[\]]+')
@@ -72,11 +72,22 @@ class Reading:
     def __init__(self, root): self.root, self.pages, self.items, self.types, self.code = root, {}, [], set(), set()
 
     def page(self, module):
+        module = self.passed_on(module)
         parts = module.split('.')
         path = f'{self.root}/crates/{parts[1]}/' + '/'.join(parts[2:]) + '.antt'
         if parts[0] != 'Rattle' or parts[1] == 'std' or not os.path.exists(path): return None
         if path not in self.pages: self.pages[path] = Page(path).read()
         return self.pages[path]
+
+    def passed_on(self, module):
+        """The page that a crate passes on under this name (`pub use` in its specs/Lib.antt), or the name itself."""
+        parts = module.split('.')
+        lib = f'{self.root}/crates/{parts[1]}/specs/Lib.antt'
+        if len(parts) != 4 or parts[2] != 'specs' or not os.path.exists(lib): return module
+        for line in open(lib):
+            found = re.match(r'pub use (\S+?)(?: as (\S+))?$', line.strip())
+            if found and (found[2] or found[1].split('.')[-1]) == parts[3]: return found[1]
+        return module
 
     def follow(self, page, text):
         for word in BESIDE: text = re.sub(rf'(?<![\w.]){word}(?!\w)', '', text)

@@ -26,14 +26,14 @@ use Rattle.machine_rules.specs.Next.{DoesNext, WritesNext, WritesIll}
 use Rattle.machine_rules.specs.Good.{IsWell, IsGood}
 use Rattle.machine_rules.specs.Judgement.{Numbered, Then, goes_on, ends, Gives, gives, Becomes, becomes}
 use Rattle.machine_rules.specs.Natives.{NativeAnswers}
-use Rattle.statement_meaning.specs.Operations.{Operation}
+use Rattle.machine_rules.specs.Operations.{Operation}
 use Rattle.machine_rules.specs.Rules.{Begins}
 use Rattle.machine_rules.specs.Settling.{Writes, Installs}
 use Rattle.machine_events.specs.Causes.{BindsNext, Brings, StopsFor, spent, short, brings, lacks_value, writes_ill, binds_ill, goes_ill, goes_fatal, binds_loop, writes_deep, goes_deep}
-use Rattle.machine_events.specs.Events.{Adopts, MovesTo}
+use Rattle.event_judgement.specs.Events.{Adopts, MovesTo}
 use Rattle.machine_events.specs.Laws.{in_front, RunReadsNoTrace}
 use Rattle.machine_events.specs.Runs.{Run, done, goes, takes, Each, GoodRun, Follows, by_rule, by_event, IsDue, goes_on as is_under_way, is_next}
-use Rattle.machine_events.specs.Takes.{judged, Takes, accepts, refuses}
+use Rattle.event_judgement.specs.Takes.{judged, Takes, accepts, refuses}
 use Rattle.machine_events.proofs.RuleFronts.{reads-no-trace, begins-front, writes-front, installs-front, schedules-front}
 
 module _ (front : List Entry) where

@@ -28,8 +28,8 @@ use Rattle.binding_graph.specs.Places.{property_of}
 use Rattle.prop_bindings.proofs.Fitting.{lives-on}
 use Rattle.prop_bindings.proofs.Values.{written-differs}
 use Rattle.machine_state.specs.Telling.{Grouped, writes_of}
-use Rattle.statement_meaning.specs.Operations.{led_to, set_in, sets_in, after_set}
-use Rattle.statement_meaning.specs.Paths.{path_value, value_of}
+use Rattle.machine_rules.specs.Operations.{led_to, set_in, sets_in, after_set}
+use Rattle.machine_rules.specs.Paths.{path_value, value_of}
 use Rattle.machine_rules.specs.There.{HasField}
 use Rattle.machine_rules.proofs.Differing.{differ-stay}
 use Rattle.machine_rules.proofs.Inherited.{property-below}

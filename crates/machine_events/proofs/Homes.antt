@@ -10,7 +10,7 @@ use Rattle.object_tree.proofs.Families.{moved-part}
 use Rattle.meta_model.specs.Loaded.{Loaded}
 use Rattle.object_tree.specs.Objects.{home_of}
 use Rattle.machine_rules.specs.code.Sound.{AreHoused, AllWait}
-use Rattle.machine_events.specs.Events.{IsHome}
+use Rattle.event_judgement.specs.Events.{IsHome}
 
 -- a loop that has a name is there
 pub named-within : (loops : List Loop) (name : List ℕ) (home : ℕ) → HasName loops name home → home < length loops

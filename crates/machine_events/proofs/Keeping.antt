@@ -25,16 +25,16 @@ use Rattle.machine_rules.specs.code.Keeps.{Grows, Keeps}
 use Rattle.rule_interpreter.proofs.Keeps.{grows-by, grows-same, grows-then, begins-kept, writes-kept, installs-kept, schedules-kept, rule-kept}
 use Rattle.machine_rules.specs.Good.{IsGood}
 use Rattle.machine_rules.proofs.Agreeing.{rule-agrees}
-use Rattle.machine_events.specs.declared.events.invoke.Invocation.{Invocation}
-use Rattle.machine_events.specs.declared.events.invoke.Invocation.TheVariants.{Emit as EmitIt, Call as CallIt}
+use Rattle.event_judgement.specs.declared.invoking.Invocation.{Invocation}
+use Rattle.event_judgement.specs.declared.invoking.Invocation.TheVariants.{Emit as EmitIt, Call as CallIt}
 use Rattle.machine_rules.specs.Judgement.{becomes, gives, goes_on}
-use Rattle.machine_events.proofs.Judged.{given-is}
+use Rattle.event_judgement.proofs.Judged.{given-is}
 use Rattle.machine_events.proofs.Moving.{moved-by}
 use Rattle.machine_events.specs.Laws.{AlwaysSettled}
 use Rattle.machine_events.specs.Runs.{Run, done, goes, takes, Each, GoodRun}
-use Rattle.machine_events.specs.Takes.{judged, Takes, accepts, refuses}
+use Rattle.event_judgement.specs.Takes.{judged, Takes, accepts, refuses}
 use Rattle.machine_events.specs.code.Taking.{WorldInvariant, Took}
-use Rattle.machine_events.specs.Events.{block, invoke}
+use Rattle.event_judgement.specs.Events.{block, invoke}
 use Rattle.machine_events.proofs.Preservation.{runs-invariant}
 use Rattle.machine_events.proofs.Settling.{takes-agree}
 use Rattle.machine_events.proofs.Standing.{Invariant}

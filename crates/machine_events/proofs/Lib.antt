@@ -1,6 +1,5 @@
 pub mod Changes
 pub mod Running
-pub mod Judged
 mod Taken
 mod Pushed
 pub mod Judging

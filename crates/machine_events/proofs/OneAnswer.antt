@@ -15,7 +15,7 @@ use Rattle.script_lang.specs.declared.event.Input.TheVariants as input
 use Rattle.machine_rules.proofs.Fields.{class-unique}
 use Rattle.machine_rules.proofs.OneAnswer.{one-find, one-gives, one-then, numbered-is}
 use Rattle.machine_rules.specs.Judgement.{Numbered, HasOneAnswer}
-use Rattle.machine_events.specs.Events.{living, all_living, value, values}
+use Rattle.event_judgement.specs.Events.{living, all_living, value, values}
 
 -- ---- objects and values
 

@@ -16,7 +16,7 @@ use Rattle.machine_rules.specs.Good.{IsGood}
 use Rattle.native_slots.specs.declared.action.Action.{Action}
 use Rattle.machine_events.specs.Laws.{OneRun, OneRunOfAnswers, OneFront, OneFrontOfAnswers, IsFront}
 use Rattle.machine_events.specs.Runs.{Run, done, goes, takes, Each, EachRule, GoodRun, RunsWhole, RunsFront}
-use Rattle.machine_events.specs.Takes.{Takes, accepts, refuses}
+use Rattle.event_judgement.specs.Takes.{Takes, accepts, refuses}
 use Rattle.machine_events.proofs.Keeping.{runs-pay}
 use Rattle.machine_events.proofs.OneTaking.{one_taking}
 use Rattle.machine_events.proofs.Settling.{takes-agree}

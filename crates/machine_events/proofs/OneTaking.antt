@@ -24,16 +24,16 @@ use Rattle.machine_state.specs.State.{State}
 use Rattle.machine_state.specs.Worlds.{store_of, with_store}
 use Rattle.delete_later.specs.declared.store.Store.{Store}
 use Rattle.machine_rules.proofs.OneRule.{begins-one, writes-one, installs-one, schedules-one}
-use Rattle.machine_events.specs.declared.events.invoke.Invocation.{Invocation}
-use Rattle.machine_events.specs.declared.events.invoke.Invocation.TheVariants.{Emit, Call}
+use Rattle.event_judgement.specs.declared.invoking.Invocation.{Invocation}
+use Rattle.event_judgement.specs.declared.invoking.Invocation.TheVariants.{Emit, Call}
 use Rattle.machine_rules.specs.Judgement.{Numbered}
 use Rattle.machine_rules.specs.Judgement.{HasOneAnswer}
 use Rattle.machine_rules.specs.Judgement.{becomes, goes_on, ends}
 use Rattle.machine_rules.specs.Settling.{Installs}
 use Rattle.machine_rules.specs.Good.{IsAcyclic}
 use Rattle.machine_events.specs.Laws.{IsAcyclicIn, OneJudgement, OneTaking}
-use Rattle.machine_events.specs.Takes.{judged, Takes, accepts, refuses}
-use Rattle.machine_events.specs.Events.{adopt, Adopts, move, MovesTo, assign, IsSiteOf, may_bind, bind, block, delete, later, connect, disconnect, find_ends, IsMethodOf, add_loop, turn, create, IsClassOf, IsHome, invoke}
+use Rattle.event_judgement.specs.Takes.{judged, Takes, accepts, refuses}
+use Rattle.event_judgement.specs.Events.{adopt, Adopts, move, MovesTo, assign, IsSiteOf, may_bind, bind, block, delete, later, connect, disconnect, find_ends, IsMethodOf, add_loop, turn, create, IsClassOf, IsHome, invoke}
 use Rattle.event_loops.specs.Queues.{Loop, IsNamed}
 use Rattle.machine_rules.proofs.OneAnswer.{one-find, one-check, one-gives, one-becomes, one-then, numbered-is}
 use Rattle.machine_rules.proofs.OneRule.{may-connect-one}

@@ -28,9 +28,9 @@ use Rattle.prop_bindings.specs.Calls.{AllFit}
 use Rattle.binding_graph.specs.Places.{property_of}
 use Rattle.machine_state.specs.Telling.{Alone, Grouped, writes_of}
 use Rattle.machine_events.proofs.Grouped.{IfWrites, within-first, set-possible, sets-possible}
-use Rattle.statement_meaning.specs.Operations.{set_at, sets_in, operation_of_set, Operation, Write, Begin, Choose, Connect, Disconnect, Delete, Schedule, TakeAnswer, Nothing, on_object, on_ends, chosen_by, operation, operation_of_action, operation_of_step}
+use Rattle.machine_rules.specs.Operations.{set_at, sets_in, operation_of_set, Operation, Write, Begin, Choose, Connect, Disconnect, Delete, Schedule, TakeAnswer, Nothing, on_object, on_ends, chosen_by, operation, operation_of_action, operation_of_step}
 use Rattle.object_tree.specs.Typed.{AreTyped}
-use Rattle.statement_meaning.specs.Paths.{path_value, value_of, values_of}
+use Rattle.machine_rules.specs.Paths.{path_value, value_of, values_of}
 use Rattle.machine_rules.specs.There.{HasField, IsMember}
 use Rattle.machine_rules.proofs.Inherited.{method-below}
 use Rattle.machine_events.proofs.Standing.{ActionStands, StepStands, BodyStands}

@@ -37,7 +37,7 @@ use Rattle.machine_state.specs.declared.endpoints.Endpoints.{Endpoints}
 use Rattle.trace_entries.specs.declared.refusal.Refusal.{Refusal}
 use Rattle.machine_rules.specs.Natives.{NativeAnswers, IsShownAs, set_shown, emit_shown, AreShownAs}
 use Rattle.machine_rules.specs.Connecting.{AreThere, kept_ends, names_of}
-use Rattle.statement_meaning.specs.Operations.{Operation, Write, Begin, Choose, Connect as Link, Disconnect as Unlink, Delete, Schedule, TakeAnswer, Nothing, operation_of_step}
+use Rattle.machine_rules.specs.Operations.{Operation, Write, Begin, Choose, Connect as Link, Disconnect as Unlink, Delete, Schedule, TakeAnswer, Nothing, operation_of_step}
 use Rattle.machine_rules.specs.Destroying.{Dies, NextRule, ChildRule, DestroyRule, living_child, Schedules}
 use Rattle.machine_events.proofs.Possible.{possible}
 use Rattle.machine_events.proofs.Standing.{ActionStands, StepStands, BodyStands, Stands, Invariant, AllStand, SparedIn, all-stand-still}
@@ -65,16 +65,16 @@ use Rattle.syntax_trees.specs.declared.connection.Endpoints.{Endpoints as Named}
 use Rattle.script_lang.specs.declared.event.Input.{Input}
 use Rattle.machine_state.specs.Accepting.{accepted}
 use Rattle.trace_entries.specs.declared.fault.Answer.{Answer}
-use Rattle.machine_events.specs.declared.events.invoke.Invocation.{Invocation}
-use Rattle.machine_events.specs.declared.events.invoke.Invocation.TheVariants.{Emit as EmitIt, Call as CallIt}
+use Rattle.event_judgement.specs.declared.invoking.Invocation.{Invocation}
+use Rattle.event_judgement.specs.declared.invoking.Invocation.TheVariants.{Emit as EmitIt, Call as CallIt}
 use Rattle.machine_rules.specs.Judgement.{found as finds, holds as so, becomes, gives as just, goes_on}
-use Rattle.machine_events.specs.Takes.{judged, Takes, accepts, refuses}
-use Rattle.machine_events.specs.Events.{block, find_ends, invoke}
+use Rattle.event_judgement.specs.Takes.{judged, Takes, accepts, refuses}
+use Rattle.event_judgement.specs.Events.{block, find_ends, invoke}
 use Rattle.machine_rules.specs.declared.ends.FoundEnds.{FoundEnds}
 use Rattle.machine_state.specs.Connections.{joins_these}
 use Rattle.machine_state.proofs.Due.{all-removed}
-use Rattle.machine_events.proofs.Judged.{given-is}
-use Rattle.machine_events.proofs.Judging.Naming.{living-is, living-object}
+use Rattle.event_judgement.proofs.Judged.{given-is}
+use Rattle.event_judgement.proofs.Judging.Naming.{living-is, living-object}
 use Rattle.machine_rules.specs.Good.{has_body, ArgumentsFit, TopFits, IsWell, Spares, IsGood}
 use Rattle.machine_rules.proofs.Agreeing.{rule-agrees}
 use Rattle.machine_events.proofs.Settling.{takes-agree}

@@ -22,7 +22,7 @@ use Rattle.object_tree.specs.declared.object.Object.{Object}
 use Rattle.machine_state.specs.State.{Step, Run, Ask, Act, State, Activation, Body, Emit, Update, Destroy}
 use Rattle.machine_rules.specs.Rules.{RuleAt, StepRule, Does, EmitRule, UpdateRule, Connects, Disconnects, TurnRule, Serves, Delivers, Arrives, with_used, BeginsIf, NotifiesIf}
 use Rattle.machine_rules.specs.Destroying.{Dies, NextRule, ChildRule, DestroyRule, living_child, Schedules, scheduled_now, scheduled_before, not_living}
-use Rattle.statement_meaning.specs.Operations.{Operation, Write, Begin, Choose, Connect, Disconnect, Delete, Schedule, TakeAnswer, Nothing, operation_of_step}
+use Rattle.machine_rules.specs.Operations.{Operation, Write, Begin, Choose, Connect, Disconnect, Delete, Schedule, TakeAnswer, Nothing, operation_of_step}
 use Rattle.std.specs.Prelude.{is_some}
 use Rattle.std.specs.List.{find}
 use Rattle.object_tree.specs.Family.{children_of}

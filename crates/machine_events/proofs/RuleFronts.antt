@@ -39,7 +39,7 @@ use Rattle.class_outlines.specs.declared.qobject.TheConstants.{DESTROYED}
 use Rattle.signatures.specs.declared.value.Value.TheVariants as value
 use Rattle.machine_rules.specs.Destroying.{Dies, NextRule, ChildRule, DestroyRule, TellsSchedule, scheduled_now, scheduled_before, not_living, Schedules, living_child}
 use Rattle.machine_rules.specs.Natives.{NativeAnswers}
-use Rattle.statement_meaning.specs.Operations.{Operation, Write, Begin, Choose, Connect, Disconnect, Delete, Schedule, TakeAnswer, Nothing}
+use Rattle.machine_rules.specs.Operations.{Operation, Write, Begin, Choose, Connect, Disconnect, Delete, Schedule, TakeAnswer, Nothing}
 use Rattle.machine_rules.specs.Rules.{top_of, begin_entry, begun, Begins, Notifies, NotifiesIf, UpdateRule, told, linked, Connects, unlinked, Disconnects, Does, BodyRule, Arrives, with_used, Uses, EmitRule, BeginsIf, Delivers, Serves, TurnRule, RuleAt}
 use Rattle.machine_rules.specs.Settling.{Settles, Writes, Installs, notified}
 use Rattle.machine_events.specs.Laws.{in_front, ReadsNoTrace}

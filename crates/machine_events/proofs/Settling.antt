@@ -24,13 +24,13 @@ use Rattle.machine_rules.specs.There.{IsField}
 use Rattle.machine_rules.proofs.Agreeing.{begun-agrees, writes-agrees, installs-agrees, schedules-agrees}
 use Rattle.machine_rules.proofs.Fields.{field-property}
 use Rattle.rule_interpreter.proofs.Keeps.{lives-of-class}
-use Rattle.machine_events.specs.declared.events.invoke.Invocation.{Invocation}
-use Rattle.machine_events.specs.declared.events.invoke.Invocation.TheVariants.{Emit as EmitIt, Call as CallIt}
+use Rattle.event_judgement.specs.declared.invoking.Invocation.{Invocation}
+use Rattle.event_judgement.specs.declared.invoking.Invocation.TheVariants.{Emit as EmitIt, Call as CallIt}
 use Rattle.machine_events.specs.Laws.{TakingSettles}
-use Rattle.machine_events.specs.Takes.{judged, Takes, accepts, refuses}
-use Rattle.machine_events.specs.Events.{may_bind, block, invoke}
+use Rattle.event_judgement.specs.Takes.{judged, Takes, accepts, refuses}
+use Rattle.event_judgement.specs.Events.{may_bind, block, invoke}
 use Rattle.machine_rules.proofs.Inherited.{property-below}
-use Rattle.machine_events.proofs.Judged.{given-is}
+use Rattle.event_judgement.proofs.Judged.{given-is}
 use Rattle.machine_events.proofs.Judging.Adopting.{agree-adopted}
 use Rattle.machine_events.proofs.Moving.{stores-agree}
 use Rattle.machine_events.proofs.Judging.Blocking.{agree-blocked}

@@ -14,7 +14,7 @@ use Rattle.rule_interpreter.specs.code.Reaches.{RunsTo}
 use Rattle.machine_rules.specs.code.Sound.{IsSoundWorld}
 use Rattle.rule_interpreter.proofs.Keeps.{rules-kept}
 use Rattle.machine_events.specs.Causes.{Halts}
-use Rattle.machine_events.specs.Takes.{Takes}
+use Rattle.event_judgement.specs.Takes.{Takes}
 use Rattle.machine_events.specs.code.Taking.{Took}
 use Rattle.machine_events.proofs.Keeping.{invariant-at}
 use Rattle.machine_events.proofs.Preservation.{runs-invariant}

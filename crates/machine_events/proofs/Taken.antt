@@ -19,11 +19,11 @@ use Rattle.machine_rules.specs.Good.{IsGood, TopFits}
 use Rattle.machine_rules.specs.Next.{WritesIll}
 use Rattle.machine_rules.specs.code.Going.{GoodRules}
 use Rattle.machine_rules.specs.code.Going as of_rules
-use Rattle.machine_events.specs.declared.judgement.NotAccepted.{NotAccepted}
-use Rattle.machine_events.specs.code.Judgement.{IsNotAccepted}
-use Rattle.machine_events.specs.code.Judgement as not_accepted
+use Rattle.event_judgement.specs.declared.not_accepted.NotAccepted.{NotAccepted}
+use Rattle.event_judgement.specs.code.Judgement.{IsNotAccepted}
+use Rattle.event_judgement.specs.code.Judgement as not_accepted
 use Rattle.machine_events.specs.Runs.{GoodRun, RunsWhole, done, takes, is_next}
-use Rattle.machine_events.specs.Takes.{judged, Takes, accepts, refuses}
+use Rattle.event_judgement.specs.Takes.{judged, Takes, accepts, refuses}
 use Rattle.machine_events.specs.code.Taking.{SaysWhy, Took, IsRefused}
 use Rattle.machine_events.proofs.Running.{rules-run}
 use Rattle.machine_events.specs.Causes.{Halts, short, spent}

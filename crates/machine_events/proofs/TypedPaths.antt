@@ -20,7 +20,7 @@ use Rattle.object_tree.specs.Seen.{seen}
 use Rattle.object_tree.specs.Typed.{AreTyped, ReadAs}
 use Rattle.object_tree.proofs.TypedObjects.{has-reads}
 use Rattle.object_tree.specs.Objects.{stored}
-use Rattle.statement_meaning.specs.Paths.{root_value, step_value, steps_value, path_value}
+use Rattle.machine_rules.specs.Paths.{root_value, step_value, steps_value, path_value}
 use Rattle.machine_rules.specs.There.{IsField}
 use Rattle.machine_rules.proofs.Fields.{old-there, stored-reads, read-get, read-there}
 use Rattle.rule_interpreter.proofs.Keeps.{lives-of-class, class-of-lives}

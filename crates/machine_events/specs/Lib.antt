@@ -1,9 +1,9 @@
-pub mod Events
-pub mod Takes
 pub mod Runs
 pub mod Causes
 pub mod Laws
 pub mod code
+pub use Rattle.event_judgement.specs.Events
+pub use Rattle.event_judgement.specs.Takes
 pub use Rattle.native_slots.specs.Promises
 pub use Rattle.prop_bindings.specs.Fits
 pub use Rattle.machine_state.specs.Connections

@@ -1,3 +1,2 @@
--- What the contracts of this crate's functions need besides: what the code finds, and what it comes to.
-pub mod Judgement
+-- What the contracts of this crate's functions need besides: what the code comes to.
 pub mod Taking

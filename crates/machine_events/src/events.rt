@@ -9,12 +9,7 @@ pub mod connect;
 pub mod create;
 pub mod delete;
 pub mod disconnect;
-pub mod ends;
 pub mod invoke;
 pub mod later;
 pub mod move_object;
-pub mod named;
 pub mod turn;
-pub mod values;
-
-pub use invoke::Invocation;

@@ -2,12 +2,11 @@
 #![tactic(auto)]
 
 mod events;
-mod judgement;
 mod laws;
+mod refusing;
 mod taking;
 
-pub use events::Invocation;
-pub use judgement::NotAccepted;
+pub use event_judgement::{Invocation, NotAccepted};
 pub use laws::{
     always_settled, one_front, one_front_of_answers, one_judgement, one_run, one_run_of_answers,
     one_taking, run_reads_no_trace, taking_settles,

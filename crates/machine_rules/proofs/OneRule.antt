@@ -16,9 +16,9 @@ use Rattle.object_tree.specs.declared.object.Object.{Object}
 use Rattle.object_tree.specs.Objects.{life_of}
 use Rattle.connections.specs.declared.connection.Connection.{Connection}
 use Rattle.trace_entries.specs.declared.entry.Entry.{Entry}
-use Rattle.machine_state.specs.declared.telling.Cause.TheVariants.{Bind}
+use Rattle.change_lines.specs.declared.telling.Cause.TheVariants.{Bind}
 use Rattle.machine_state.specs.Telling.{AreTold, Assigning, IsAssigningTold, writes_of}
-use Rattle.machine_state.proofs.Told.{assigning-once, told-once}
+use Rattle.change_lines.proofs.Told.{assigning-once, told-once}
 use Rattle.binding_graph.specs.declared.binding.Binding.{Binding}
 use Rattle.binding_graph.specs.Bindings.{binding_at, without_all, replaced, Loop}
 use Rattle.prop_bindings.specs.Changes.{places_in}
@@ -40,7 +40,7 @@ use Rattle.machine_rules.specs.Connecting.{AreThere, kept_ends, names_of, found_
 use Rattle.machine_rules.specs.Judgement.{HasOneAnswer}
 use Rattle.machine_rules.proofs.OneAnswer.{one-check, one-then}
 use Rattle.machine_rules.specs.Destroying.{Dies, died, NextRule, ChildRule, DestroyRule, living_child, Schedules}
-use Rattle.statement_meaning.specs.Operations.{Operation, Write, Begin, Choose, Connect, Disconnect, Delete, Schedule, TakeAnswer, Nothing}
+use Rattle.machine_rules.specs.Operations.{Operation, Write, Begin, Choose, Connect, Disconnect, Delete, Schedule, TakeAnswer, Nothing}
 use Rattle.machine_rules.specs.Rules.{Rule, RuleAt, BodyRule, Does, EmitRule, Uses, UpdateRule, Notifies, NotifiesIf, Begins, BeginsIf, begun, with_used, Connects, Disconnects, linked, unlinked, Arrives, posted, TurnRule, Serves, Delivers}
 use Rattle.machine_rules.specs.Settling.{Settles, Writes, Installs, notified}
 use Rattle.machine_rules.proofs.Answering.{answers-one}

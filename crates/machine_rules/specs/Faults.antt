@@ -9,7 +9,7 @@ use Rattle.prop_bindings.specs.declared.assignment.Assignment.{Assignment}
 use Rattle.prop_bindings.specs.Calls.{AllFit}
 use Rattle.machine_state.specs.State.{Step, Run, State, Activation, Body}
 use Rattle.machine_state.specs.Telling.{Assigning, writes_of}
-use Rattle.statement_meaning.specs.Operations.{operation}
+use Rattle.machine_rules.specs.Operations.{operation}
 use Rattle.machine_rules.specs.There.{LacksField}
 use Rattle.machine_rules.specs.Next.{WritesNext}
 use Rattle.machine_rules.specs.Good.{IsWell, Spares, IsAcyclic}

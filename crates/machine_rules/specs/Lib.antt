@@ -1,3 +1,5 @@
+pub mod Paths
+pub mod Operations
 pub mod Natives
 pub mod There
 pub mod Judgement
@@ -10,6 +12,7 @@ pub mod Good
 pub mod Faults
 pub mod Laws
 pub mod code
+pub use Rattle.expressions.specs.Evaluation
 pub use Rattle.meta_model.specs.Members
 pub use Rattle.native_slots.specs.Promises
 pub use Rattle.machine_state.specs.Connections

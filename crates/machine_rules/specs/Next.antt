@@ -9,7 +9,7 @@ use Rattle.object_tree.specs.Typed.{ReadsAs}
 use Rattle.prop_bindings.specs.declared.assignment.Assignment.{Assignment}
 use Rattle.machine_state.specs.State.{Step, State, Activation, Body}
 use Rattle.machine_state.specs.Telling.{Assigning, writes_of}
-use Rattle.statement_meaning.specs.Operations.{Operation, Write, operation_of_step}
+use Rattle.machine_rules.specs.Operations.{Operation, Write, operation_of_step}
 use Rattle.machine_rules.specs.There.{IsField}
 
 -- what is going on is a body whose next step does this

@@ -38,7 +38,7 @@ use Rattle.machine_rules.specs.There.{IsMember, IsField}
 use Rattle.machine_rules.specs.Connecting.{AreThere, kept_ends, names_of, found_ends, may_connect, may_disconnect}
 use Rattle.machine_rules.specs.Destroying.{deleting, DestroyRule, Schedules}
 use Rattle.machine_rules.specs.Settling.{Writes}
-use Rattle.statement_meaning.specs.Operations.{Operation, Write, Begin, Choose, Connect, Disconnect, Delete, Schedule, TakeAnswer, Nothing, operation_of_step}
+use Rattle.machine_rules.specs.Operations.{Operation, Write, Begin, Choose, Connect, Disconnect, Delete, Schedule, TakeAnswer, Nothing, operation_of_step}
 use Rattle.machine_rules.specs.Natives.{NativeAnswers, MayAnswer, AreShownAs}
 use Rattle.binding_graph.specs.declared.place.Place.{Place}
 use Rattle.machine_state.specs.State.{Step, Run, Ask, Act, State, Activation, Body, Emit, Update, Destroy}

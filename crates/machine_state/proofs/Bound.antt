@@ -15,11 +15,11 @@ use Rattle.prop_bindings.specs.Fits.{Agree}
 use Rattle.prop_bindings.specs.Plans.{after, IsPlannedBind}
 use Rattle.trace_entries.specs.declared.entry.Entry.{Entry}
 use Rattle.trace_entries.specs.declared.entry.Entry.TheVariants.{Accepted}
-use Rattle.machine_state.specs.declared.telling.Cause.TheVariants.{Bind}
+use Rattle.change_lines.specs.declared.telling.Cause.TheVariants.{Bind}
 use Rattle.machine_state.specs.declared.world.World.{World}
-use Rattle.machine_state.specs.Telling.{AreTold, Assigning, IsAssigningTold, writes_of}
+use Rattle.change_lines.specs.Telling.{AreTold, Assigning, IsAssigningTold, writes_of}
 use Rattle.machine_state.specs.Worlds.{with_bound, noted, counted, accepting_entries, HasWritten, HasBound, BindsIn}
-use Rattle.machine_state.specs.code.Planned.{WillWrite}
+use Rattle.change_lines.specs.code.Planned.{WillWrite}
 
 -- ---- properties are written
 module _ (p : Loaded) (what : Assigning) (w v : World) (plan : Planned) (cs : List Binding) (cs_are : cs ≡ without_all (places_in (writes_of what)) w.store.bindings)

@@ -1,10 +1,6 @@
 pub mod Due
 pub mod Passing
 pub mod Deferring
-pub mod Followers
-pub mod Changed
-pub mod Told
-pub mod Ahead
 pub mod Bound
 pub mod Alone
 pub mod Trying

@@ -12,7 +12,7 @@ use Rattle.trace_entries.specs.declared.entry.Entry.{Entry}
 use Rattle.trace_entries.specs.declared.fault.Fault.{Fault}
 use Rattle.trace_entries.specs.declared.fault.Fault.TheVariants.{Memory}
 use Rattle.machine_state.specs.declared.world.World.{World}
-use Rattle.machine_state.specs.Telling.{Assigning}
+use Rattle.change_lines.specs.Telling.{Assigning}
 use Rattle.machine_state.specs.Worlds.{WritesIn}
 use Rattle.machine_state.specs.code.Trying.{fault_of, IsUnplanned, TriesWrite}
 

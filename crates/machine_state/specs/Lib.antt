@@ -1,11 +1,11 @@
 pub mod State
 pub mod Turns
-pub mod Objects
-pub mod Telling
 pub mod Connections
 pub mod Accepting
 pub mod Worlds
 pub mod code
+pub use Rattle.change_lines.specs.Objects
+pub use Rattle.change_lines.specs.Telling
 pub use Rattle.object_tree.specs.Adopting
 pub use Rattle.object_tree.specs.Creating
 pub use Rattle.object_tree.specs.Objects as ObjectTreeObjects

@@ -25,14 +25,14 @@ use Rattle.trace_entries.specs.declared.fault.Answer.TheVariants as answer
 use Rattle.trace_entries.specs.declared.fault.Fault.{Fault}
 use Rattle.trace_entries.specs.declared.fault.Fault.TheVariants.{Steps, Memory}
 use Rattle.trace_entries.specs.declared.refusal.Refusal.{Refusal}
-use Rattle.machine_state.specs.declared.telling.Cause.TheVariants.{Bind}
+use Rattle.change_lines.specs.declared.telling.Cause.TheVariants.{Bind}
 use Rattle.machine_state.specs.declared.world.World.{World}
 use Rattle.trace_entries.specs.Refusals.{refusal_number}
 use Rattle.machine_state.specs.Connections.{after_use, newly_joined, parted}
 use Rattle.machine_state.specs.Accepting.{accepted, refused, with_entries}
 use Rattle.machine_state.specs.declared.endpoints.Endpoints.{Endpoints}
 use Rattle.machine_state.specs.State.{State, Activation}
-use Rattle.machine_state.specs.Telling.{AreTold, Assigning, IsAssigningTold, writes_of}
+use Rattle.change_lines.specs.Telling.{AreTold, Assigning, IsAssigningTold, writes_of}
 
 -- a world's state with a stack
 abbrev pub at : World → List Activation → State

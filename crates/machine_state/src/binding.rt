@@ -12,12 +12,12 @@ ghost use Rattle.prop_bindings.specs.Fits.{Agree, FitsAt};
 ghost use Rattle.prop_bindings.specs.Plans.{after};
 ghost use Rattle.trace_entries.specs.declared.fault.Fault.TheVariants.{Memory};
 ghost use Rattle.machine_state.specs.code.Trying.{fault_of, IsUnplanned, TriesWrite};
-ghost use Rattle.machine_state.specs.Telling.{Alone, AreTold, Grouped, IsGroupTold, writes_of};
+ghost use Rattle.change_lines.specs.Telling.{Alone, AreTold, Grouped, IsGroupTold, writes_of};
 ghost use Rattle.machine_state.specs.Worlds.{noted, accepting_entries, with_bound, WritesIn, BindsIn};
-ghost use Rattle.machine_state.specs.code.Planned.{CanBeTold, WillWrite, WillWriteOne, WillWriteAll};
+ghost use Rattle.change_lines.specs.code.Planned.{CanBeTold, WillWrite, WillWriteOne, WillWriteAll};
 
-use crate::telling::{Cause, Telling, line_of};
 use crate::world::World;
+use change_lines::{Cause, Telling, line_of};
 use delete_later::Store;
 use meta_objects::Meta;
 use prop_bindings::{

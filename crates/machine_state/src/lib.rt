@@ -6,13 +6,10 @@ mod binding;
 mod connecting;
 mod deleting;
 mod endpoints;
-mod showing;
-mod telling;
 mod turn;
 mod world;
 
+pub use change_lines::{Cause, show, show_all};
 pub use endpoints::Endpoints;
-pub use showing::{show, show_all};
-pub use telling::Cause;
 pub use turn::{MAIN, Turn, reaches_at_once};
 pub use world::{World, is_silent};

@@ -21,8 +21,8 @@ use Rattle.machine_events.specs.Laws.{in_front}
 use Rattle.machine_events.specs.Runs.{Run, done}
 use Rattle.machine_events.proofs.Fronts.{run-front, each-behind, lacks-front, stops-front}
 use Rattle.machine_events.proofs.Running.{run-trans, each-weaker}
-use Rattle.checked_runs.specs.Claims.{IsTypedStep, IsFaultless, IsLimit, IsReached}
-use Rattle.checked_runs.proofs.Claims.{only_limits, each_run_is_faultless}
+use Rattle.qt_runtime.specs.Claims.{IsTypedStep, IsFaultless, IsLimit, IsReached}
+use Rattle.qt_runtime.proofs.CheckedRuns.Claims.{only_limits, each_run_is_faultless}
 use Rattle.qt_runtime.specs.Checked.{HasCome, IsChecked, InEachRun, Claims, StopsAtLimit}
 use Rattle.qt_runtime.specs.Seen.{Seen, AreKept, Completes, Halts, Stays, begun, cleared}
 use Rattle.qt_runtime.proofs.Applying.{still-goes}

@@ -1,3 +1,4 @@
+pub mod CheckedRuns
 pub mod Applying
 pub mod Checking
 pub mod Fronts

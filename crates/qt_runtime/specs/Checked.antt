@@ -12,7 +12,7 @@ use Rattle.machine_rules.specs.Good.{HasArguments, Spares, IsAcyclic, AreSettled
 use Rattle.machine_rules.specs.Natives.{NativeAnswers}
 use Rattle.machine_events.specs.Laws.{in_front}
 use Rattle.machine_events.specs.Runs.{Run, Each}
-use Rattle.checked_runs.specs.Claims.{IsLimit, IsTypedStep}
+use Rattle.qt_runtime.specs.Claims.{IsLimit, IsTypedStep}
 use Rattle.qt_runtime.specs.Seen.{Seen}
 
 -- the machine has come to its world by a run from the beginning, which also wrote down the lines that it has let go

@@ -38,7 +38,7 @@ use Rattle.machine_rules.specs.There.{IsMember, IsDead}
 use Rattle.machine_rules.proofs.Dying.{lives-not-dead, lives-or-dead}
 use Rattle.rule_interpreter.proofs.Reaching.{none-spared, same-spared, reaches-pushed, ends-after, ends-lifted, not-idle, ends-noted, stops-as, stops-memory, stops-deep, stops-ill, stops-stuck}
 use Rattle.machine_rules.proofs.Fields.{member-method, method-unique, read-front}
-use Rattle.statement_meaning.specs.Operations.{Write, Begin, TakeAnswer}
+use Rattle.machine_rules.specs.Operations.{Write, Begin, TakeAnswer}
 use Rattle.machine_rules.specs.Natives.{NativeAnswers}
 
 -- the world after a method began

@@ -21,7 +21,7 @@ use Rattle.machine_state.specs.State.{Step, Run, Ask, Act, State, Activation, Bo
 use Rattle.syntax_trees.specs.declared.connection.ConnectionType.{ConnectionType}
 use Rattle.machine_state.specs.declared.endpoints.Endpoints.{Endpoints}
 use Rattle.meta_model.specs.declared.effects.MetaEffects.{MetaEffects}
-use Rattle.statement_meaning.specs.Operations.{Operation, Write, Begin, Choose, Connect, Disconnect, Delete, Schedule, TakeAnswer, Nothing, operation, operation_of_step}
+use Rattle.machine_rules.specs.Operations.{Operation, Write, Begin, Choose, Connect, Disconnect, Delete, Schedule, TakeAnswer, Nothing, operation, operation_of_step}
 use Rattle.statement_meaning.specs.code.Coded.{Yields}
 use Rattle.machine_rules.specs.Rules.{Rule, StepRule, Does, told, Connects, Disconnects}
 use Rattle.machine_rules.specs.Destroying.{Schedules}

@@ -21,7 +21,7 @@ use Rattle.binding_graph.specs.declared.place.Place.{Place}
 use Rattle.machine_state.specs.State.{Step, State, Activation, Body, Emit, Update, Destroy}
 use Rattle.machine_rules.specs.Destroying.{Dies, forgotten, NextRule, ChildRule, DestroyRule, living_child, Schedules}
 use Rattle.machine_rules.specs.Rules.{RuleAt, BodyRule, Does, EmitRule, UpdateRule, NotifiesIf, Begins, BeginsIf, begun, with_used, linked, unlinked, TurnRule, Serves, Delivers, Arrives}
-use Rattle.statement_meaning.specs.Operations.{Operation, Write, Begin, Choose, Connect, Disconnect, Delete, Schedule, TakeAnswer, Nothing}
+use Rattle.machine_rules.specs.Operations.{Operation, Write, Begin, Choose, Connect, Disconnect, Delete, Schedule, TakeAnswer, Nothing}
 use Rattle.machine_state.specs.Connections.{is_living, next_used, joins_these}
 use Rattle.connections.specs.Connected.{touches}
 use Rattle.machine_state.specs.declared.turn.Turn.{Turn}

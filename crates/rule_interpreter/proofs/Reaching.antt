@@ -12,7 +12,7 @@ use Rattle.machine_state.specs.declared.world.World.{World}
 use Rattle.machine_state.specs.State.{State, Activation, Body, Update, IsIdle}
 use Rattle.machine_rules.specs.Rules.{Rule, RuleAt, StepRule, Does}
 use Rattle.machine_rules.specs.Settling.{Writes, notified}
-use Rattle.statement_meaning.specs.Operations.{Operation, Write, TakeAnswer}
+use Rattle.machine_rules.specs.Operations.{Operation, Write, TakeAnswer}
 use Rattle.meta_model.specs.declared.effects.MetaEffects.{MetaEffects}
 use Rattle.prop_bindings.specs.Fits.{Agree}
 use Rattle.binding_graph.specs.declared.place.Place.{Place}

@@ -30,7 +30,7 @@ use Rattle.machine_state.specs.State.{Step, State, Activation, Body, Emit, Updat
 use Rattle.machine_state.specs.Turns.{running, reaches_at_once}
 use Rattle.machine_state.specs.Worlds.{using, noted, HasWritten}
 use Rattle.machine_state.proofs.Due.{all-used, last-used}
-use Rattle.statement_meaning.specs.Operations.{Operation, Write, Begin, Choose, Nothing, Connect, Disconnect, Delete, Schedule, TakeAnswer}
+use Rattle.machine_rules.specs.Operations.{Operation, Write, Begin, Choose, Nothing, Connect, Disconnect, Delete, Schedule, TakeAnswer}
 use Rattle.machine_rules.specs.Good.{ArgumentsFit, TopFits, IsWell}
 use Rattle.machine_rules.specs.code.Keeps.{StayThere, AllJoined, KeepsWorld}
 use Rattle.rule_interpreter.specs.code.Reaches.{Reaches}

@@ -28,7 +28,7 @@ use Rattle.machine_state.specs.State.{Step, State, Activation, Body, Update}
 use Rattle.machine_state.specs.Telling.{Assigning, Alone, Grouped, IsAssigningTold, writes_of}
 use Rattle.std.proofs.lemmas.Option.{same_Some}
 use Rattle.machine_state.specs.Worlds.{at, noted, HasWritten}
-use Rattle.statement_meaning.specs.Operations.{Operation, Write, TakeAnswer, operation_of_step}
+use Rattle.machine_rules.specs.Operations.{Operation, Write, TakeAnswer, operation_of_step}
 use Rattle.run_context.specs.code.Activating.{MayNest}
 use Rattle.rule_interpreter.specs.code.Reaches.{Reaches, StopsIn, RunsTo, Sets}
 use Rattle.machine_rules.specs.Faults.{IsAfterFit, LacksFirst, WritesDeep}

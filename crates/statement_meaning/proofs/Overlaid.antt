@@ -11,7 +11,7 @@ use Rattle.prop_bindings.specs.declared.assignment.Assignment.{Assignment}
 use Rattle.prop_bindings.specs.Plans.{assigned}
 use Rattle.prop_bindings.proofs.Assigned.{assigned-differs}
 use Rattle.prop_bindings.proofs.Fitting.{seen-same}
-use Rattle.statement_meaning.specs.Operations.{after_set, set_in, sets_in}
+use Rattle.machine_rules.specs.Operations.{after_set, set_in, sets_in}
 use Rattle.statement_meaning.specs.code.Scope.{overlaid}
 
 -- values are seen as they are without it

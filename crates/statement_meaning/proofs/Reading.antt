@@ -7,7 +7,7 @@ use Rattle.expressions.specs.declared.evaluation.EvalFault.{EvalFault}
 use Rattle.expressions.specs.declared.evaluation.EvalFault.TheVariants.{BadType, Memory}
 use Rattle.expressions.specs.Evaluation.{Evaluates}
 use Rattle.object_tree.specs.declared.object.Object.{Object}
-use Rattle.statement_meaning.specs.Paths.{steps_value, step_value}
+use Rattle.machine_rules.specs.Paths.{steps_value, step_value}
 
 -- from no value no step leads on
 pub steps-none : (objects : List Object) (steps : List Step) → steps_value objects steps None ≡ None

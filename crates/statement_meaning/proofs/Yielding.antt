@@ -20,8 +20,8 @@ use Rattle.statement_meaning.specs.declared.paths.Scope.{Scope}
 use Rattle.prop_bindings.specs.declared.assignment.Assignment.{Assignment}
 use Rattle.binding_graph.specs.Places.{property_of}
 use Rattle.machine_state.specs.Telling.{Grouped}
-use Rattle.statement_meaning.specs.Operations.{Operation, Write, Begin, Choose, Nothing, led_to, on_object, on_ends, chosen_by, operation, operation_of_set, set_at, sets_in}
-use Rattle.statement_meaning.specs.Paths.{path_value, value_of, values_of}
+use Rattle.machine_rules.specs.Operations.{Operation, Write, Begin, Choose, Nothing, led_to, on_object, on_ends, chosen_by, operation, operation_of_set, set_at, sets_in}
+use Rattle.machine_rules.specs.Paths.{path_value, value_of, values_of}
 use Rattle.statement_meaning.specs.code.Coded.{Obtains, Yields, FindsBetween, chosen_of}
 use Rattle.statement_meaning.specs.code.Scope.{ends_in}
 use Rattle.statement_meaning.specs.code.Coded.{Finds, FindsTruth}

@@ -4,7 +4,7 @@ ghost use Rattle.std.specs.Prelude.{◌≡◌, Some};
 ghost use Rattle.std.specs.Option.{option_copied};
 ghost use Rattle.expressions.specs.Evaluation.{Evaluates, EvaluatesAll};
 ghost use Rattle.statement_meaning.specs.code.Coded.{Finds, FindsTruth};
-ghost use Rattle.statement_meaning.specs.Paths.{root_value, step_value, steps_value};
+ghost use Rattle.machine_rules.specs.Paths.{root_value, step_value, steps_value};
 ghost use Rattle.statement_meaning.specs.code.Scope.{objects_in, path_in, value_in, values_in};
 ghost use Rattle.object_tree.specs.Objects.{stored};
 ghost use Rattle.object_tree.specs.Seen.{seen};

@@ -19,7 +19,7 @@ use Rattle.machine_events.specs.Causes.{Brings, StopsFor, spent, short as of_mem
 use Rattle.machine_events.specs.Laws.{AnswersAre, IsFront}
 use Rattle.machine_events.specs.Runs.{Run, done, goes, takes, RunsWhole, RunsFront, IsDue, goes_on as is_under_way, is_next}
 use Rattle.machine_events.proofs.OneRun.{no-rule, one_run, one_front, one_front_of_answers}
-use Rattle.checked_runs.proofs.Kept.{start-invariant}
+use Rattle.qt_runtime.proofs.CheckedRuns.Kept.{start-invariant}
 use Rattle.qt_runtime.specs.Seen.{Seen, RunsAll, Halts, begun}
 use Rattle.program_commands.specs.declared.refusal.Refusal.{Refusal}
 use Rattle.program_commands.specs.Loading.{LoadsCertified}

@@ -2,7 +2,7 @@
 -- that it comes only where a growth of memory was refused is not stated here.
 use Rattle.std.specs.Prelude.{◌≡◌, ℕ, ◌<◌, ◌≤◌, ◌⊎◌, List, [], ◌∷◌, length, take, Option, Result, Ok, Err, IfSome}
 use Rattle.std.specs.Borrow.{Bor}
-use Rattle.checked_runs.specs.Claims.{IsLimit}
+use Rattle.qt_runtime.specs.Claims.{IsLimit}
 use Rattle.certificate_lang.specs.declared.certificate.Certificate.{Certificate}
 use Rattle.meta_model.specs.Loaded.{Loaded}
 use Rattle.native_slots.specs.declared.head.NativeHead.{NativeHead}

@@ -17,15 +17,15 @@ use Rattle.prop_bindings.specs.Fits.{Agree}
 use Rattle.delete_later.proofs.Agreeing.{agree-on, live-moved}
 use Rattle.machine_rules.specs.Natives.{NativeAnswers}
 use Rattle.machine_rules.specs.Judgement.{Numbered, holds, fails, becomes, goes_on, ends}
-use Rattle.machine_events.specs.code.Judgement.{IsNotAccepted, IsLiving}
-use Rattle.machine_events.specs.declared.judgement.NotAccepted.{NotAccepted}
+use Rattle.event_judgement.specs.code.Judgement.{IsNotAccepted, IsLiving}
+use Rattle.event_judgement.specs.declared.not_accepted.NotAccepted.{NotAccepted}
 use Rattle.machine_events.specs.code.Taking.{adoption_reason}
-use Rattle.machine_events.specs.Events.{adopt, living}
+use Rattle.event_judgement.specs.Events.{adopt, living}
 use Rattle.object_tree.proofs.TypedObjects.{typed-moved}
 use Rattle.machine_events.proofs.Changes.{adopted-by}
-use Rattle.machine_events.proofs.Judged.{then-ends, then-on}
+use Rattle.event_judgement.proofs.Judged.{then-ends, then-on}
 use Rattle.machine_events.proofs.Taken.{no_natives, Ready, halted-short}
-use Rattle.machine_events.proofs.Judging.Naming.{living-ok}
+use Rattle.event_judgement.proofs.Judging.Naming.{living-ok}
 use Rattle.machine_events.specs.Causes.{Halts}
 
 -- the parent's name isn't accepted

@@ -12,14 +12,14 @@ use Rattle.machine_state.specs.Worlds.{at}
 use Rattle.binding_graph.specs.declared.binding.Binding.{Binding}
 use Rattle.prop_bindings.specs.Fits.{Agree}
 use Rattle.delete_later.proofs.Agreeing.{agree-on, live-change}
-use Rattle.machine_events.specs.declared.judgement.NotAccepted.{NotAccepted}
+use Rattle.event_judgement.specs.declared.not_accepted.NotAccepted.{NotAccepted}
 use Rattle.machine_rules.specs.Judgement.{Numbered, gives, goes_on, ends}
-use Rattle.machine_events.specs.code.Judgement.{IsNotAccepted, refused, short, IsLiving}
-use Rattle.machine_events.specs.Takes.{judged}
+use Rattle.event_judgement.specs.code.Judgement.{IsNotAccepted, refused, short, IsLiving}
+use Rattle.event_judgement.specs.Takes.{judged}
 use Rattle.machine_events.specs.code.Taking.{blocking}
-use Rattle.machine_events.specs.Events.{block, living}
+use Rattle.event_judgement.specs.Events.{block, living}
 use Rattle.object_tree.proofs.TypedObjects.{typed-change}
-use Rattle.machine_events.proofs.Judging.Naming.{living-ok}
+use Rattle.event_judgement.proofs.Judging.Naming.{living-ok}
 
 judged-blocking : (p : Loaded) (s : State) {r : Result State Refusal} (name : List ℕ) (on : Bool) → block s name on r → judged p s (blocking on name) r
 judged-blocking p s name true x = x

@@ -24,9 +24,9 @@ use Rattle.machine_rules.specs.Good.{IsWell}
 use Rattle.machine_rules.proofs.Fields.{class-unique}
 use Rattle.machine_rules.specs.Judgement.{NothingIs, found, missing, holds, fails, gives, goes_on, ends}
 use Rattle.machine_events.specs.Runs.{by_event}
-use Rattle.machine_events.specs.Takes.{accepts}
+use Rattle.event_judgement.specs.Takes.{accepts}
 use Rattle.machine_events.specs.code.Taking.{creation_reason}
-use Rattle.machine_events.specs.Events.{create, IsClassOf, IsHome}
+use Rattle.event_judgement.specs.Events.{create, IsClassOf, IsHome}
 use Rattle.machine_events.proofs.Taken.{idle, no_natives, none-yet, Ready, halted-short}
 use Rattle.machine_events.specs.Causes.{Halts, brings, goes_ill}
 

@@ -25,13 +25,13 @@ use Rattle.machine_rules.specs.Destroying.{scheduled_now}
 use Rattle.machine_rules.specs.Judgement.{Numbered, becomes, gives, goes_on}
 use Rattle.rule_interpreter.specs.code.Reaches.{RunsTo}
 use Rattle.machine_rules.specs.code.Sound.{IsSoundWorld}
-use Rattle.machine_events.specs.declared.judgement.NotAccepted.{NotAccepted}
-use Rattle.machine_events.specs.code.Judgement.{IsNotAccepted, IsLiving}
-use Rattle.machine_events.specs.Takes.{judged, accepts}
+use Rattle.event_judgement.specs.declared.not_accepted.NotAccepted.{NotAccepted}
+use Rattle.event_judgement.specs.code.Judgement.{IsNotAccepted, IsLiving}
+use Rattle.event_judgement.specs.Takes.{judged, accepts}
 use Rattle.machine_events.specs.code.Taking.{Took}
-use Rattle.machine_events.specs.Events.{living}
-use Rattle.machine_events.proofs.Judged.{then-ends}
-use Rattle.machine_events.proofs.Judging.Naming.{living-ok}
+use Rattle.event_judgement.specs.Events.{living}
+use Rattle.event_judgement.proofs.Judged.{then-ends}
+use Rattle.event_judgement.proofs.Judging.Naming.{living-ok}
 use Rattle.machine_events.proofs.Taken.{idle, Ready, good-pushed, took-quiet}
 use Rattle.machine_rules.proofs.Scheduling.{schedules-before}
 use Rattle.machine_events.specs.Causes.{Halts}

@@ -14,7 +14,7 @@ use Rattle.prop_bindings.specs.Fits.{Agree}
 use Rattle.machine_rules.specs.Natives.{NativeAnswers}
 use Rattle.rule_interpreter.specs.code.Reaches.{RunsTo}
 use Rattle.machine_rules.specs.Judgement.{found, missing, holds, fails, gives, goes_on, ends}
-use Rattle.machine_events.specs.Takes.{judged, accepts}
+use Rattle.event_judgement.specs.Takes.{judged, accepts}
 use Rattle.machine_events.specs.code.Taking.{Took}
 use Rattle.machine_events.proofs.Taken.{idle, Ready, good-quiet}
 use Rattle.machine_events.specs.Causes.{Halts}

@@ -21,14 +21,14 @@ use Rattle.machine_state.specs.Accepting.{accepted}
 use Rattle.machine_state.specs.Worlds.{at, with_store}
 use Rattle.machine_rules.specs.Natives.{NativeAnswers}
 use Rattle.machine_rules.specs.Judgement.{Numbered, found, missing, holds, fails, becomes, goes_on, ends}
-use Rattle.machine_events.specs.code.Judgement.{IsNotAccepted, IsLiving}
-use Rattle.machine_events.specs.declared.judgement.NotAccepted.{NotAccepted}
+use Rattle.event_judgement.specs.code.Judgement.{IsNotAccepted, IsLiving}
+use Rattle.event_judgement.specs.declared.not_accepted.NotAccepted.{NotAccepted}
 use Rattle.machine_events.specs.code.Taking.{moving_reason}
 use Rattle.machine_events.specs.Causes.{Halts}
-use Rattle.machine_events.specs.Events.{living, move, WouldPart}
+use Rattle.event_judgement.specs.Events.{living, move, WouldPart}
 use Rattle.machine_events.proofs.Homes.{named-within}
-use Rattle.machine_events.proofs.Judged.{then-ends}
-use Rattle.machine_events.proofs.Judging.Naming.{living-ok}
+use Rattle.event_judgement.proofs.Judged.{then-ends}
+use Rattle.event_judgement.proofs.Judging.Naming.{living-ok}
 use Rattle.delete_later.proofs.Moving.{below-alike, lead_out-alike}
 use Rattle.machine_events.proofs.Taken.{no_natives, Ready, halted-short}
 

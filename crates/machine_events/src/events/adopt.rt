@@ -5,8 +5,8 @@ ghost use Rattle.script_lang.specs.declared.event.Event.TheVariants.{Adopt};
 ghost use Rattle.machine_events.specs.code.Taking.{WorldInvariant, TookBy};
 ghost use Rattle.machine_events.specs.code.Taking.{adoption_reason};
 
-use crate::events::named::find_living;
-use crate::judgement::refuse;
+use crate::refusing::refuse;
+use event_judgement::find_living;
 use machine_state::World;
 use native_slots::Answering;
 use object_tree::AdoptFault;

@@ -1,30 +1,19 @@
 //! `bind`: a property is bound to others.
 
-ghost use Rattle.std.specs.Prelude.{◌≡◌, ℕ, ◌<◌, List, [], IfOk, IfErr, None};
+ghost use Rattle.std.specs.Prelude.{◌≡◌, ℕ, ◌<◌, List, None};
 ghost use Rattle.script_lang.specs.declared.event.Event.TheVariants.{Bind};
-ghost use Rattle.machine_state.specs.Worlds.{at};
 ghost use Rattle.machine_rules.specs.Natives.{KeepPromises};
-ghost use Rattle.machine_events.specs.code.Judgement.{IsNotAccepted};
-ghost use Rattle.machine_events.specs.code.Taking.{WorldInvariant, TookBy, AsksToBind, binding_reason};
-ghost use Rattle.machine_events.specs.Events.{may_bind};
+ghost use Rattle.event_judgement.specs.code.Accepted.{AsksToBind};
+ghost use Rattle.machine_events.specs.code.Taking.{WorldInvariant, TookBy, binding_reason};
 
-use crate::events::named::{find_all_living, find_living};
-use crate::judgement::{NotAccepted, refuse};
+use crate::refusing::refuse;
+use event_judgement::{Asked, judge_bind};
 use machine_state::World;
 use native_slots::Answering;
 use prop_bindings::BindFault;
 use rule_interpreter::{Active, Interpreter};
-use signatures::{Name, ObjectId};
-use sqlite_items::Items;
+use signatures::Name;
 use trace_entries::{Answer, Fault, Refusal};
-
-/// A binding site, and the objects whose properties it is to join.
-#[derive(Drop)]
-struct Asked {
-    site: usize,
-    target: ObjectId,
-    sources: Items<ObjectId>,
-}
 
 /// Binds a property, and runs what is notified.
 pub fn bind<N: Answering>(
@@ -43,42 +32,10 @@ pub fn bind<N: Answering>(
     ensures { TookBy N.gives interpreter.now (Bind site.now target.now sources.now)
         world.old world.new result }
 {
-    match judge(interpreter, world, site, target, sources) {
+    match judge_bind(&interpreter.context, world, site, target, sources) {
         Err(reason) => refuse(world, reason),
         Ok(asked) => install(interpreter, world, &asked),
     }
-}
-
-/// What is to be bound, or why the event isn't accepted. Whether the site covers the objects is judged as the binding is
-/// installed.
-fn judge<N: Answering>(
-    interpreter: &Interpreter<N>,
-    world: &World,
-    site: &Name,
-    target: &Name,
-    sources: &[Name],
-) -> Result<Asked, NotAccepted>
-    ensures asked { IfOk result (λ a. AsksToBind interpreter.now.context.meta world.now
-        site.now target.now sources.now a.site a.target a.sources) }
-    ensures refused { IfErr result (IsNotAccepted
-        (may_bind interpreter.now.context.meta (at world.now []) site.now target.now sources.now)) }
-{
-    let Some(number) = interpreter.context.meta.site(site) else {
-        return Err(NotAccepted::Refused(Refusal::BadSource));
-    };
-    let Some(declared) = interpreter.context.meta.site_at(number) else {
-        unreachable!()
-    };
-    if sources.len() != declared.formals.len() {
-        return Err(NotAccepted::Refused(Refusal::BadSource));
-    }
-    let (target, _) = find_living(world, target)?;
-    let sources = find_all_living(interpreter.context.alloc, world, sources)?;
-    Ok(Asked {
-        site: number,
-        target: ObjectId::new(target),
-        sources,
-    })
 }
 
 /// Installs the binding, and runs what is notified; or refuses the event.

@@ -3,8 +3,8 @@
 ghost use Rattle.std.specs.Prelude.{◌<◌, ◌≡◌, None};
 ghost use Rattle.machine_events.specs.code.Taking.{WorldInvariant, TookBy, blocking};
 
-use crate::events::named::find_living;
-use crate::judgement::refuse;
+use crate::refusing::refuse;
+use event_judgement::find_living;
 use machine_state::World;
 use native_slots::Answering;
 use rule_interpreter::Interpreter;

@@ -6,7 +6,7 @@ ghost use Rattle.machine_events.specs.code.Taking.{WorldInvariant, TookBy};
 ghost use Rattle.machine_state.specs.Worlds.{at};
 ghost use Rattle.machine_rules.specs.Judgement.{NothingIs};
 ghost use Rattle.machine_events.specs.code.Taking.{creation_reason};
-ghost use Rattle.machine_events.specs.Events.{create, IsHome};
+ghost use Rattle.event_judgement.specs.Events.{create, IsHome};
 
 use machine_state::{MAIN, World};
 use native_slots::Answering;

@@ -5,8 +5,8 @@ ghost use Rattle.script_lang.specs.declared.event.Event.TheVariants.{Delete};
 ghost use Rattle.machine_rules.specs.Natives.{KeepPromises};
 ghost use Rattle.machine_events.specs.code.Taking.{WorldInvariant, TookBy};
 
-use crate::events::named::find_living;
-use crate::judgement::refuse;
+use crate::refusing::refuse;
+use event_judgement::find_living;
 use machine_state::World;
 use native_slots::Answering;
 use rule_interpreter::{Active, Interpreter};

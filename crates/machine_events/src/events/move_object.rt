@@ -5,9 +5,9 @@ ghost use Rattle.script_lang.specs.declared.event.Event.TheVariants.{Move};
 ghost use Rattle.machine_events.specs.code.Taking.{WorldInvariant, TookBy};
 ghost use Rattle.machine_events.specs.code.Taking.{moving_reason};
 
-use crate::events::named::find_living;
-use crate::judgement::refuse;
+use crate::refusing::refuse;
 use delete_later::MoveFault;
+use event_judgement::find_living;
 use machine_state::World;
 use native_slots::Answering;
 use rule_interpreter::Interpreter;

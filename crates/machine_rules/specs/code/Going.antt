@@ -5,7 +5,7 @@ use Rattle.meta_model.specs.Loaded.{Loaded}
 use Rattle.trace_entries.specs.declared.fault.Fault.{Fault}
 use Rattle.trace_entries.specs.declared.fault.Fault.TheVariants.{BadType, TooDeep, BindingLoop, InUse, Steps, Memory, Stopped}
 use Rattle.machine_state.specs.State.{State, IsIdle}
-use Rattle.statement_meaning.specs.Operations.{TakeAnswer}
+use Rattle.machine_rules.specs.Operations.{TakeAnswer}
 use Rattle.machine_rules.specs.Faults.{LacksFirst, WritesDeep, GoesIll, GoesFatal, GoesDeep}
 use Rattle.machine_rules.specs.Next.{DoesNext, WritesNext, WritesIll}
 use Rattle.machine_rules.specs.Good.{IsGood}

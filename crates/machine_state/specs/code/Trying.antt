@@ -10,7 +10,7 @@ use Rattle.prop_bindings.specs.Fits.{FitsAt}
 use Rattle.trace_entries.specs.declared.fault.Fault.{Fault}
 use Rattle.trace_entries.specs.declared.fault.Fault.TheVariants.{BadType, Memory}
 use Rattle.machine_state.specs.declared.world.World.{World}
-use Rattle.machine_state.specs.Telling.{Alone}
+use Rattle.change_lines.specs.Telling.{Alone}
 use Rattle.machine_state.specs.Worlds.{noted, HasWritten}
 
 -- the fault of a run for one of a write

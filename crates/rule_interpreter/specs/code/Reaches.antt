@@ -12,7 +12,7 @@ use Rattle.machine_state.specs.State.{State, Activation, Destroy, IsIdle}
 use Rattle.machine_state.specs.Telling.{Assigning}
 use Rattle.machine_rules.specs.Good.{shows}
 use Rattle.machine_rules.specs.Natives.{NativeAnswers}
-use Rattle.statement_meaning.specs.Operations.{Operation, Begin}
+use Rattle.machine_rules.specs.Operations.{Operation, Begin}
 use Rattle.machine_rules.specs.Rules.{Rule, Begins}
 use Rattle.machine_rules.specs.Settling.{Writes}
 use Rattle.machine_rules.specs.Destroying.{deleting, Dies}

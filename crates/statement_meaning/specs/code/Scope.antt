@@ -10,13 +10,13 @@ use Rattle.meta_model.specs.declared.object.MetaPath.{MetaPath}
 use Rattle.meta_model.specs.declared.object.Statement.{Statement}
 use Rattle.meta_model.specs.declared.object.Statement.TheOpen as layer
 use Rattle.machine_state.specs.declared.endpoints.Endpoints.{Endpoints}
-use Rattle.statement_meaning.specs.Paths.{path_value, value_of, values_of}
-use Rattle.statement_meaning.specs.Operations.{Operation, on_ends, operation}
+use Rattle.machine_rules.specs.Paths.{path_value, value_of, values_of}
+use Rattle.machine_rules.specs.Operations.{Operation, on_ends, operation}
 use Rattle.statement_meaning.specs.declared.paths.Scope.{Scope}
 use Rattle.object_tree.specs.declared.object.Object.{Object}
 use Rattle.prop_bindings.specs.Plans.{assigned}
 use Rattle.prop_bindings.specs.declared.assignment.Assignment.{Assignment}
-use Rattle.statement_meaning.specs.Operations.{after_set, set_in, sets_in}
+use Rattle.machine_rules.specs.Operations.{after_set, set_in, sets_in}
 
 -- the objects with what a group has written so far, if there is one
 abbrev pub overlaid : {S : Type 0} → Option (IndexMap (ℕ × ℕ) Value S) → List Object → List Object

@@ -4,7 +4,7 @@ use Rattle.object_tree.specs.Objects.{change_life, written}
 use Rattle.prop_bindings.specs.declared.assignment.Assignment.{Assignment}
 use Rattle.prop_bindings.specs.Plans.{assigned}
 use Rattle.prop_bindings.proofs.Assigned.{ahead-more}
-use Rattle.statement_meaning.specs.Operations.{after_set}
+use Rattle.machine_rules.specs.Operations.{after_set}
 use Rattle.statement_meaning.proofs.operation.keep.Goals as goal
 
 pub returns-in_ok-insert : goal.returns-in_ok-insert

@@ -1,4 +1,4 @@
-use Rattle.machine_events.proofs.Judging.Binding.{not-bindable}
+use Rattle.event_judgement.proofs.Judging.Binding.{not-bindable}
 use Rattle.machine_events.proofs.Taken.{took-not-accepted, ready}
 use Rattle.machine_events.proofs.events.bind.bind.Goals as goal
 

@@ -1,6 +1,6 @@
 use Rattle.std.proofs.Common.{[]}
 use Rattle.machine_state.specs.Worlds.{at}
-use Rattle.machine_events.proofs.Judging.Invoking.{not-invoking}
+use Rattle.event_judgement.proofs.Judging.Invoking.{not-invoking}
 use Rattle.machine_events.proofs.Taken.{took-not-accepted, ready}
 use Rattle.machine_events.proofs.events.invoke.invoke.Goals as goal
 

@@ -2,14 +2,14 @@ use Rattle.std.proofs.Common.{[], ◌∷◌, List, refl, ap, sym, subst}
 use Rattle.binding_graph.specs.declared.place.Place.{Place}
 use Rattle.prop_bindings.specs.declared.planned.Planned.{Planned}
 use Rattle.prop_bindings.specs.Plans.{after}
-use Rattle.machine_state.specs.declared.telling.Cause.TheVariants.{Bind}
+use Rattle.change_lines.specs.declared.telling.Cause.TheVariants.{Bind}
 use Rattle.prop_bindings.specs.Calls.{IsNotBound}
 use Rattle.trace_entries.specs.declared.entry.Entry.{Entry}
-use Rattle.machine_state.specs.Telling.{AreTold}
+use Rattle.change_lines.specs.Telling.{AreTold}
 use Rattle.machine_state.specs.Worlds.{accepting_entries}
-use Rattle.machine_state.specs.code.Planned.{CanBeTold}
+use Rattle.change_lines.specs.code.Planned.{CanBeTold}
 use Rattle.machine_state.proofs.Bound.{has-bound, binds-short, lines-lost}
-use Rattle.machine_state.proofs.Changed.{bound-ahead}
+use Rattle.change_lines.proofs.Changed.{bound-ahead}
 use Rattle.machine_state.proofs.world.World.accept_bind.Goals as goal
 
 pub lines-requires : goal.lines-requires

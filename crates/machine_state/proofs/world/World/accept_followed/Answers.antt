@@ -3,10 +3,10 @@ use Rattle.binding_graph.specs.declared.place.Place.{Place}
 use Rattle.binding_graph.specs.Bindings.{without}
 use Rattle.prop_bindings.specs.Changes.{one}
 use Rattle.prop_bindings.specs.Plans.{after}
-use Rattle.machine_state.specs.Telling.{Alone}
+use Rattle.change_lines.specs.Telling.{Alone}
 use Rattle.machine_state.specs.Worlds.{accepting_entries}
 use Rattle.machine_state.proofs.Bound.{has-written, written-agrees, counted-over}
-use Rattle.machine_state.proofs.Changed.{written-ahead}
+use Rattle.change_lines.proofs.Changed.{written-ahead}
 use Rattle.machine_state.proofs.Trying.{writes-not}
 use Rattle.machine_state.proofs.world.World.accept_followed.Goals as goal
 

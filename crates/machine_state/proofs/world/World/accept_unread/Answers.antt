@@ -6,7 +6,7 @@ use Rattle.machine_state.specs.declared.world.World.{World}
 use Rattle.machine_state.specs.Worlds.{accepting_entries}
 use Rattle.machine_state.proofs.Alone.{alone-agreeing, alone-has-written}
 use Rattle.machine_state.proofs.Bound.{counted-over}
-use Rattle.machine_state.proofs.Changed.{fits-has}
+use Rattle.change_lines.proofs.Changed.{fits-has}
 use Rattle.machine_state.proofs.world.World.accept_unread.Goals as goal
 
 pub line_of-requires : goal.line_of-requires

@@ -8,7 +8,7 @@ use Rattle.machine_state.specs.State.{Run, Act}
 use Rattle.machine_state.specs.Telling.{Alone}
 use Rattle.binding_graph.specs.Places.{property_of}
 use Rattle.std.specs.Option.{option_map}
-use Rattle.statement_meaning.specs.Operations.{Write, Begin, operation_of_action}
+use Rattle.machine_rules.specs.Operations.{Write, Begin, operation_of_action}
 use Rattle.machine_rules.specs.Good.{ArgumentsFit}
 use Rattle.machine_rules.specs.code.Keeps.{KeepsWorld}
 use Rattle.machine_rules.specs.code.Sound.{IsSoundWorld}

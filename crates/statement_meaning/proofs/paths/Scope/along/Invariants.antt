@@ -1,6 +1,6 @@
 use Rattle.statement_meaning.specs.code.Scope.{objects_in}
 use Rattle.std.proofs.Common.{◌≡◌, drop, Some}
-use Rattle.statement_meaning.specs.Paths.{steps_value}
+use Rattle.machine_rules.specs.Paths.{steps_value}
 use Rattle.statement_meaning.proofs.paths.Scope.along.Given as goal
 
 -- what the steps that are left give from what was found is what all of them give

@@ -1,4 +1,4 @@
-use Rattle.statement_meaning.specs.Operations.{Connect}
+use Rattle.machine_rules.specs.Operations.{Connect}
 use Rattle.statement_meaning.proofs.Yielding.{ends-lack}
 use Rattle.statement_meaning.proofs.paths.Scope.connection.Goals as goal
 

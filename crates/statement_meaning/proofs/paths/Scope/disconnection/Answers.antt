@@ -1,4 +1,4 @@
-use Rattle.statement_meaning.specs.Operations.{Disconnect}
+use Rattle.machine_rules.specs.Operations.{Disconnect}
 use Rattle.statement_meaning.proofs.Yielding.{ends-lack}
 use Rattle.statement_meaning.proofs.paths.Scope.disconnection.Goals as goal
 

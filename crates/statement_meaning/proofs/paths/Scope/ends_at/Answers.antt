@@ -2,7 +2,7 @@ use Rattle.statement_meaning.specs.code.Scope.{objects_in}
 use Rattle.std.proofs.Common.{subst}
 use Rattle.expressions.specs.declared.evaluation.EvalFault.{EvalFault}
 use Rattle.std.specs.Prelude.{Err}
-use Rattle.statement_meaning.specs.Paths.{path_value}
+use Rattle.machine_rules.specs.Paths.{path_value}
 use Rattle.statement_meaning.specs.code.Coded.{Finds}
 use Rattle.statement_meaning.proofs.Yielding.{ends-left, no-sender, no-receiver, null-sender, null-receiver, at-ends}
 use Rattle.statement_meaning.proofs.paths.Scope.ends_at.Goals as goal

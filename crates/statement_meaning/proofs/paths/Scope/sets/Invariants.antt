@@ -1,6 +1,6 @@
 use Rattle.std.proofs.Common.{◌≡◌, drop}
 use Rattle.prop_bindings.specs.Plans.{assigned}
-use Rattle.statement_meaning.specs.Operations.{sets_in}
+use Rattle.machine_rules.specs.Operations.{sets_in}
 use Rattle.statement_meaning.proofs.Overlaid.{continued}
 use Rattle.statement_meaning.proofs.paths.Scope.sets.Given as goal
 

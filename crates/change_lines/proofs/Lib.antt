@@ -1,0 +1,4 @@
+pub mod Followers
+pub mod Changed
+pub mod Told
+pub mod Ahead

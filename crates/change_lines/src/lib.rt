@@ -1,0 +1,8 @@
+//! How values are written down, and what a change of properties writes down.
+#![tactic(auto)]
+
+mod showing;
+mod telling;
+
+pub use showing::{show, show_all};
+pub use telling::{Cause, Telling, line_of};

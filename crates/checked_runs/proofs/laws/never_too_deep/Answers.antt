@@ -1,5 +1,0 @@
-use Rattle.checked_runs.proofs.Claims as law
-use Rattle.checked_runs.proofs.laws.never_too_deep.Goals as goal
-
-pub returns : goal.returns
-returns g c = law.never_too_deep (g.N.Answering.gives c.args._natives.now)

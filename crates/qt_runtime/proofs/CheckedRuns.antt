@@ -1,0 +1,21 @@
+-- What holds of every run of a program with a valid certificate, from the first step on.
+pub mod Invariant
+pub mod Promised
+pub mod Nodes
+pub mod Ladder
+pub mod Sites
+pub mod Worlds
+pub mod Followers
+pub mod PathClasses
+pub mod Lacking
+pub mod Leading
+pub mod Rules
+pub mod Events
+pub mod Giving
+pub mod Kept
+pub mod Arguments
+pub mod Settled
+pub mod Binding
+pub mod TypedSteps
+pub mod Steps
+pub mod Claims
