@@ -84,12 +84,15 @@ impl<'w, W: Write> Output<'w, W> {
         }
     }
 
-    /// Writes all that is pending, which makes room for these bytes; where they are too many they are written too.
+    /// Makes room for these bytes, or else writes all that is pending; where they are too many they are written too.
     #[cold]
     #[inline(never)]
     fn pass_on(&mut self, bytes: &[u8])
         ensures { Puts W.contents self.old self.new bytes.now }
     {
+        if self.pending.add_grown(bytes) {
+            return;
+        }
         self.send();
         if !self.pending.add(bytes) {
             self.write(bytes);

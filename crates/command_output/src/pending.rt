@@ -6,10 +6,15 @@ ghost use Rattle.std.specs.Bool.{OnTrue, OnFalse};
 use std::alloc::Global;
 use std::marker::Model;
 
-/// So many bytes are kept back at most.
-const ROOM: usize = 65536;
+/// Room for so many bytes is made first.
+const FIRST_ROOM: usize = 512;
 
-/// Bytes that are kept back, at most 65,536 of them, or none where there was no memory for them. Contracts see their list.
+/// So many bytes are kept back at most.
+const MOST_ROOM: usize = 65536;
+
+/// Bytes that are kept back, at most 65,536 of them, as far as there is memory for them. Contracts see their list. Room for
+/// them is made as they come: a few lines take little, and no block of memory that is so large that the allocator first
+/// puts together what was given back to it.
 #[derive(Drop)]
 pub struct Pending {
     // The bytes, and behind them those that the next ones are written over.
@@ -32,11 +37,31 @@ impl Pending {
     pub fn new(alloc: Global) -> Pending
         ensures { result ≡ [] }
     {
-        let room = match Vec::from_elem(alloc, 0, ROOM) {
-            Ok(room) => room,
-            Err(_) => Vec::new(alloc),
-        };
-        Pending { room, len: 0 }
+        Pending {
+            room: Vec::new(alloc),
+            len: 0,
+        }
+    }
+
+    /// Makes room for more bytes and adds these, if it can: not where there is as much room as there may be, no memory for
+    /// more, or too many bytes. Then nothing is added.
+    pub fn add_grown(&mut self, bytes: &[u8]) -> bool
+        ensures added { OnTrue result (self.new ≡ self.old ++ bytes.now) }
+        ensures full { OnFalse result (self.new ≡ self.old) }
+    {
+        self.grow() && self.add(bytes)
+    }
+
+    /// Makes room for twice as many bytes, and answers whether it did.
+    fn grow(&mut self) -> bool
+        ensures { self.new ≡ self.old }
+    {
+        let had = self.room.len();
+        if had >= MOST_ROOM {
+            return false;
+        }
+        let more = if had == 0 { FIRST_ROOM } else { 2 * had };
+        self.room.resize(more, 0).is_ok()
     }
 
     /// The bytes.
