@@ -5,6 +5,7 @@ use Rattle.std.specs.Result.{IsErrAnd}
 use Rattle.std.proofs.lemmas.List.{map-append}
 use Rattle.signatures.specs.declared.value.Value.{Value}
 use Rattle.meta_model.specs.declared.object.Statement.{Statement}
+use Rattle.meta_model.specs.declared.object.Statement.TheOpen as layer
 use Rattle.meta_model.specs.declared.object.Statement.TheViews.{out-Statement}
 use Rattle.meta_model.specs.Loaded.{Loaded}
 use Rattle.expressions.specs.declared.evaluation.EvalFault.{EvalFault}
@@ -14,6 +15,7 @@ use Rattle.trace_entries.specs.declared.entry.Entry.TheVariants.{At}
 use Rattle.trace_entries.specs.declared.entry.EntryKind.TheVariants.{OnNull, Answered}
 use Rattle.native_slots.specs.declared.action.Action.{Action}
 use Rattle.trace_entries.specs.declared.fault.Fault.{Fault}
+use Rattle.trace_entries.specs.Faults.{IsFaultOf}
 use Rattle.trace_entries.specs.declared.fault.Fault.TheVariants.{BadType}
 use Rattle.object_tree.specs.declared.object.Object.{Object}
 use Rattle.machine_state.specs.declared.world.World.{World}
@@ -22,7 +24,6 @@ use Rattle.syntax_trees.specs.declared.connection.ConnectionType.{ConnectionType
 use Rattle.machine_state.specs.declared.endpoints.Endpoints.{Endpoints}
 use Rattle.meta_model.specs.declared.effects.MetaEffects.{MetaEffects}
 use Rattle.machine_rules.specs.Operations.{Operation, Write, Begin, Choose, Connect, Disconnect, Delete, Schedule, TakeAnswer, Nothing, operation, operation_of_step}
-use Rattle.statement_meaning.specs.code.Coded.{Yields}
 use Rattle.machine_rules.specs.Rules.{Rule, StepRule, Does, told, Connects, Disconnects}
 use Rattle.machine_rules.specs.Destroying.{Schedules}
 use Rattle.object_tree.specs.Objects.{life_of}
@@ -32,7 +33,7 @@ use Rattle.machine_rules.specs.code.Going.{GoodRules, done, then}
 use Rattle.machine_state.specs.Worlds.{at, noted, Ticks, GoesTo}
 use Rattle.run_context.specs.code.Statements.{Went, Stalls, ConnectsIn, DisconnectsIn, SchedulesIn}
 use Rattle.rule_interpreter.specs.code.Reaches.{StopsIn, RunsTo, Advances, Calls, OnlyCalls, Sets, Deletes}
-use Rattle.rule_interpreter.proofs.Reaching.{not-idle, reaches-low, stops-as, stops-memory, stops-stuck, ends-noted, ends-ticked}
+use Rattle.rule_interpreter.proofs.Reaching.{not-idle, reaches-low, stops-as, stops-memory, stops-faulted, stops-stuck, ends-noted, ends-ticked}
 use Rattle.rule_interpreter.proofs.Frames.{high}
 use Rattle.rule_interpreter.proofs.Keeps.{some-stack, rules-kept}
 use Rattle.machine_rules.specs.Natives.{NativeAnswers, MayAnswer, TellsAnswer}
@@ -162,8 +163,12 @@ does-choose {p} {natives} {w} {o} {arguments} {x} m rest {d} {h} {v} r block is 
     subst To (sym (map-append Run block rest))
     (ends-ticked {b = Body o m arguments (map Run block ++ map Run rest) ∷ []} r (λ below k. does-rule p natives w o m arguments x (map Run rest) (Choose block) below _ is refl) (omega arith) room agree ticks)
 
+-- what a statement does is what its one layer does
+pub of-layer : (objects : List Object) (o : ℕ) (arguments : List Value) (s : Statement) {x : layer.Statement-F Statement} {d : Option Operation} → out-Statement s ≡ x → operation objects o arguments x ≡ d → operation_of_step objects o arguments (Run s) ≡ d
+of-layer objects o arguments s is does = ap (operation objects o arguments) is ∙ does
+
 -- a step that lacks a value has no rule
-pub lacks-rule : {p : Loaded} {natives : NativeAnswers} {w : World} {o : ℕ} {arguments : List Value} {x : Step} (m : ℕ) (rest : List Step) {d : ℕ} {h : List (Option ℕ)} → 0 < w.left → operation_of_step w.store.tree o arguments x ≡ None → StopsIn p natives d h w (Body o m arguments (x ∷ rest) ∷ []) w BadType
+lacks-rule : {p : Loaded} {natives : NativeAnswers} {w : World} {o : ℕ} {arguments : List Value} {x : Step} (m : ℕ) (rest : List Step) {d : ℕ} {h : List (Option ℕ)} → 0 < w.left → operation_of_step w.store.tree o arguments x ≡ None → StopsIn p natives d h w (Body o m arguments (x ∷ rest) ∷ []) w BadType
 lacks-rule {p} {natives} {w} {o} {arguments} {x} m rest some none =
     stops-stuck (not-idle w (Body o m arguments (x ∷ rest))) some (λ below t rule.
     let r : StepRule p natives (next w o m arguments x rest below) o m arguments x rest below t = rule in
@@ -171,12 +176,6 @@ lacks-rule {p} {natives} {w} {o} {arguments} {x} m rest some none =
     absurd (cc both))
     (λ below what writes. let both : None ≡ Some (Write what) = sym none ∙ next-does w writes in absurd (cc both))
     (λ below effects asks. let both : None ≡ Some (TakeAnswer effects) = sym none ∙ next-does w asks in absurd (cc both))
-
-pub lacks-read : {p : Loaded} {natives : NativeAnswers} {d o : ℕ} {h : List (Option ℕ)} {w : World} {arguments : List Value} {x : Statement} {f : EvalFault} {a : List Object} {i : ℕ} {l : List Value} (m : ℕ) (rest : List Step) → 0 < w.left → a ≡ w.store.tree → i ≡ o → l ≡ arguments → Yields (operation a i l (out-Statement x)) (Err f) → f ≡ eval.BadType → StopsIn p natives d h w (Body o m arguments (Run x ∷ rest) ∷ []) w BadType
-lacks-read {p} {natives} {o = o} {w = w} {arguments = arguments} {x = x} {a = a} {i = i} {l = l} m rest some objects this given yields is =
-    let At : EvalFault → Type 0 = λ g. Yields (operation a i l (out-Statement x)) (Err g) in
-    let none : operation w.store.tree o arguments (out-Statement x) ≡ None = moved (λ b j k. operation b j k (out-Statement x) ≡ None) objects this given (subst At is yields) in
-    lacks-rule m rest some none
 
 -- ---- a step uses a rule
 
@@ -208,3 +207,8 @@ advances-ticked (Err f) ticks ends = record { cases = ends.cases }
 pub advances-left : {p : Loaded} {natives : NativeAnswers} {d : ℕ} {h : List (Option ℕ)} {w v : World} {a b : List Activation} (f : Fault) (r : Result (Unit {0}) Fault) → RunsTo p natives d h w a v b r → IsErrAnd r (λ y. y ≡ f) → Advances p natives d h w a v b r
 advances-left f (Ok _) ends is = absurd is
 advances-left f (Err g) ends is = record { cases = ends.cases }
+
+-- a statement lacks a value that it needs, or memory was refused
+pub lacks-value : {p : Loaded} {natives : NativeAnswers} {d o m : ℕ} {h : List (Option ℕ)} {w : World} {arguments : List Value} {s : Statement} {x : layer.Statement-F Statement} {f : EvalFault} {b : List Activation} (rest : List Step) (r : Result (Unit {0}) Fault) → 0 < w.left → out-Statement s ≡ x → (f ≡ eval.BadType → operation w.store.tree o arguments x ≡ None) → IsErrAnd r (λ y. IsFaultOf f y) → Advances p natives d h w (Body o m arguments (Run s ∷ rest) ∷ []) w b r
+lacks-value rest (Ok _) some is lacks left = absurd left
+lacks-value {m = m} {f = f} rest (Err y) some is lacks left = record { cases = stops-faulted f some (λ bad. lacks-rule m rest some (of-layer _ _ _ _ is (lacks bad))) left }

@@ -1,9 +1,9 @@
 //! Bodies of slots.
 
-ghost use Rattle.std.specs.Prelude.{◌≡◌, ◌<◌, length, map, None};
+ghost use Rattle.std.specs.Prelude.{◌≡◌, ◌<◌, if◌then◌else◌, length, map, None};
+ghost use Rattle.meta_model.specs.declared.object.Statement.TheViews.{out-Statement};
 ghost use Rattle.machine_rules.specs.code.Sound.{IsSoundWorld};
 ghost use Rattle.machine_state.specs.State.{Run, Body};
-ghost use Rattle.statement_meaning.specs.code.Coded.{meant};
 ghost use Rattle.statement_meaning.specs.code.Scope.{objects_in};
 ghost use Rattle.std.specs.Option.{option_copied};
 ghost use Rattle.rule_interpreter.specs.code.Calls.{Finishes, CarriesOut};
@@ -16,9 +16,8 @@ use machine_state::World;
 use meta_objects::Statement;
 use native_slots::Answering;
 use run_context::MethodCall;
-use signatures::ObjectId;
-use statement_meaning::{Operation, Scope};
-use trace_entries::{Entry, EntryKind, Fault};
+use statement_meaning::Scope;
+use trace_entries::Fault;
 
 impl<N: Answering> Interpreter<N> {
     /// Carries out the statements of a body, and ends it.
@@ -41,21 +40,20 @@ impl<N: Answering> Interpreter<N> {
         let mut left = Remaining::all(self.context.alloc, statements);
         while let Some(statement) = left.next() {
             world.require_rule()?;
-            let operation = self.scope(world, &*call).operation_of(statement)?;
-            self.carry_out(world, active, call.object, operation, &mut left)?;
+            self.carry_out(world, active, call, statement, &mut left)?;
         }
         world.tick()
     }
 
-    /// Carries out what a statement does, over what is left of its body.
+    /// Carries out a statement, over what is left of its body.
     #[cycle(machine)]
     #[inline(always)]
     fn carry_out<'p>(
         &self,
         world: &mut World,
         active: &Active<'_>,
-        object: ObjectId,
-        done: Operation<'p>,
+        call: &MethodCall<'_>,
+        statement: &'p Statement,
         left: &mut Remaining<'p>,
     ) -> Result<(), Fault>
         requires promises { KeepPromises N.takes N.gives self.now.context.meta self.now.natives }
@@ -63,36 +61,35 @@ impl<N: Answering> Interpreter<N> {
         requires sound { IsSoundWorld self.now.context.meta world.old }
         requires due { 0 < world.old.left }
         ensures advances { CarriesOut self.now.context.meta (N.gives self.now.natives)
-            self.now.context.depth active.now
-            object (meant done.entry) left.old left.new world.old world.new result }
+            self.now.context.depth active.now call.now (out-Statement statement.now)
+            left.old left.new world.old world.new result }
     {
-        let over = (&*active).over(Some(object));
-        match done {
-            Operation::Write(place, new) => self.write(world, &over, &place, new),
-            Operation::WriteGroup(sets) => self.write_group(world, &over, sets.as_slice()),
-            Operation::Begin(target, method, given) => {
-                let call = MethodCall {
-                    object: target,
-                    method,
-                    arguments: given.as_slice(),
-                };
-                self.begin_typed(world, &over, &call)
+        match statement {
+            Statement::Set(path, property, value) => {
+                self.set(world, active, call, path, *property, value)
             }
-            Operation::Choose(block) => {
-                left.put(block)?;
+            Statement::Group(sets) => self.set_group(world, active, call, sets.as_slice()),
+            Statement::Emit(signal, given) => {
+                self.emit(world, active, call, *signal, given.as_slice())
+            }
+            Statement::Call(path, method, given) => {
+                self.call(world, active, call, path, *method, given.as_slice())
+            }
+            Statement::If(condition, block, other) => {
+                let holds = self.scope(world, &*call).truth_of(condition)?;
+                left.put(chosen(holds, block.as_slice(), other.as_slice()))?;
                 world.tick()
             }
-            Operation::Connect(ends, how) => self.context.connect(world, over.count(), ends, how),
-            Operation::Disconnect(ends) => self.context.disconnect(world, over.count(), ends),
-            Operation::Delete(target) => self.delete(world, &over, target),
-            Operation::Schedule(target) => self.context.schedule(world, over.count(), target),
-            Operation::Nothing => world.note(Entry::At(over.count(), EntryKind::OnNull)),
+            Statement::Connect(ends, how) => self.connect(world, active, call, ends, *how),
+            Statement::Disconnect(ends) => self.disconnect(world, active, call, ends),
+            Statement::Delete(path) => self.delete_at(world, active, call, path),
+            Statement::Later(path) => self.schedule_at(world, active, call, path),
         }
     }
 
     /// What the body of a call reads.
     #[inline(always)]
-    fn scope<'w>(&self, world: &'w World, call: &'w MethodCall<'_>) -> Scope<'w>
+    pub fn scope<'w>(&self, world: &'w World, call: &'w MethodCall<'_>) -> Scope<'w>
         ensures objects { objects_in result ≡ world.now.store.tree }
         ensures outside { option_copied result.written ≡ None }
         ensures this { result.this ≡ call.now.object }
@@ -106,4 +103,11 @@ impl<N: Answering> Interpreter<N> {
             arguments: call.arguments,
         }
     }
+}
+
+/// The block that a condition chooses.
+fn chosen<'p>(holds: bool, block: &'p [Statement], other: &'p [Statement]) -> &'p [Statement]
+    ensures { result.now ≡ (if holds then block.now else other.now) }
+{
+    if holds { block } else { other }
 }

@@ -9,6 +9,7 @@ mod emission;
 mod interpreter;
 mod native;
 mod remaining;
+mod statements;
 mod turn;
 mod update;
 

@@ -3,10 +3,11 @@ use Rattle.std.proofs.Common.{◌≡◌, ℕ, List, [], ◌∷◌, ◌++◌, Opt
 use Rattle.std.specs.Option.{option_map, option_and_then}
 use Rattle.indexmap.specs.IndexMap.{IndexMap}
 use Rattle.signatures.specs.declared.value.Value.{Value}
+use Rattle.signatures.specs.declared.value.Value.TheVariants as value
 use Rattle.meta_model.specs.declared.object.Statement.{Statement}
 use Rattle.meta_model.specs.declared.object.Statement.TheViews.{out-Statement}
 use Rattle.object_tree.specs.declared.object.Object.{Object}
-use Rattle.object_tree.specs.Seen.{seen}
+use Rattle.object_tree.specs.Seen.{seen, seen_reference}
 use Rattle.prop_bindings.specs.declared.assignment.Assignment.{Assignment}
 use Rattle.prop_bindings.specs.Plans.{assigned}
 use Rattle.prop_bindings.proofs.Assigned.{assigned-differs}
@@ -18,6 +19,12 @@ use Rattle.statement_meaning.specs.code.Scope.{overlaid}
 pub overlaid-seen : {S : Type 0} (written : Option (IndexMap (ℕ × ℕ) Value S)) (objects : List Object) (v : Value) → seen objects v ≡ seen (overlaid written objects) v
 overlaid-seen None objects v = refl
 overlaid-seen (Some values) objects v = sym (seen-same objects (assigned values.entries objects) (assigned-differs values.entries objects) v)
+
+-- .. and what references refer to
+pub overlaid-reference : {S : Type 0} (written : Option (IndexMap (ℕ × ℕ) Value S)) (objects : List Object) (r : Option ℕ) → seen_reference objects r ≡ seen_reference (overlaid written objects) r
+overlaid-reference written objects r =
+    let both : value.Ref (seen_reference objects r) ≡ value.Ref (seen_reference (overlaid written objects) r) = overlaid-seen written objects (value.Ref r) in
+    cc both
 
 -- ---- the sets of a group, one after another
 

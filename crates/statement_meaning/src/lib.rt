@@ -1,8 +1,8 @@
-//! What the statements of a body mean: where its paths lead, what its expressions give, and what each statement does.
+//! What the statements of a body mean: where its paths lead, what its expressions give, and what its sets write.
 #![tactic(auto)]
 
-mod operation;
+mod ends;
 mod paths;
+mod sets;
 
-pub use operation::Operation;
 pub use paths::Scope;

@@ -1,13 +1,13 @@
 //! What the paths and expressions of a body give.
 
 ghost use Rattle.std.specs.Prelude.{◌≡◌, Some};
-ghost use Rattle.std.specs.Option.{option_copied};
+ghost use Rattle.std.specs.Option.{option_copied, option_map};
 ghost use Rattle.expressions.specs.Evaluation.{Evaluates, EvaluatesAll};
 ghost use Rattle.statement_meaning.specs.code.Coded.{Finds, FindsTruth};
 ghost use Rattle.machine_rules.specs.Paths.{root_value, step_value, steps_value};
 ghost use Rattle.statement_meaning.specs.code.Scope.{objects_in, path_in, value_in, values_in};
 ghost use Rattle.object_tree.specs.Objects.{stored};
-ghost use Rattle.object_tree.specs.Seen.{seen};
+ghost use Rattle.object_tree.specs.Seen.{seen, seen_reference};
 ghost use Rattle.prop_bindings.specs.Plans.{assigned};
 
 use expressions::{self, EvalFault};
@@ -83,11 +83,35 @@ impl<'w> Scope<'w> {
     pub fn object_at(&self, path: &MetaPath) -> Result<Option<ObjectId>, EvalFault>
         ensures { Finds (path_in self.now path.now) result }
     {
+        if path.steps.is_empty() {
+            self.object_at_root(path.root)
+        } else {
+            self.object_along(path)
+        }
+    }
+
+    /// The same, by the value that the path leads to.
+    #[inline(never)]
+    fn object_along(&self, path: &MetaPath) -> Result<Option<ObjectId>, EvalFault>
+        ensures { Finds (path_in self.now path.now) result }
+    {
         match expressions::World::value(self, path)? {
             Value::Ref(Some(object)) => Ok(Some(object)),
             Value::Ref(None) => Ok(None),
             _ => Err(EvalFault::BadType),
         }
+    }
+
+    /// The same, of a path with no steps.
+    #[inline(always)]
+    fn object_at_root(&self, root: MetaRoot) -> Result<Option<ObjectId>, EvalFault>
+        ensures { Finds (option_map (seen (objects_in self.now)) (root_value self.now.this self.now.arguments.now root)) result }
+    {
+        let reference = match root {
+            MetaRoot::This => Some(self.this),
+            MetaRoot::Parameter(place) => reference_in(self.arguments.get(place))?,
+        };
+        Ok(self.seen_reference(reference))
     }
 
     /// The truth value of a condition; `BadType` where it has none.
@@ -158,6 +182,13 @@ impl<'w> Scope<'w> {
         self.objects.seen(value)
     }
 
+    /// What a reference refers to as it reads.
+    fn seen_reference(&self, reference: Option<ObjectId>) -> Option<ObjectId>
+        ensures { result ≡ seen_reference (objects_in self.now) reference }
+    {
+        self.objects.seen_reference(reference)
+    }
+
     /// The value of a living object's property.
     fn stored(&self, object: ObjectId, property: usize) -> Option<&'w Value>
         ensures { option_copied result ≡ stored (objects_in self.now) object property }
@@ -182,5 +213,15 @@ fn copy_found(found: Option<&Value>) -> Result<Value, EvalFault>
             Ok(copy)
         }
         None => Err(EvalFault::BadType),
+    }
+}
+
+/// The reference that was found; `BadType` where a value is none, or none was found.
+fn reference_in(found: Option<&Value>) -> Result<Option<ObjectId>, EvalFault>
+    ensures { Finds (option_copied found.entry) result }
+{
+    match found {
+        Some(Value::Ref(reference)) => Ok(*reference),
+        _ => Err(EvalFault::BadType),
     }
 }

@@ -3,6 +3,8 @@
 use Rattle.std.specs.Prelude.{◌≡◌, ℕ, List, [], ◌∷◌, ◌++◌, map, Option, Some, Result}
 use Rattle.signatures.specs.declared.value.Value.{Value}
 use Rattle.meta_model.specs.declared.object.Statement.{Statement}
+use Rattle.meta_model.specs.declared.object.Statement.TheOpen as layer
+use Rattle.meta_model.specs.declared.object.Statement.TheViews.{out-Statement}
 use Rattle.connections.specs.declared.connection.Connection.{Connection}
 use Rattle.trace_entries.specs.declared.fault.Fault.{Fault}
 use Rattle.machine_state.specs.declared.world.World.{World}
@@ -12,7 +14,6 @@ use Rattle.meta_model.specs.declared.effects.MetaEffects.{MetaEffects}
 use Rattle.native_slots.specs.declared.action.Action.{Action}
 use Rattle.machine_state.specs.State.{Step, Run, Act, Activation, Body, Emit, Update, Destroy}
 use Rattle.machine_state.specs.Telling.{Assigning}
-use Rattle.machine_rules.specs.Operations.{Operation, operation_of_step}
 use Rattle.rule_interpreter.specs.code.Reaches.{RunsTo, Advances, CallsIn, Calls, OnlyCalls, Sets, Deletes, Kills}
 use Rattle.run_context.specs.declared.method_call.MethodCall.{MethodCall}
 use Rattle.binding_graph.specs.declared.place.Place.{Place}
@@ -38,14 +39,21 @@ UsesNext p natives depth active c arguments w v result =
     (o g used last : ℕ) → next_used w.store.tree w.store.connections.connections o g used last ≡ Some c →
     TurnsInto p natives depth active (Emit o g arguments used last) (Emit o g arguments c.number last) w v result
 
--- this is done by the next step, in every body of the object in which it does that and the statements `rest` follow; the
+-- a statement is carried out, in every body of this call in which it comes next and the statements `rest` follow; the
 -- statements `left` are left of the body then
 abbrev pub CarriesOut :
-    Loaded → NativeAnswers → ℕ → List (Option ℕ) → ℕ → Operation → List Statement → List Statement →
+    Loaded → NativeAnswers → ℕ → List (Option ℕ) → MethodCall → layer.Statement-F Statement → List Statement → List Statement →
     World → World → Result (Unit {0}) Fault → Type 0
-CarriesOut p natives depth active o done rest left w v result =
-    (m : ℕ) (arguments : List Value) (x : Step) → operation_of_step w.store.tree o arguments x ≡ Some done →
-    Advances p natives depth active w (Body o m arguments (x ∷ map Run rest) ∷ []) v (Body o m arguments (map Run left) ∷ []) result
+CarriesOut p natives depth active call statement rest left w v result =
+    (x : Statement) → out-Statement x ≡ statement →
+    Advances p natives depth active w (Body call.object call.method call.arguments.now (Run x ∷ map Run rest) ∷ [])
+    v (Body call.object call.method call.arguments.now (map Run left) ∷ []) result
+
+-- .. whatever follows it, all of which is left then
+abbrev pub CarriesOutAlone :
+    Loaded → NativeAnswers → ℕ → List (Option ℕ) → MethodCall → layer.Statement-F Statement → World → World → Result (Unit {0}) Fault → Type 0
+CarriesOutAlone p natives depth active call statement w v result =
+    (rest : List Statement) → CarriesOut p natives depth active call statement rest rest w v result
 
 -- an action of a native is carried out, in every body of the object in which it comes next
 abbrev pub CarriesOutAction :

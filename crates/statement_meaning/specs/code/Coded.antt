@@ -1,18 +1,14 @@
 -- What the code's words for the doings of statements mean (docs/machine.md, "Rules").
-use Rattle.std.specs.Prelude.{◌≡◌, ◌≢◌, ℕ, List, Option, None, Some, Result, Ok, Err, Bool, true, false}
+use Rattle.std.specs.Prelude.{◌≡◌, ◌≢◌, ℕ, Option, None, Some, Result, Ok, Err, Bool}
 use Rattle.signatures.specs.declared.value.Value.{Value}
 use Rattle.signatures.specs.declared.value.Value.TheVariants as value
 use Rattle.expressions.specs.declared.evaluation.EvalFault.{EvalFault}
 use Rattle.expressions.specs.declared.evaluation.EvalFault.TheVariants.{BadType, Memory as NoMemory}
-use Rattle.meta_model.specs.declared.object.Statement.{Statement}
-use Rattle.machine_rules.specs.Operations.{Operation, Write, Begin, Choose, Connect, Disconnect, Delete, Schedule, Nothing}
+use Rattle.machine_rules.specs.Operations.{Operation, Nothing}
 use Rattle.meta_model.specs.declared.object.MetaEndpoints.{MetaEndpoints}
 use Rattle.machine_state.specs.declared.endpoints.Endpoints.{Endpoints}
-use Rattle.machine_state.specs.Telling.{Alone, Grouped}
 use Rattle.statement_meaning.specs.code.Scope.{ends_in}
 use Rattle.statement_meaning.specs.declared.paths.Scope.{Scope}
-use Rattle.statement_meaning.specs.declared.operation.Operation.{Operation as Coded}
-use Rattle.statement_meaning.specs.declared.operation.Operation.TheVariants as coded
 
 -- the path leads to an object or to null, or to neither
 abbrev pub Finds : Option Value → Result (Option ℕ) EvalFault → Type 0
@@ -26,23 +22,6 @@ FindsTruth found (Ok b) = found ≡ Some (value.Bool b)
 FindsTruth found (Err BadType) = (b : Bool) → found ≢ Some (value.Bool b)
 FindsTruth found (Err NoMemory) = Unit {0}
 
-abbrev pub meant : Coded → Operation
-meant (coded.Write place new) = Write (Alone place new)
-meant (coded.WriteGroup sets) = Write (Grouped sets)
-meant (coded.Begin x m given) = Begin x m given
-meant (coded.Choose block) = Choose block.now
-meant (coded.Connect ends how) = Connect ends how
-meant (coded.Disconnect ends) = Disconnect ends
-meant (coded.Delete x) = Delete x
-meant (coded.Schedule x) = Schedule x
-meant coded.Nothing = Nothing
-
--- what a statement does was found out, or it lacks a value, or memory was refused
-abbrev pub Yields : Option Operation → Result Coded EvalFault → Type 0
-Yields found (Ok d) = found ≡ Some (meant d)
-Yields found (Err BadType) = found ≡ None
-Yields found (Err NoMemory) = Unit {0}
-
 -- what is asked for was found out, or there is none, or memory was refused
 abbrev pub Obtains : {X : Type 0} → Option X → Result X EvalFault → Type 0
 Obtains found (Ok x) = found ≡ Some x
@@ -55,8 +34,3 @@ FindsBetween scope ends (Ok (Some between)) = (act : Endpoints → Operation) �
 FindsBetween scope ends (Ok None) = (act : Endpoints → Operation) → ends_in scope act ends ≡ Some Nothing
 FindsBetween scope ends (Err BadType) = (act : Endpoints → Operation) → ends_in scope act ends ≡ None
 FindsBetween scope ends (Err NoMemory) = Unit {0}
-
--- the block that a condition chooses
-abbrev pub chosen_of : Bool → List Statement → List Statement → List Statement
-chosen_of true block other = block
-chosen_of false block other = other

@@ -11,7 +11,7 @@ use Rattle.meta_model.specs.declared.object.Statement.{Statement}
 use Rattle.meta_model.specs.declared.object.Statement.TheOpen as layer
 use Rattle.machine_state.specs.declared.endpoints.Endpoints.{Endpoints}
 use Rattle.machine_rules.specs.Paths.{path_value, value_of, values_of}
-use Rattle.machine_rules.specs.Operations.{Operation, on_ends, operation}
+use Rattle.machine_rules.specs.Operations.{Operation, on_ends}
 use Rattle.statement_meaning.specs.declared.paths.Scope.{Scope}
 use Rattle.object_tree.specs.declared.object.Object.{Object}
 use Rattle.prop_bindings.specs.Plans.{assigned}
@@ -45,10 +45,6 @@ values_in scope es = values_of (objects_in scope) scope.this scope.arguments.now
 -- what is done with the objects that the paths of two ends lead to
 abbrev pub ends_in : Scope → (Endpoints → Operation) → MetaEndpoints → Option Operation
 ends_in scope act ends = on_ends act ends (path_in scope ends.sender) (path_in scope ends.receiver)
-
--- what a statement does
-abbrev pub operation_in : Scope → layer.Statement-F Statement → Option Operation
-operation_in scope statement = operation (objects_in scope) scope.this scope.arguments.now statement
 
 -- what a set writes, and those of a group
 abbrev pub set_of : Scope → layer.Statement-F Statement → Option (Option Assignment)

@@ -5,10 +5,16 @@ use Rattle.machine_state.specs.declared.world.World.{World}
 use Rattle.rule_interpreter.proofs.Reaching.{not-idle, reaches-same, reaches-then, stops-after, stops-as, ends-after, ends-lifted, ends-left, ends-undue, ends-short, ends-unchanged, ends-faulted, ends-ticked, stops-ticked, ok-err, ok-map}
 use Rattle.machine_state.specs.Connections.{is_living}
 use Rattle.machine_state.specs.State.{Run, Act}
-use Rattle.machine_state.specs.Telling.{Alone}
+use Rattle.machine_state.specs.Telling.{Alone, Grouped}
 use Rattle.binding_graph.specs.Places.{property_of}
 use Rattle.std.specs.Option.{option_map}
-use Rattle.machine_rules.specs.Operations.{Write, Begin, operation_of_action}
+use Rattle.machine_rules.specs.Operations.{Write, Begin, Delete, Nothing, operation_of_action, operation_of_set}
+use Rattle.meta_model.specs.declared.object.Statement.{Statement}
+use Rattle.meta_model.specs.declared.object.Statement.TheVariants.{outs-Set, outs-Emit, outs-Call, outs-If, outs-Connect, outs-Disconnect, outs-Delete, outs-Later, outs-Group}
+use Rattle.meta_model.specs.declared.object.Statement.TheViews.{out-Statement}
+use Rattle.prop_bindings.specs.declared.assignment.Assignment.{Assignment}
+use Rattle.statement_meaning.specs.code.Scope.{path_in, value_in, values_in}
+use Rattle.statement_meaning.proofs.Yielding.{obtains-none, evaluates-none, finds-none, truth-none, at-null, at-object, if-chooses}
 use Rattle.machine_rules.specs.Good.{ArgumentsFit}
 use Rattle.machine_rules.specs.code.Keeps.{KeepsWorld}
 use Rattle.machine_rules.specs.code.Sound.{IsSoundWorld}
@@ -20,7 +26,7 @@ use Rattle.run_context.proofs.Posts.{no-home}
 use Rattle.run_context.proofs.Linking.{not-true}
 use Rattle.rule_interpreter.proofs.Writes.{ends-written, ends-unplanned, stops-unwritten}
 use Rattle.rule_interpreter.proofs.Notifying.{no-places, all-notified, all-may-still, announces-signal, dead-rule, announced-member, announced-value, announced-fits, announcement-calls}
-use Rattle.rule_interpreter.proofs.Bodies.{does-call, does-call-alone, does-set, does-answer, does-nothing, does-connect, does-disconnect, does-delete, does-schedule, does-choose, lacks-read, advances-one, advances-ticked, advances-left}
+use Rattle.rule_interpreter.proofs.Bodies.{does-call, does-call-alone, does-set, does-answer, does-nothing, does-delete, does-choose, of-layer, lacks-value, advances-one, advances-ticked, advances-left}
 use Rattle.rule_interpreter.proofs.Deleting.{ends-deleting, stops-deleting, reaches-died, stops-in-use, stops-announcing, living-name, died-as, died-emits, died-gone, dead-after, kills-first, kills-next, reaches-latest, reaches-next, stops-forgetting, forgets-fewer, nonempty, none-left}
 use Rattle.machine_rules.proofs.Dying.{copied-living, lives-not-dead}
 use Rattle.rule_interpreter.proofs.Promised.{all-placed}
@@ -181,82 +187,171 @@ run_body-loop-statement-init g t c = record { reaches = rw c.all-left.ensures re
 pub run_body-returns-in_err-require_rule : goal.run_body-returns-in_err-require_rule
 run_body-returns-in_err-require_rule g t c = record { ends = ends-after c.loop-statement.invariant.reaches (ends-undue _ c.in_err-require_rule.ensures c.from_residual.ensures.1) }
 
-pub run_body-returns-in_err-operation : goal.run_body-returns-in_err-operation
-run_body-returns-in_err-operation g t c =
-    let came = rw c.in-Some.ensures at c.loop-statement.invariant.reaches in
-    record { ends = ends-after came (ends-faulted _ c.in_ok-require_rule.ensures (λ is. lacks-read _ _ c.in_ok-require_rule.ensures c.scope.ensures.objects c.scope.ensures.this c.scope.ensures.arguments c.in_err-operation.ensures is) c.from_residual-in_err-operation.ensures.1) }
-
 pub run_body-carry_out-requires : goal.run_body-carry_out-requires
 run_body-carry_out-requires g t c = λ κs lives. (omega (arith, c.loop-statement.invariant.fewer), (lives, (c.requires.promises, (c.requires.room, (c.loop-statement.invariant.sound, c.in_ok-require_rule.ensures)))))
 
 pub run_body-returns-in_err-carry_out : goal.run_body-returns-in_err-carry_out
 run_body-returns-in_err-carry_out g t c =
     let came = rw c.in-Some.ensures at c.loop-statement.invariant.reaches in
-    let is = rw (c.scope.ensures.objects, c.scope.ensures.this, c.scope.ensures.arguments) at c.in_ok-operation.ensures in
-    record { ends = ends-left _ (stops-after came ((c.in_err-carry_out.ensures.advances _ _ (Run c.in-Some.statement.now) is).cases)) c.from_residual-in_err-carry_out.ensures.1 }
+    record { ends = ends-left _ (stops-after came ((c.in_err-carry_out.ensures.advances _ refl).cases)) c.from_residual-in_err-carry_out.ensures.1 }
 
 pub run_body-loop-statement-preserved : goal.run_body-loop-statement-preserved
 run_body-loop-statement-preserved g t c =
     let came = rw c.in-Some.ensures at c.loop-statement.invariant.reaches in
-    let is = rw (c.scope.ensures.objects, c.scope.ensures.this, c.scope.ensures.arguments) at c.in_ok-operation.ensures in
-    let one = (c.in_ok-carry_out.ensures.advances c.args.call.now.method c.args.call.now.arguments.now (Run c.in-Some.statement.now) is).cases in
+    let one = (c.in_ok-carry_out.ensures.advances _ refl).cases in
     let keeps = keeps-then c.loop-statement.invariant.keeps (reaches-keeps one.0) in
     record { reaches = reaches-then came one.0; keeps = keeps; fewer = keeps.fewer; sound = reaches-sound ((tt, tt), tt) c.loop-statement.invariant.sound one.0 }
 
 pub run_body-loop-statement-smaller : goal.run_body-loop-statement-smaller
-run_body-loop-statement-smaller g t c =
-    let is = rw (c.scope.ensures.objects, c.scope.ensures.this, c.scope.ensures.arguments) at c.in_ok-operation.ensures in
-    (c.in_ok-carry_out.ensures.advances c.args.call.now.method c.args.call.now.arguments.now (Run c.in-Some.statement.now) is).cases.1
+run_body-loop-statement-smaller g t c = (c.in_ok-carry_out.ensures.advances _ refl).cases.1
 
 pub run_body-returns : goal.run_body-returns
 run_body-returns g t c =
     let came = rw c.in_default.ensures.0 at c.loop-statement.invariant.reaches in
     record { ends = ends-after came (ends-ticked {b = []} _ (λ below e. refl) (omega arith) c.requires.room c.loop-statement.invariant.sound.is.agree c.tick.ensures) }
 
-pub carry_out-returns-in-Write : goal.carry_out-returns-in-Write
-carry_out-returns-in-Write g t c = record { advances = λ m arguments x is. advances-one _ (c.write.ensures.ends _ _ _ c.over-over.ensures (does-set m (map Run c.args.left.now) (rw c.in-Write.is at is))) }
+-- ---- statements
 
-pub carry_out-returns-in-WriteGroup : goal.carry_out-returns-in-WriteGroup
-carry_out-returns-in-WriteGroup g t c = record { advances = λ m arguments x is. advances-one _ (c.write_group.ensures.ends _ _ _ c.over-over.ensures (does-set m (map Run c.args.left.now) (rw (c.in-WriteGroup.is, ← c.as_slice.ensures) at is))) }
+pub carry_out-returns-in-Set : goal.carry_out-returns-in-Set
+carry_out-returns-in-Set g t c = record { advances = λ x is. c.set.ensures.advances _ x (is ∙ ap out-Statement c.in-Set.is ∙ outs-Set _ _ _) }
 
-pub carry_out-returns-in-Begin : goal.carry_out-returns-in-Begin
-carry_out-returns-in-Begin g t c = record {
-  advances = λ m arguments x is.
-      let begins = rw (c.in-Begin.is, ← c.as_slice-in-Begin.ensures) at is in
-      advances-one _ (c.begin_typed.ensures.ends _ _ _ c.over-over.ensures (does-call m (map Run c.args.left.now) begins) (does-call-alone m (map Run c.args.left.now) begins));
-}
+pub carry_out-returns-in-Group : goal.carry_out-returns-in-Group
+carry_out-returns-in-Group g t c = record { advances = λ x is. (rw c.as_slice.ensures at c.set_group.ensures.advances) _ x (is ∙ ap out-Statement c.in-Group.is ∙ outs-Group _) }
 
-pub carry_out-returns-in_err-put-in-Choose : goal.carry_out-returns-in_err-put-in-Choose
-carry_out-returns-in_err-put-in-Choose g t c = record { advances = λ m arguments x is. advances-left _ _ (ends-short _ (not-idle c.args.world.now _) c.requires.due c.from_residual.ensures.1) c.from_residual.ensures.1 }
+pub carry_out-returns-in-Emit : goal.carry_out-returns-in-Emit
+carry_out-returns-in-Emit g t c = record { advances = λ x is. (rw c.as_slice-in-Emit.ensures at c.emit.ensures.advances) _ x (is ∙ ap out-Statement c.in-Emit.is ∙ outs-Emit _ _) }
 
-pub carry_out-returns-in_ok-put-in-Choose : goal.carry_out-returns-in_ok-put-in-Choose
-carry_out-returns-in_ok-put-in-Choose g t c = record {
-  advances = λ m arguments x is.
-      rw c.in_ok-put-in-Choose.ensures.ok (advances-ticked _ c.tick.ensures (does-choose m c.args.left.now _ _ (rw c.in-Choose.is at is) c.requires.room c.requires.sound.is.agree c.tick.ensures));
-}
-
-pub carry_out-returns-in-Nothing : goal.carry_out-returns-in-Nothing
-carry_out-returns-in-Nothing g t c = record {
-  advances = λ m arguments x is.
-      let higher = ap (λ (l : List (Option ℕ)). length l) c.over-over.ensures in
-      advances-one _ (does-nothing m (map Run c.args.left.now) _ _ (rw c.in-Nothing.is at is) c.requires.room c.requires.sound.is.agree c.requires.due (omega (arith, c.count-in-Nothing.ensures, higher)) c.note.ensures);
-}
-
-pub carry_out-connect-requires : goal.carry_out-connect-requires
-carry_out-connect-requires g t c = record { left = c.requires.due; few = omega (arith, c.requires.sound.numbers, c.requires.due) }
+pub carry_out-returns-in-Call : goal.carry_out-returns-in-Call
+carry_out-returns-in-Call g t c = record { advances = λ x is. (rw c.as_slice-in-Call.ensures at c.call.ensures.advances) _ x (is ∙ ap out-Statement c.in-Call.is ∙ outs-Call _ _ _) }
 
 pub carry_out-returns-in-Connect : goal.carry_out-returns-in-Connect
-carry_out-returns-in-Connect g t c = record {
-  advances = λ m arguments x is.
-      let higher = ap (λ (l : List (Option ℕ)). length l) c.over-over.ensures in
-      advances-one _ (does-connect m (map Run c.args.left.now) _ _ _ _ (rw c.in-Connect.is at is) c.requires.room c.requires.sound.is.agree c.requires.due (omega (arith, c.count.ensures, higher)) c.connect.ensures);
-}
+carry_out-returns-in-Connect g t c = record { advances = λ x is. c.connect.ensures.advances _ x (is ∙ ap out-Statement c.in-Connect.is ∙ outs-Connect _ _) }
 
 pub carry_out-returns-in-Disconnect : goal.carry_out-returns-in-Disconnect
-carry_out-returns-in-Disconnect g t c = record {
-  advances = λ m arguments x is.
+carry_out-returns-in-Disconnect g t c = record { advances = λ x is. c.disconnect.ensures.advances _ x (is ∙ ap out-Statement c.in-Disconnect.is ∙ outs-Disconnect _) }
+
+pub carry_out-returns-in-Delete : goal.carry_out-returns-in-Delete
+carry_out-returns-in-Delete g t c = record { advances = λ x is. c.delete_at.ensures.advances _ x (is ∙ ap out-Statement c.in-Delete.is ∙ outs-Delete _) }
+
+pub carry_out-returns-in-Later : goal.carry_out-returns-in-Later
+carry_out-returns-in-Later g t c = record { advances = λ x is. c.schedule_at.ensures.advances _ x (is ∙ ap out-Statement c.in-Later.is ∙ outs-Later _) }
+
+pub carry_out-returns-in_err-holds-in-If : goal.carry_out-returns-in_err-holds-in-If
+carry_out-returns-in_err-holds-in-If g t c = record {
+  advances = λ x is.
+      let layer = is ∙ ap out-Statement c.in-If.is ∙ outs-If _ _ _ in
+      lacks-value _ _ c.requires.due layer (λ bad. (λ (block other : List Statement). rw (c.scope.ensures.objects, c.scope.ensures.this, c.scope.ensures.arguments) at (truth-none block other (value_in c.scope.result c.in-If.condition) c.in_err-holds-in-If.ensures bad)) _ _) c.from_residual.ensures.1;
+}
+
+pub carry_out-returns-in_err-put-in-If : goal.carry_out-returns-in_err-put-in-If
+carry_out-returns-in_err-put-in-If g t c = record { advances = λ x is. advances-left _ _ (ends-short _ (not-idle c.args.world.now _) c.requires.due c.from_residual-in_err-put-in-If.ensures.1) c.from_residual-in_err-put-in-If.ensures.1 }
+
+pub carry_out-returns-in_ok-put-in-If : goal.carry_out-returns-in_ok-put-in-If
+carry_out-returns-in_ok-put-in-If g t c = record {
+  advances = λ x is.
+      let layer = is ∙ ap out-Statement c.in-If.is ∙ outs-If _ _ _ in
+      let holds = rw (c.scope.ensures.objects, c.scope.ensures.this, c.scope.ensures.arguments) at c.in_ok-holds-in-If.ensures in
+      let chosen = rw (c.as_slice-in-If.ensures, c.as_slice-in-If-2.ensures) at c.chosen.ensures in
+      let chooses = of-layer _ _ _ _ layer (if-chooses c.args.world.now.store.tree c.args.call.now.object c.args.call.now.arguments.now c.in-If.condition _ _ _ holds chosen) in
+      rw c.in_ok-put-in-If.ensures.ok (advances-ticked _ c.tick.ensures (does-choose c.args.call.now.method c.args.left.now _ _ chooses c.requires.room c.requires.sound.is.agree c.tick.ensures));
+}
+
+pub set-returns-in_err-found : goal.set-returns-in_err-found
+set-returns-in_err-found g t c = record {
+  advances = λ rest x is.
+      lacks-value _ _ c.requires.due is (λ bad. ap (option_map operation_of_set) (rw (c.scope.ensures.objects, c.scope.ensures.this, c.scope.ensures.arguments) at (obtains-none c.in_err-found.ensures bad))) c.from_residual.ensures.1;
+}
+
+pub set-returns-in-None : goal.set-returns-in-None
+set-returns-in-None g t c = record {
+  advances = λ rest x is.
       let higher = ap (λ (l : List (Option ℕ)). length l) c.over-over.ensures in
-      advances-one _ (does-disconnect m (map Run c.args.left.now) _ _ _ (rw c.in-Disconnect.is at is) c.requires.room c.requires.sound.is.agree c.requires.due (omega (arith, c.count-in-Disconnect.ensures, higher)) c.disconnect.ensures);
+      advances-one _ (does-nothing c.args.call.now.method (map Run rest) _ _ (of-layer _ _ _ _ is (ap (option_map operation_of_set) (rw c.in-None.is at (rw (c.scope.ensures.objects, c.scope.ensures.this, c.scope.ensures.arguments) at c.in_ok-found.ensures)))) c.requires.room c.requires.sound.is.agree c.requires.due (omega (arith, c.count.ensures, higher)) c.pass_null.ensures);
+}
+
+pub set-returns-in-Some : goal.set-returns-in-Some
+set-returns-in-Some g t c = record {
+  advances = λ rest x is.
+      let does = of-layer _ _ _ _ is (ap (option_map operation_of_set) (rw c.in-Some.is at (rw (c.scope.ensures.objects, c.scope.ensures.this, c.scope.ensures.arguments) at c.in_ok-found.ensures))) in
+      advances-one _ (c.write.ensures.ends _ _ _ c.over-over.ensures (does-set c.args.call.now.method (map Run rest) does));
+}
+
+pub set_group-returns-in_err-found : goal.set_group-returns-in_err-found
+set_group-returns-in_err-found g t c = record {
+  advances = λ rest x is.
+      lacks-value _ _ c.requires.due is (λ bad. ap (option_map (λ (l : List (Option Assignment)). Write (Grouped l))) (rw (c.scope.ensures.objects, c.scope.ensures.this, c.scope.ensures.arguments) at (obtains-none c.in_err-found.ensures bad))) c.from_residual.ensures.1;
+}
+
+pub set_group-returns : goal.set_group-returns
+set_group-returns g t c = record {
+  advances = λ rest x is.
+      let found = rw (c.scope.ensures.objects, c.scope.ensures.this, c.scope.ensures.arguments) at c.in_ok-found.ensures in
+      let does = of-layer _ _ _ _ is (ap (option_map (λ (l : List (Option Assignment)). Write (Grouped l))) found) in
+      advances-one _ (c.write_group.ensures.ends _ _ _ c.over-over.ensures (does-set c.args.call.now.method (map Run rest) (rw (← c.as_slice.ensures) at does)));
+}
+
+pub emit-returns-in_err-values : goal.emit-returns-in_err-values
+emit-returns-in_err-values g t c = record {
+  advances = λ rest x is.
+      lacks-value _ _ c.requires.due is (λ bad. ap (option_map (λ (given : List Value). Begin c.args.call.now.object c.args.signal given)) (rw (c.scope.ensures.objects, c.scope.ensures.this, c.scope.ensures.arguments) at (evaluates-none c.in_err-values.ensures bad))) c.from_residual.ensures.1;
+}
+
+pub emit-returns : goal.emit-returns
+emit-returns g t c = record {
+  advances = λ rest x is.
+      let found = rw (c.scope.ensures.objects, c.scope.ensures.this, c.scope.ensures.arguments) at c.in_ok-values.ensures in
+      let begins = rw (← c.as_slice.ensures) at (of-layer _ _ _ _ is (ap (option_map (λ (given : List Value). Begin c.args.call.now.object c.args.signal given)) found)) in
+      advances-one _ (c.begin_typed.ensures.ends _ _ _ c.over-over.ensures (does-call c.args.call.now.method (map Run rest) begins) (does-call-alone c.args.call.now.method (map Run rest) begins));
+}
+
+pub call-returns-in_err-object : goal.call-returns-in_err-object
+call-returns-in_err-object g t c = record {
+  advances = λ rest x is.
+      let act = λ (x : ℕ). option_map (λ (given : List Value). Begin x c.args.method given) (values_in c.scope-scope.result c.args.given.now) in
+      lacks-value _ _ c.requires.due is (λ bad. rw (c.scope-scope.ensures.objects, c.scope-scope.ensures.this, c.scope-scope.ensures.arguments) at (finds-none Nothing act (path_in c.scope-scope.result c.args.path.now) c.in_err-object.ensures bad)) c.from_residual.ensures.1;
+}
+
+pub call-returns-in_default : goal.call-returns-in_default
+call-returns-in_default g t c = record {
+  advances = λ rest x is.
+      let higher = ap (λ (l : List (Option ℕ)). length l) c.over-over.ensures in
+      advances-one _ (does-nothing c.args.call.now.method (map Run rest) _ _ (of-layer _ _ _ _ is (at-null _ _ _ _ c.args.path.now (rw c.in_default.is at (rw (c.scope-scope.ensures.objects, c.scope-scope.ensures.this, c.scope-scope.ensures.arguments) at c.in_ok-object.ensures)))) c.requires.room c.requires.sound.is.agree c.requires.due (omega (arith, c.count.ensures, higher)) c.pass_null.ensures);
+}
+
+pub call-returns-in_err-values : goal.call-returns-in_err-values
+call-returns-in_err-values g t c = record {
+  advances = λ rest x is.
+      let there = rw c.in-Some.is at (rw (c.scope-scope.ensures.objects, c.scope-scope.ensures.this, c.scope-scope.ensures.arguments) at c.in_ok-object.ensures) in
+      lacks-value _ _ c.requires.due is (λ bad. at-object _ _ _ _ c.args.path.now there (ap (option_map (λ (given : List Value). Begin c.in-Some.object c.args.method given)) (rw (c.scope-scope.ensures.objects, c.scope-scope.ensures.this, c.scope-scope.ensures.arguments) at (evaluates-none c.in_err-values.ensures bad)))) c.from_residual-in_err-values.ensures.1;
+}
+
+pub call-returns : goal.call-returns
+call-returns g t c = record {
+  advances = λ rest x is.
+      let there = rw c.in-Some.is at (rw (c.scope-scope.ensures.objects, c.scope-scope.ensures.this, c.scope-scope.ensures.arguments) at c.in_ok-object.ensures) in
+      let found = rw (c.scope-scope.ensures.objects, c.scope-scope.ensures.this, c.scope-scope.ensures.arguments) at c.in_ok-values.ensures in
+      let begins = rw (← c.as_slice.ensures) at (of-layer _ _ _ _ is (at-object _ _ _ _ c.args.path.now there (ap (option_map (λ (given : List Value). Begin c.in-Some.object c.args.method given)) found))) in
+      advances-one _ (c.begin_typed.ensures.ends _ _ _ c.over-over.ensures (does-call c.args.call.now.method (map Run rest) begins) (does-call-alone c.args.call.now.method (map Run rest) begins));
+}
+
+pub delete_at-returns-in_err-found : goal.delete_at-returns-in_err-found
+delete_at-returns-in_err-found g t c = record {
+  advances = λ rest x is.
+      lacks-value _ _ c.requires.due is (λ bad. rw (c.scope.ensures.objects, c.scope.ensures.this, c.scope.ensures.arguments) at (finds-none Nothing (λ (x : ℕ). Some (Delete x)) (path_in c.scope.result c.args.path.now) c.in_err-found.ensures bad)) c.from_residual.ensures.1;
+}
+
+pub delete_at-returns-in-None : goal.delete_at-returns-in-None
+delete_at-returns-in-None g t c = record {
+  advances = λ rest x is.
+      let higher = ap (λ (l : List (Option ℕ)). length l) c.over-over.ensures in
+      advances-one _ (does-nothing c.args.call.now.method (map Run rest) _ _ (of-layer _ _ _ _ is (at-null _ _ _ _ c.args.path.now (rw c.in-None.is at (rw (c.scope.ensures.objects, c.scope.ensures.this, c.scope.ensures.arguments) at c.in_ok-found.ensures)))) c.requires.room c.requires.sound.is.agree c.requires.due (omega (arith, c.count.ensures, higher)) c.pass_null.ensures);
+}
+
+pub delete_at-returns-in-Some : goal.delete_at-returns-in-Some
+delete_at-returns-in-Some g t c = record {
+  advances = λ rest x is.
+      let there = rw c.in-Some.is at (rw (c.scope.ensures.objects, c.scope.ensures.this, c.scope.ensures.arguments) at c.in_ok-found.ensures) in
+      advances-one _ (c.delete.ensures.ends _ _ _ c.over-over.ensures (does-delete c.args.call.now.method (map Run rest) (of-layer _ _ _ _ is (at-object _ _ _ _ c.args.path.now there refl))));
 }
 
 -- ---- writes
@@ -397,16 +492,6 @@ delete-returns g t c = record {
 
 pub run_callee-run_emission-requires : goal.run_callee-run_emission-requires
 run_callee-run_emission-requires g t c = λ κs lives. (omega arith, (lives, (c.requires.promises, (c.requires.room, (c.requires.sound, (fit-sends c.requires.sound.program c.requires.fit, inr (λ gone. absurd (lives-not-dead c.requires.fit.is.lives gone))))))))
-
-pub carry_out-returns-in-Delete : goal.carry_out-returns-in-Delete
-carry_out-returns-in-Delete g t c = record { advances = λ m arguments x is. advances-one _ (c.delete.ensures.ends _ _ _ c.over-over.ensures (does-delete m (map Run c.args.left.now) (rw c.in-Delete.is at is))) }
-
-pub carry_out-returns-in-Schedule : goal.carry_out-returns-in-Schedule
-carry_out-returns-in-Schedule g t c = record {
-  advances = λ m arguments x is.
-      let higher = ap (λ (l : List (Option ℕ)). length l) c.over-over.ensures in
-      advances-one _ (does-schedule m (map Run c.args.left.now) _ _ _ (rw c.in-Schedule.is at is) c.requires.room c.requires.sound.is.agree c.requires.due (omega (arith, c.count-in-Schedule.ensures, higher)) c.schedule.ensures);
-}
 
 pub announce-returns-in_err-require_rule-clause-ends : goal.announce-returns-in_err-require_rule-clause-ends
 announce-returns-in_err-require_rule-clause-ends g t c = λ next before torn kills. ends-undue _ c.in_err-require_rule.ensures c.from_residual.ensures.1

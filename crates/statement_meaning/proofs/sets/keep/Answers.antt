@@ -5,7 +5,7 @@ use Rattle.prop_bindings.specs.declared.assignment.Assignment.{Assignment}
 use Rattle.prop_bindings.specs.Plans.{assigned}
 use Rattle.prop_bindings.proofs.Assigned.{ahead-more}
 use Rattle.machine_rules.specs.Operations.{after_set}
-use Rattle.statement_meaning.proofs.operation.keep.Goals as goal
+use Rattle.statement_meaning.proofs.sets.keep.Goals as goal
 
 pub returns-in_ok-insert : goal.returns-in_ok-insert
 returns-in_ok-insert c = λ objects.

@@ -1,1 +1,0 @@
-use Rattle.statement_meaning.proofs.paths.Scope.assignment.Goals as goal
