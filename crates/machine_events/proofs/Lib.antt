@@ -19,3 +19,12 @@ pub mod Progress
 mod Stopping
 mod RuleFronts
 pub mod Fronts
+pub use Rattle.rule_interpreter.proofs.Beginning
+pub use Rattle.rule_interpreter.proofs.Hearing
+pub use Rattle.rule_interpreter.proofs.Keeps
+pub use Rattle.rule_interpreter.proofs.Notifying
+pub use Rattle.rule_interpreter.proofs.Promised
+pub use Rattle.rule_interpreter.proofs.Soundness
+pub use Rattle.rule_interpreter.proofs.Writes
+pub use Rattle.event_judgement.proofs.Judged
+pub use Rattle.event_judgement.proofs.Judging.Naming

@@ -13,3 +13,6 @@ pub use Rattle.machine_rules.specs.Judgement as MachineRulesJudgement
 pub use Rattle.rule_interpreter.specs.code.Reaches
 pub use Rattle.machine_rules.specs.Faults
 pub use Rattle.machine_rules.specs.Next
+pub use Rattle.rule_interpreter.specs.code.Writing
+pub use Rattle.event_judgement.specs.code.Judgement as EventJudgement
+pub use Rattle.event_judgement.specs.declared.invoking.Invocation

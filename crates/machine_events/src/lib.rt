@@ -11,4 +11,5 @@ pub use laws::{
     always_settled, one_front, one_front_of_answers, one_judgement, one_run, one_run_of_answers,
     one_taking, run_reads_no_trace, taking_settles,
 };
+pub use rule_interpreter::Interpreter;
 pub use taking::take_event;

@@ -5,12 +5,11 @@ ghost use Rattle.machine_rules.specs.Natives.{KeepPromises};
 ghost use Rattle.qt_runtime.specs.Checked.{Claims, IsChecked, StopsAtLimit};
 ghost use Rattle.qt_runtime.specs.Seen.{AreKept, Completes, RefusesExactly, IsSettled, Stops, RunsAll, begun, cleared};
 
-use machine_events::take_event;
+use machine_events::{Interpreter, take_event};
 use machine_state::World;
 use meta_objects::Meta;
 use native_slots::Answering;
 use rank_check::Checked;
-use rule_interpreter::Interpreter;
 use script_lang::Event;
 use std::alloc::{AllocError, Global};
 use std::marker::Model;

@@ -12,7 +12,7 @@ use Rattle.script_lang.specs.declared.event.Event.{Event}
 use Rattle.script_lang.specs.declared.fault.ScriptFault.{ScriptFault}
 use Rattle.script_lang.specs.declared.fault.ScriptFault.TheVariants as of_script
 use Rattle.script_lang.proofs.OneAnswer.{one_result}
-use Rattle.machine_rules.specs.Natives.{NativeAnswers}
+use Rattle.qt_runtime.specs.Natives.{NativeAnswers}
 use Rattle.program_commands.specs.declared.outcome.Outcome.{Outcome as ProgramOutcome}
 use Rattle.program_commands.specs.declared.outcome.Outcome.TheVariants.{Refused}
 use Rattle.program_commands.specs.declared.refusal.Refusal.{Refusal}

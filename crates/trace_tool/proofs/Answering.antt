@@ -2,7 +2,7 @@
 use Rattle.std.proofs.Common.{◌≡◌, ℕ, inl, inr, true, false, List, [], ◌∷◌, length, Result, Ok, Err, sym, ap, ◌∙◌, subst, arith}
 use Rattle.std.specs.Prelude.{IfErr}
 use Rattle.meta_model.specs.Loaded.{Loaded}
-use Rattle.machine_rules.specs.Natives.{NativeAnswers}
+use Rattle.qt_runtime.specs.Natives.{NativeAnswers}
 use Rattle.qt_runtime.specs.Checked.{Claims, StopsAtLimit}
 use Rattle.qt_runtime.specs.Seen.{Seen, begun}
 use Rattle.trace_entries.specs.declared.fault.Fault.{Fault}

@@ -8,7 +8,7 @@ use Rattle.native_slots.specs.Promises.{Takes}
 use Rattle.trace_entries.specs.Faults.{number_of as fault_number}
 use Rattle.trace_entries.specs.declared.entry.Entry.{Entry}
 use Rattle.trace_entries.specs.declared.fault.Fault.{Fault}
-use Rattle.machine_rules.specs.Natives.{NativeAnswers}
+use Rattle.qt_runtime.specs.Natives.{NativeAnswers}
 use Rattle.qt_runtime.specs.Checked.{IsChecked, Claims, StopsAtLimit}
 use Rattle.qt_runtime.specs.Seen.{Seen, AreKept, RunsAll, begun, with_front}
 use Rattle.program_commands.specs.Refusals.{fault_line}

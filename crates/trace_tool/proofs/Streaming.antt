@@ -6,7 +6,7 @@ use Rattle.trace_entries.specs.declared.entry.Entry.{Entry}
 use Rattle.trace_entries.specs.declared.fault.Answer.{Answer}
 use Rattle.trace_entries.specs.declared.fault.Fault.{Fault}
 use Rattle.trace_entries.specs.declared.fault.Fault.TheVariants.{Stopped}
-use Rattle.machine_rules.specs.Natives.{NativeAnswers}
+use Rattle.qt_runtime.specs.Natives.{NativeAnswers}
 use Rattle.qt_runtime.specs.Checked.{StopsAtLimit}
 use Rattle.qt_runtime.specs.Seen.{Seen, Completes, Halts, Stays, cleared, with_front}
 use Rattle.qt_runtime.proofs.Applying.{completes-none, completes-then, run-stops}

@@ -10,7 +10,7 @@ use Rattle.native_slots.specs.Misfits.{Fits}
 use Rattle.rank_check.specs.Checks.{Checking, Examines}
 use Rattle.script_lang.specs.Reads.{ReadsScript}
 use Rattle.script_lang.specs.declared.event.Event.{Event}
-use Rattle.machine_rules.specs.Natives.{NativeAnswers}
+use Rattle.qt_runtime.specs.Natives.{NativeAnswers}
 use Rattle.trace_entries.specs.declared.fault.Fault.{Fault}
 use Rattle.qt_runtime.specs.Checked.{Claims}
 use Rattle.qt_runtime.specs.Seen.{Seen, RunsAll, begun}

@@ -4,7 +4,7 @@ use Rattle.std.specs.Prelude.{◌≡◌, ℕ, List, Option, Result, IfErr}
 use Rattle.script_lang.specs.declared.event.Event.{Event}
 use Rattle.native_slots.specs.Promises.{Takes}
 use Rattle.trace_entries.specs.declared.entry.Entry.{Entry}
-use Rattle.machine_rules.specs.Natives.{NativeAnswers}
+use Rattle.qt_runtime.specs.Natives.{NativeAnswers}
 use Rattle.qt_runtime.specs.Checked.{IsChecked, Claims, StopsAtLimit}
 use Rattle.qt_runtime.specs.Seen.{Seen, AreKept, RunsAll, with_front}
 use Rattle.command_output.specs.Sent.{TakesWith}

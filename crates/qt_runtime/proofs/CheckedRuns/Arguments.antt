@@ -45,17 +45,17 @@ use Rattle.machine_rules.specs.Natives.{NativeAnswers}
 use Rattle.machine_rules.specs.Rules.{Rule, RuleAt, BodyRule, Does, EmitRule, UpdateRule, NotifiesIf, TurnRule, Serves, Delivers, Arrives, Begins, BeginsIf, begun, with_used, linked, unlinked}
 use Rattle.machine_rules.specs.code.Sound.{Waits, SendsThese, MayBeHeard}
 use Rattle.machine_rules.specs.There.{IsMember}
-use Rattle.rule_interpreter.specs.code.Writing.{Announces}
-use Rattle.rule_interpreter.proofs.Beginning.{fit-of, next-delivered, delivered-fits}
+use Rattle.machine_events.specs.Writing.{Announces}
+use Rattle.machine_events.proofs.Beginning.{fit-of, next-delivered, delivered-fits}
 use Rattle.machine_rules.proofs.Declared.{living-fits}
 use Rattle.machine_rules.proofs.Dying.{died-dead}
 use Rattle.machine_rules.proofs.Fields.{member-at, method-unique}
 use Rattle.machine_rules.proofs.Lists.{all-append}
-use Rattle.rule_interpreter.proofs.Notifying.{announced-fits}
-use Rattle.rule_interpreter.proofs.Soundness.{AllFit}
+use Rattle.machine_events.proofs.Notifying.{announced-fits}
+use Rattle.machine_events.proofs.Soundness.{AllFit}
 use Rattle.machine_rules.proofs.Waiting.{first-waits}
-use Rattle.event_judgement.specs.declared.invoking.Invocation.{Invocation}
-use Rattle.event_judgement.specs.declared.invoking.Invocation.TheVariants.{Emit as EmitIt, Call as CallIt}
+use Rattle.machine_events.specs.Invocation.{Invocation}
+use Rattle.machine_events.specs.Invocation.TheVariants.{Emit as EmitIt, Call as CallIt}
 use Rattle.trace_entries.specs.declared.fault.Answer.{Answer}
 use Rattle.machine_events.specs.Takes.{judged, Takes as Taking, accepts, refuses}
 use Rattle.machine_events.specs.Events.{block, invoke}
@@ -63,11 +63,11 @@ use Rattle.machine_events.proofs.Standing.{Invariant}
 use Rattle.qt_runtime.proofs.CheckedRuns.Invariant.{Level, BodyStands, Stacked, Holds}
 use Rattle.qt_runtime.proofs.CheckedRuns.Promised.{StepIsPromised, AllIsPromised}
 use Rattle.qt_runtime.proofs.CheckedRuns.Giving.{does-give, answer-promised}
-use Rattle.event_judgement.proofs.Judged.{given-is}
-use Rattle.event_judgement.proofs.Judging.Naming.{living-is, living-object}
+use Rattle.machine_events.proofs.Judged.{given-is}
+use Rattle.machine_events.proofs.Naming.{living-is, living-object}
 use Rattle.qt_runtime.proofs.CheckedRuns.Leading.{does-led}
 use Rattle.machine_rules.proofs.Scheduling.{schedule-cases}
-use Rattle.rule_interpreter.proofs.Hearing.{AllHeard, nobody, may-be-heard}
+use Rattle.machine_events.proofs.Hearing.{AllHeard, nobody, may-be-heard}
 
 -- What was pushed over so many activations has its arguments, and what is left of natives' answers keeps to their effects.
 pub record Pushes (p : Loaded) (classes : ℕ → Option ℕ) (high : ℕ) (t : State) : Type 0 where

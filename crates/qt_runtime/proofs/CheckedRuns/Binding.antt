@@ -38,11 +38,11 @@ use Rattle.machine_state.specs.State.{State}
 use Rattle.machine_rules.specs.Judgement.{found as finds, holds as so, goes_on}
 use Rattle.machine_rules.specs.There.{IsField}
 use Rattle.machine_rules.proofs.Fields.{old-there, stored-reads}
-use Rattle.rule_interpreter.proofs.Keeps.{lives-of-class}
+use Rattle.machine_events.proofs.Keeps.{lives-of-class}
 use Rattle.machine_events.specs.Causes.{BindsNext}
 use Rattle.machine_events.specs.Events.{may_bind}
 use Rattle.machine_rules.proofs.Inherited.{property-below}
-use Rattle.event_judgement.proofs.Judged.{given-is}
+use Rattle.machine_events.proofs.Judged.{given-is}
 
 -- a value as it reads is of the sort that it is of
 seen-sort : (objects : List Object) (v : Value) → sort_of (seen objects v) ≡ sort_of v

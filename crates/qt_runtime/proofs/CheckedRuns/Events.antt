@@ -48,20 +48,20 @@ use Rattle.machine_rules.specs.declared.ends.FoundEnds.{FoundEnds}
 use Rattle.machine_rules.specs.Good.{IsWell}
 use Rattle.machine_rules.specs.Judgement.{Numbered, found as finds, holds as so, becomes, goes_on}
 use Rattle.machine_rules.specs.Settling.{Installs}
-use Rattle.rule_interpreter.proofs.Keeps.{class-of-lives}
+use Rattle.machine_events.proofs.Keeps.{class-of-lives}
 use Rattle.machine_rules.proofs.Lists.{all-filtered, all-snoc, all-weaken}
-use Rattle.event_judgement.specs.declared.invoking.Invocation.{Invocation}
-use Rattle.event_judgement.specs.declared.invoking.Invocation.TheVariants.{Emit as EmitIt, Call as CallIt}
+use Rattle.machine_events.specs.Invocation.{Invocation}
+use Rattle.machine_events.specs.Invocation.TheVariants.{Emit as EmitIt, Call as CallIt}
 use Rattle.trace_entries.specs.declared.fault.Answer.{Answer}
 use Rattle.machine_events.specs.Takes.{judged, Takes, accepts, refuses}
 use Rattle.machine_events.specs.Events.{may_bind, block, find_ends, invoke}
-use Rattle.event_judgement.specs.code.Judgement.{IsLiving}
+use Rattle.machine_events.specs.EventJudgement.{IsLiving}
 use Rattle.qt_runtime.proofs.CheckedRuns.Invariant.{Stacked, AreClasses, AreOwned, IsOwned, IsWired, IsOf, IsSited, IsCovered, Holds}
 use Rattle.qt_runtime.proofs.CheckedRuns.Nodes.{named-node, property-node, end-node}
 use Rattle.qt_runtime.proofs.CheckedRuns.Ladder.{level-at, level-of}
 use Rattle.machine_events.proofs.Changes.{adopted-by, length-moved}
-use Rattle.event_judgement.proofs.Judged.{given-is}
-use Rattle.event_judgement.proofs.Judging.Naming.{living-is, living-object}
+use Rattle.machine_events.proofs.Judged.{given-is}
+use Rattle.machine_events.proofs.Naming.{living-is, living-object}
 use Rattle.machine_events.proofs.Moving.{moved-by}
 use Rattle.qt_runtime.proofs.CheckedRuns.Worlds.{Leaves, classes-left, all-changed, all-left}
 use Rattle.qt_runtime.proofs.CheckedRuns.Rules.{writes-held, settles-held, alone-low, begun-held, wired-by, deletes-held, schedules-held}

@@ -44,11 +44,11 @@ use Rattle.machine_rules.specs.Natives.{NativeAnswers}
 use Rattle.machine_rules.specs.Paths.{path_value, value_of, values_of}
 use Rattle.machine_rules.specs.Rules.{Answers}
 use Rattle.machine_rules.specs.There.{IsMember}
-use Rattle.rule_interpreter.proofs.Beginning.{fit-of}
+use Rattle.machine_events.proofs.Beginning.{fit-of}
 use Rattle.machine_rules.proofs.Fields.{member-method}
 use Rattle.machine_rules.proofs.Inherited.{method-below, property-below}
-use Rattle.rule_interpreter.proofs.Keeps.{lives-of-class, class-of-lives}
-use Rattle.rule_interpreter.proofs.Promised.{declared-at, promised}
+use Rattle.machine_events.proofs.Keeps.{lives-of-class, class-of-lives}
+use Rattle.machine_events.proofs.Promised.{declared-at, promised}
 use Rattle.machine_events.proofs.TypedPaths.{Reaches, to_null, to_object}
 use Rattle.qt_runtime.proofs.CheckedRuns.Invariant.{BodyStands, IsStepOf, runs}
 use Rattle.qt_runtime.proofs.CheckedRuns.Promised.{SetsWithin, EmitsWithin, IsWithin, IsPromised, StepIsPromised}

@@ -33,7 +33,7 @@ use Rattle.qt_runtime.proofs.CheckedRuns.Events.{HoldsSome, takes-held, binding-
 use Rattle.qt_runtime.proofs.CheckedRuns.Sites.{no-loop}
 use Rattle.qt_runtime.proofs.CheckedRuns.Lacking.{body-typed, typed-does}
 use Rattle.qt_runtime.proofs.CheckedRuns.Nodes.{body-named}
-use Rattle.rule_interpreter.proofs.Keeps.{lives-of-class}
+use Rattle.machine_events.proofs.Keeps.{lives-of-class}
 use Rattle.meta_model.specs.declared.object.Work.{Work}
 use Rattle.meta_model.specs.declared.object.Statement.{Statement}
 use Rattle.meta_model.specs.declared.object.Statement.TheViews.{out-Statement}

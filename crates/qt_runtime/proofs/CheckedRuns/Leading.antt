@@ -44,7 +44,7 @@ use Rattle.machine_state.specs.State.{Step, Run, Ask, Act}
 use Rattle.machine_rules.specs.Operations.{Operation, Write, Begin, Choose, Connect, Disconnect, Delete, Schedule, TakeAnswer, Nothing, led_to, on_object, operation_of_set, set_at, set_in, sets_in, after_set, chosen_by, operation, operation_of_action, operation_of_step}
 use Rattle.machine_rules.specs.Paths.{path_value, steps_value, root_value, value_of, values_of}
 use Rattle.machine_rules.proofs.Fields.{life-unique}
-use Rattle.rule_interpreter.proofs.Keeps.{lives-of-class}
+use Rattle.machine_events.proofs.Keeps.{lives-of-class}
 use Rattle.machine_events.proofs.TypedPaths.{Reaches, to_null, to_object, path-reaches}
 use Rattle.qt_runtime.proofs.CheckedRuns.Lacking.{body-typed, sets-done}
 use Rattle.machine_events.proofs.Grouped.{IfWrites, Within, within-first, within-next, mapped-so, values-still}

@@ -70,7 +70,7 @@ use Rattle.machine_rules.proofs.Differing.{differ-stay, differ-spared}
 use Rattle.machine_rules.proofs.Dying.{died-stay, scheduled-stay, scheduled-seen, other-seen}
 use Rattle.machine_rules.proofs.Fields.{member-method}
 use Rattle.machine_rules.proofs.Inherited.{method-below}
-use Rattle.rule_interpreter.proofs.Keeps.{class-of-lives}
+use Rattle.machine_events.proofs.Keeps.{class-of-lives}
 use Rattle.machine_rules.proofs.Lists.{all-append, all-filtered, all-snoc}
 use Rattle.machine_rules.proofs.Waiting.{first-waits}
 use Rattle.qt_runtime.proofs.CheckedRuns.Invariant.{Falls, IsNoHigher, Level, NodeLevel, FallsTo, IsStepOf, runs, asks, acts, BodyStands, EmitStands, IsFollower, IsTorn, DestroyStands, Stacked, IsOwned, IsWired, IsSited, IsCovered, Holds}

@@ -16,7 +16,7 @@ use Rattle.machine_rules.specs.Good.{IsWell, IsGood}
 use Rattle.machine_rules.specs.Natives.{NativeAnswers}
 use Rattle.machine_rules.specs.Rules.{Rule}
 use Rattle.machine_rules.specs.Next.{WritesNext, WritesIll}
-use Rattle.rule_interpreter.proofs.Writes.{fits-read}
+use Rattle.machine_events.proofs.Writes.{fits-read}
 use Rattle.machine_events.specs.Runs.{Run, done, goes, takes, Each, Follows, by_rule, by_event}
 use Rattle.machine_events.specs.Takes.{Takes as Taking}
 use Rattle.machine_events.proofs.Preservation.{after-rule, after-event}

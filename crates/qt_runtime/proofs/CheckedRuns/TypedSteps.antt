@@ -59,8 +59,8 @@ use Rattle.machine_rules.specs.Rules.{Rule, RuleAt, BodyRule, Does, EmitRule, Up
 use Rattle.machine_rules.specs.Next.{WritesNext}
 use Rattle.machine_rules.proofs.Differing.{scheduled-agree}
 use Rattle.machine_rules.proofs.Lists.{all-filtered, all-snoc}
-use Rattle.event_judgement.specs.declared.invoking.Invocation.{Invocation}
-use Rattle.event_judgement.specs.declared.invoking.Invocation.TheVariants.{Emit as EmitIt, Call as CallIt}
+use Rattle.machine_events.specs.Invocation.{Invocation}
+use Rattle.machine_events.specs.Invocation.TheVariants.{Emit as EmitIt, Call as CallIt}
 use Rattle.trace_entries.specs.declared.fault.Answer.{Answer}
 use Rattle.machine_events.specs.Takes.{judged, Takes, accepts, refuses}
 use Rattle.machine_events.specs.Events.{block, invoke}
@@ -69,9 +69,9 @@ use Rattle.qt_runtime.proofs.CheckedRuns.Invariant.{IsSited, IsCovered}
 use Rattle.qt_runtime.proofs.CheckedRuns.Binding.{may-fit}
 use Rattle.qt_runtime.proofs.CheckedRuns.Events.{HoldsSome, binding-sited}
 use Rattle.machine_events.proofs.Changes.{adopted-by}
-use Rattle.event_judgement.proofs.Judged.{given-is}
+use Rattle.machine_events.proofs.Judged.{given-is}
 use Rattle.machine_events.proofs.Moving.{stores-agree}
-use Rattle.event_judgement.proofs.Judging.Naming.{living-is, living-object}
+use Rattle.machine_events.proofs.Naming.{living-is, living-object}
 use Rattle.qt_runtime.proofs.CheckedRuns.Nodes.{property-node}
 use Rattle.qt_runtime.proofs.CheckedRuns.Rules.{bound-by}
 use Rattle.qt_runtime.proofs.CheckedRuns.Settled.{agree-at, writes-agree, installs-agree}

@@ -3,7 +3,7 @@ use Rattle.std.specs.Prelude.{ℕ, List, Option, Result}
 use Rattle.script_lang.specs.declared.event.Event.{Event}
 use Rattle.trace_entries.specs.declared.entry.Entry.{Entry}
 use Rattle.trace_entries.specs.declared.fault.Fault.{Fault}
-use Rattle.machine_rules.specs.Natives.{NativeAnswers}
+use Rattle.qt_runtime.specs.Natives.{NativeAnswers}
 use Rattle.qt_runtime.specs.Seen.{Seen, RunsAll, with_front}
 use Rattle.command_output.specs.Lines.{trace_text}
 use Rattle.command_output.specs.Sent.{Puts}
