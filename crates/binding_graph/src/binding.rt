@@ -6,7 +6,7 @@ ghost use Rattle.meta_model.specs.Among.{is_among};
 ghost use Rattle.binding_graph.specs.Bindings.{leads_out, named_in, source_place, read_by, touches};
 
 use crate::place::Place;
-use meta_objects::{Formula, SourceProperty};
+use meta_model::{Formula, SourceProperty};
 use signatures::ObjectId;
 use sqlite_items::Items;
 use std::alloc::{AllocError, Global};

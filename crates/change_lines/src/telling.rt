@@ -10,7 +10,7 @@ ghost use Rattle.change_lines.specs.Telling.{HasValue, IsTold, IsToldWith, IsSet
 ghost use Rattle.change_lines.specs.code.Planned.{CanBeTold, HaveValues, AddsFollowers, AddsSets, AddsTold, StandFirst, WillBeTold, behind};
 
 use crate::showing::show;
-use meta_objects::Meta;
+use meta_model::Meta;
 use object_tree::Tree;
 use prop_bindings::{Assignment, Place, Planned};
 use signatures::{Name, Value};

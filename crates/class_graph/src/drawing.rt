@@ -4,7 +4,7 @@ use crate::edge::{Edge, Edges};
 use crate::fault::PartFault;
 use crate::part::{Part, drawn, is_marked};
 use effect_scan::{Node, Scan};
-use meta_objects::Meta;
+use meta_model::Meta;
 use rank_make::{Why, make};
 use sqlite_items::Items;
 use std::alloc::{AllocError, Global};

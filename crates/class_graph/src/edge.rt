@@ -2,8 +2,7 @@
 
 use class_outlines::{DESTROYED, DESTROYED_ALONE};
 use effect_scan::{Member, Node, Reason, Scan, reason_for};
-use meta_model::{MetaWire, Work};
-use meta_objects::Meta;
+use meta_model::{Meta, MetaWire, Work};
 use signatures::Kind;
 use std::alloc::{AllocError, Global};
 

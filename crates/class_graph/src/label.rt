@@ -2,8 +2,7 @@
 
 use crate::edge::Cause;
 use effect_scan::{Member, Node};
-use meta_model::{MetaObject, Work};
-use meta_objects::Meta;
+use meta_model::{Meta, MetaObject, Work};
 use std::alloc::{AllocError, Global};
 
 /// Bytes of names and types, which are ASCII, as a text.

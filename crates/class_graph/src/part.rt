@@ -5,7 +5,7 @@ use crate::fault::PartFault;
 use crate::label::member_text;
 use class_outlines::{DELETE_LATER, OBJECT_NAME};
 use effect_scan::{Member, Node, Scan};
-use meta_objects::{Meta, MetaObject};
+use meta_model::{Meta, MetaObject};
 use std::alloc::{AllocError, Global};
 
 /// The part of a graph that is asked for.

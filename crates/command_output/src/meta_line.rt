@@ -8,7 +8,7 @@ ghost use Rattle.command_output.specs.MetaLines.{described, class_line, class_li
 ghost use Rattle.command_output.specs.Sent.{Puts};
 
 use crate::output::Output;
-use meta_objects::{Meta, MetaMethod, MetaObject, MetaProperty, Work};
+use meta_model::{Meta, MetaMethod, MetaObject, MetaProperty, Work};
 use shared_values::Shared;
 use signatures::{QType, Sig};
 use std::io::Write;

@@ -7,7 +7,7 @@ ghost use Rattle.command_output.specs.Sent.{Puts};
 
 use crate::output::Output;
 use effect_scan::{Member, Node};
-use meta_objects::{Meta, MetaMethod, MetaObject, MetaProperty};
+use meta_model::{Meta, MetaMethod, MetaObject, MetaProperty};
 use signatures::Name;
 use std::io::Write;
 

@@ -9,7 +9,7 @@ use crate::walk::first_token;
 use crate::words::Told;
 use class_outlines::{Declaration, LoadFault, Offence};
 use diagnostics::Flaw;
-use meta_objects::Meta;
+use meta_objects::load;
 use signatures::Name;
 use std::alloc::{AllocError, Global};
 use syntax_trees::Program;
@@ -40,7 +40,7 @@ fn flaw_of(
 ) -> Result<Option<Flaw>, AllocError>
     ensures { IfOk result (λ flaw. IfSome flaw (λ f. f.at ≤ length text.now)) }
 {
-    let offence = match Meta::load(alloc, program) {
+    let offence = match load(alloc, program) {
         Err(LoadFault::Offence(offence)) => offence,
         Err(LoadFault::Memory) => return Err(AllocError),
         Ok(_) => return Ok(None),

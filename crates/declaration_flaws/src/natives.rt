@@ -6,7 +6,8 @@ use crate::flaws::told_at;
 use crate::source::{Source, source_of};
 use class_outlines::{Declaration, LoadFault, Member, names_before_work, names_of_sig};
 use diagnostics::Flaw;
-use meta_objects::Meta;
+use meta_model::Meta;
+use meta_objects::load;
 use native_slots::{Difference, Misfit, NativePlace};
 use std::alloc::{AllocError, Global};
 use syntax_trees::{Program, Slot, SlotWork};
@@ -28,7 +29,7 @@ pub fn native_flaw(alloc: Global, text: &[u8], misfit: Misfit) -> Result<Option<
 
 /// The same of this program.
 fn misfit_flaw(alloc: Global, source: &Source, misfit: Misfit) -> Result<Option<Flaw>, AllocError> {
-    match Meta::load(alloc, &source.program) {
+    match load(alloc, &source.program) {
         Ok(meta) => loaded_flaw(alloc, source, &meta, misfit),
         Err(LoadFault::Offence(_)) => Ok(None),
         Err(LoadFault::Memory) => Err(AllocError),

@@ -11,8 +11,7 @@ ghost use Rattle.effect_scan.specs.code.Relations.{IsSquare, IsEmpty, Extends, I
 
 use crate::rows::row_at;
 use class_sets::ClassSet;
-use meta_model::MetaOwns;
-use meta_objects::Meta;
+use meta_model::{Meta, MetaOwns};
 use sqlite_items::Items;
 use std::alloc::{AllocError, Global};
 

@@ -4,7 +4,7 @@ ghost use Rattle.std.specs.Prelude.{length, IfOk};
 ghost use Rattle.meta_model.specs.Members.{Below};
 ghost use Rattle.effect_scan.specs.code.Places.{IsLineage, Lists};
 
-use meta_objects::Meta;
+use meta_model::Meta;
 use sqlite_items::Items;
 use std::alloc::{AllocError, Global};
 

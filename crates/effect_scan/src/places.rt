@@ -11,7 +11,7 @@ use crate::lineage::lineage;
 use crate::node::{Member, Node};
 use crate::numbering::Numbering;
 use crate::targets::Targets;
-use meta_objects::Meta;
+use meta_model::Meta;
 use sqlite_items::Items;
 use std::alloc::{AllocError, Global};
 

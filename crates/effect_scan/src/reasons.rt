@@ -10,8 +10,9 @@ use crate::edges::named;
 use crate::effect::{Effect, Reach, effect_of};
 use crate::node::{Member, Node};
 use class_outlines::DESTROYED;
-use meta_model::{MetaEffects, MetaSite, MetaWire, SourceProperty, Statement, ValueType, Work};
-use meta_objects::Meta;
+use meta_model::{
+    Meta, MetaEffects, MetaSite, MetaWire, SourceProperty, Statement, ValueType, Work,
+};
 use signatures::Kind;
 use syntax_trees::Expr;
 

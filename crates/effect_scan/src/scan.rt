@@ -15,7 +15,7 @@ use crate::numbering::Numbering;
 use crate::places::Places;
 use crate::rows::{empty_rows, order_rows, targets_at};
 use crate::targets::Targets;
-use meta_objects::Meta;
+use meta_model::Meta;
 use sqlite_items::Items;
 use std::alloc::{AllocError, Global};
 use std::marker::Model;

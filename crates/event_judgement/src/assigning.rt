@@ -13,7 +13,7 @@ use crate::named::find_living;
 use crate::not_accepted::NotAccepted;
 use crate::values::read_input;
 use machine_state::World;
-use meta_objects::{Meta, MetaProperty};
+use meta_model::{Meta, MetaProperty};
 use prop_bindings::{Assignment, Place};
 use run_context::RunContext;
 use script_lang::Input;

@@ -10,7 +10,7 @@ ghost use Rattle.event_judgement.specs.Events.{connect, disconnect};
 use crate::ends::find_ends;
 use crate::not_accepted::NotAccepted;
 use machine_state::{Endpoints, World};
-use meta_objects::ConnectionEnd;
+use meta_model::ConnectionEnd;
 use run_context::RunContext;
 use signatures::Name;
 use syntax_trees::{self, ConnectionType};

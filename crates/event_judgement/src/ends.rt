@@ -10,7 +10,7 @@ use crate::named::find_living;
 use crate::not_accepted::NotAccepted;
 use machine_rules::{FoundEnds, named_signal};
 use machine_state::{Endpoints, World};
-use meta_objects::{Meta, MetaMethod, Work};
+use meta_model::{Meta, MetaMethod, Work};
 use run_context::RunContext;
 use signatures::{Name, ObjectId, Sig};
 use syntax_trees;

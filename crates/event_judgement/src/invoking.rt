@@ -14,7 +14,7 @@ use crate::not_accepted::NotAccepted;
 use crate::values::read_inputs;
 use class_outlines::OBJECT_NAME_CHANGED;
 use machine_state::World;
-use meta_objects::{Meta, MetaMethod};
+use meta_model::{Meta, MetaMethod};
 use run_context::RunContext;
 use script_lang::Input;
 use signatures::{Arguments, Name, ObjectId};

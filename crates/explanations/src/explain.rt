@@ -5,7 +5,7 @@ use check_flaws::broken_condition;
 use command_outcomes::{Fault, Outcome, ProgramOutcome, Refusal, ScriptFault, Why};
 use declaration_flaws::{declaration_flaw, native_flaw};
 use diagnostics::{Flaw, Severity, Span, TextKind, meaning, push_flaw, text_spans};
-use meta_objects::Meta;
+use meta_model::Meta;
 use native_slots::Answering;
 use program_flaws::missing_certificate;
 use rank_check::Denied;

@@ -15,7 +15,7 @@ use crate::endpoints::Endpoints;
 use crate::turn::Turn;
 use crate::world::World;
 use delete_later::MoveFault;
-use meta_objects::Meta;
+use meta_model::Meta;
 use object_tree::{AdoptFault, CreateFault};
 use signatures::{LoopId, Name, ObjectId};
 use syntax_trees::ConnectionType;

@@ -19,7 +19,7 @@ ghost use Rattle.change_lines.specs.code.Planned.{CanBeTold, WillWrite, WillWrit
 use crate::world::World;
 use change_lines::{Cause, Telling, line_of};
 use delete_later::Store;
-use meta_objects::Meta;
+use meta_model::Meta;
 use prop_bindings::{
     Assignment, BindFault, ChangedPlaces, Place, Planned, PlannedGroup, PlannedWrite, WriteFault,
     fits,

@@ -7,7 +7,7 @@ use crate::holding::Bound;
 use crate::holds::{Holds, is_as_told, told_of};
 use crate::stores::put;
 use memory_trials::{Told, TrialAnswer, loaded, once_or_twice};
-use meta_objects::Meta;
+use meta_model::Meta;
 use object_tree::Tree;
 use prop_bindings::{Assignment, BindFault, Bindings, Place, WriteFault};
 use signatures::{ObjectId, Value};

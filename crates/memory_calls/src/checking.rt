@@ -2,7 +2,7 @@
 
 use effect_scan::{Member, Node, Scan};
 use memory_trials::{SOURCE, Told, TrialAnswer, certificate, loaded, once_or_twice};
-use meta_objects::Meta;
+use meta_model::Meta;
 use rank_check::{No, Spot, check, unfit_wire, untyped};
 use rank_make::{Why, make};
 use sqlite_items::Items;

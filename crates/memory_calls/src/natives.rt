@@ -5,7 +5,7 @@ ghost use Rattle.built_in_native.specs.Doubling.{doubling};
 
 use built_in_native::{class, doubled, effects, twice};
 use memory_trials::{Told, TrialAnswer, loaded, once_or_twice};
-use meta_objects::Meta;
+use meta_model::Meta;
 use native_slots::{Action, Effects, NativeSlot, Natives};
 use signatures::{Name, Sig, Value};
 use std::alloc::{AllocError, Global};

@@ -3,7 +3,8 @@
 use certificate_lang::{CertificateFault, read_certificate};
 use class_lang::{TextFault, read_program};
 use memory_trials::{CERTIFICATE, SCRIPT, SOURCE, Told, TrialAnswer, once_or_twice};
-use meta_objects::{Meta, MetaFault};
+use meta_model::Meta;
+use meta_objects::{FromProgram, MetaFault};
 use script_lang::{ScriptFault, read_script};
 use slot_lang::{BodyFault, LexFault, ParseFault, Token, nesting, parse_body, parse_expr, tokens};
 use sqlite_items::Items;

@@ -7,7 +7,7 @@ use connections::{ConnectFault, Connections};
 use delete_later::Store;
 use event_loops::{AddFault, Item, Loops, PostFault};
 use memory_trials::{Told, TrialAnswer, loaded, once_or_twice};
-use meta_objects::Meta;
+use meta_model::Meta;
 use object_tree::{AdoptFault, CreateFault, Tree};
 use prop_bindings::Bindings;
 use signatures::{Arguments, Kind, LoopId, Name, ObjectId, Value};

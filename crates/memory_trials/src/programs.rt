@@ -2,7 +2,8 @@
 
 use certificate_lang::{Certificate, read_certificate};
 use class_lang::read_program;
-use meta_objects::Meta;
+use meta_model::Meta;
+use meta_objects::FromProgram;
 use std::alloc::Global;
 
 /// A source whose value a label shows.

@@ -6,3 +6,5 @@ pub mod ReadTypes
 pub mod Roots
 pub mod PathsIn
 pub mod SiteProperties
+pub mod LookUps
+pub mod Indexing

@@ -1,3 +1,6 @@
+pub mod Indexes
+pub mod Typed
+pub mod Wiring
 pub mod Loaded
 pub mod Among
 pub mod Members
@@ -11,3 +14,4 @@ pub mod Natives
 pub mod Conditions
 pub mod code
 pub use Rattle.class_outlines.specs.LookUps
+pub use Rattle.class_outlines.specs.NamePlaces

@@ -1,10 +1,8 @@
-pub mod LookUps
 pub mod Soundness
 pub mod SoundBodies
 pub mod Deciding
 pub mod Whole
 pub mod Refusals
-pub mod Indexing
 pub mod MembersIndexed
 pub mod OnlyAnswer
 pub mod Sited

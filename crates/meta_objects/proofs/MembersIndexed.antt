@@ -14,8 +14,8 @@ use Rattle.class_outlines.specs.Places.{StandsAt, IsPlace}
 use Rattle.class_outlines.proofs.Zips.{zip_left, zip_right}
 use Rattle.name_resolution.specs.declared.body_resolution.work.ResolvedWork.{ResolvedWork}
 use Rattle.name_resolution.specs.code.Loading.{IsMethodOf, IsPropertyOf, IsObject}
-use Rattle.meta_objects.specs.declared.class_index.MemberIndex.{MemberIndex}
-use Rattle.meta_objects.specs.Indexes.{IndexesProperties, IndexesMethods, IndexesMembers}
+use Rattle.meta_model.specs.declared.class_index.MemberIndex.{MemberIndex}
+use Rattle.meta_model.specs.Indexes.{IndexesProperties, IndexesMethods, IndexesMembers}
 use Rattle.meta_objects.specs.code.Outlined.{AreOf, IndexesOutlined}
 
 -- elements at the same places, of which the one has P where the other has Q

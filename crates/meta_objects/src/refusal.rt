@@ -3,7 +3,7 @@
 ghost use Rattle.std.specs.Prelude.{IfOk};
 ghost use Rattle.meta_objects.specs.Builds.{TellsRefusal};
 
-use crate::meta::Meta;
+use crate::loading::load;
 use class_outlines::{LoadFault, Offence};
 use std::alloc::{AllocError, Global};
 use syntax_trees::Program;
@@ -13,7 +13,7 @@ use syntax_trees::Program;
 pub fn first_offence(alloc: Global, program: &Program) -> Result<Option<Offence>, AllocError>
     ensures { IfOk result (TellsRefusal program.now) }
 {
-    match Meta::load(alloc, program) {
+    match load(alloc, program) {
         Ok(_) => Ok(None),
         Err(LoadFault::Offence(offence)) => Ok(Some(offence)),
         Err(LoadFault::Memory) => Err(AllocError),

@@ -9,7 +9,7 @@ ghost use Rattle.native_slots.specs.Misfits.{TellsDifference};
 use crate::effects::{Effects, PlainProperty, PlainSignal};
 use crate::misfit::Difference;
 use crate::plain_type::PlainType;
-use meta_objects::{MetaEffects, MetaMethod, MetaObject, ValueType};
+use meta_model::{MetaEffects, MetaMethod, MetaObject, ValueType};
 
 /// The first list in which the effects aren't those declared of a native, which is this method of this class; each list has
 /// its order. `None` where all are.

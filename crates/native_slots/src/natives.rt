@@ -7,7 +7,7 @@ use crate::fitting::difference;
 use crate::head::NativeHead;
 use crate::misfit::{Misfit, NativePlace, first_of};
 use crate::native_slot::{NativeSlot, Work};
-use meta_objects::{Meta, MetaMethod, MetaObject, Work as MethodWork};
+use meta_model::{Meta, MetaMethod, MetaObject, Work as MethodWork};
 use signatures::{Name, Sig, Value};
 use std::alloc::AllocError;
 

@@ -1,7 +1,7 @@
 ghost use Rattle.std.specs.Prelude.{◌≡◌};
 ghost use Rattle.native_slots.specs.Plain.{kind_of};
 
-use meta_objects::ValueType;
+use meta_model::ValueType;
 
 /// A type of which no value refers to an object. A native takes, reads and gives only values of these types.
 #[derive(Clone, Copy, Debug, PartialEq, Eq)]

@@ -12,4 +12,4 @@ pub mod Moving
 pub mod Kept
 pub mod Slots
 pub use Rattle.class_outlines.specs.NamePlaces
-pub use Rattle.meta_objects.specs.Typed as MetaObjectsTyped
+pub use Rattle.meta_model.specs.Typed as MetaObjectsTyped

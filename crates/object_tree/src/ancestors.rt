@@ -8,7 +8,7 @@ ghost use Rattle.object_tree.specs.Forest.{Forest};
 use crate::fault::AdoptFault;
 use crate::life::Life;
 use crate::objects::Objects;
-use meta_objects::Meta;
+use meta_model::Meta;
 use signatures::ObjectId;
 
 /// Whether the first object is the second or one of its ancestors, which are counted up to the first dead one.

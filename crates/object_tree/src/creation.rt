@@ -12,7 +12,7 @@ use crate::objects::Objects;
 use crate::typing::begin_well;
 use crate::values::Values;
 use class_outlines::NameIndex;
-use meta_objects::{Meta, MetaObject};
+use meta_model::{Meta, MetaObject};
 use signatures::{LoopId, Name};
 use std::alloc::{AllocError, Global};
 

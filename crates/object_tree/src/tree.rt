@@ -21,7 +21,7 @@ use crate::objects::Objects;
 use crate::seen::{is_same, seen, seen_reference};
 use crate::typing::{has_type, have_types};
 use class_outlines::NameIndex;
-use meta_objects::{Meta, ValueType};
+use meta_model::{Meta, ValueType};
 use signatures::{LoopId, Name, ObjectId, Value};
 use std::alloc::{AllocError, Global};
 use std::marker::Model;

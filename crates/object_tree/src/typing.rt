@@ -1,14 +1,14 @@
 //! Whether values are of the types that are declared.
 
 ghost use Rattle.std.specs.Prelude.{◌↔◌, All, IsTrue};
-ghost use Rattle.meta_objects.specs.Typed.{TellsType};
+ghost use Rattle.meta_model.specs.Typed.{TellsType};
 ghost use Rattle.object_tree.specs.Creating.{BeginsAs};
 ghost use Rattle.object_tree.specs.Seen.{seen};
 ghost use Rattle.object_tree.specs.Typed.{ReadsAs, ReadAs};
 
 use crate::objects::Objects;
 use crate::seen::seen_reference;
-use meta_objects::{Meta, MetaProperty, ValueType};
+use meta_model::{Meta, MetaProperty, ValueType};
 use shared_values::Shared;
 use signatures::Value;
 

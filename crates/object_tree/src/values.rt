@@ -2,7 +2,7 @@ ghost use Rattle.std.specs.Prelude.{◌≡◌, slice_get, slice_set, IfOk};
 ghost use Rattle.std.specs.Option.{option_copied};
 ghost use Rattle.object_tree.specs.Creating.{initials};
 
-use meta_objects::MetaProperty;
+use meta_model::MetaProperty;
 use shared_values::Shared;
 use signatures::Value;
 use std::alloc::{AllocError, Global};

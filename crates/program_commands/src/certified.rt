@@ -4,7 +4,7 @@ ghost use Rattle.std.specs.Prelude.{◌≡◌};
 ghost use Rattle.program_commands.specs.Texts.{with_text};
 ghost use Rattle.rank_make.specs.Ranked.{AreRanksOf};
 
-use meta_objects::Meta;
+use meta_model::Meta;
 use rank_make::Ranks;
 use std::marker::Model;
 

@@ -10,7 +10,7 @@ ghost use Rattle.rank_make.specs.Solved.{AreLow};
 
 use command_output::{Output, WriteFault};
 use effect_scan::Scan;
-use meta_objects::Meta;
+use meta_model::Meta;
 use rank_make::{Ranks, Solution, line_of};
 use std::alloc::{AllocError, Global};
 use std::io::Write;

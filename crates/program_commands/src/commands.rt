@@ -9,7 +9,7 @@ use crate::certifying::least_text;
 use crate::loading::{load_program, load_valid};
 use crate::outcome::Outcome;
 use command_output::WriteFault;
-use meta_objects::Meta;
+use meta_model::Meta;
 use rank_make::{Ranks, Why, make_bound};
 use std::alloc::Global;
 use std::io::Write;

@@ -5,7 +5,8 @@ ghost use Rattle.program_commands.specs.Loading.{LoadsProgram, LoadsCertified, L
 use crate::refusal::Refusal;
 use certificate_lang::{Certificate, read_certificate};
 use class_lang::read_program;
-use meta_objects::Meta;
+use meta_model::Meta;
+use meta_objects::FromProgram;
 use rank_check::{Checked, examine};
 use std::alloc::Global;
 

@@ -8,7 +8,7 @@ use crate::certified::Certified;
 use crate::reasons::{put_reason, status_of_reason};
 use crate::refusal::Refusal;
 use command_output::{Output, WriteFault};
-use meta_objects::Meta;
+use meta_model::Meta;
 use rank_check::Checked;
 use rank_make::Why;
 use std::alloc::Global;

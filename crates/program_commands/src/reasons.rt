@@ -8,7 +8,7 @@ ghost use Rattle.program_commands.specs.Reasons.{spot_text, shown_by, reason_lin
 use crate::refusal::{DENIED, UNDONE};
 use command_output::Output;
 use effect_scan::Node;
-use meta_objects::Meta;
+use meta_model::Meta;
 use rank_check::Spot;
 use rank_make::Why;
 use std::io::Write;

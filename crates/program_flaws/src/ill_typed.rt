@@ -5,7 +5,7 @@ use crate::numbers::Numbered;
 use crate::source::Source;
 use crate::statement::{Body, statement_of};
 use effect_scan::{Member, Node};
-use meta_objects::Statement;
+use meta_model::Statement;
 use std::alloc::AllocError;
 use type_check::{Flaw, Spot, flaw_at};
 

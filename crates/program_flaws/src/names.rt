@@ -1,7 +1,7 @@
 //! How classes, members and their types are written.
 
 use effect_scan::{Member, Node};
-use meta_objects::{Meta, MetaObject};
+use meta_model::{Meta, MetaObject};
 use signatures::{QType, Sig};
 use std::alloc::{AllocError, Global};
 

@@ -1,7 +1,7 @@
 //! The statements of a body by number, counted from 0 in the order of the text: each `if` and each group before what is
 //! in it.
 
-use meta_objects::Statement;
+use meta_model::Statement;
 
 /// A statement of a body, or one that is in a statement of it.
 #[derive(Clone, Copy)]

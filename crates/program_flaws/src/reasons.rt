@@ -6,7 +6,7 @@ use crate::names::class_text;
 use crate::source::{Source, declarations_of};
 use crate::wire::unfit_text;
 use effect_scan::{Member, Node, Reason, reason_for};
-use meta_objects::Meta;
+use meta_model::Meta;
 use rank_make::Why;
 use std::alloc::{AllocError, Global};
 

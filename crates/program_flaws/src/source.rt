@@ -2,7 +2,8 @@
 
 use class_lang::{TextFault, read_program};
 use class_outlines::MetaFault;
-use meta_objects::Meta;
+use meta_model::Meta;
+use meta_objects::FromProgram;
 use std::alloc::{AllocError, Global};
 use syntax_trees::{Class, Program, Slot};
 

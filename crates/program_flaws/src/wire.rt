@@ -2,7 +2,7 @@
 
 use crate::names::{class_text, sig_text, type_text};
 use crate::source::Source;
-use meta_objects::{Meta, MetaWire};
+use meta_model::{Meta, MetaWire};
 use signatures::{Kind, Sig};
 use std::alloc::{AllocError, Global};
 

@@ -1,6 +1,6 @@
 //! The slots that a program declares.
 
-use meta_objects::{Meta, MetaMethod, MetaPath, MetaRoot, Statement, ValueType, Work};
+use meta_model::{Meta, MetaMethod, MetaPath, MetaRoot, Statement, ValueType, Work};
 
 /// A slot in the class that declares it.
 #[derive(Clone, Copy)]

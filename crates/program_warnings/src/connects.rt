@@ -10,7 +10,7 @@ ghost use Rattle.program_warnings.specs.Wires.{IsLineageOf, IsLacking, MayServe,
 use crate::bodies::OwnSlot;
 use crate::lineage::Lineage;
 use crate::warning::Warning;
-use meta_objects::{Meta, MetaEndpoints, MetaWire, Statement};
+use meta_model::{Meta, MetaEndpoints, MetaWire, Statement};
 use signatures::Kind;
 use std::alloc::AllocError;
 

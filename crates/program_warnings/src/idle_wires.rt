@@ -10,7 +10,7 @@ ghost use Rattle.program_warnings.specs.Wires.{IsLineageOf, IsWider, Leaves, IsS
 
 use crate::lineage::Lineage;
 use crate::warning::Warning;
-use meta_objects::{Meta, MetaWire};
+use meta_model::{Meta, MetaWire};
 use std::alloc::AllocError;
 
 /// Adds a warning for each wire beside which another one covers the same connections: a wider one, wherever it stands, or the

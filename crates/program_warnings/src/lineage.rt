@@ -6,7 +6,7 @@ ghost use Rattle.meta_model.specs.Loaded.{Loaded};
 ghost use Rattle.meta_model.specs.Members.{Below};
 ghost use Rattle.program_warnings.specs.Wires.{IsLineageOf};
 
-use meta_objects::Meta;
+use meta_model::Meta;
 use sqlite_items::Items;
 use std::alloc::{AllocError, Global};
 

@@ -8,7 +8,7 @@ ghost use Rattle.program_warnings.specs.Wires.{IsSo};
 
 use crate::bodies::OwnSlot;
 use crate::warning::Warning;
-use meta_objects::{Meta, MetaPath, MetaRoot, Statement};
+use meta_model::{Meta, MetaPath, MetaRoot, Statement};
 use std::alloc::{AllocError, Global};
 
 /// Adds a warning for each property that a way through the slot sets and whose notify signal the same way emits; `passed`

@@ -1,7 +1,7 @@
 //! A program with its ranks.
 
 use effect_scan::{Member, Node, Scan, row_at};
-use meta_objects::Meta;
+use meta_model::Meta;
 use rank_make::{Ranks, Solution};
 use std::alloc::{AllocError, Global};
 

@@ -12,7 +12,7 @@ use crate::ranked::Ranked;
 use crate::senders::{add_lost_senders, has_deletion};
 use crate::telling::Subject;
 use crate::warning::Warning;
-use meta_objects::Meta;
+use meta_model::Meta;
 use program_flaws::{declarations_of, meta_of};
 use rank_check::Checked;
 use rank_make::{Ranks, Solution, Why, rank, rank_scan};

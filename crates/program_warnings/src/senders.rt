@@ -10,7 +10,7 @@ ghost use Rattle.program_warnings.specs.Wires.{IsSo};
 use crate::ranked::Ranked;
 use crate::warning::Warning;
 use effect_scan::{Member, Node};
-use meta_objects::{Meta, Statement, Work};
+use meta_model::{Meta, Statement, Work};
 use std::alloc::{AllocError, Global};
 
 /// Whether some slot destroys an object at once: else nothing leads to a destruction.

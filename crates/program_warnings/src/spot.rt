@@ -1,7 +1,7 @@
 //! Where in a program's text a warning points.
 
 use crate::warning::Warning;
-use meta_objects::{Meta, Work};
+use meta_model::{Meta, Work};
 use program_flaws::declaring_class;
 use texts::{PlacedToken, Token, Word};
 

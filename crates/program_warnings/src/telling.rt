@@ -5,7 +5,7 @@ use crate::spot::Spot;
 use crate::warning::Warning;
 use diagnostics::TextPlace;
 use effect_scan::{Member, Node};
-use meta_objects::{Meta, MetaWire};
+use meta_model::{Meta, MetaWire};
 use program_flaws::{node_text, property_text, wire_text};
 use std::alloc::{AllocError, Global};
 use texts::PlacedToken;

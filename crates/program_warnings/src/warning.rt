@@ -1,6 +1,6 @@
 //! What is worth a warning.
 
-use meta_objects::MetaWire;
+use meta_model::MetaWire;
 
 /// Something in a program that has a certificate which its author hardly meant.
 #[derive(Drop)]

@@ -12,7 +12,7 @@ ghost use Rattle.prop_bindings.specs.code.Parts.{value_ahead};
 use binding_graph::Place;
 use expressions::{self, EvalFault};
 use indexmap::IndexMap;
-use meta_objects::SourceProperty;
+use meta_model::SourceProperty;
 use object_tree::Tree;
 use signatures::{ObjectId, Value};
 

@@ -21,7 +21,7 @@ use crate::planned::{Planned, PlannedBind, PlannedGroup, PlannedWrite, assign};
 use crate::preparing::{Prepared, fits, has_value, prepare};
 use crate::writes::{Given, all_fit, give_all, give_one, have_all, plan_given, plan_one};
 use binding_graph::{Binding, Graph, Place, Reader, followers};
-use meta_objects::Meta;
+use meta_model::Meta;
 use object_tree::Tree;
 use signatures::{ObjectId, Value};
 use sqlite_items::Items;

@@ -14,7 +14,7 @@ use crate::fault::BindFault;
 use binding_graph::{Binding, Place};
 use expressions::EvalFault;
 use indexmap::IndexMap;
-use meta_objects::{Meta, MetaSite};
+use meta_model::{Meta, MetaSite};
 use object_tree::Tree;
 use signatures::{ObjectId, Value};
 use sqlite_items::Items;

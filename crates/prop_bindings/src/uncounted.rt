@@ -15,7 +15,7 @@ use crate::changed_places::ChangedPlaces;
 use crate::fault::{BindFault, WriteFault};
 use crate::planned::{PlannedBind, PlannedGroup, PlannedWrite};
 use binding_graph::Place;
-use meta_objects::Meta;
+use meta_model::Meta;
 use object_tree::Tree;
 use signatures::{ObjectId, Value};
 use std::alloc::{AllocError, Global};

@@ -14,7 +14,7 @@ use crate::planned::Planned;
 use crate::preparing::{fits, has_value};
 use binding_graph::{Graph, Place, followers};
 use indexmap::IndexMap;
-use meta_objects::Meta;
+use meta_model::Meta;
 use object_tree::Tree;
 use signatures::Value;
 use std::alloc::{AllocError, Global};

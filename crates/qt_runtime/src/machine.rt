@@ -7,7 +7,7 @@ ghost use Rattle.qt_runtime.specs.Seen.{AreKept, Completes, RefusesExactly, IsSe
 
 use machine_events::{Interpreter, take_event};
 use machine_state::World;
-use meta_objects::Meta;
+use meta_model::Meta;
 use native_slots::Answering;
 use rank_check::Checked;
 use script_lang::Event;

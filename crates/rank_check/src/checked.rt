@@ -10,7 +10,7 @@ use crate::judging::judge_scanned;
 use crate::no::No;
 use certificate_lang::Certificate;
 use effect_scan::Scan;
-use meta_objects::Meta;
+use meta_model::Meta;
 use std::alloc::Global;
 use std::marker::Model;
 use std::snapshot::Snapshot;

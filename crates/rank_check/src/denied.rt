@@ -6,7 +6,7 @@ ghost use Rattle.rank_check.specs.Checks.{IsCause, no_of};
 use crate::causes::Cause;
 use crate::no::No;
 use certificate_lang::Certificate;
-use meta_objects::Meta;
+use meta_model::Meta;
 use std::error::Error;
 use std::fmt;
 use std::fmt::{Debug, Display, Formatter};

@@ -12,8 +12,7 @@ use crate::causes::{Mistake, NodeLine};
 use crate::entries::Entry;
 use class_sets::ClassSet;
 use effect_scan::{Member, Node, Scan, row_at};
-use meta_model::Work;
-use meta_objects::Meta;
+use meta_model::{Meta, Work};
 
 /// What is wrong with the first set that doesn't hold what it has to, in the order of nodes: the set of each node that it
 /// may lead to; for the destruction of a class its closure; for a slot or native not its own class.

@@ -12,7 +12,7 @@ use crate::sets::shared_set;
 use certificate_lang::{Certificate, Line};
 use class_sets::ClassSet;
 use effect_scan::Scan;
-use meta_objects::Meta;
+use meta_model::Meta;
 use shared_values::Shared;
 use sqlite_items::Items;
 use std::alloc::{AllocError, Global};

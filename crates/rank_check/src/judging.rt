@@ -12,7 +12,7 @@ use crate::entries::{Entry, entries};
 use crate::ranks::{first_rise, loose_bound};
 use certificate_lang::Certificate;
 use effect_scan::{Scan, edges_join_nodes};
-use meta_objects::Meta;
+use meta_model::Meta;
 use std::alloc::Global;
 use type_check::{unfit_wire, untyped};
 

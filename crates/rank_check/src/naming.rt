@@ -9,7 +9,7 @@ ghost use Rattle.rank_check.specs.Entries.{IsNumberNamed, AreNumbers};
 
 use certificate_lang::{Line, MemberName, NodeName};
 use effect_scan::{Member, Node, Scan};
-use meta_objects::Meta;
+use meta_model::Meta;
 use signatures::{Name, Sig};
 use sqlite_items::{Items, at};
 use std::alloc::{AllocError, Global};

@@ -7,7 +7,7 @@ ghost use Rattle.rank_check.specs.Entries.{FindsSet, AddsItem};
 use certificate_lang::SetItem;
 use class_sets::ClassSet;
 use effect_scan::{Scan, row_at};
-use meta_objects::Meta;
+use meta_model::Meta;
 use shared_values::Shared;
 use std::alloc::{AllocError, Global};
 

@@ -13,7 +13,7 @@ use crate::ranking::{Ranks, rank};
 use crate::reasons::{destroy_path, high_chain};
 use crate::why::Why;
 use effect_scan::{Scan, edges_join_nodes};
-use meta_objects::Meta;
+use meta_model::Meta;
 use rank_check::Certificate;
 use rank_graph::Solution;
 use std::alloc::Global;

@@ -11,8 +11,7 @@ ghost use Rattle.rank_graph.specs.Solutions.{rank_of, leads_of};
 ghost use Rattle.rank_make.specs.Solved.{AreLow, AreItems, IsLineFor, AreLinesFor, HasMember};
 
 use effect_scan::{Member, Node, Scan, row_at};
-use meta_model::MetaObject;
-use meta_objects::Meta;
+use meta_model::{Meta, MetaObject};
 use rank_check::{ClassSet, Line, MemberName, NodeName, SetItem};
 use rank_graph::Solution;
 use signatures::Sig;

@@ -8,7 +8,7 @@ ghost use Rattle.rank_make.specs.Solved.{own_rows};
 use crate::rows::{nodes_at, own_rows};
 use crate::why::Why;
 use effect_scan::{Scan, edges_join_nodes};
-use meta_objects::Meta;
+use meta_model::Meta;
 use rank_graph::{Solution, Unranked, solve};
 use sqlite_items::Items;
 use std::alloc::Global;

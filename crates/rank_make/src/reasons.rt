@@ -11,8 +11,7 @@ ghost use Rattle.rank_make.specs.Solved.{IsSolved, EndsItself, NoneEnds, AreLow}
 use crate::bounds::first_high;
 use crate::rows::{nodes_at, own_rows};
 use effect_scan::{Member, Node, Scan};
-use meta_model::Work;
-use meta_objects::Meta;
+use meta_model::{Meta, Work};
 use rank_check::MOST_BOUND;
 use rank_graph::{Solution, chain_from, path_to};
 use sqlite_items::Items;

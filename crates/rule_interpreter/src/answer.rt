@@ -9,7 +9,7 @@ ghost use Rattle.machine_rules.specs.code.Sound.{IsSoundWorld};
 
 use crate::interpreter::Interpreter;
 use machine_state::World;
-use meta_objects::MetaEffects;
+use meta_model::MetaEffects;
 use native_slots::{Action, Answering};
 use run_context::{MethodCall, declaring};
 use std::alloc::AllocError;

@@ -13,7 +13,7 @@ use crate::active::Active;
 use crate::interpreter::Interpreter;
 use crate::remaining::Remaining;
 use machine_state::World;
-use meta_objects::Statement;
+use meta_model::Statement;
 use native_slots::Answering;
 use run_context::MethodCall;
 use statement_meaning::Scope;

@@ -14,7 +14,7 @@ use crate::active::Active;
 use crate::interpreter::Interpreter;
 use connections::{Connection, SignalHint};
 use machine_state::{World, reaches_at_once};
-use meta_objects::Work;
+use meta_model::Work;
 use native_slots::Answering;
 use run_context::{Callee, MethodCall, front};
 use signatures::Value;

@@ -3,7 +3,7 @@
 ghost use Rattle.std.specs.Prelude.{◌≡◌, ◌≤◌};
 ghost use Rattle.texts.specs.Limits.{most_depth};
 
-use meta_objects::Meta;
+use meta_model::Meta;
 use run_context::RunContext;
 use std::alloc::Global;
 

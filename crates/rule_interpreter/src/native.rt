@@ -12,7 +12,7 @@ ghost use Rattle.machine_rules.specs.code.Sound.{IsSoundWorld};
 use crate::active::Active;
 use crate::interpreter::Interpreter;
 use machine_state::World;
-use meta_objects::MetaEffects;
+use meta_model::MetaEffects;
 use native_slots::{Action, Answering};
 use prop_bindings::Place;
 use run_context::MethodCall;

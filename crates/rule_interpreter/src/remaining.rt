@@ -2,7 +2,7 @@
 
 ghost use Rattle.std.specs.Prelude.{◌≡◌, [], ◌∷◌, ◌++◌, OnOk, OnErr, MatchOption};
 
-use meta_objects::Statement;
+use meta_model::Statement;
 use std::alloc::{AllocError, Global};
 use std::marker::Model;
 

@@ -12,7 +12,7 @@ ghost use Rattle.rule_interpreter.specs.code.Calls.{CarriesOutAlone};
 use crate::active::Active;
 use crate::interpreter::Interpreter;
 use machine_state::World;
-use meta_objects::{MetaEndpoints, MetaPath, Statement};
+use meta_model::{MetaEndpoints, MetaPath, Statement};
 use native_slots::Answering;
 use prop_bindings::Assignment;
 use run_context::MethodCall;

@@ -7,7 +7,7 @@ ghost use Rattle.machine_rules.specs.Natives.{DeclaredBy, AreRead, HasStored, Is
 
 use crate::context::RunContext;
 use machine_state::{World, show, show_all};
-use meta_objects::{Meta, MetaEffects};
+use meta_model::{Meta, MetaEffects};
 use native_slots::Action;
 use signatures::{ObjectId, Value};
 use sqlite_items::Items;

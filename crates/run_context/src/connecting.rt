@@ -1,7 +1,7 @@
 //! Connections that statements make and remove.
 
 ghost use Rattle.std.specs.Prelude.{◌≡◌, ◌<◌, ◌^◌, ◌-◌, IfOk, IfErr, MatchOption};
-ghost use Rattle.meta_objects.specs.code.Ends.{IsEndOf};
+ghost use Rattle.meta_model.specs.code.Ends.{IsEndOf};
 ghost use Rattle.trace_entries.specs.Refusals.{refusal_number};
 ghost use Rattle.trace_entries.specs.declared.entry.Entry.TheVariants.{At};
 ghost use Rattle.trace_entries.specs.declared.entry.EntryKind.TheVariants.{Refused};
@@ -11,7 +11,7 @@ ghost use Rattle.run_context.specs.code.Statements.{IsJudged, LacksEnds, NamesEn
 use crate::context::RunContext;
 use machine_rules::kept_ends;
 use machine_state::{Endpoints, World};
-use meta_objects::{ConnectionEnd, Wired};
+use meta_model::{ConnectionEnd, Wired};
 use signatures::Name;
 use syntax_trees::{self, ConnectionType};
 use trace_entries::{Entry, EntryKind, Fault, Refusal};

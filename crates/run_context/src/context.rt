@@ -7,7 +7,7 @@ ghost use Rattle.machine_rules.specs.There.{IsMember, IsField, LacksMember, Lack
 
 use crate::method_call::MethodCall;
 use machine_state::{World, is_silent, show_all};
-use meta_objects::{Meta, MetaMethod, MetaProperty, Work};
+use meta_model::{Meta, MetaMethod, MetaProperty, Work};
 use object_tree::Object;
 use signatures::ObjectId;
 use std::alloc::{AllocError, Global};

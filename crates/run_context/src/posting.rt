@@ -10,7 +10,7 @@ use crate::method_call::MethodCall;
 use connections::Connection;
 use event_loops::Item;
 use machine_state::{World, show_all};
-use meta_objects::MetaMethod;
+use meta_model::MetaMethod;
 use object_tree::Object;
 use signatures::{Arguments, Name, Value};
 use std::alloc::AllocError;

@@ -2,7 +2,7 @@
 
 use crate::names::{kind_word, push_name, push_object, push_signature, push_value};
 use effect_scan::{Member, Node, Reason, reason_for};
-use meta_objects::{Meta, MetaWire, Work};
+use meta_model::{Meta, MetaWire, Work};
 use std::alloc::{AllocError, Global};
 
 /// Adds a connection or a bind for each two members that follow one another by a wire or a binding.

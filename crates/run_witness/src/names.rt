@@ -1,6 +1,6 @@
 //! How classes, members and values are written in a script.
 
-use meta_objects::{Meta, ValueType};
+use meta_model::{Meta, ValueType};
 use signatures::{Kind, Name};
 use std::alloc::AllocError;
 

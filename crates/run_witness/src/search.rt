@@ -4,7 +4,7 @@ use crate::choice::{Choice, Part};
 use crate::events::{push_begins, push_joints};
 use crate::stage::push_stage;
 use effect_scan::Node;
-use meta_objects::Meta;
+use meta_model::Meta;
 use native_slots::Natives;
 use program_commands::load_program;
 use rank_make::{Why, make};

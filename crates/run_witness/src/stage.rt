@@ -1,7 +1,7 @@
 //! What has to be there before a chain of members is begun: an object of each class, parents, and references among the objects.
 
 use crate::names::{push_name, push_object, push_value};
-use meta_objects::{Meta, MetaObject, ValueType};
+use meta_model::{Meta, MetaObject, ValueType};
 use std::alloc::{AllocError, Global};
 
 /// Adds the events that set the stage.

@@ -5,7 +5,7 @@ ghost use Rattle.statement_meaning.specs.code.Coded.{FindsBetween};
 use crate::paths::Scope;
 use expressions::EvalFault;
 use machine_state::Endpoints;
-use meta_objects::MetaEndpoints;
+use meta_model::MetaEndpoints;
 
 impl<'w> Scope<'w> {
     /// The ends whose objects two paths lead to, or `None` where one leads to null; `BadType` where one leads to neither.

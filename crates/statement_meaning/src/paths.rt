@@ -12,7 +12,7 @@ ghost use Rattle.prop_bindings.specs.Plans.{assigned};
 
 use expressions::{self, EvalFault};
 use indexmap::IndexMap;
-use meta_objects::{MetaPath, MetaRoot, Step};
+use meta_model::{MetaPath, MetaRoot, Step};
 use object_tree::Tree;
 use prop_bindings::{Place, value_ahead};
 use signatures::{Arguments, ObjectId, Value};

@@ -10,7 +10,7 @@ ghost use Rattle.statement_meaning.specs.code.Coded.{Obtains};
 use crate::paths::Scope;
 use expressions::EvalFault;
 use indexmap::IndexMap;
-use meta_objects::{MetaPath, Statement};
+use meta_model::{MetaPath, Statement};
 use prop_bindings::{Assignment, Place};
 use signatures::Value;
 use sqlite_items::Items;

@@ -8,7 +8,7 @@ use crate::pair::Pair;
 use crate::random::Random;
 pub use call::{Class, loaded, name_of};
 use call::{Call, FRIEND, SIZE, Wanted, some_name, some_object};
-use meta_objects::Meta;
+use meta_model::Meta;
 use object_tree::{CreateFault, Life, Tree};
 use plain::{PlainObject, PlainTree};
 use signatures::{ObjectId, Value};

@@ -3,7 +3,7 @@
 use crate::fault::Fault;
 use crate::trees::{Class, loaded, name_of};
 use connections::{ConnectFault, Connections};
-use meta_objects::Meta;
+use meta_model::Meta;
 use object_tree::Tree;
 use signatures::{Kind, LoopId, ObjectId};
 use std::alloc::{AllocError, Global};

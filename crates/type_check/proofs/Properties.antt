@@ -14,7 +14,7 @@ use Rattle.meta_model.specs.Loaded.{Loaded}
 use Rattle.meta_model.specs.Members.{IsProperty}
 use Rattle.meta_model.specs.Sound.{IsSoundClass}
 use Rattle.meta_model.specs.Values.{Has}
-use Rattle.meta_objects.specs.Typed.{TellsType}
+use Rattle.meta_model.specs.Typed.{TellsType}
 use Rattle.type_check.specs.Accepting.{IsGiven}
 use Rattle.type_check.specs.Typed.{IsTypedProperty, kind_in, kind_of_source, IsTypedSite}
 

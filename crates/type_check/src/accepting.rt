@@ -6,8 +6,7 @@ ghost use Rattle.type_check.specs.Accepting.{Takes};
 
 use crate::naming::{ClassNames, spelled};
 use expressions::{Names, accepts, type_of};
-use meta_model::ValueType;
-use meta_objects::Meta;
+use meta_model::{Meta, ValueType};
 use std::alloc::{AllocError, Global};
 use syntax_trees::Expr;
 

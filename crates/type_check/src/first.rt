@@ -8,7 +8,7 @@ use crate::members::node_flaw;
 use crate::sites::{site_flaw, untyped_site};
 use crate::spot::Spot;
 use effect_scan::{Node, Numbering};
-use meta_objects::Meta;
+use meta_model::Meta;
 use std::alloc::{AllocError, Global};
 
 /// The first node that isn't typed, in the order of nodes, else the first binding site that isn't, or `None` where the

@@ -1,8 +1,7 @@
 //! Why something isn't typed.
 
 use expressions::{ExprType, Names, type_of};
-use meta_model::ValueType;
-use meta_objects::Meta;
+use meta_model::{Meta, ValueType};
 use signatures::{QType, Value};
 use std::alloc::{AllocError, Global};
 use syntax_trees::{Binary, Expr, Unary};

@@ -2,7 +2,7 @@
 
 ghost use Rattle.type_check.specs.Laws.{GivenHaveValues, ArgumentsHaveValues, BindingsHaveValues};
 
-use meta_objects::Meta;
+use meta_model::Meta;
 
 /// In every state where what they read has its declared type, a typed expression of a body, the arguments of a typed call,
 /// and the expression of a typed binding have values, each of the type of what it is given to. So a typed statement doesn't

@@ -10,8 +10,7 @@ use crate::bodies::body_flaw;
 use crate::flaws::{Fault, Flaw, given_by};
 use crate::scope::Scope;
 use effect_scan::{Member, Node};
-use meta_model::Work;
-use meta_objects::Meta;
+use meta_model::{Meta, Work};
 use std::alloc::{AllocError, Global};
 
 /// What isn't typed in the method, where the class of this number doesn't inherit it. Its error is that memory was refused.

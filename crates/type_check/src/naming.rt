@@ -6,8 +6,7 @@ ghost use Rattle.signatures.specs.Types.{value_type};
 ghost use Rattle.type_check.specs.Naming.{spelled};
 
 use expressions::Classes;
-use meta_model::ValueType;
-use meta_objects::Meta;
+use meta_model::{Meta, ValueType};
 use signatures::{Name, QType};
 use std::alloc::{AllocError, Global};
 

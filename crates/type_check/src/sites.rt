@@ -8,8 +8,7 @@ use crate::accepting::is_given;
 use crate::flaws::{Fault, Flaw, fault_in};
 use crate::naming::spelled;
 use expressions::Names;
-use meta_model::{MetaSite, SourceProperty, ValueType};
-use meta_objects::Meta;
+use meta_model::{Meta, MetaSite, SourceProperty, ValueType};
 use signatures::QType;
 use std::alloc::{AllocError, Global};
 

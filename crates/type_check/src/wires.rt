@@ -4,8 +4,7 @@ ghost use Rattle.std.specs.Prelude.{◌↔◌, IsTrue};
 ghost use Rattle.type_check.specs.Firsts.{FindsWithout};
 ghost use Rattle.type_check.specs.Wires.{IsFitWire};
 
-use meta_model::MetaWire;
-use meta_objects::Meta;
+use meta_model::{Meta, MetaWire};
 use signatures::fits;
 
 /// The place, from 0, of the first wire whose method's parameter types aren't the first ones of its signal; `None` where

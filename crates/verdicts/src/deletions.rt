@@ -5,7 +5,7 @@ use crate::search::Search;
 use edge_walks::{Hops, marks};
 use effect_scan::{Member, Node, row_at};
 use findings::{Finding, Rule, TextKind, Verdict};
-use meta_objects::{Meta, Work};
+use meta_model::{Meta, Work};
 use program_flaws::{class_text, node_text};
 use std::alloc::AllocError;
 

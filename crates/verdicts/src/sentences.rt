@@ -1,7 +1,7 @@
 //! Sentences of findings.
 
 use effect_scan::Node;
-use meta_objects::Meta;
+use meta_model::Meta;
 use program_flaws::node_text;
 use std::alloc::{AllocError, Global};
 

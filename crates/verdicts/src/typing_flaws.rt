@@ -5,7 +5,7 @@ use crate::sentences::Told;
 use diagnostics::TextPlace;
 use effect_scan::Node;
 use findings::{Finding, Rule, TextKind, Verdict};
-use meta_objects::{Meta, MetaWire};
+use meta_model::{Meta, MetaWire};
 use program_flaws::{flaw_text, unfit_text};
 use signatures::fits;
 use std::alloc::AllocError;

@@ -6,7 +6,7 @@ ghost use Rattle.prop_bindings.specs.Fits.{Agree};
 
 use crate::loading::loaded;
 use anyhow::{Result, anyhow};
-use meta_objects::Meta;
+use meta_model::Meta;
 use object_tree::Tree;
 use prop_bindings::{Assignment, Bindings, Place};
 use signatures::{LoopId, Name, ObjectId, Value};

@@ -1,6 +1,7 @@
 use anyhow::Result;
 use class_lang::read_program;
-use meta_objects::Meta;
+use meta_model::Meta;
+use meta_objects::FromProgram;
 use std::alloc::Global;
 
 /// A program, loaded.

@@ -2,7 +2,8 @@
 
 use class_lang::read_program;
 use effect_scan::Scan;
-use meta_objects::Meta;
+use meta_model::Meta;
+use meta_objects::FromProgram;
 use rank_check::{check, read_certificate};
 use std::alloc::Global;
 use std::test::Fail;

@@ -5,7 +5,7 @@ use Rattle.class_outlines.specs.Indexed.{IndexesHeadings, IndexesDeclared}
 use Rattle.meta_model.specs.declared.object.MetaObject.{MetaObject}
 use Rattle.name_resolution.specs.declared.body_resolution.work.ResolvedWork.{ResolvedWork}
 use Rattle.name_resolution.specs.code.Loading.{AreObjects}
-use Rattle.meta_objects.specs.declared.class_index.MemberIndex.{MemberIndex}
+use Rattle.meta_model.specs.declared.class_index.MemberIndex.{MemberIndex}
 
 -- the classes are made of these outlines, whatever their slots and natives do
 abbrev pub AreOf : List Outline → List MetaObject → Type 0

@@ -3,7 +3,8 @@
 use crate::fault::Fault;
 use crate::random::Random;
 use class_lang::read_program;
-use meta_objects::Meta;
+use meta_model::Meta;
+use meta_objects::FromProgram;
 use signatures::{LoopId, Name, ObjectId, Value};
 use std::alloc::{AllocError, Global};
 
