@@ -1,5 +1,5 @@
-"""The calls of the programs `memory_calls` and `memory_runs`, each of which is made by itself, with a request refused: each
-request that the call makes, from the last one down to the first.
+"""The calls of the program `memory_runs`, each of which is made by itself, with a request refused: each request that the call
+makes, from the last one down to the first.
 
 The first line of an answer is the call's word and how it was answered, what follows is what it told. Wanted is
 
@@ -18,7 +18,7 @@ import sys
 import built
 from fronts import rule_ends
 
-PROGRAMS = ["memory_calls", "memory_runs"]
+PROGRAM = "memory_runs"
 # The calls to which values are lent that a caller has afterwards.
 LENT = set(
     b"sig_text value_copy type_of eval_sum eval_joined parse_body parse_expr build untyped scan edges make create adopt "
@@ -31,7 +31,7 @@ MAY_BE_FREE = set(b"value_copy eval_sum type_of adopt connect add post schedule 
 # Those on a scan that was just made: its rows give back the room that they don't need, and do without where that is refused.
 # For any other request that is refused they answer as the others do.
 SHRUNK = set(b"scan edges nodes destroys make check".split())
-# The script of `memory_runs`.
+# The scripts of its runs.
 SCRIPT = b"new s Source\nnew l Label\nconnect s valueChanged(int) l show(int) auto\ncall s.setValue(7)\n"
 COUNTING = b"new a Counter\nnew b Counter\nconnect\nconnect\nset a.value 5\n"
 SCRIPTS = {b"apply": SCRIPT, b"run": SCRIPT, b"command": SCRIPT, b"run_unchecked": COUNTING}
@@ -97,13 +97,12 @@ class Call:
 
 
 def calls():
-    """Each program with each of its calls, as its stored output has them."""
-    for name in PROGRAMS:
-        crate = f"{built.ROOT}/crates/{name}"
-        stored = built.content(f"{crate}/stdout")
-        parts = re.split(rb"^(?=\w+: (?:ample|status \d)$)", stored, flags=re.MULTILINE)[1:]
-        for program in builds(f"{crate}/out/{name}"):
-            yield from ((program, Call(part.split(b":")[0], part)) for part in parts)
+    """The program with each of its calls, as its stored output has them."""
+    crate = f"{built.ROOT}/crates/{PROGRAM}"
+    stored = built.content(f"{crate}/stdout")
+    parts = re.split(rb"^(?=\w+: (?:ample|status \d)$)", stored, flags=re.MULTILINE)[1:]
+    for program in builds(f"{crate}/out/{PROGRAM}"):
+        yield from ((program, Call(part.split(b":")[0], part)) for part in parts)
 
 
 def builds(path):

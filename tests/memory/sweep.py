@@ -12,9 +12,10 @@ thing, or a part of what is told beside a yes: all of that or nothing. Past the 
 What is told on standard error comes behind all output, and asks for memory too: of the requests behind the last one that
 matters to the output each sixteenth is refused. Of those up to it, of the examples and of the first cases of each topic of
 `runs` and `commands`, each is refused, up to 700 of a run, and of the others 200 that are spread over them. Of each other run
-of the case files 15 are refused and, where it runs a script, each from there down to the first that is made outside the machine.
+of the case files, and of each run by a second build, which asks for the same, 15 are refused and, where it runs a script, each
+from there down to the first that is made outside the machine.
 
-Then each call that can want memory is made by itself (`calls.py`), by the programs `memory_calls` and `memory_runs`.
+Then each call that can want memory is made by itself (`calls.py`), by the program `memory_runs`.
 
 Usage: tests/memory/sweep.py [--calls] [--all-after] [PROGRAM..]   (default: both builds of crates/gammonfig)
 --calls makes the calls alone. --all-after refuses not the nth request alone but all from it on, and makes no calls, nor are
@@ -49,6 +50,10 @@ class Row:
         self.name, self.words, self.text = name, words, text
         self.environment, self.is_whole = environment or {}, is_whole
         self.ample = built.Answer(status, output, b"", b"", 0)
+
+    def thinned(self):
+        """The same, of which few requests are refused."""
+        return Row(self.name, self.words, self.text, self.ample.output, self.ample.status, False, self.environment)
 
     def fronts(self):
         """What may stand in front of `fault 65`."""
@@ -206,7 +211,9 @@ def main():
     items = [] if more or named else list(calls())
     if "--calls" not in given:
         programs = built.builds(named)
-        items += [(program, row) for row in rows(programs[0]) for program in programs]
+        first, *others = programs
+        for row in rows(first):
+            items += [(first, row), *((program, row.thinned()) for program in others)]
     with tempfile.TemporaryDirectory() as room:
         library = compiled(room)
         built.spread(Sweep(Refusals(library, more), RefusedCalls(library)), items).end()

@@ -1,23 +1,25 @@
-//! Makes each call of machines and commands that can run out of memory, and tells what it answers.
+//! Makes each call of the languages, the checker, the stores, natives, machines and commands that can run out of memory, and
+//! tells what it answers.
 #![tactic(auto)]
 
 mod commanding;
 mod machines;
 
+use memory_calls::make_call;
 use memory_trials::{Calls, Told, TrialAnswer, tell_calls};
 use std::alloc::Global;
 use std::io;
 
 fn main(rt: HostRuntime) -> io::Result<()> {
-    tell_calls::<Runs, HostRuntime>(&rt)
+    tell_calls::<Trials, HostRuntime>(&rt)
 }
 
-/// The calls of machines, and those above and beside them.
-struct Runs;
+/// The calls, from the languages to the commands.
+struct Trials;
 
-impl Calls for Runs {
+impl Calls for Trials {
     const WORDS: &'static str =
-        "checked unchecked apply meta certify check run run_unchecked command";
+        "normalise sig_text text_of value_copy type_of eval_sum eval_joined tokens nesting parse_body parse_expr read_program build read_script read_certificate unfit_wire untyped scan nodes edges destroys make check new_tree new_connections new_loops new_bindings new_store create adopt connect add post schedule below rehome move_tree bind_sum write_sum bind write write_group natives native_call checked unchecked apply meta certify check_text run run_unchecked command";
 
     fn make(alloc: Global, word: &str, told: &mut Told) -> Option<TrialAnswer> {
         match word {
@@ -26,11 +28,11 @@ impl Calls for Runs {
             "apply" => machines::events(alloc, told),
             "meta" => Some(commanding::described(alloc, told)),
             "certify" => Some(commanding::certified(alloc, told)),
-            "check" => Some(commanding::judged(alloc, told)),
+            "check_text" => Some(commanding::judged(alloc, told)),
             "run" => Some(commanding::checked_run(alloc, told)),
             "run_unchecked" => Some(commanding::unchecked_run(alloc, told)),
             "command" => commanding::command_line(alloc, told),
-            _ => None,
+            _ => make_call(alloc, word, told),
         }
     }
 }

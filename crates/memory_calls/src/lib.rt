@@ -1,5 +1,4 @@
-//! Makes each call of the languages, the checker, the stores and natives that can run out of memory, and tells what it
-//! answers.
+//! Each call of the languages, the checker, the stores and natives that can run out of memory, with what it answers.
 #![tactic(auto)]
 
 mod bindings;
@@ -14,40 +13,29 @@ mod stores;
 mod words;
 
 use bindings::{DIAMOND, GROUP, SUM, step_of};
-use memory_trials::{Calls, Told, TrialAnswer, tell_calls};
+use memory_trials::{Told, TrialAnswer};
 use std::alloc::Global;
-use std::io;
 
-fn main(rt: HostRuntime) -> io::Result<()> {
-    tell_calls::<Below, HostRuntime>(&rt)
-}
-
-/// The calls below the machine.
-struct Below;
-
-impl Calls for Below {
-    const WORDS: &'static str =
-        "normalise sig_text text_of value_copy type_of eval_sum eval_joined tokens nesting parse_body parse_expr read_program build read_script read_certificate unfit_wire untyped scan nodes edges destroys make check new_tree new_connections new_loops new_bindings new_store create adopt connect add post schedule below rehome move_tree bind_sum write_sum bind write write_group natives native_call";
-
-    fn make(alloc: Global, word: &str, told: &mut Told) -> Option<TrialAnswer> {
-        match word {
-            "normalise" => Some(words::normal_form(alloc, told)),
-            "sig_text" => words::signature_text(alloc, told),
-            "text_of" => Some(words::text_of(alloc, told)),
-            "value_copy" => words::value_copy(alloc, told),
-            "type_of" => words::expression_type(alloc, told),
-            "eval_sum" => words::sum(alloc, told),
-            "eval_joined" => words::joined(alloc, told),
-            "tokens" => Some(reading::program_tokens(alloc, told)),
-            "nesting" => reading::program_nesting(alloc, told),
-            "parse_body" => reading::body(alloc, told),
-            "parse_expr" => reading::expression(alloc, told),
-            "read_program" => Some(reading::program(alloc, told)),
-            "build" => reading::meta_objects(alloc, told),
-            "read_script" => Some(reading::script(alloc, told)),
-            "read_certificate" => Some(reading::certificate(alloc, told)),
-            _ => make_check(alloc, word, told),
-        }
+/// Makes what the call of this word is made on, makes the call, and tells what it answers. `None` where no call has the
+/// word, and where there is no memory for what the call is made on.
+pub fn make_call(alloc: Global, word: &str, told: &mut Told) -> Option<TrialAnswer> {
+    match word {
+        "normalise" => Some(words::normal_form(alloc, told)),
+        "sig_text" => words::signature_text(alloc, told),
+        "text_of" => Some(words::text_of(alloc, told)),
+        "value_copy" => words::value_copy(alloc, told),
+        "type_of" => words::expression_type(alloc, told),
+        "eval_sum" => words::sum(alloc, told),
+        "eval_joined" => words::joined(alloc, told),
+        "tokens" => Some(reading::program_tokens(alloc, told)),
+        "nesting" => reading::program_nesting(alloc, told),
+        "parse_body" => reading::body(alloc, told),
+        "parse_expr" => reading::expression(alloc, told),
+        "read_program" => Some(reading::program(alloc, told)),
+        "build" => reading::meta_objects(alloc, told),
+        "read_script" => Some(reading::script(alloc, told)),
+        "read_certificate" => Some(reading::certificate(alloc, told)),
+        _ => make_check(alloc, word, told),
     }
 }
 
