@@ -12,9 +12,11 @@ ghost use Rattle.machine_rules.specs.Natives.{KeepPromises};
 use crate::active::Active;
 use crate::interpreter::Interpreter;
 use crate::remaining::Remaining;
+use crate::statements::pass_null;
 use machine_state::World;
 use meta_model::Statement;
 use native_slots::Answering;
+use prop_bindings::Assignment;
 use run_context::MethodCall;
 use statement_meaning::Scope;
 use trace_entries::Fault;
@@ -64,11 +66,25 @@ impl<N: Answering> Interpreter<N> {
             self.now.context.depth active.now call.now (out-Statement statement.now)
             left.old left.new world.old world.new result }
     {
+        let over = (&*active).over(Some(call.object));
         match statement {
             Statement::Set(path, property, value) => {
-                self.set(world, active, call, path, *property, value)
+                let found = self.scope(world, &*call).set(path, *property, value)?;
+                let Some(Assignment { place, value: new }) = found else {
+                    return pass_null(world, over.count());
+                };
+                self.write(world, &over, &place, new)
             }
-            Statement::Group(sets) => self.set_group(world, active, call, sets.as_slice()),
+            Statement::Group(sets) => {
+                let found = self.scope(world, &*call).sets(sets.as_slice())?;
+                self.write_group(world, &over, found.as_slice())
+            }
+            Statement::Delete(path) => {
+                let Some(object) = self.scope(world, &*call).object_at(path)? else {
+                    return pass_null(world, over.count());
+                };
+                self.delete(world, &over, object)
+            }
             Statement::Emit(signal, given) => {
                 self.emit(world, active, call, *signal, given.as_slice())
             }
@@ -82,7 +98,6 @@ impl<N: Answering> Interpreter<N> {
             }
             Statement::Connect(ends, how) => self.connect(world, active, call, ends, *how),
             Statement::Disconnect(ends) => self.disconnect(world, active, call, ends),
-            Statement::Delete(path) => self.delete_at(world, active, call, path),
             Statement::Later(path) => self.schedule_at(world, active, call, path),
         }
     }

@@ -1,7 +1,7 @@
 //! What the statements of a body do.
 
 ghost use Rattle.std.specs.Prelude.{◌<◌, [], ◌∷◌, length};
-ghost use Rattle.meta_model.specs.declared.object.Statement.TheOpen.{Set, Emit, Call, Connect, Disconnect, Delete, Later, Group};
+ghost use Rattle.meta_model.specs.declared.object.Statement.TheOpen.{Emit, Call, Connect, Disconnect, Later};
 ghost use Rattle.machine_rules.specs.Natives.{KeepPromises};
 ghost use Rattle.machine_rules.specs.code.Sound.{IsSoundWorld};
 ghost use Rattle.machine_state.specs.Worlds.{GoesTo, noted};
@@ -12,65 +12,13 @@ ghost use Rattle.rule_interpreter.specs.code.Calls.{CarriesOutAlone};
 use crate::active::Active;
 use crate::interpreter::Interpreter;
 use machine_state::World;
-use meta_model::{MetaEndpoints, MetaPath, Statement};
+use meta_model::{MetaEndpoints, MetaPath};
 use native_slots::Answering;
-use prop_bindings::Assignment;
 use run_context::MethodCall;
 use syntax_trees::{ConnectionType, Expr};
 use trace_entries::{Entry, EntryKind, Fault};
 
 impl<N: Answering> Interpreter<N> {
-    /// A property of the object that a path leads to is written.
-    #[cycle(machine)]
-    #[inline(always)]
-    pub fn set(
-        &self,
-        world: &mut World,
-        active: &Active<'_>,
-        call: &MethodCall<'_>,
-        path: &MetaPath,
-        property: usize,
-        value: &Expr<MetaPath>,
-    ) -> Result<(), Fault>
-        requires promises { KeepPromises N.takes N.gives self.now.context.meta self.now.natives }
-        requires room { length active.now < self.now.context.depth }
-        requires sound { IsSoundWorld self.now.context.meta world.old }
-        requires due { 0 < world.old.left }
-        ensures advances { CarriesOutAlone self.now.context.meta (N.gives self.now.natives)
-            self.now.context.depth active.now call.now (Set path.now property value.now)
-            world.old world.new result }
-    {
-        let over = (&*active).over(Some(call.object));
-        let found = self.scope(world, &*call).set(path, property, value)?;
-        match found {
-            Some(Assignment { place, value: new }) => self.write(world, &over, &place, new),
-            None => pass_null(world, over.count()),
-        }
-    }
-
-    /// The sets of a group are done at once; on null one writes nothing.
-    #[cycle(machine)]
-    #[inline(always)]
-    pub fn set_group(
-        &self,
-        world: &mut World,
-        active: &Active<'_>,
-        call: &MethodCall<'_>,
-        sets: &[Statement],
-    ) -> Result<(), Fault>
-        requires promises { KeepPromises N.takes N.gives self.now.context.meta self.now.natives }
-        requires room { length active.now < self.now.context.depth }
-        requires sound { IsSoundWorld self.now.context.meta world.old }
-        requires due { 0 < world.old.left }
-        ensures advances { CarriesOutAlone self.now.context.meta (N.gives self.now.natives)
-            self.now.context.depth active.now call.now (Group sets.now)
-            world.old world.new result }
-    {
-        let over = (&*active).over(Some(call.object));
-        let found = self.scope(world, &*call).sets(sets)?;
-        self.write_group(world, &over, found.as_slice())
-    }
-
     /// A signal of the body's object is emitted.
     #[cycle(machine)]
     #[inline(always)]
@@ -183,32 +131,6 @@ impl<N: Answering> Interpreter<N> {
         }
     }
 
-    /// The object that a path leads to is deleted.
-    #[cycle(machine)]
-    #[inline(always)]
-    pub fn delete_at(
-        &self,
-        world: &mut World,
-        active: &Active<'_>,
-        call: &MethodCall<'_>,
-        path: &MetaPath,
-    ) -> Result<(), Fault>
-        requires promises { KeepPromises N.takes N.gives self.now.context.meta self.now.natives }
-        requires room { length active.now < self.now.context.depth }
-        requires sound { IsSoundWorld self.now.context.meta world.old }
-        requires due { 0 < world.old.left }
-        ensures advances { CarriesOutAlone self.now.context.meta (N.gives self.now.natives)
-            self.now.context.depth active.now call.now (Delete path.now)
-            world.old world.new result }
-    {
-        let over = (&*active).over(Some(call.object));
-        let found = self.scope(world, &*call).object_at(path)?;
-        match found {
-            Some(object) => self.delete(world, &over, object),
-            None => pass_null(world, over.count()),
-        }
-    }
-
     /// The object that a path leads to is deleted when control returns to the event loop in which it lives.
     #[inline(always)]
     pub fn schedule_at(
@@ -235,7 +157,7 @@ impl<N: Answering> Interpreter<N> {
 }
 
 /// Nothing is done, since a path leads to null; so many activations are on the stack.
-fn pass_null(world: &mut World, depth: usize) -> Result<(), Fault>
+pub fn pass_null(world: &mut World, depth: usize) -> Result<(), Fault>
     requires { 0 < world.old.left }
     ensures { GoesTo world.old (noted world.old (At depth OnNull ∷ [])) world.new result }
 {

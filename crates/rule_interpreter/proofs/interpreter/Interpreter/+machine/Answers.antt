@@ -212,12 +212,6 @@ run_body-returns g t c =
 
 -- ---- statements
 
-pub carry_out-returns-in-Set : goal.carry_out-returns-in-Set
-carry_out-returns-in-Set g t c = record { advances = λ x is. c.set.ensures.advances _ x (is ∙ ap out-Statement c.in-Set.is ∙ outs-Set _ _ _) }
-
-pub carry_out-returns-in-Group : goal.carry_out-returns-in-Group
-carry_out-returns-in-Group g t c = record { advances = λ x is. (rw c.as_slice.ensures at c.set_group.ensures.advances) _ x (is ∙ ap out-Statement c.in-Group.is ∙ outs-Group _) }
-
 pub carry_out-returns-in-Emit : goal.carry_out-returns-in-Emit
 carry_out-returns-in-Emit g t c = record { advances = λ x is. (rw c.as_slice-in-Emit.ensures at c.emit.ensures.advances) _ x (is ∙ ap out-Statement c.in-Emit.is ∙ outs-Emit _ _) }
 
@@ -230,9 +224,6 @@ carry_out-returns-in-Connect g t c = record { advances = λ x is. c.connect.ensu
 pub carry_out-returns-in-Disconnect : goal.carry_out-returns-in-Disconnect
 carry_out-returns-in-Disconnect g t c = record { advances = λ x is. c.disconnect.ensures.advances _ x (is ∙ ap out-Statement c.in-Disconnect.is ∙ outs-Disconnect _) }
 
-pub carry_out-returns-in-Delete : goal.carry_out-returns-in-Delete
-carry_out-returns-in-Delete g t c = record { advances = λ x is. c.delete_at.ensures.advances _ x (is ∙ ap out-Statement c.in-Delete.is ∙ outs-Delete _) }
-
 pub carry_out-returns-in-Later : goal.carry_out-returns-in-Later
 carry_out-returns-in-Later g t c = record { advances = λ x is. c.schedule_at.ensures.advances _ x (is ∙ ap out-Statement c.in-Later.is ∙ outs-Later _) }
 
@@ -240,7 +231,7 @@ pub carry_out-returns-in_err-holds-in-If : goal.carry_out-returns-in_err-holds-i
 carry_out-returns-in_err-holds-in-If g t c = record {
   advances = λ x is.
       let layer = is ∙ ap out-Statement c.in-If.is ∙ outs-If _ _ _ in
-      lacks-value _ _ c.requires.due layer (λ bad. (λ (block other : List Statement). rw (c.scope.ensures.objects, c.scope.ensures.this, c.scope.ensures.arguments) at (truth-none block other (value_in c.scope.result c.in-If.condition) c.in_err-holds-in-If.ensures bad)) _ _) c.from_residual.ensures.1;
+      lacks-value _ _ c.requires.due layer (λ bad. (λ (block other : List Statement). rw (c.scope-in-If.ensures.objects, c.scope-in-If.ensures.this, c.scope-in-If.ensures.arguments) at (truth-none block other (value_in c.scope-in-If.result c.in-If.condition) c.in_err-holds-in-If.ensures bad)) _ _) c.from_residual-in_err-holds-in-If.ensures.1;
 }
 
 pub carry_out-returns-in_err-put-in-If : goal.carry_out-returns-in_err-put-in-If
@@ -250,44 +241,49 @@ pub carry_out-returns-in_ok-put-in-If : goal.carry_out-returns-in_ok-put-in-If
 carry_out-returns-in_ok-put-in-If g t c = record {
   advances = λ x is.
       let layer = is ∙ ap out-Statement c.in-If.is ∙ outs-If _ _ _ in
-      let holds = rw (c.scope.ensures.objects, c.scope.ensures.this, c.scope.ensures.arguments) at c.in_ok-holds-in-If.ensures in
+      let holds = rw (c.scope-in-If.ensures.objects, c.scope-in-If.ensures.this, c.scope-in-If.ensures.arguments) at c.in_ok-holds-in-If.ensures in
       let chosen = rw (c.as_slice-in-If.ensures, c.as_slice-in-If-2.ensures) at c.chosen.ensures in
       let chooses = of-layer _ _ _ _ layer (if-chooses c.args.world.now.store.tree c.args.call.now.object c.args.call.now.arguments.now c.in-If.condition _ _ _ holds chosen) in
       rw c.in_ok-put-in-If.ensures.ok (advances-ticked _ c.tick.ensures (does-choose c.args.call.now.method c.args.left.now _ _ chooses c.requires.room c.requires.sound.is.agree c.tick.ensures));
 }
 
-pub set-returns-in_err-found : goal.set-returns-in_err-found
-set-returns-in_err-found g t c = record {
-  advances = λ rest x is.
-      lacks-value _ _ c.requires.due is (λ bad. ap (option_map operation_of_set) (rw (c.scope.ensures.objects, c.scope.ensures.this, c.scope.ensures.arguments) at (obtains-none c.in_err-found.ensures bad))) c.from_residual.ensures.1;
+pub carry_out-returns-in_err-found-in-Set : goal.carry_out-returns-in_err-found-in-Set
+carry_out-returns-in_err-found-in-Set g t c = record {
+  advances = λ x is0.
+      let is = is0 ∙ ap out-Statement c.in-Set.is ∙ outs-Set _ _ _ in
+      lacks-value _ _ c.requires.due is (λ bad. ap (option_map operation_of_set) (rw (c.scope.ensures.objects, c.scope.ensures.this, c.scope.ensures.arguments) at (obtains-none c.in_err-found-in-Set.ensures bad))) c.from_residual.ensures.1;
 }
 
-pub set-returns-in-None : goal.set-returns-in-None
-set-returns-in-None g t c = record {
-  advances = λ rest x is.
+pub carry_out-returns-in_default : goal.carry_out-returns-in_default
+carry_out-returns-in_default g t c = record {
+  advances = λ x is0.
+      let is = is0 ∙ ap out-Statement c.in-Set.is ∙ outs-Set _ _ _ in
       let higher = ap (λ (l : List (Option ℕ)). length l) c.over-over.ensures in
-      advances-one _ (does-nothing c.args.call.now.method (map Run rest) _ _ (of-layer _ _ _ _ is (ap (option_map operation_of_set) (rw c.in-None.is at (rw (c.scope.ensures.objects, c.scope.ensures.this, c.scope.ensures.arguments) at c.in_ok-found.ensures)))) c.requires.room c.requires.sound.is.agree c.requires.due (omega (arith, c.count.ensures, higher)) c.pass_null.ensures);
+      advances-one _ (does-nothing c.args.call.now.method (map Run c.args.left.now) _ _ (of-layer _ _ _ _ is (ap (option_map operation_of_set) (rw c.in_default.is at (rw (c.scope.ensures.objects, c.scope.ensures.this, c.scope.ensures.arguments) at c.in_ok-found-in-Set.ensures)))) c.requires.room c.requires.sound.is.agree c.requires.due (omega (arith, c.count.ensures, higher)) c.pass_null.ensures);
 }
 
-pub set-returns-in-Some : goal.set-returns-in-Some
-set-returns-in-Some g t c = record {
-  advances = λ rest x is.
-      let does = of-layer _ _ _ _ is (ap (option_map operation_of_set) (rw c.in-Some.is at (rw (c.scope.ensures.objects, c.scope.ensures.this, c.scope.ensures.arguments) at c.in_ok-found.ensures))) in
-      advances-one _ (c.write.ensures.ends _ _ _ c.over-over.ensures (does-set c.args.call.now.method (map Run rest) does));
+pub carry_out-returns-in-Some : goal.carry_out-returns-in-Some
+carry_out-returns-in-Some g t c = record {
+  advances = λ x is0.
+      let is = is0 ∙ ap out-Statement c.in-Set.is ∙ outs-Set _ _ _ in
+      let does = of-layer _ _ _ _ is (ap (option_map operation_of_set) (rw c.in-Some.is at (rw (c.scope.ensures.objects, c.scope.ensures.this, c.scope.ensures.arguments) at c.in_ok-found-in-Set.ensures))) in
+      advances-one _ (c.write.ensures.ends _ _ _ c.over-over.ensures (does-set c.args.call.now.method (map Run c.args.left.now) does));
 }
 
-pub set_group-returns-in_err-found : goal.set_group-returns-in_err-found
-set_group-returns-in_err-found g t c = record {
-  advances = λ rest x is.
-      lacks-value _ _ c.requires.due is (λ bad. ap (option_map (λ (l : List (Option Assignment)). Write (Grouped l))) (rw (c.scope.ensures.objects, c.scope.ensures.this, c.scope.ensures.arguments) at (obtains-none c.in_err-found.ensures bad))) c.from_residual.ensures.1;
+pub carry_out-returns-in_err-found-in-Group : goal.carry_out-returns-in_err-found-in-Group
+carry_out-returns-in_err-found-in-Group g t c = record {
+  advances = λ x is0.
+      let is = is0 ∙ ap out-Statement c.in-Group.is ∙ outs-Group _ in
+      lacks-value _ _ c.requires.due is (λ bad. ap (option_map (λ (l : List (Option Assignment)). Write (Grouped l))) (rw (c.as_slice.ensures, c.scope-in-Group.ensures.objects, c.scope-in-Group.ensures.this, c.scope-in-Group.ensures.arguments) at (obtains-none c.in_err-found-in-Group.ensures bad))) c.from_residual-in_err-found-in-Group.ensures.1;
 }
 
-pub set_group-returns : goal.set_group-returns
-set_group-returns g t c = record {
-  advances = λ rest x is.
-      let found = rw (c.scope.ensures.objects, c.scope.ensures.this, c.scope.ensures.arguments) at c.in_ok-found.ensures in
+pub carry_out-returns-in_ok-found-in-Group : goal.carry_out-returns-in_ok-found-in-Group
+carry_out-returns-in_ok-found-in-Group g t c = record {
+  advances = λ x is0.
+      let is = is0 ∙ ap out-Statement c.in-Group.is ∙ outs-Group _ in
+      let found = rw (c.as_slice.ensures, c.scope-in-Group.ensures.objects, c.scope-in-Group.ensures.this, c.scope-in-Group.ensures.arguments) at c.in_ok-found-in-Group.ensures in
       let does = of-layer _ _ _ _ is (ap (option_map (λ (l : List (Option Assignment)). Write (Grouped l))) found) in
-      advances-one _ (c.write_group.ensures.ends _ _ _ c.over-over.ensures (does-set c.args.call.now.method (map Run rest) (rw (← c.as_slice.ensures) at does)));
+      advances-one _ (c.write_group.ensures.ends _ _ _ c.over-over.ensures (does-set c.args.call.now.method (map Run c.args.left.now) (rw (← c.as_slice-in-Group.ensures) at does)));
 }
 
 pub emit-returns-in_err-values : goal.emit-returns-in_err-values
@@ -334,24 +330,27 @@ call-returns g t c = record {
       advances-one _ (c.begin_typed.ensures.ends _ _ _ c.over-over.ensures (does-call c.args.call.now.method (map Run rest) begins) (does-call-alone c.args.call.now.method (map Run rest) begins));
 }
 
-pub delete_at-returns-in_err-found : goal.delete_at-returns-in_err-found
-delete_at-returns-in_err-found g t c = record {
-  advances = λ rest x is.
-      lacks-value _ _ c.requires.due is (λ bad. rw (c.scope.ensures.objects, c.scope.ensures.this, c.scope.ensures.arguments) at (finds-none Nothing (λ (x : ℕ). Some (Delete x)) (path_in c.scope.result c.args.path.now) c.in_err-found.ensures bad)) c.from_residual.ensures.1;
+pub carry_out-returns-in_err-object-in-Delete : goal.carry_out-returns-in_err-object-in-Delete
+carry_out-returns-in_err-object-in-Delete g t c = record {
+  advances = λ x is0.
+      let is = is0 ∙ ap out-Statement c.in-Delete.is ∙ outs-Delete _ in
+      lacks-value _ _ c.requires.due is (λ bad. rw (c.scope-in-Delete.ensures.objects, c.scope-in-Delete.ensures.this, c.scope-in-Delete.ensures.arguments) at (finds-none Nothing (λ (x : ℕ). Some (Delete x)) (path_in c.scope-in-Delete.result c.in-Delete.path) c.in_err-object-in-Delete.ensures bad)) c.from_residual-in_err-object-in-Delete.ensures.1;
 }
 
-pub delete_at-returns-in-None : goal.delete_at-returns-in-None
-delete_at-returns-in-None g t c = record {
-  advances = λ rest x is.
+pub carry_out-returns-in_default-2 : goal.carry_out-returns-in_default-2
+carry_out-returns-in_default-2 g t c = record {
+  advances = λ x is0.
+      let is = is0 ∙ ap out-Statement c.in-Delete.is ∙ outs-Delete _ in
       let higher = ap (λ (l : List (Option ℕ)). length l) c.over-over.ensures in
-      advances-one _ (does-nothing c.args.call.now.method (map Run rest) _ _ (of-layer _ _ _ _ is (at-null _ _ _ _ c.args.path.now (rw c.in-None.is at (rw (c.scope.ensures.objects, c.scope.ensures.this, c.scope.ensures.arguments) at c.in_ok-found.ensures)))) c.requires.room c.requires.sound.is.agree c.requires.due (omega (arith, c.count.ensures, higher)) c.pass_null.ensures);
+      advances-one _ (does-nothing c.args.call.now.method (map Run c.args.left.now) _ _ (of-layer _ _ _ _ is (at-null _ _ _ _ c.in-Delete.path (rw c.in_default-2.is at (rw (c.scope-in-Delete.ensures.objects, c.scope-in-Delete.ensures.this, c.scope-in-Delete.ensures.arguments) at c.in_ok-object-in-Delete.ensures)))) c.requires.room c.requires.sound.is.agree c.requires.due (omega (arith, c.count-in_default-2.ensures, higher)) c.pass_null-in_default-2.ensures);
 }
 
-pub delete_at-returns-in-Some : goal.delete_at-returns-in-Some
-delete_at-returns-in-Some g t c = record {
-  advances = λ rest x is.
-      let there = rw c.in-Some.is at (rw (c.scope.ensures.objects, c.scope.ensures.this, c.scope.ensures.arguments) at c.in_ok-found.ensures) in
-      advances-one _ (c.delete.ensures.ends _ _ _ c.over-over.ensures (does-delete c.args.call.now.method (map Run rest) (of-layer _ _ _ _ is (at-object _ _ _ _ c.args.path.now there refl))));
+pub carry_out-returns-in-Some-2 : goal.carry_out-returns-in-Some-2
+carry_out-returns-in-Some-2 g t c = record {
+  advances = λ x is0.
+      let is = is0 ∙ ap out-Statement c.in-Delete.is ∙ outs-Delete _ in
+      let there = rw c.in-Some-2.is at (rw (c.scope-in-Delete.ensures.objects, c.scope-in-Delete.ensures.this, c.scope-in-Delete.ensures.arguments) at c.in_ok-object-in-Delete.ensures) in
+      advances-one _ (c.delete.ensures.ends _ _ _ c.over-over.ensures (does-delete c.args.call.now.method (map Run c.args.left.now) (of-layer _ _ _ _ is (at-object _ _ _ _ c.in-Delete.path there refl))));
 }
 
 -- ---- writes

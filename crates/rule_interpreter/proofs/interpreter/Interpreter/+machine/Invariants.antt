@@ -38,20 +38,11 @@ decreases-run_body g l = 6 * l.world.now.left + 4
 abbrev pub decreases-carry_out : goal.decreases-carry_out
 decreases-carry_out g l = 6 * l.world.now.left + 3
 
-abbrev pub decreases-set : goal.decreases-set
-decreases-set g l = 6 * l.world.now.left + 2
-
-abbrev pub decreases-set_group : goal.decreases-set_group
-decreases-set_group g l = 6 * l.world.now.left + 2
-
 abbrev pub decreases-emit : goal.decreases-emit
 decreases-emit g l = 6 * l.world.now.left + 2
 
 abbrev pub decreases-call : goal.decreases-call
 decreases-call g l = 6 * l.world.now.left + 2
-
-abbrev pub decreases-delete_at : goal.decreases-delete_at
-decreases-delete_at g l = 6 * l.world.now.left + 2
 
 abbrev pub decreases-run_native : goal.decreases-run_native
 decreases-run_native g l = 6 * l.world.now.left + 4
