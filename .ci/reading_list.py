@@ -2,7 +2,7 @@
 """Lists what a reader of the headline has to read: the definitions in specs/ to which the clauses of a function lead, part by
 part and page by page, with the number of lines that they take and of the comments beside them, and the sums.
 Usage: reading_list.py [--names] [ROOT [FILE FUNCTION]]
-(default: the current folder, qt_runtime/src/machine.rt, run; --names prints the definitions of each page too)
+(default: the current folder, object_machine/src/machine.rt, run; --names prints the definitions of each page too)
 
 A definition is followed by its words, as the `use` lines of its page say where they stand. A comment above a definition or
 in it belongs to it; `use` lines, headings and blank lines count for nothing. What the headline doesn't say of a run is named and not followed: the premises
@@ -13,9 +13,9 @@ specs/code, which a reader needn't know."""
 import os, re, sys
 
 BESIDE = ['IsChecked', 'AreKept', 'StopsFor']
-PARTS = [('the claims, and runs', r'qt_runtime|machine_events/specs/Runs|machine_rules/specs/Good'),
-         ('why a run stops', r'machine_events/specs/Causes|machine_rules/specs/Faults'),
-         ('events', r'machine_events|event_judgement'), ('rules', r'machine_rules|statement_meaning'), ('the state', r'machine_state|change_lines|trace_entries'),
+PARTS = [('the claims, and runs', r'object_machine/specs/(?!Causes)|machine_rules/specs/Good'),
+         ('why a run stops', r'object_machine/specs/Causes|machine_rules/specs/Faults'),
+         ('events', r'event_judgement'), ('rules', r'machine_rules|statement_meaning'), ('the state', r'machine_state|change_lines|trace_entries'),
          ('objects, connections, event loops, bindings', r'object_tree|connections|event_loops|binding_graph|prop_bindings|delete_later'),
          ('values, expressions, classes', r'')]
 WORD = re.compile(r'[^\s(){},;.\[\]]+')
@@ -115,15 +115,15 @@ def contract_of(path, function):
     page, kept, inside = Page(path), [], False
     for line in open(path):
         if line.startswith('ghost use '): page.use(line.strip())
-        if re.match(rf'\s*pub fn {function}\b', line): inside = True
-        elif inside and re.match(r'\s*\{\s*$', line): break
+        if re.match(rf'\s*(?:pub )?fn {function}\b', line): inside = True
+        elif inside and (re.match(r'\s*\{\s*$', line) or re.match(r'\s*/// ', line)): break
         elif inside: kept.append(line)
     return page, ''.join(kept)
 
 def main():
     words = [word for word in sys.argv[1:] if word != '--names']
     root = words[0] if words else '.'
-    file, function = words[1:3] if len(words) > 2 else ('qt_runtime/src/machine.rt', 'run')
+    file, function = words[1:3] if len(words) > 2 else ('object_machine/src/machine.rt', 'run')
     reading = Reading(root)
     reading.follow(*contract_of(f'{root}/crates/{file}', function))
     def told(items, what): print('{:5} {:4}  {}'.format(*(sum(sizes) for sizes in zip(*(item.size() for item in items))), what))

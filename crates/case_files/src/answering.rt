@@ -3,6 +3,7 @@
 use built_in_native::{class, doubled, effects, twice};
 use explained_commands::{WriteFault, explained_command};
 use native_slots::{NativeSlot, Natives};
+use qt_runtime::Machine;
 use signatures::Value;
 use std::alloc::Global;
 use std::io;
@@ -30,7 +31,7 @@ pub fn answered(
     slots.push(NativeSlot::new(class, sig, effects, work))?;
     let natives = Natives::of(slots);
     let mut reader = input;
-    match explained_command(
+    match explained_command::<Natives, Machine<Natives>, _, _, _>(
         alloc,
         words,
         &mut reader,

@@ -6,4 +6,5 @@ mod outcome;
 pub use command_output::WriteFault;
 pub use outcome::{Outcome, Ran};
 pub use program_commands::{Outcome as ProgramOutcome, Refusal, Why};
-pub use qt_runtime::{Entry, Fault, ScriptFault};
+pub use script_lang::ScriptFault;
+pub use trace_entries::{Entry, Fault};

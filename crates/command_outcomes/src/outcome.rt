@@ -2,15 +2,15 @@
 
 ghost use Rattle.std.specs.Prelude.{◌≡◌};
 ghost use Rattle.command_output.specs.Sent.{Puts, TakesWith};
-ghost use Rattle.command_outcomes.specs.Outcomes.{outcome_text, outcome_status, run_text, run_status};
+ghost use Rattle.command_outcomes.specs.Outcomes.{outcome_text, outcome_status, run_text, run_status, seen_outcome};
 
 use command_lines::{InputFault, UsageFault};
 use command_output::{Output, WriteFault};
-use native_slots::Answering;
+use object_machine::ObjectMachine;
 use program_commands::Outcome as ProgramOutcome;
-use qt_runtime::{Entry, Fault, Machine};
 use std::alloc::Global;
 use std::io::Write;
+use trace_entries::{Entry, Fault};
 
 /// The exit status after a whole run.
 const WHOLE: u8 = 0;
@@ -21,16 +21,16 @@ const FAULT: u8 = 4;
 
 /// A run that has ended.
 #[derive(Drop)]
-pub struct Ran<N: Drop> {
+pub struct Ran<M: Drop> {
     /// The machine that ran, as it is at the end.
-    pub machine: Machine<N>,
+    pub machine: M,
     /// Whether all events were taken, or the fault that stopped the run.
     pub ended: Result<(), Fault>,
 }
 
 /// What a command line comes to.
 #[derive(Drop)]
-pub enum Outcome<N: Drop> {
+pub enum Outcome<M: Drop> {
     /// The command line or its input isn't one that the program takes.
     Usage(UsageFault),
     /// There is no input.
@@ -38,15 +38,15 @@ pub enum Outcome<N: Drop> {
     /// What a command that runs nothing comes to, or why a program doesn't run.
     Program(ProgramOutcome),
     /// A program ran.
-    Ran(Ran<N>),
+    Ran(Ran<M>),
     /// There was no memory for a machine.
     Memory,
 }
 
-impl<N: Answering + Drop> Ran<N> {
+impl<M: ObjectMachine> Ran<M> {
     /// What was written down, in its order.
     pub fn trace(&self) -> &[Entry]
-        ensures { result.now ≡ self.now.machine.world.trace }
+        ensures { let machine = M.seen self.now.machine in result.now ≡ machine.world.trace }
     {
         self.machine.trace()
     }
@@ -63,8 +63,8 @@ impl<N: Answering + Drop> Ran<N> {
 
     /// Adds the trace's lines to an output, and that of the fault that stopped the run, if one did.
     pub fn put<W: Write>(&self, output: &mut Output<'_, W>)
-        ensures { Puts W.contents output.old output.new
-            (run_text self.now.machine.world.trace self.now.ended) }
+        ensures { let machine = M.seen self.now.machine in
+            Puts W.contents output.old output.new (run_text machine.world.trace self.now.ended) }
     {
         output.entries(self.machine.trace());
         match self.ended {
@@ -74,7 +74,7 @@ impl<N: Answering + Drop> Ran<N> {
     }
 }
 
-impl<N: Answering + Drop> Outcome<N> {
+impl<M: ObjectMachine> Outcome<M> {
     /// The exit status: 0 where the command did what it was asked, 1 where nothing was done, 2 where a text or a native is
     /// refused, 3 where no certificate is valid for the program or this one isn't, 4 after a fault.
     pub fn status(&self) -> u8
@@ -89,7 +89,8 @@ impl<N: Answering + Drop> Outcome<N> {
 
     /// Adds its lines to an output; none where a read failed.
     fn put<W: Write>(&self, output: &mut Output<'_, W>)
-        ensures { Puts W.contents output.old output.new (outcome_text self.now) }
+        ensures { Puts W.contents output.old output.new
+            (outcome_text (seen_outcome M.seen self.now)) }
     {
         match self {
             Outcome::Usage(_) => output.put(b"usage\n"),
@@ -104,7 +105,7 @@ impl<N: Answering + Drop> Outcome<N> {
     /// then is the beginning of the lines, and nothing is written after that.
     pub fn write<W: Write>(&self, alloc: Global, w: &mut W) -> Result<u8, WriteFault>
         ensures { TakesWith (W.contents w.old) (W.contents w.new)
-            (outcome_text self.now) (outcome_status self.now) result }
+            (outcome_text (seen_outcome M.seen self.now)) (outcome_status self.now) result }
     {
         let mut output = Output::new(alloc, w);
         self.put(&mut output);

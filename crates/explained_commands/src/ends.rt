@@ -2,15 +2,16 @@
 
 ghost use Rattle.std.specs.Prelude.{◌≡◌, ◌↔◌, map, false, IsTrue};
 ghost use Rattle.explained_commands.specs.Judged.{IsUnjudged};
-ghost use Rattle.trace_tool.specs.Commands.{WritesCommand};
+ghost use Rattle.machine_commands.specs.Commands.{WritesCommand};
 
 use crate::remarks::{is_judged, remarks_on};
 use explanations::explanation;
-use native_slots::{Answering, Natives};
+use machine_commands::{
+    Answered, Entry, FittingNatives, InputFault, ObjectMachine, Outcome, Ran, WriteFault, answer,
+};
 use run_reports::{fault_report, refusal_report};
 use std::alloc::{AllocError, Global};
 use std::io::{Read, Write};
-use trace_tool::{Answered, Entry, InputFault, Outcome, Ran, WriteFault, answer};
 
 /// The exit status of a command that did what it was asked.
 const SUCCESS: u8 = 0;
@@ -18,27 +19,33 @@ const SUCCESS: u8 = 0;
 /// The most bytes of an input in which a place is looked for.
 const MOST_EXPLAINED: usize = 8388608;
 
-/// Does what the words say, as [`trace_tool::command`] does, and then writes to `errors` what a person needs of this end: why
-/// events were refused, where `tells_refusals` asks for it, what another answer than success means, or what is reported
-/// beside a yes, and why the input can't be read or the output can't be written. Where that fails nothing else changes.
+/// Does what the words say, on any object machine, as `trace_tool`'s `command` does, and then writes to `errors` what a
+/// person needs of this end: why events were refused, where `tells_refusals` asks for it, what another answer than success
+/// means, or what is reported beside a yes, and why the input can't be read or the output can't be written. Where that fails nothing else changes.
 /// Where nothing is judged (`meta`, `run --unchecked`) nothing is reported beside success.
-pub fn explained_command<R: Read, W: Write, E: Write>(
+pub fn explained_command<
+    N: FittingNatives,
+    M: ObjectMachine<Natives = N>,
+    R: Read,
+    W: Write,
+    E: Write,
+>(
     alloc: Global,
     words: &[&str],
     reader: &mut R,
-    natives: Natives,
+    natives: N,
     writer: &mut W,
     errors: &mut E,
     tells_refusals: bool,
 ) -> Result<u8, WriteFault>
     ensures answers { let said = map (λ word. word.now) words.now in
-        let heads = map (λ slot. slot.head) natives.slots.items in
-        WritesCommand ⟦<Natives as Answering>⟧.gives heads natives said (R.remaining reader.old)
+        let heads = N.heads natives in
+        WritesCommand N.gives heads natives said (R.remaining reader.old)
         (W.contents writer.old) (W.contents writer.new) result }
     ensures silent { let said = map (λ word. word.now) words.now in
         IsUnjudged said → result ≡ Ok 0 → tells_refusals ≡ false → errors.new ≡ errors.old }
 {
-    let answered = answer(alloc, words, reader, natives, writer);
+    let answered = answer::<N, M, R, W>(alloc, words, reader, natives, writer);
     match answered.carried.written {
         Ok(status) => {
             tell_end(alloc, words, &answered, status, tells_refusals, errors);
@@ -53,10 +60,10 @@ pub fn explained_command<R: Read, W: Write, E: Write>(
 
 /// Writes what a person needs of what the words come to, with this exit status: why events were refused, where that is asked
 /// for, and what another answer than success means, or what is reported beside a yes.
-fn tell_end<E: Write>(
+fn tell_end<M: ObjectMachine, E: Write>(
     alloc: Global,
     words: &[&str],
-    answered: &Answered<Natives>,
+    answered: &Answered<M>,
     status: u8,
     tells_refusals: bool,
     errors: &mut E,
@@ -84,7 +91,7 @@ pub fn tell_fault<E: Write>(errors: &mut E, fault: WriteFault) {
 }
 
 /// The input, as far as places are looked for in it; `None` where it is too large, or there is none.
-fn explained_input(answered: &Answered<Natives>) -> Option<&[u8]> {
+fn explained_input<M: Drop>(answered: &Answered<M>) -> Option<&[u8]> {
     match &answered.input {
         Some(input) if input.len() <= MOST_EXPLAINED => Some(input.as_slice()),
         _ => None,
@@ -92,7 +99,7 @@ fn explained_input(answered: &Answered<Natives>) -> Option<&[u8]> {
 }
 
 /// Writes why events of a run were refused, if any were.
-fn tell_refusals<E: Write>(alloc: Global, answered: &Answered<Natives>, errors: &mut E) {
+fn tell_refusals<M: Drop, E: Write>(alloc: Global, answered: &Answered<M>, errors: &mut E) {
     let refused = answered.carried.refused.as_slice();
     tell(
         errors,
@@ -101,7 +108,12 @@ fn tell_refusals<E: Write>(alloc: Global, answered: &Answered<Natives>, errors: 
 }
 
 /// Writes what the words come to, if it is something that is explained.
-fn explain<E: Write>(alloc: Global, words: &[&str], answered: &Answered<Natives>, errors: &mut E) {
+fn explain<M: ObjectMachine, E: Write>(
+    alloc: Global,
+    words: &[&str],
+    answered: &Answered<M>,
+    errors: &mut E,
+) {
     let input = explained_input(answered);
     tell(
         errors,
@@ -121,10 +133,10 @@ fn explain<E: Write>(alloc: Global, words: &[&str], answered: &Answered<Natives>
 
 /// What is reported of the fault that stopped a run, if one did, from what was written down since the last whole event,
 /// or else for that one.
-fn report_on_fault(
+fn report_on_fault<M: ObjectMachine>(
     alloc: Global,
     input: Option<&[u8]>,
-    ran: &Ran<Natives>,
+    ran: &Ran<M>,
     last: &[Entry],
 ) -> Result<Option<String>, AllocError> {
     let Err(fault) = ran.ended else {

@@ -5,5 +5,5 @@ mod ends;
 mod remarks;
 
 pub use ends::{explained_command, tell_fault};
+pub use machine_commands::WriteFault;
 pub use run_reports::{EXPLAIN, is_asked};
-pub use trace_tool::WriteFault;

@@ -3,11 +3,10 @@
 ghost use Rattle.std.specs.Prelude.{◌↔◌, map, IsTrue};
 ghost use Rattle.explained_commands.specs.Judged.{IsUnjudged};
 
-use native_slots::Answering;
+use machine_commands::{Outcome, ProgramOutcome};
 use program_warnings::{Ranked, Yes, told_beside};
 use std::alloc::{AllocError, Global};
 use texts::split_at_line;
-use trace_tool::{Outcome, ProgramOutcome};
 
 /// The line that parts the texts of an input.
 const PARTING: &[u8] = b"%%";
@@ -27,10 +26,10 @@ pub fn is_judged(words: &[&str]) -> bool
 /// What is reported beside the yes that the words came to on this input, if they came to one: warnings of the program,
 /// which is the first text, and where it didn't run how deep its chains are. `None` where there is nothing to tell, and
 /// where the input isn't known.
-pub fn remarks_on<N: Answering + Drop>(
+pub fn remarks_on<M: Drop>(
     alloc: Global,
     input: Option<&[u8]>,
-    outcome: &Outcome<N>,
+    outcome: &Outcome<M>,
 ) -> Result<Option<String>, AllocError> {
     let (Some(input), Some(yes)) = (input, yes_of(outcome)) else {
         return Ok(None);
@@ -43,7 +42,7 @@ pub fn remarks_on<N: Answering + Drop>(
 }
 
 /// The yes that this is, if it is one.
-fn yes_of<N: Answering + Drop>(outcome: &Outcome<N>) -> Option<Yes<'_>> {
+fn yes_of<M: Drop>(outcome: &Outcome<M>) -> Option<Yes<'_>> {
     match outcome {
         Outcome::Program(ProgramOutcome::Certificate(certified)) => {
             Some(Yes::Certified(Ranked::of(certified.meta(), certified.ranks())))

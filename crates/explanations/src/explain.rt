@@ -6,7 +6,6 @@ use command_outcomes::{Fault, Outcome, ProgramOutcome, Refusal, ScriptFault, Why
 use declaration_flaws::{declaration_flaw, native_flaw};
 use diagnostics::{Flaw, Severity, Span, TextKind, meaning, push_flaw, text_spans};
 use meta_model::Meta;
-use native_slots::Answering;
 use program_flaws::missing_certificate;
 use rank_check::Denied;
 use std::alloc::{AllocError, Global};
@@ -16,11 +15,11 @@ use text_flaws::{certificate_flaw, program_flaw, script_flaw, size_flaw, wire_fl
 /// wrong there, its line and column in the input and in its text, that line with a caret below the place, and what to write
 /// instead, where that is known. Where the input isn't known no place is reported. `None` where there is nothing to
 /// explain: a command did what it was asked, memory was wanting, or there is no input.
-pub fn explanation<N: Answering + Drop>(
+pub fn explanation<M: Drop>(
     alloc: Global,
     words: &[&str],
     input: Option<&[u8]>,
-    outcome: &Outcome<N>,
+    outcome: &Outcome<M>,
 ) -> Result<Option<String>, AllocError> {
     let mut text = String::new(alloc);
     match outcome {

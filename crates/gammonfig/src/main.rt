@@ -5,6 +5,7 @@
 use built_in_native::{class, doubled, effects, twice};
 use explained_commands::{EXPLAIN, WriteFault, explained_command, is_asked, tell_fault};
 use native_slots::{NativeSlot, Natives};
+use qt_runtime::Machine;
 use signatures::Value;
 use std::alloc::{AllocError, Global};
 use std::io::{ErrorKind, Write};
@@ -62,7 +63,7 @@ fn answer(rt: &HostRuntime, words: &[&str]) -> Result<ExitCode, AllocError> {
     let mut reader = rt.reader();
     let mut writer = io::writer(rt);
     let mut errors = rt.stderr();
-    let ended = explained_command(
+    let ended = explained_command::<Natives, Machine<Natives>, _, _, _>(
         alloc,
         words,
         &mut reader,

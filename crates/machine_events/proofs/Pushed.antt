@@ -21,7 +21,7 @@ use Rattle.machine_state.specs.Worlds.{at, accepting_entries, accepting_turn, wi
 use Rattle.event_judgement.specs.Takes.{judged, accepts}
 use Rattle.machine_rules.specs.Natives.{NativeAnswers}
 use Rattle.run_context.specs.code.Activating.{IsActivated, IsBarred}
-use Rattle.rule_interpreter.specs.code.Reaches.{RunsTo}
+use Rattle.rule_laws.specs.Reaches.{RunsTo}
 use Rattle.binding_graph.specs.declared.binding.Binding.{Binding}
 use Rattle.binding_graph.specs.declared.place.Place.{Place}
 use Rattle.prop_bindings.specs.Calls.{new_binding}
@@ -31,13 +31,13 @@ use Rattle.machine_rules.specs.Good.{ArgumentsFit, TopFits}
 use Rattle.machine_rules.specs.Rules.{begun, begin_entry, top_of}
 use Rattle.machine_rules.specs.Settling.{Installs, notified}
 use Rattle.rule_interpreter.proofs.Beginning.{top-fits}
-use Rattle.rule_interpreter.proofs.Soundness.{sound-settled}
+use Rattle.rule_laws.proofs.Soundness.{sound-settled}
 use Rattle.machine_rules.specs.code.Sound.{IsSoundWorld}
 use Rattle.event_judgement.specs.code.Accepted.{AsksFor, WritesTo}
 use Rattle.machine_events.specs.code.Taking.{Took}
 use Rattle.event_judgement.proofs.Judging.Assigning.{field-of}
 use Rattle.machine_events.proofs.Taken.{idle, Ready, good-pushed, took-unchanged}
-use Rattle.machine_events.specs.Causes.{Halts}
+use Rattle.object_machine.specs.Causes.{Halts}
 use Rattle.machine_events.proofs.Stopping.{took-run}
 
 begun-here : (w : World) (o : ℕ) (x : Object) (m : ℕ) (method : MetaMethod) (values : List Value) (work : Work) →

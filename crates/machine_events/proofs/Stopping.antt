@@ -10,15 +10,15 @@ use Rattle.machine_state.specs.Worlds.{at}
 use Rattle.machine_rules.specs.Natives.{NativeAnswers}
 use Rattle.machine_rules.specs.Good.{IsGood}
 use Rattle.machine_rules.specs.code.Going.{GoodRules, RulesStop}
-use Rattle.rule_interpreter.specs.code.Reaches.{RunsTo}
+use Rattle.rule_laws.specs.Reaches.{RunsTo}
 use Rattle.machine_rules.specs.code.Sound.{IsSoundWorld}
-use Rattle.rule_interpreter.proofs.Keeps.{rules-kept}
-use Rattle.machine_events.specs.Causes.{Halts}
+use Rattle.rule_laws.proofs.Keeps.{rules-kept}
+use Rattle.object_machine.specs.Causes.{Halts}
 use Rattle.event_judgement.specs.Takes.{Takes}
 use Rattle.machine_events.specs.code.Taking.{Took}
-use Rattle.machine_events.proofs.Keeping.{invariant-at}
-use Rattle.machine_events.proofs.Preservation.{runs-invariant}
-use Rattle.machine_events.proofs.Progress.{cause-of}
+use Rattle.run_laws.proofs.Keeping.{invariant-at}
+use Rattle.run_laws.proofs.Preservation.{runs-invariant}
+use Rattle.run_laws.proofs.Progress.{cause-of}
 use Rattle.machine_events.proofs.Taken.{idle, runs-taken}
 
 -- the event was taken, and rules stopped on the way

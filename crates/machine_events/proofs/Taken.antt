@@ -22,11 +22,11 @@ use Rattle.machine_rules.specs.code.Going as of_rules
 use Rattle.event_judgement.specs.declared.not_accepted.NotAccepted.{NotAccepted}
 use Rattle.event_judgement.specs.code.Judgement.{IsNotAccepted}
 use Rattle.event_judgement.specs.code.Judgement as not_accepted
-use Rattle.machine_events.specs.Runs.{GoodRun, RunsWhole, done, takes, is_next}
+use Rattle.object_machine.specs.Runs.{GoodRun, RunsWhole, done, takes, is_next}
 use Rattle.event_judgement.specs.Takes.{judged, Takes, accepts, refuses}
 use Rattle.machine_events.specs.code.Taking.{SaysWhy, Took, IsRefused}
-use Rattle.machine_events.proofs.Running.{rules-run}
-use Rattle.machine_events.specs.Causes.{Halts, short, spent}
+use Rattle.object_machine.proofs.Running.{rules-run}
+use Rattle.object_machine.specs.Causes.{Halts, short, spent}
 
 -- an event is taken, and rules follow
 pub runs-taken : {p : Loaded} {natives : NativeAnswers} {d : ℕ} {a : Answer} {s m t : State} {n j k : ℕ} (e : Event) → Takes p e a s m → IsGood p d s m → 0 < n → j ≡ n - 1 → GoodRules p natives d m j t k → GoodRun p natives d s n (e ∷ []) (a ∷ []) t k

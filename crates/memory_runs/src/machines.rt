@@ -7,7 +7,7 @@ use crate::commanding::COUNTER;
 use command_output::Output;
 use memory_trials::{SCRIPT, SOURCE, Told, TrialAnswer, certificate, loaded};
 use native_slots::{Answering, Natives};
-use qt_runtime::{Answer, Checked, Entry, Event, Fault, Machine, read_script};
+use qt_runtime::{Answer, Checked, Entry, Event, Fault, Machine, ObjectMachine, read_script};
 use rank_check::check;
 use std::alloc::{AllocError, Global};
 

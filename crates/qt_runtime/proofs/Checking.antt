@@ -1,7 +1,6 @@
 -- A machine of a checked program stays one, and stops for a limit alone.
-use Rattle.std.proofs.Common.{◌≡◌, ℕ, ◌≤◌, ◌⊎◌, inl, inr, Bool, true, false, List, [], ◌∷◌, ◌++◌, length, Result, Ok, Err, sym, ◌∙◌, subst, append-nil}
+use Rattle.std.proofs.Common.{◌≡◌, ℕ, ◌≤◌, ◌⊎◌, inl, inr, Bool, true, List, [], ◌∷◌, ◌++◌, length, Result, Ok, Err, sym, subst, append-nil}
 use Rattle.std.specs.Prelude.{IfOk, IfErr}
-use Rattle.std.specs.Result.{IsErrAnd}
 use Rattle.certificate_lang.specs.declared.certificate.Certificate.{Certificate}
 use Rattle.rank_check.specs.Valid.{IsValid}
 use Rattle.meta_model.specs.Loaded.{Loaded}
@@ -16,16 +15,15 @@ use Rattle.trace_entries.specs.declared.entry.Entry.{Entry}
 use Rattle.machine_state.specs.State.{State}
 use Rattle.machine_rules.specs.Good.{HasArguments, Spares, IsAcyclic, AreSettled}
 use Rattle.machine_rules.specs.Natives.{NativeAnswers}
-use Rattle.machine_events.specs.Causes.{StopsFor}
-use Rattle.machine_events.specs.Laws.{in_front}
-use Rattle.machine_events.specs.Runs.{Run, done}
-use Rattle.machine_events.proofs.Fronts.{run-front, each-behind, lacks-front, stops-front}
-use Rattle.machine_events.proofs.Running.{run-trans, each-weaker}
-use Rattle.qt_runtime.specs.Claims.{IsTypedStep, IsFaultless, IsLimit, IsReached}
-use Rattle.qt_runtime.proofs.CheckedRuns.Claims.{only_limits, each_run_is_faultless}
-use Rattle.qt_runtime.specs.Checked.{HasCome, IsChecked, InEachRun, Claims, StopsAtLimit}
-use Rattle.qt_runtime.specs.Seen.{Seen, AreKept, Completes, Halts, Stays, begun, cleared}
-use Rattle.qt_runtime.proofs.Applying.{still-goes}
+use Rattle.object_machine.specs.Causes.{StopsFor}
+use Rattle.object_machine.specs.Laws.{in_front}
+use Rattle.object_machine.specs.Runs.{Run, done}
+use Rattle.object_machine.proofs.Fronts.{run-front, each-behind, lacks-front, stops-front}
+use Rattle.object_machine.proofs.Running.{run-trans, each-weaker}
+use Rattle.object_machine.specs.Claims.{IsTypedStep, IsFaultless, IsLimit, IsReached}
+use Rattle.run_laws.proofs.CheckedRuns.Claims.{only_limits, each_run_is_faultless}
+use Rattle.object_machine.specs.Checked.{HasCome, IsChecked, InEachRun, Claims, StopsAtLimit}
+use Rattle.object_machine.specs.Seen.{Seen, AreKept, Completes, Halts, Stays, begun, cleared}
 use Rattle.qt_runtime.proofs.Halting.{seen}
 
 -- the program that is within is the one that is seen
@@ -163,13 +161,3 @@ module _ {N : Type 0} (takes : N → Takes) (gives : N → NativeAnswers) where
         typed = λ went events answers t left run. each-weaker Step (IsTypedStep a.program) (λ s u x. x.typed) run (all went events answers t left run);
         settled = λ went events answers t left run. each-weaker Step (λ s u. AreSettled u) (λ s u x. x.settled) run (all went events answers t left run);
       }
-
--- where a machine stops that had taken events before, behind a `?`
-pub limit-behind : {N : Type 0} {gives : N → NativeAnswers} {a b : Seen N} {es : List Event} {xs : List Answer} {f : Fault} (r : Result (Unit {0}) Fault) → Completes gives a es xs b → StopsAtLimit b f → IsErrAnd r (λ y. y ≡ f) → IfErr r (StopsAtLimit a)
-limit-behind (Ok _) x stops is = tt
-limit-behind {f = f} (Err g) x stops is =
-    let limit : IsLimit f = elim stops [
-      | inl limit ↦ limit
-      | inr stopped ↦ let no : true ≡ false = sym stopped ∙ still-goes x in absurd (cc no)
-    ] in
-    inl (subst IsLimit (sym is) limit)

@@ -12,11 +12,11 @@ use Rattle.machine_state.specs.State.{State}
 use Rattle.machine_state.specs.declared.world.World.{World}
 use Rattle.machine_rules.specs.Natives.{NativeAnswers}
 use Rattle.machine_rules.specs.code.Sound.{IsSoundWorld}
-use Rattle.qt_runtime.specs.Seen.{Seen, Completes, RefusesExactly, Halts, Stays}
-use Rattle.machine_events.specs.Causes.{Brings, StopsFor, spent, short, brings, lacks_value, writes_ill, binds_ill, goes_ill, goes_fatal, binds_loop, writes_deep, goes_deep}
+use Rattle.object_machine.specs.Seen.{Seen, Completes, RefusesExactly, Halts, Stays}
+use Rattle.object_machine.specs.Causes.{Brings, StopsFor, spent, short, brings, lacks_value, writes_ill, binds_ill, goes_ill, goes_fatal, binds_loop, writes_deep, goes_deep}
 use Rattle.machine_events.specs.code.Taking.{SaysWhy, Took}
-use Rattle.machine_events.proofs.OneRun.{first-taken}
-use Rattle.machine_events.proofs.OneTaking.{answer-refused}
+use Rattle.run_laws.proofs.OneRun.{first-taken}
+use Rattle.run_laws.proofs.OneTaking.{answer-refused}
 
 -- a machine with this world
 abbrev pub seen : {N : Type 0} → Loaded → N → ℕ → World → Bool → Seen N

@@ -1,9 +1,7 @@
 -- How methods begin.
-use Rattle.std.proofs.Common.{◌≡◌, ℕ, suc, ◌+◌, ◌-◌, ◌<◌, ◌≤◌, inl, inr, Bool, true, false, IsTrue, List, [], ◌∷◌, ◌++◌, length, take, Result, Option, None, Some, refl, sym, ap, ◌∙◌, subst, arith, length-append, Ok, Err, ◌≢◌}
-use Rattle.std.specs.List.{AllByRecursion}
+use Rattle.std.proofs.Common.{◌≡◌, ℕ, suc, ◌+◌, ◌-◌, ◌<◌, ◌≤◌, inl, inr, Bool, true, false, List, [], ◌∷◌, ◌++◌, length, take, Result, Option, Some, refl, sym, ap, ◌∙◌, subst, arith, length-append, ◌≢◌}
 use Rattle.signatures.specs.declared.value.Value.{Value}
 use Rattle.meta_model.specs.declared.object.MetaMethod.{MetaMethod}
-use Rattle.meta_model.specs.declared.object.ValueType.{ValueType}
 use Rattle.meta_model.specs.declared.object.Work.{Work}
 use Rattle.meta_model.specs.declared.object.Work.TheVariants.{Signal, Slot, Native}
 use Rattle.meta_model.specs.Loaded.{Loaded}
@@ -11,33 +9,29 @@ use Rattle.connections.specs.declared.connection.Connection.{Connection}
 use Rattle.binding_graph.specs.declared.place.Place.{Place}
 use Rattle.trace_entries.specs.declared.entry.Entry.{Entry}
 use Rattle.trace_entries.specs.declared.fault.Fault.{Fault}
-use Rattle.trace_entries.specs.declared.fault.Fault.TheVariants.{BadType, TooDeep, Memory}
+use Rattle.trace_entries.specs.declared.fault.Fault.TheVariants.{BadType, TooDeep}
 use Rattle.event_loops.specs.declared.item.Item.TheVariants.{Call}
-use Rattle.std.specs.Prelude.{is_some}
-use Rattle.class_outlines.specs.declared.qobject.TheConstants.{DESTROYED}
-use Rattle.object_tree.specs.Objects.{Lives, life_of, home_of}
-use Rattle.object_tree.proofs.Changing.{life-of-lives, lives-of-life}
-use Rattle.object_tree.specs.declared.life.Life.{Life}
+use Rattle.object_tree.specs.Objects.{home_of}
 use Rattle.object_tree.specs.declared.object.Object.{Object}
 use Rattle.machine_state.specs.declared.world.World.{World}
 use Rattle.machine_state.specs.Objects.{all_shown}
 use Rattle.machine_state.specs.State.{State, Activation, Emit, Update}
 use Rattle.machine_state.specs.Turns.{running, reaches_at_once}
 use Rattle.machine_rules.specs.Rules.{Begins, begun, with_used, posted, EmitRule, Uses, Arrives, begin_entry, top_of}
-use Rattle.machine_state.specs.Connections.{is_living, next_used}
-use Rattle.machine_state.proofs.Due.{used-among, used-due, used-living, last-used}
+use Rattle.machine_state.specs.Connections.{next_used}
+use Rattle.machine_state.proofs.Due.{last-used}
 use Rattle.object_tree.specs.Typed.{ReadAs}
 use Rattle.machine_rules.specs.Good.{ArgumentsFit, EmissionFits, of_living, of_dead, TopFits, IsWell, shows}
-use Rattle.machine_rules.specs.code.Sound.{Sends, SendsThese, Joined, IsDelivered, AgreeIn, MayBeHeard}
-use Rattle.machine_state.specs.Worlds.{at, noted, having_used, posting, GoesTo}
+use Rattle.machine_rules.specs.code.Sound.{AgreeIn}
+use Rattle.machine_state.specs.Worlds.{at, noted, having_used, posting}
 use Rattle.run_context.specs.code.Activating.{IsActivated, IsBarred}
 use Rattle.run_context.specs.code.Posting.{entry_of_post, PostsCall}
-use Rattle.rule_interpreter.specs.code.Reaches.{Reaches, StopsIn, RunsTo, CallsIn, Calls, OnlyCalls, DoesWork}
-use Rattle.rule_interpreter.proofs.Frames.{high, shows-over}
-use Rattle.machine_rules.specs.There.{IsMember, IsDead}
-use Rattle.machine_rules.proofs.Dying.{lives-not-dead, lives-or-dead}
-use Rattle.rule_interpreter.proofs.Reaching.{none-spared, same-spared, reaches-pushed, ends-after, ends-lifted, not-idle, ends-noted, stops-as, stops-memory, stops-deep, stops-ill, stops-stuck}
-use Rattle.machine_rules.proofs.Fields.{member-method, method-unique, read-front}
+use Rattle.rule_laws.specs.Reaches.{Reaches, StopsIn, RunsTo, CallsIn, Calls, OnlyCalls, DoesWork}
+use Rattle.rule_laws.proofs.Stacks.{high, shows-over}
+use Rattle.machine_rules.specs.There.{IsMember}
+use Rattle.machine_rules.proofs.Dying.{lives-not-dead}
+use Rattle.rule_laws.proofs.Reaching.{none-spared, same-spared, reaches-pushed, ends-after, ends-lifted, not-idle, ends-noted, stops-as, stops-memory, stops-deep, stops-ill, stops-stuck}
+use Rattle.machine_rules.proofs.Fields.{member-method}
 use Rattle.machine_rules.specs.Operations.{Write, Begin, TakeAnswer}
 use Rattle.machine_rules.specs.Natives.{NativeAnswers}
 
@@ -149,59 +143,6 @@ stops-ill-typed {p} {natives} {o = o} {m = m} {w = w} {from = from} {to = to} {x
       calls.gives below t (begins-there w arguments (from ++ below) (to ++ below) is refl),
       λ (well : IsWell p (at w (from ++ below)) t). ill (fit-typed is (fits-top w.store.connections.last method.work (to ++ below) is (well.arguments (omega (arith, calls.no_lower, length-append from below, length-append to below))))),
     ))
-
-pub fit-of : {p : Loaded} {objects : List Object} {o m : ℕ} {x : Object} {method : MetaMethod} {arguments : List Value} → IsMember p objects o m x method → ReadAs p objects arguments method.kinds → ArgumentsFit p objects o m arguments
-fit-of {x = x} {method = method} is typed = record { object = x; method = method; is = is; typed = typed }
-
--- ---- connections
-
--- a signal that is heard has one list of types
-heard-kinds : {p : Loaded} (objects : List Object) (o g : ℕ) {a b : List ValueType} → Sends p objects o g a → Sends p objects o g b → (IsDead objects o → g ≡ DESTROYED) → a ≡ b
-heard-kinds {p} objects o g {a} {b} x y last_one = elim (lives-or-dead objects o x.takes.created) as (λ h. a ≡ b) [
-  | inl there ↦
-      let first = x.takes.living there.0 there.1 there.2 in
-      let second = y.takes.living there.0 there.1 there.2 in
-      sym first.takes ∙ ap (λ (k : MetaMethod). k.kinds) (method-unique first.is second.is) ∙ second.takes
-  | inr gone ↦ x.last (last_one gone) ∙ sym (y.last (last_one gone))
-]
-
--- what lives has a life
-pub has-life : (objects : List Object) (o : ℕ) → is_living objects o ≡ true → (x : Object) × (l : Life) × Lives objects o x l
-has-life objects o e = by_life (life_of objects o) refl e
-  where
-    by_life : (there : Option Life) → life_of objects o ≡ there → is_some there ≡ true → (x : Object) × (l : Life) × Lives objects o x l
-    by_life None is f = absurd (cc f)
-    by_life (Some l) is f = let there = lives-of-life objects o l is in (there.0, l, there.1)
-
--- the next connection's receiver lives, and its method takes the first of the emission's arguments
-pub next-delivered : {p : Loaded} {objects : List Object} {arguments : List Value} (connections : List Connection) (o g used last : ℕ) (c : Connection) → AllByRecursion (Joined p objects) connections → SendsThese p objects o g arguments → MayBeHeard objects connections o g → next_used objects connections o g used last ≡ Some c → IsDelivered p objects c arguments
-next-delivered {p} {objects} {arguments} connections o g used last c all emitted may found =
-    let j : Joined p objects c = used-among (Joined p objects) objects connections o g used last c all found in
-    let is = (used-due objects connections o g used last c found).0 in
-    let sends : Sends p objects o g (j.kinds ++ j.rest) =
-    subst (λ (n : ℕ). Sends p objects o n (j.kinds ++ j.rest)) is.1 (subst (λ (n : ℕ). Sends p objects n c.signal (j.kinds ++ j.rest)) is.0 j.sends) in
-    let last_one : IsDead objects o → g ≡ DESTROYED = λ gone. elim may as (λ h. g ≡ DESTROYED) [
-      | inl is_last ↦ is_last
-      | inr quiet ↦ absurd (used-among (λ (d : Connection). d.sender ≢ o) objects connections o g used last c (quiet gone) found is.0)
-    ] in
-    let same : emitted.kinds ≡ j.kinds ++ j.rest = heard-kinds objects o g emitted.sends sends last_one in
-    let split : ReadAs p objects arguments (j.kinds ++ j.rest) = subst (λ (l : List ValueType). ReadAs p objects arguments l) same emitted.typed in
-    let front : ReadAs p objects (take (length j.kinds) arguments) j.kinds = read-front p objects arguments j.kinds j.rest split in
-    let receiver = has-life objects c.receiver (used-living objects connections o g used last c found) in
-    let declared = j.receives.living receiver.0 receiver.1 receiver.2 in
-    record {
-      receiver = receiver.0;
-      method = declared.method;
-      is = record { life = receiver.1; lives = receiver.2; is_method = declared.is };
-      typed = subst (λ (l : List ValueType). ReadAs p objects (take (length l) arguments) l) (sym declared.takes) front;
-    }
-
--- .. which are those that it is given
-pub delivered-fits : {p : Loaded} {objects : List Object} {c : Connection} {x : Object} {method : MetaMethod} {arguments taken : List Value} {count : ℕ} → IsDelivered p objects c arguments → IsMember p objects c.receiver c.method x method → taken ≡ take count arguments → count ≡ length method.kinds → ArgumentsFit p objects c.receiver c.method taken
-delivered-fits {p} {objects} {c} {x} {method} {arguments} {taken} d is cut count_is =
-    let same : method ≡ d.method = member-method is d.is in
-    let taken_is : taken ≡ take (length d.method.kinds) arguments = cut ∙ ap (λ (n : ℕ). take n arguments) count_is ∙ ap (λ (k : MetaMethod). take (length k.kinds) arguments) same in
-    subst (λ (l : List Value). ArgumentsFit p objects c.receiver c.method l) (sym taken_is) (fit-of d.is d.typed)
 
 -- ---- a connection is used
 

@@ -32,10 +32,10 @@ use Rattle.machine_rules.specs.Next.{DoesNext}
 use Rattle.machine_rules.specs.code.Going.{GoodRules, done, then}
 use Rattle.machine_state.specs.Worlds.{at, noted, Ticks, GoesTo}
 use Rattle.run_context.specs.code.Statements.{Went, Stalls, ConnectsIn, DisconnectsIn, SchedulesIn}
-use Rattle.rule_interpreter.specs.code.Reaches.{StopsIn, RunsTo, Advances, Calls, OnlyCalls, Sets, Deletes}
-use Rattle.rule_interpreter.proofs.Reaching.{not-idle, reaches-low, stops-as, stops-memory, stops-faulted, stops-stuck, ends-noted, ends-ticked}
-use Rattle.rule_interpreter.proofs.Frames.{high}
-use Rattle.rule_interpreter.proofs.Keeps.{some-stack, rules-kept}
+use Rattle.rule_laws.specs.Reaches.{StopsIn, RunsTo, Advances, Calls, OnlyCalls, Sets, Deletes}
+use Rattle.rule_laws.proofs.Reaching.{not-idle, reaches-low, stops-as, stops-memory, stops-faulted, stops-stuck, ends-noted, ends-ticked}
+use Rattle.rule_laws.proofs.Stacks.{high}
+use Rattle.rule_laws.proofs.Keeps.{some-stack, rules-kept}
 use Rattle.machine_rules.specs.Natives.{NativeAnswers, MayAnswer, TellsAnswer}
 
 -- ---- the rule of a body whose next step does this

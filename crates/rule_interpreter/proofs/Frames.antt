@@ -1,13 +1,11 @@
--- What frames and stacks show.
-use Rattle.std.proofs.Common.{◌≡◌, ℕ, ◌+◌, List, [], ◌∷◌, ◌++◌, length, Option, refl, sym, ap, ◌∙◌, arith}
+-- What frames show.
+use Rattle.std.proofs.Common.{◌≡◌, ℕ, ◌+◌, List, [], ◌∷◌, length, Option, sym, ap, ◌∙◌, arith}
 use denote.Bor.{Bor}
-use Rattle.machine_state.specs.State.{Activation}
 use Rattle.rule_interpreter.specs.declared.active.Frame.{Frame}
 use Rattle.rule_interpreter.specs.declared.active.Frame.TheVariants.{Nothing, Over, rolls-Nothing, rolls-Over}
 use Rattle.rule_interpreter.specs.declared.active.Frame.TheFolds.{fold-roll-Frame}
 use Rattle.rule_interpreter.specs.declared.active.Frame.TheOpen as frame
 use Rattle.rule_interpreter.specs.code.Active.{layer_shows, frame_shows}
-use Rattle.machine_rules.specs.Good.{whose, shows}
 
 -- ---- frames
 
@@ -26,21 +24,3 @@ counted-over count body below is = let more = ap (λ (l : List (Option ℕ)). le
 -- .. and shown
 pub shown-over : (body : Option ℕ) (below : Bor Frame) {shown : List (Option ℕ)} → frame_shows below.now ≡ shown → frame_shows (Over body below) ≡ body ∷ shown
 shown-over body below is = frame-over body below ∙ ap (λ (l : List (Option ℕ)). body ∷ l) is
-
--- ---- stacks
-
-pub shows-append : (to below : List Activation) → shows (to ++ below) ≡ shows to ++ shows below
-shows-append [] below = refl
-shows-append (a ∷ to) below = ap (λ (l : List (Option ℕ)). whose a ∷ l) (shows-append to below)
-
-shows-length : (stack : List Activation) → length stack ≡ length (shows stack)
-shows-length [] = refl
-shows-length (a ∷ stack) = let more = shows-length stack in omega (arith, more)
-
--- what a stack shows tells how high it is
-pub high : {shown : List (Option ℕ)} (below : List Activation) → shows below ≡ shown → length below ≡ length shown
-high below is = shows-length below ∙ ap (λ (l : List (Option ℕ)). length l) is
-
--- .. also where more stands over it
-pub shows-over : {shown active : List (Option ℕ)} (to below : List Activation) → active ≡ shows to ++ shown → shows below ≡ shown → shows (to ++ below) ≡ active
-shows-over to below over is = shows-append to below ∙ ap (λ (l : List (Option ℕ)). shows to ++ l) is ∙ sym over

@@ -1,13 +1,7 @@
 pub mod Frames
-pub mod Keeps
-pub mod Reaching
 pub mod Beginning
 pub mod Writes
-pub mod Notifying
 pub mod Bodies
-pub mod Hearing
 pub mod Blocks
 pub mod Deleting
-pub mod Soundness
 pub mod Turning
-pub mod Promised

@@ -1,5 +1,5 @@
 -- How turns of event loops are carried out.
-use Rattle.std.proofs.Common.{◌≡◌, ℕ, ◌+◌, ◌-◌, ◌<◌, List, [], ◌∷◌, Result, Ok, Err, Option, Some, None, true, inl, inr, refl, sym, ap, ◌∙◌, subst, arith}
+use Rattle.std.proofs.Common.{◌≡◌, ℕ, ◌+◌, ◌-◌, ◌<◌, List, [], ◌∷◌, Result, Ok, Err, Option, Some, None, inl, inr, refl, sym, ap, ◌∙◌, subst, arith}
 use Rattle.std.specs.Result.{IsErrAnd}
 use Rattle.signatures.specs.declared.value.Value.{Value}
 use Rattle.meta_model.specs.declared.object.Work.{Work}
@@ -20,17 +20,17 @@ use Rattle.machine_state.specs.State.{State, Activation, Destroy, IsIdle}
 use Rattle.machine_state.specs.Worlds.{at, with_queues, taking, taking_unwritten, turn_ended}
 use Rattle.machine_rules.specs.Good.{ArgumentsFit, shows}
 use Rattle.run_context.specs.code.Activating.{IsActivated, IsBarred}
-use Rattle.rule_interpreter.specs.code.Reaches.{DoesWork, Reaches, StopsIn, RunsTo, Advances}
+use Rattle.rule_laws.specs.Reaches.{DoesWork, Reaches, StopsIn, RunsTo, Advances}
 use Rattle.rule_interpreter.specs.code.Delivering.{first_due, IsFirst, IsCalled}
 use Rattle.machine_rules.specs.Rules.{Rule, TurnRule, Serves, Delivers, Begins, BeginsIf, top_of}
 use Rattle.machine_rules.specs.code.Going.{done}
 use Rattle.machine_rules.specs.code.Sound.{Waits, IsSoundWorld, AgreeIn}
 use Rattle.rule_interpreter.proofs.Beginning.{begun_world, begins-there, top-fits, top-other}
-use Rattle.rule_interpreter.proofs.Keeps.{reaches-keeps}
-use Rattle.rule_interpreter.proofs.Reaching.{none-spared, reaches-low, reaches-pushed, reaches-then, stops-after, ends-unchanged}
+use Rattle.rule_laws.proofs.Keeps.{reaches-keeps}
+use Rattle.rule_laws.proofs.Reaching.{none-spared, reaches-low, reaches-pushed, reaches-then, stops-after, ends-unchanged}
 use Rattle.rule_interpreter.proofs.Bodies.{advances-left}
 use Rattle.machine_state.specs.Connections.{is_living}
-use Rattle.rule_interpreter.proofs.Beginning.{has-life}
+use Rattle.rule_laws.proofs.Delivered.{has-life}
 use Rattle.machine_rules.proofs.Declared.{living-fits}
 use Rattle.machine_rules.proofs.Waiting.{length-change, housed-same, all-taken, first-waits}
 use Rattle.machine_rules.specs.Natives.{NativeAnswers}

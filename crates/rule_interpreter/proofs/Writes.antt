@@ -30,32 +30,23 @@ use Rattle.std.proofs.lemmas.Option.{same_Some}
 use Rattle.machine_state.specs.Worlds.{at, noted, HasWritten}
 use Rattle.machine_rules.specs.Operations.{Operation, Write, TakeAnswer, operation_of_step}
 use Rattle.run_context.specs.code.Activating.{MayNest}
-use Rattle.rule_interpreter.specs.code.Reaches.{Reaches, StopsIn, RunsTo, Sets}
+use Rattle.rule_laws.specs.Reaches.{Reaches, StopsIn, RunsTo, Sets}
 use Rattle.machine_rules.specs.Faults.{IsAfterFit, LacksFirst, WritesDeep}
 use Rattle.machine_rules.specs.Next.{DoesNext, WritesIll}
 use Rattle.machine_rules.specs.Settling.{Settles, Writes, notified}
 use Rattle.machine_rules.specs.code.Sound.{AgreeIn}
 use Rattle.machine_rules.specs.There.{HasField, IsField, LacksField}
-use Rattle.rule_interpreter.specs.code.Writing.{MayWrite, IsUnfit, FitsOrNot, IsUnwritten, missing, ill, unfit, deep}
+use Rattle.rule_laws.specs.Writing.{MayWrite, IsUnfit, FitsOrNot, IsUnwritten, missing, ill, unfit, deep}
 use Rattle.run_context.proofs.Linking.{not-true}
+use Rattle.rule_laws.proofs.Fitting.{fits-field, fits-read}
 use Rattle.rule_interpreter.proofs.Beginning.{one-more}
 use Rattle.machine_rules.proofs.Differing.{differ-spared}
-use Rattle.machine_rules.proofs.Fields.{field-at, field-property, life-unique}
-use Rattle.rule_interpreter.proofs.Reaching.{none-spared, reaches-high, ends-after, ends-left, ends-lifted, ends-unchanged, stops-as, stops-stuck, stops-ill-write, stops-deep-write}
+use Rattle.machine_rules.proofs.Fields.{field-at, life-unique}
+use Rattle.rule_laws.proofs.Reaching.{none-spared, reaches-high, ends-after, ends-left, ends-lifted, ends-unchanged, stops-as, stops-stuck, stops-ill-write, stops-deep-write}
 use Rattle.machine_rules.specs.Natives.{NativeAnswers}
 use Rattle.machine_rules.specs.Good.{shows}
 
 -- ---- properties are written
-
--- a property for which a value fits
-fits-field : {p : Loaded} {objects : List Object} {at : Place} {v : Value} → (f : FitsAt p objects at v) → IsField p objects at.object at.property f.object f.property
-fits-field f = record {
-  life = f.life;
-  lives = f.lives;
-  class = (f.is_property).class;
-  is_class = (f.is_property).is_class;
-  is_property = (f.is_property).is;
-}
 
 -- what fits has a property there
 fit-there : (p : Loaded) (objects : List Object) (writes : List Assignment) → AllFit p objects writes → AllByRecursion (HasField p objects) (places_in writes)
@@ -97,14 +88,7 @@ one-operation {s} {c} {d} m n =
     let both : Some c ≡ Some d = sym m.does ∙ ap by_step step_is ∙ ap by_arguments arguments_is ∙ ap by_object object_is ∙ n.does in
     cc both
 
--- what fits reads as its property's type
-pub fits-read : {p : Loaded} {objects : List Object} (writes : List Assignment) → AllFit p objects writes → (set : Assignment) → Contains writes set → {x : Object} {property : MetaProperty} → IsField p objects set.place.object set.place.property x property → ReadsAs p objects set.value property.kind
-fits-read {p} {objects} writes fit set among {x} {property} field =
-    let f = All-contains (λ (a : Assignment). FitsAt p objects a.place a.value) writes set (All-from_recursion (λ (a : Assignment). FitsAt p objects a.place a.value) writes fit) among in
-    let own : IsField p objects set.place.object set.place.property f.object f.property = fits-field f in
-    subst (λ (k : MetaProperty). ReadsAs p objects set.value k.kind) (field-property own field) f.reads
-
--- .. so what is written next and fits is of no wrong type
+-- what is written next and fits is of no wrong type
 written-fits : {p : Loaded} {natives : NativeAnswers} {what : Assigning} {w : World} {from to : List Activation} → Sets p natives w from to what → AllFit p w.store.tree (writes_of what) → (below : List Activation) → ¬ WritesIll p (at w (from ++ below))
 written-fits {what = what} sets fit below bad =
     let same : Write bad.what ≡ Write what = one-operation bad.next (sets.next below) in

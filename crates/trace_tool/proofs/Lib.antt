@@ -1,7 +1,4 @@
-mod Accepted
-pub mod Answering
+mod Itself
 mod Lines
 mod OneCommand
 pub mod OneRun
-pub mod Preparing
-mod Streaming

@@ -1,9 +1,9 @@
 -- For natives with one answer a command line comes to one thing.
-use Rattle.std.proofs.Common.{◌≡◌, ◌≢◌, ◌⊎◌, inl, inr, ℕ, List, [], ◌∷◌, Result, Ok, Err, codes, refl, sym, ap, ◌∙◌, subst, arith}
+use Rattle.std.proofs.Common.{◌≡◌, ◌⊎◌, inl, inr, ℕ, List, [], ◌∷◌, Result, Ok, Err, codes, refl, sym, ap, ◌∙◌, subst, arith}
 use Rattle.native_slots.specs.declared.head.NativeHead.{NativeHead}
 use Rattle.qt_runtime.specs.Natives.{NativeAnswers, AnswersOnce}
 use Rattle.rank_make.specs.declared.why.Why.TheVariants as why
-use Rattle.program_commands.specs.Commands.{MetaComesTo, CertifyComesTo, CheckComesTo, IsSameOutcome as IsSameOfProgram}
+use Rattle.program_commands.specs.Commands.{IsSameOutcome as IsSameOfProgram}
 use Rattle.program_commands.specs.Outcomes.{IsShort as IsShortOfProgram}
 use Rattle.program_commands.specs.declared.outcome.Outcome.{Outcome as ProgramOutcome}
 use Rattle.program_commands.specs.declared.outcome.Outcome.TheVariants as of_program
@@ -11,19 +11,18 @@ use Rattle.program_commands.specs.Steps.{Is}
 use Rattle.program_commands.proofs.Once.{OneOf, one_description, one_certifying, one_check}
 use Rattle.command_lines.specs.Words.{IsNumber, IsLimit, IsCommand}
 use Rattle.command_lines.specs.declared.input.InputFault.{InputFault}
-use Rattle.command_lines.specs.declared.usage.UsageFault.{UsageFault}
 use Rattle.command_lines.specs.declared.usage.UsageFault.TheVariants.{Words, TooLarge, Texts}
 use Rattle.command_lines.specs.declared.words.Command.{Command}
 use Rattle.command_lines.specs.declared.words.Command.TheVariants.{Meta, Certify, Check, Run, RunUnchecked}
-use Rattle.command_lines.specs.declared.words.Options.{Options}
 use Rattle.command_lines.proofs.Partings.{texts_once}
 use Rattle.command_outcomes.specs.Outcomes.{IsShort}
 use Rattle.command_outcomes.specs.declared.outcome.Outcome.{Outcome}
 use Rattle.command_outcomes.specs.declared.outcome.Outcome.TheVariants.{Program}
-use Rattle.trace_tool.specs.Commands.{Says, Cuts, Does, IsOfProgram}
+use Rattle.machine_commands.specs.Commands.{Says, Cuts, Does, IsOfProgram}
 use Rattle.trace_tool.specs.Laws.{IsSameOutcome, OneCommandOutcome}
 use Rattle.trace_tool.proofs.OneRun.{OneAs, same_first, one_run_outcome, one_unchecked_outcome}
 use Rattle.texts.specs.Numerals.{value_of}
+use Rattle.object_machine.specs.Seen.{Seen}
 
 -- ---- the words are one command's
 
@@ -150,12 +149,12 @@ by-equal one a b x y = elim (one a b x y) [
   ]
 ]
 
-of-program : {N : Type 0} {ComesTo : ProgramOutcome → Type 0} → OneProgram ComesTo → OneAs {R = Outcome N} IsShort IsSameOutcome (IsOfProgram ComesTo)
+of-program : {N : Type 0} {ComesTo : ProgramOutcome → Type 0} → OneProgram ComesTo → OneAs {R = Outcome (Seen N)} IsShort IsSameOutcome (IsOfProgram ComesTo)
 of-program {N} one a b x y = elim (one x.told y.told x.comes y.comes) [
   | inl s ↦ inl (subst IsShort (sym x.is) (record { line = s.line; status_is = s.status_is }))
   | inr rest ↦ elim rest [
     | inl s ↦ inr (inl (subst IsShort (sym y.is) (record { line = s.line; status_is = s.status_is })))
-    | inr same ↦ inr (inr (subst (λ (o : Outcome N). IsSameOutcome o b) (sym x.is) (subst (λ (o : Outcome N). IsSameOutcome (Program x.told) o) (sym y.is) same)))
+    | inr same ↦ inr (inr (subst (λ (o : Outcome (Seen N)). IsSameOutcome o b) (sym x.is) (subst (λ (o : Outcome (Seen N)). IsSameOutcome (Program x.told) o) (sym y.is) same)))
   ]
 ]
 

@@ -1,10 +1,8 @@
 -- For natives with one answer a run is one; and a run that stopped is a front of the whole one.
-use Rattle.std.proofs.Common.{◌≡◌, ◌≢◌, ◌⊎◌, inl, inr, ℕ, true, false, List, [], ◌∷◌, ◌++◌, length, Result, Ok, Err, refl, sym, ap, ◌∙◌, subst, append_assoc, append-nil, arith}
-use Rattle.std.proofs.lemmas.List.{length-append}
+use Rattle.std.proofs.Common.{◌≡◌, ◌≢◌, ◌⊎◌, inl, inr, ℕ, true, false, List, [], ◌∷◌, ◌++◌, Result, Ok, Err, refl, sym, ap, ◌∙◌, subst, append-nil}
 use Rattle.certificate_lang.specs.declared.certificate.Certificate.{Certificate}
 use Rattle.meta_model.specs.Loaded.{Loaded}
 use Rattle.meta_model.specs.Sound.{IsSound}
-use Rattle.native_slots.specs.declared.action.Action.{Action}
 use Rattle.native_slots.specs.declared.head.NativeHead.{NativeHead}
 use Rattle.rank_check.specs.Checks.{Checking}
 use Rattle.script_lang.specs.declared.event.Event.{Event}
@@ -16,12 +14,10 @@ use Rattle.qt_runtime.specs.Worlds.{at, untouched}
 use Rattle.qt_runtime.specs.Natives.{NativeAnswers, AnswersOnce}
 use Rattle.qt_runtime.specs.Keeps.{Grows}
 use Rattle.qt_runtime.specs.Causes.{Brings, StopsFor, spent, short as of_memory, brings, lacks_value, writes_ill, binds_ill, goes_ill, goes_fatal, binds_loop, writes_deep, goes_deep}
-use Rattle.qt_runtime.specs.Laws.{AnswersAre, IsFront}
 use Rattle.qt_runtime.specs.Runs.{Run, done, goes, takes, RunsWhole, RunsFront, IsDue, goes_on as is_under_way, is_next}
-use Rattle.qt_runtime.proofs.OneRun.{no-rule, one_run, one_front, one_front_of_answers}
-use Rattle.qt_runtime.proofs.CheckedRuns.Kept.{start-invariant}
+use Rattle.run_laws.proofs.OneRun.{no-rule, one_run, one_front, one_front_of_answers}
+use Rattle.run_laws.proofs.CheckedRuns.Kept.{start-invariant}
 use Rattle.qt_runtime.specs.Seen.{Seen, RunsAll, Halts, begun}
-use Rattle.program_commands.specs.declared.refusal.Refusal.{Refusal}
 use Rattle.program_commands.specs.Loading.{LoadsCertified}
 use Rattle.program_commands.specs.Steps.{First, fails, goes_on}
 use Rattle.program_commands.proofs.Once.{OneOf, both_fail, one_fails, same_found, IsShortResult, never_short, loaded_sound}
@@ -29,9 +25,9 @@ use Rattle.program_commands.proofs.Stepping.{went}
 use Rattle.command_outcomes.specs.declared.outcome.Outcome.{Outcome}
 use Rattle.command_outcomes.specs.declared.outcome.Ran.{Ran}
 use Rattle.command_outcomes.specs.Outcomes.{IsShort}
-use Rattle.trace_tool.specs.Commands.{Accepting, MayRun, Runs, RunsFaultless, ran, short, ran_faultless, short_of_memory}
+use Rattle.machine_commands.specs.Commands.{Accepting, MayRun, Runs, RunsFaultless, ran, short, ran_faultless, short_of_memory}
 use Rattle.trace_tool.specs.Laws.{AreOneRun, IsSameOutcome, OneRunOutcome, OneUncheckedOutcome, StoppedIsFront}
-use Rattle.trace_tool.proofs.Accepted.{accepting_once, may_run_once, short_refused}
+use Rattle.machine_commands.proofs.Accepted.{accepting_once, may_run_once, short_refused}
 
 -- ---- where a run ends for good
 
@@ -145,7 +141,7 @@ module _ {N : Type 0} (gives : N → NativeAnswers) (p : Loaded) (natives : N) (
     ]
     enough (Err f) s a b x y is also = cc is
 
-    pub one_of_runs : (x y : Ran N) → RunsAll gives (begun p natives depth steps) events x.ended x.machine → RunsAll gives (begun p natives depth steps) events y.ended y.machine → AreOneRun x y
+    pub one_of_runs : (x y : Ran (Seen N)) → RunsAll gives (begun p natives depth steps) events x.ended x.machine → RunsAll gives (begun p natives depth steps) events y.ended y.machine → AreOneRun x y
     one_of_runs x y a b = record {
       whole = same_trace x.ended y.ended x.machine y.machine a b;
       front = one_front_of (took x.ended x.machine a) (took y.ended y.machine b);
@@ -205,13 +201,13 @@ may_run_sound {both = both} steps =
 
 -- ---- the commands
 
-one_faultless : {N : Type 0} (gives : N → NativeAnswers) (p : Loaded) (natives : N) (depth steps : ℕ) (events : List Event) {a b : Outcome N} → IsSound p → AnswersOnce (gives natives) →
+one_faultless : {N : Type 0} (gives : N → NativeAnswers) (p : Loaded) (natives : N) (depth steps : ℕ) (events : List Event) {a b : Outcome (Seen N)} → IsSound p → AnswersOnce (gives natives) →
     RunsFaultless gives (begun p natives depth steps) events a → RunsFaultless gives (begun p natives depth steps) events b → IsShort a ⊎ IsShort b ⊎ IsSameOutcome a b
 one_faultless gives p natives depth steps events is_sound once (ran_faultless x all ends claims) (ran_faultless y also its theirs) = inr (inr (one_of_runs gives p natives depth steps events is_sound once x y all also))
 one_faultless gives p natives depth steps events is_sound once (ran_faultless x all ends claims) short_of_memory = inr (inl (record { line = refl; status_is = refl }))
 one_faultless gives p natives depth steps events is_sound once short_of_memory y = inl (record { line = refl; status_is = refl })
 
-one_unchecked : {N : Type 0} (gives : N → NativeAnswers) (p : Loaded) (natives : N) (depth steps : ℕ) (events : List Event) {a b : Outcome N} → IsSound p → AnswersOnce (gives natives) →
+one_unchecked : {N : Type 0} (gives : N → NativeAnswers) (p : Loaded) (natives : N) (depth steps : ℕ) (events : List Event) {a b : Outcome (Seen N)} → IsSound p → AnswersOnce (gives natives) →
     Runs gives (begun p natives depth steps) events a → Runs gives (begun p natives depth steps) events b → IsShort a ⊎ IsShort b ⊎ IsSameOutcome a b
 one_unchecked gives p natives depth steps events is_sound once (ran x all) (ran y also) = inr (inr (one_of_runs gives p natives depth steps events is_sound once x y all also))
 one_unchecked gives p natives depth steps events is_sound once (ran x all) short = inr (inl (record { line = refl; status_is = refl }))

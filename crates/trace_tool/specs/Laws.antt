@@ -22,25 +22,25 @@ use Rattle.command_outcomes.specs.declared.outcome.Outcome.{Outcome}
 use Rattle.command_outcomes.specs.declared.outcome.Outcome.TheVariants.{Program, Ran as OfRun}
 use Rattle.command_outcomes.specs.declared.outcome.Ran.{Ran}
 use Rattle.command_outcomes.specs.Outcomes.{outcome_text, outcome_status, IsShort}
-use Rattle.trace_tool.specs.Commands.{RunComesTo, UncheckedRunComesTo, CommandComesTo}
+use Rattle.machine_commands.specs.Commands.{RunComesTo, UncheckedRunComesTo, CommandComesTo}
 
 -- Where nothing was done nothing comes before `usage` or `memory`, nor after it; after a read that failed nothing is
 -- written at all.
 abbrev pub UndoneIsALine : Type 0 → Type 0
 UndoneIsALine N =
-    (outcome : Outcome N) → outcome_status outcome ≡ 1 →
+    (outcome : Outcome (Seen N)) → outcome_status outcome ≡ 1 →
     (outcome_text outcome ≡ usage_line) ⊎ (outcome_text outcome ≡ memory_line) ⊎ (outcome_text outcome ≡ [])
 
 -- two runs: of what they wrote down the one is a front of the other, and the same where both took all events; where one did,
 -- the rules were enough for the other
-pub record AreOneRun {N : Type 0} (x y : Ran N) : Type 0 where
+pub record AreOneRun {N : Type 0} (x y : Ran (Seen N)) : Type 0 where
   pub whole : x.ended ≡ Ok tt → y.ended ≡ Ok tt → x.machine.world.trace ≡ y.machine.world.trace
   pub front : Grows x.machine.world.trace y.machine.world.trace ⊎ Grows y.machine.world.trace x.machine.world.trace
   pub enough : x.ended ≡ Ok tt → y.ended ≢ Err Steps
   pub enough_too : y.ended ≡ Ok tt → x.ended ≢ Err Steps
 
 -- outcomes are the same; but which cycle, path or chain shows why a program has no certificate isn't fixed
-abbrev pub IsSameOutcome : {N : Type 0} → Outcome N → Outcome N → Type 0
+abbrev pub IsSameOutcome : {N : Type 0} → Outcome (Seen N) → Outcome (Seen N) → Type 0
 IsSameOutcome (OfRun x) (OfRun y) = AreOneRun x y
 IsSameOutcome (Program x) (Program y) = IsSameOfProgram x y
 IsSameOutcome a b = a ≡ b
@@ -49,21 +49,21 @@ IsSameOutcome a b = a ≡ b
 -- or to one run.
 abbrev pub OneRunOutcome : {N : Type 0} → (N → NativeAnswers) → Type 0
 OneRunOutcome {N} gives =
-    (heads : List NativeHead) (natives : N) (program certificate script : List ℕ) (steps : ℕ) (a b : Outcome N) →
+    (heads : List NativeHead) (natives : N) (program certificate script : List ℕ) (steps : ℕ) (a b : Outcome (Seen N)) →
     AnswersOnce (gives natives) → RunComesTo gives heads natives program certificate script steps a →
     RunComesTo gives heads natives program certificate script steps b → IsShort a ⊎ IsShort b ⊎ IsSameOutcome a b
 
 -- So `run --unchecked` comes to one refusal, or to one run.
 abbrev pub OneUncheckedOutcome : {N : Type 0} → (N → NativeAnswers) → Type 0
 OneUncheckedOutcome {N} gives =
-    (heads : List NativeHead) (natives : N) (program script : List ℕ) (depth steps : ℕ) (a b : Outcome N) →
+    (heads : List NativeHead) (natives : N) (program script : List ℕ) (depth steps : ℕ) (a b : Outcome (Seen N)) →
     AnswersOnce (gives natives) → UncheckedRunComesTo gives heads natives program script depth steps a →
     UncheckedRunComesTo gives heads natives program script depth steps b → IsShort a ⊎ IsShort b ⊎ IsSameOutcome a b
 
 -- So each command line comes, from what was read, to one line `usage`, one thing of a command on programs, or one run.
 abbrev pub OneCommandOutcome : {N : Type 0} → (N → NativeAnswers) → Type 0
 OneCommandOutcome {N} gives =
-    (heads : List NativeHead) (natives : N) (words : List (List ℕ)) (input : Result (List ℕ) InputFault) (a b : Outcome N) →
+    (heads : List NativeHead) (natives : N) (words : List (List ℕ)) (input : Result (List ℕ) InputFault) (a b : Outcome (Seen N)) →
     AnswersOnce (gives natives) → CommandComesTo gives heads natives words input a →
     CommandComesTo gives heads natives words input b → IsShort a ⊎ IsShort b ⊎ IsSameOutcome a b
 

@@ -8,7 +8,7 @@ use crate::task::{Reply, Task, with_thermostat};
 use crate::thermostat::PROGRAM;
 use anyhow::Result;
 use native_slots::{Answering, Natives};
-use qt_runtime::{Answer, Event, Fault, Machine, read_script};
+use qt_runtime::{Answer, Event, Fault, Machine, ObjectMachine, read_script};
 use std::alloc::{AllocError, Global};
 
 /// The third event calls a native whose writes are second activations.

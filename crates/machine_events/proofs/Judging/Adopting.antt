@@ -11,30 +11,20 @@ use Rattle.trace_entries.specs.declared.refusal.Refusal.{Refusal}
 use Rattle.machine_state.specs.declared.world.World.{World}
 use Rattle.machine_state.specs.Accepting.{accepted}
 use Rattle.machine_state.specs.Worlds.{at}
-use Rattle.object_tree.specs.Family.{moved}
-use Rattle.binding_graph.specs.declared.binding.Binding.{Binding}
-use Rattle.prop_bindings.specs.Fits.{Agree}
-use Rattle.delete_later.proofs.Agreeing.{agree-on, live-moved}
 use Rattle.machine_rules.specs.Natives.{NativeAnswers}
 use Rattle.machine_rules.specs.Judgement.{Numbered, holds, fails, becomes, goes_on, ends}
 use Rattle.event_judgement.specs.code.Judgement.{IsNotAccepted, IsLiving}
 use Rattle.event_judgement.specs.declared.not_accepted.NotAccepted.{NotAccepted}
 use Rattle.machine_events.specs.code.Taking.{adoption_reason}
 use Rattle.event_judgement.specs.Events.{adopt, living}
-use Rattle.object_tree.proofs.TypedObjects.{typed-moved}
-use Rattle.machine_events.proofs.Changes.{adopted-by}
 use Rattle.event_judgement.proofs.Judged.{then-ends, then-on}
 use Rattle.machine_events.proofs.Taken.{no_natives, Ready, halted-short}
 use Rattle.event_judgement.proofs.Judging.Naming.{living-ok}
-use Rattle.machine_events.specs.Causes.{Halts}
+use Rattle.object_machine.specs.Causes.{Halts}
 
 -- the parent's name isn't accepted
 pub no-parent : (p : Loaded) (w : World) (parent child : List ℕ) {n : NotAccepted} → IsNotAccepted (living w.store.tree parent) n → IsNotAccepted (adopt p (at w []) parent child) n
 no-parent p w parent child x = then-ends x
-
-pub agree-adopted : {p : Loaded} {a c : ℕ} {y : Life} {old new : List Object} {bindings : List Binding} → Agree p old bindings → IsAdopted a c y old new → Agree p new bindings
-agree-adopted {p} {a} {c} {old = old} {bindings = bindings} agree is =
-    adopted-by (λ (l : List Object). Agree p l bindings) agree (agree-on p old (moved a c old) (live-moved a c old) bindings (typed-moved p a c old agree.typed) agree) is
 
 module _ (p : Loaded) (w : World) (parent child : List ℕ) (a : Numbered Life) (above : IsLiving w.store.tree parent a) where
   -- .. nor the child's

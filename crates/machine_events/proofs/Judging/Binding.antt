@@ -18,8 +18,8 @@ use Rattle.machine_state.specs.Worlds.{at}
 use Rattle.machine_rules.specs.Natives.{NativeAnswers}
 use Rattle.machine_rules.specs.Judgement.{numbered, Check, Gives, ◌>>=◌, found, holds, fails, gives, becomes, goes_on, ends}
 use Rattle.machine_rules.specs.Settling.{Installs}
-use Rattle.machine_events.specs.Causes.{BindsNext, Halts, StopsFor, short, brings, binds_ill, binds_loop}
-use Rattle.machine_events.specs.Runs.{is_next}
+use Rattle.object_machine.specs.Causes.{BindsNext, Halts, StopsFor, short, brings, binds_ill, binds_loop}
+use Rattle.object_machine.specs.Runs.{is_next}
 use Rattle.event_judgement.specs.Takes.{judged}
 use Rattle.event_judgement.specs.code.Accepted.{AsksToBind}
 use Rattle.machine_events.specs.code.Taking.{binding_reason}

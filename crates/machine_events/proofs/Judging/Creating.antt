@@ -23,12 +23,12 @@ use Rattle.machine_rules.specs.Natives.{NativeAnswers}
 use Rattle.machine_rules.specs.Good.{IsWell}
 use Rattle.machine_rules.proofs.Fields.{class-unique}
 use Rattle.machine_rules.specs.Judgement.{NothingIs, found, missing, holds, fails, gives, goes_on, ends}
-use Rattle.machine_events.specs.Runs.{by_event}
+use Rattle.object_machine.specs.Runs.{by_event}
 use Rattle.event_judgement.specs.Takes.{accepts}
 use Rattle.machine_events.specs.code.Taking.{creation_reason}
 use Rattle.event_judgement.specs.Events.{create, IsClassOf, IsHome}
 use Rattle.machine_events.proofs.Taken.{idle, no_natives, none-yet, Ready, halted-short}
-use Rattle.machine_events.specs.Causes.{Halts, brings, goes_ill}
+use Rattle.object_machine.specs.Causes.{Halts, brings, goes_ill}
 
 -- the class of a name
 class-of : {p : Loaded} {name : List ℕ} {number : ℕ} {kind : MetaObject} → IsClassNamed p name number → IsClass p number kind → IsClassOf p name (record { number = number; it = kind })

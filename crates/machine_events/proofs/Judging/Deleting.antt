@@ -23,7 +23,7 @@ use Rattle.machine_state.proofs.Deferring.{scheduled-now}
 use Rattle.machine_rules.specs.Natives.{NativeAnswers}
 use Rattle.machine_rules.specs.Destroying.{scheduled_now}
 use Rattle.machine_rules.specs.Judgement.{Numbered, becomes, gives, goes_on}
-use Rattle.rule_interpreter.specs.code.Reaches.{RunsTo}
+use Rattle.rule_laws.specs.Reaches.{RunsTo}
 use Rattle.machine_rules.specs.code.Sound.{IsSoundWorld}
 use Rattle.event_judgement.specs.declared.not_accepted.NotAccepted.{NotAccepted}
 use Rattle.event_judgement.specs.code.Judgement.{IsNotAccepted, IsLiving}
@@ -34,7 +34,7 @@ use Rattle.event_judgement.proofs.Judged.{then-ends}
 use Rattle.event_judgement.proofs.Judging.Naming.{living-ok}
 use Rattle.machine_events.proofs.Taken.{idle, Ready, good-pushed, took-quiet}
 use Rattle.machine_rules.proofs.Scheduling.{schedules-before}
-use Rattle.machine_events.specs.Causes.{Halts}
+use Rattle.object_machine.specs.Causes.{Halts}
 use Rattle.machine_events.proofs.Stopping.{took-run}
 
 -- what an event that is accepted leaves is sound

@@ -12,12 +12,12 @@ use Rattle.machine_state.specs.State.{State}
 use Rattle.machine_state.specs.Worlds.{at, begun_turn, accepting_turn}
 use Rattle.prop_bindings.specs.Fits.{Agree}
 use Rattle.machine_rules.specs.Natives.{NativeAnswers}
-use Rattle.rule_interpreter.specs.code.Reaches.{RunsTo}
+use Rattle.rule_laws.specs.Reaches.{RunsTo}
 use Rattle.machine_rules.specs.Judgement.{found, missing, holds, fails, gives, goes_on, ends}
 use Rattle.event_judgement.specs.Takes.{judged, accepts}
 use Rattle.machine_events.specs.code.Taking.{Took}
 use Rattle.machine_events.proofs.Taken.{idle, Ready, good-quiet}
-use Rattle.machine_events.specs.Causes.{Halts}
+use Rattle.object_machine.specs.Causes.{Halts}
 use Rattle.machine_events.proofs.Stopping.{took-turn}
 use Rattle.machine_rules.specs.code.Sound.{IsSoundWorld}
 

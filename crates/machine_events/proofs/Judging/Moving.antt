@@ -24,9 +24,9 @@ use Rattle.machine_rules.specs.Judgement.{Numbered, found, missing, holds, fails
 use Rattle.event_judgement.specs.code.Judgement.{IsNotAccepted, IsLiving}
 use Rattle.event_judgement.specs.declared.not_accepted.NotAccepted.{NotAccepted}
 use Rattle.machine_events.specs.code.Taking.{moving_reason}
-use Rattle.machine_events.specs.Causes.{Halts}
+use Rattle.object_machine.specs.Causes.{Halts}
 use Rattle.event_judgement.specs.Events.{living, move, WouldPart}
-use Rattle.machine_events.proofs.Homes.{named-within}
+use Rattle.run_laws.proofs.Homes.{named-within}
 use Rattle.event_judgement.proofs.Judged.{then-ends}
 use Rattle.event_judgement.proofs.Judging.Naming.{living-ok}
 use Rattle.delete_later.proofs.Moving.{below-alike, lead_out-alike}

@@ -24,7 +24,7 @@ use Rattle.machine_rules.specs.Natives.{NativeAnswers}
 use Rattle.machine_rules.specs.code.Sound.{IsSoundWorld}
 use Rattle.event_judgement.specs.declared.not_accepted.NotAccepted.{NotAccepted}
 use Rattle.event_judgement.specs.declared.not_accepted.NotAccepted.TheVariants as reason
-use Rattle.machine_events.specs.Causes.{Completes, Halts}
+use Rattle.object_machine.specs.Causes.{Completes, Halts}
 use Rattle.event_judgement.specs.Takes.{IsRefusedAs}
 
 -- what every machine's world keeps: the program is sound, its parts fit together, and no count is near its limit

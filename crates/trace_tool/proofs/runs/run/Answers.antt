@@ -1,5 +1,5 @@
-use Rattle.trace_tool.proofs.Accepted.{accepted_comes}
-use Rattle.trace_tool.proofs.Preparing.{carried-as, carried-of, carried-writes}
+use Rattle.machine_commands.proofs.Accepted.{accepted_comes}
+use Rattle.machine_commands.proofs.Preparing.{carried-as, carried-of, carried-writes}
 use Rattle.trace_tool.proofs.runs.run.Goals as goal
 
 pub carry_out-requires : goal.carry_out-requires

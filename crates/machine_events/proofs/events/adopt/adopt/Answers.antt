@@ -3,7 +3,8 @@ use Rattle.object_tree.specs.declared.life.Life.{Life}
 use Rattle.machine_state.specs.Accepting.{accepted}
 use Rattle.machine_state.specs.Worlds.{at}
 use Rattle.machine_rules.specs.Judgement.{Numbered}
-use Rattle.machine_events.proofs.Judging.Adopting.{no-parent, no-child, adopts, agree-adopted, adoption-stops, adoption-refuses}
+use Rattle.machine_events.proofs.Judging.Adopting.{no-parent, no-child, adopts, adoption-stops, adoption-refuses}
+use Rattle.run_laws.proofs.Changes.{agree-adopted}
 use Rattle.event_judgement.proofs.Judging.Naming.{living-object}
 use Rattle.machine_events.proofs.Taken.{took-quiet, took-halted, took-refused-from, took-not-accepted, ready}
 use Rattle.machine_events.proofs.events.adopt.adopt.Goals as goal

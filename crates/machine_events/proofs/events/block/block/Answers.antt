@@ -4,7 +4,8 @@ use Rattle.object_tree.specs.Objects.{change_life, blocked}
 use Rattle.machine_state.specs.Accepting.{accepted}
 use Rattle.machine_state.specs.Worlds.{at}
 use Rattle.machine_rules.specs.Judgement.{Numbered}
-use Rattle.machine_events.proofs.Judging.Blocking.{not-blocking, blocks, agree-blocked}
+use Rattle.machine_events.proofs.Judging.Blocking.{not-blocking, blocks}
+use Rattle.run_laws.proofs.Changes.{agree-blocked}
 use Rattle.machine_events.proofs.Taken.{took-quiet, took-unchanged, took-not-accepted, ready}
 use Rattle.machine_events.proofs.events.block.block.Goals as goal
 

@@ -6,7 +6,7 @@ use Rattle.prop_bindings.specs.declared.assignment.Assignment.{Assignment}
 use Rattle.prop_bindings.specs.Calls.{AllFit}
 use Rattle.prop_bindings.specs.Fits.{FitsAt}
 use Rattle.machine_state.specs.Telling.{Grouped, writes_of}
-use Rattle.rule_interpreter.specs.code.Writing.{unfit}
+use Rattle.rule_laws.specs.Writing.{unfit}
 use Rattle.rule_interpreter.proofs.Writes.{cut-at, fits-one, more-fit, unfit-one, unwritten-deep}
 use Rattle.rule_interpreter.proofs.interpreter.Interpreter.may_write_group.Goals.{in-Some+else-not-fits, in_default}
 use Rattle.rule_interpreter.proofs.interpreter.Interpreter.may_write_group.Goals as goal

@@ -1,0 +1,4 @@
+pub mod Accepted
+pub mod Answering
+pub mod Preparing
+mod Streaming

@@ -1,0 +1,12 @@
+use Rattle.std.proofs.Common.{refl}
+use Rattle.machine_commands.proofs.Preparing.{carried-done}
+use Rattle.machine_commands.proofs.prepared.Prepared.carry_out.Goals as goal
+
+pub returns-in-Done : goal.returns-in-Done
+returns-in-Done g c = rw c.in-Done.is (carried-done _ c.in-Done.outcome refl c.write-written.ensures)
+
+pub stream-requires : goal.stream-requires
+stream-requires g c = rw c.in-Ready.is at c.requires
+
+pub returns-in-Ready : goal.returns-in-Ready
+returns-in-Ready g c = rw c.in-Ready.is c.stream.ensures

@@ -1,0 +1,11 @@
+use Rattle.std.proofs.Common.{rules}
+use Rattle.command_output.proofs.Sending.{sent, finished}
+use Rattle.machine_commands.proofs.Preparing.{carried-run}
+use Rattle.machine_commands.proofs.prepared.Ready.stream.Goals as goal
+
+pub returns : goal.returns
+returns g c =
+    let streamed = c.stream_events-streamed.ensures in
+    let streams = rw c.as_slice.ensures at streamed.streams in
+    carried-run streams streamed.limits streamed.claims
+    (finished c.new-output.ensures.begun (sent streams.puts c.put.ensures) (rw c.status.ensures at c.finish-written.ensures) (search rules))

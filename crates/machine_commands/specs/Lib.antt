@@ -1,0 +1,9 @@
+pub mod Commands
+pub mod Prepared
+pub mod code
+pub use Rattle.command_lines.specs.Words
+pub use Rattle.command_outcomes.specs.Outcomes
+pub use Rattle.command_output.specs.Sent
+pub use Rattle.native_slots.specs.Misfits
+pub use Rattle.native_slots.specs.Promises
+pub use Rattle.texts.specs.Limits

@@ -1,0 +1,157 @@
+//! What is done for a command line.
+
+ghost use Rattle.std.specs.Prelude.{◌≡◌, map};
+ghost use Rattle.command_lines.specs.declared.usage.UsageFault.TheVariants.{Words};
+ghost use Rattle.command_lines.specs.Words.{IsCommand, IsWithinLimits};
+ghost use Rattle.command_lines.specs.declared.words.Command.{Command as ACommand};
+ghost use Rattle.command_outcomes.specs.Outcomes.{seen_outcome};
+ghost use Rattle.command_outcomes.specs.declared.outcome.Outcome.TheVariants.{Program, Usage};
+ghost use Rattle.machine_commands.specs.Commands.{CommandComesTo, ReadsAndComesTo, InputComesTo, read_of};
+ghost use Rattle.machine_commands.specs.Prepared.{CarriesOut, Prepares, seen_prepared};
+ghost use Rattle.machine_commands.specs.declared.prepared.Prepared.TheVariants.{Done};
+
+use crate::natives::FittingNatives;
+use crate::prepared::{Carried, Prepared};
+use crate::runs::{prepare_run, prepare_unchecked_run};
+use command_lines::{
+    Command, InputFault, LARGEST_INPUT, UsageFault, one_text, read_input, three_texts, two_texts,
+};
+use command_outcomes::Outcome;
+use object_machine::ObjectMachine;
+use program_commands::{Outcome as ProgramOutcome, certify_outcome, check_outcome, meta_outcome};
+use std::alloc::Global;
+use std::io::{Read, Write};
+
+/// What was done for a command line, with the input that was read for it.
+#[derive(Drop)]
+pub struct Answered<M: Drop> {
+    /// The bytes that were read, no more than a byte past the largest input; `None` where the words are no command, or the
+    /// input can't be read.
+    pub input: Option<Vec<u8>>,
+    /// What the command line came to, and whether that could be written.
+    pub carried: Carried<M>,
+}
+
+/// Does what a command line's words say, on the bytes that the reader has left, as `trace_tool`'s `command` does, and hands
+/// back what that came to, for those who explain it. For words that are no command nothing is read.
+pub fn answer<N: FittingNatives, M: ObjectMachine<Natives = N>, R: Read, W: Write>(
+    alloc: Global,
+    words: &[&str],
+    reader: &mut R,
+    natives: N,
+    w: &mut W,
+) -> Answered<M>
+    ensures answers { let said = map (λ word. word.now) words.now in
+        let heads = N.heads natives in
+        CarriesOut (ReadsAndComesTo N.gives heads natives said (R.remaining reader.old))
+        (W.contents w.old) (W.contents w.new) (seen_outcome M.seen result.carried.outcome) result.carried.written }
+    ensures unread { let said = map (λ word. word.now) words.now in
+        ((c : ACommand) → IsCommand said c → ⊥) → reader.new ≡ reader.old }
+{
+    let Some(_) = Command::of(words) else {
+        return Answered {
+            input: None,
+            carried: prepared_usage().carry_out(alloc, w),
+        };
+    };
+    match read_input(alloc, reader) {
+        Ok(input) => {
+            let carried = prepare_for(alloc, words, Ok(input.as_slice()), natives).carry_out(
+                alloc, w,
+            );
+            Answered {
+                input: Some(input),
+                carried,
+            }
+        }
+        Err(fault) => Answered {
+            input: None,
+            carried: prepare_for(alloc, words, Err(fault), natives).carry_out(alloc, w),
+        },
+    }
+}
+
+/// The words are no command.
+fn prepared_usage<M: ObjectMachine>() -> Prepared<M>
+    ensures { result ≡ Done (Usage Words) }
+{
+    Prepared::Done(Outcome::Usage(UsageFault::Words))
+}
+
+/// What is to be done for a command line's words, on the bytes that were read or on why there are none.
+pub fn prepare_for<N: FittingNatives, M: ObjectMachine<Natives = N>>(
+    alloc: Global,
+    words: &[&str],
+    input: Result<&[u8], InputFault>,
+    natives: N,
+) -> Prepared<M>
+    ensures { let said = map (λ word. word.now) words.now in
+        let heads = N.heads natives in
+        Prepares N.takes N.gives
+        (CommandComesTo N.gives heads natives said (read_of input.entry))
+        (seen_prepared M.seen result) }
+{
+    let Some(command) = Command::of(words) else {
+        return prepared_usage();
+    };
+    match input {
+        Ok(bytes) => prepare(alloc, command, bytes, natives),
+        Err(fault) => Prepared::Done(Outcome::NoInput(fault)),
+    }
+}
+
+/// What is to be done for a command on its input.
+fn prepare<N: FittingNatives, M: ObjectMachine<Natives = N>>(
+    alloc: Global,
+    command: Command,
+    input: &[u8],
+    natives: N,
+) -> Prepared<M>
+    requires limits { IsWithinLimits command }
+    ensures { let heads = N.heads natives in
+        Prepares N.takes N.gives
+        (InputComesTo N.gives heads natives command input.now)
+        (seen_prepared M.seen result) }
+{
+    if input.len() > LARGEST_INPUT {
+        return Prepared::Done(Outcome::Usage(UsageFault::TooLarge));
+    }
+    match command {
+        Command::Meta => match one_text(input) {
+            Some(program) => of_program(meta_outcome(alloc, program)),
+            None => Prepared::Done(Outcome::Usage(UsageFault::Texts(1))),
+        },
+        Command::Certify => match one_text(input) {
+            Some(program) => of_program(certify_outcome(alloc, program)),
+            None => Prepared::Done(Outcome::Usage(UsageFault::Texts(1))),
+        },
+        Command::Check => match two_texts(input) {
+            Some((program, certificate)) => of_program(check_outcome(alloc, program, certificate)),
+            None => Prepared::Done(Outcome::Usage(UsageFault::Texts(2))),
+        },
+        Command::Run(steps) => match three_texts(input) {
+            Some((program, certificate, script)) => {
+                prepare_run(alloc, program, certificate, script, natives, steps)
+            }
+            None => Prepared::Done(Outcome::Usage(UsageFault::Texts(3))),
+        },
+        Command::RunUnchecked(options) => match two_texts(input) {
+            Some((program, script)) => prepare_unchecked_run(
+                alloc,
+                program,
+                script,
+                natives,
+                options.depth,
+                options.steps,
+            ),
+            None => Prepared::Done(Outcome::Usage(UsageFault::Texts(2))),
+        },
+    }
+}
+
+/// A command that runs nothing came to this.
+fn of_program<M: ObjectMachine>(outcome: ProgramOutcome) -> Prepared<M>
+    ensures { result ≡ Done (Program outcome) }
+{
+    Prepared::Done(Outcome::Program(outcome))
+}

@@ -1,5 +1,0 @@
-use Rattle.machine_events.proofs.Keeping as law
-use Rattle.machine_events.proofs.laws.always_settled.Goals as goal
-
-pub returns : goal.returns
-returns g c = law.always_settled (g.N.Answering.gives c.args._natives.now)

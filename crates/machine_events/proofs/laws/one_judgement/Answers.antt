@@ -1,5 +1,0 @@
-use Rattle.machine_events.proofs.OneTaking as law
-use Rattle.machine_events.proofs.laws.one_judgement.Goals as goal
-
-pub returns : goal.returns
-returns c = law.one_judgement

@@ -1,5 +1,0 @@
-use Rattle.machine_events.proofs.Fronts as law
-use Rattle.machine_events.proofs.laws.run_reads_no_trace.Goals as goal
-
-pub returns : goal.returns
-returns g c = law.run-reads-no-trace (g.N.Answering.gives c.args._natives.now)

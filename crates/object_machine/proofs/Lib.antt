@@ -1,0 +1,5 @@
+pub mod Running
+mod RuleFronts
+pub mod Fronts
+pub mod Applying
+pub mod SeenFronts

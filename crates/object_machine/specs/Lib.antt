@@ -1,0 +1,14 @@
+pub mod Runs
+pub mod Causes
+pub mod Laws
+pub mod Seen
+pub mod Claims
+pub mod Checked
+pub use Rattle.event_judgement.specs.Events
+pub use Rattle.event_judgement.specs.Takes
+pub use Rattle.native_slots.specs.Promises
+pub use Rattle.machine_rules.specs.Good
+pub use Rattle.machine_rules.specs.Natives
+pub use Rattle.machine_rules.specs.code.Keeps
+pub use Rattle.machine_state.specs.State
+pub use Rattle.machine_state.specs.Worlds

@@ -1,0 +1,82 @@
+-- What contracts see of a machine, and what its calls do (docs/machine.md, "Runs").
+use Rattle.std.specs.Prelude.{◌≡◌, ℕ, ◌⊎◌, Bool, false, true, List, [], ◌++◌, Result, Ok, Err}
+use Rattle.script_lang.specs.declared.event.Event.{Event}
+use Rattle.meta_model.specs.Loaded.{Loaded}
+use Rattle.machine_state.specs.declared.world.World.{World}
+use Rattle.trace_entries.specs.declared.entry.Entry.{Entry}
+use Rattle.trace_entries.specs.declared.fault.Answer.{Answer}
+use Rattle.trace_entries.specs.declared.fault.Answer.TheVariants.{Refused}
+use Rattle.trace_entries.specs.declared.fault.Fault.{Fault}
+use Rattle.trace_entries.specs.declared.fault.Fault.TheVariants as fault
+use Rattle.trace_entries.specs.declared.refusal.Refusal.{Refusal}
+use Rattle.trace_entries.specs.Refusals.{refusal_number}
+use Rattle.machine_state.specs.Worlds.{at, untouched}
+use Rattle.native_slots.specs.Promises.{Takes}
+use Rattle.machine_rules.specs.Good.{AreSettled}
+use Rattle.machine_rules.specs.Natives.{NativeAnswers, KeepPromises}
+use Rattle.object_machine.specs.Causes as run
+use Rattle.event_judgement.specs.Takes.{judged, IsRefusedAs}
+
+pub record Seen (N : Type 0) : Type 0 where
+  pub program : Loaded
+  pub natives : N
+  -- how many activations may nest
+  pub depth : ℕ
+  pub world : World
+  pub stopped : Bool
+
+-- a machine that has done nothing, and may use so many rules
+abbrev pub begun : {N : Type 0} → Loaded → N → ℕ → ℕ → Seen N
+begun program natives depth steps = record { program = program; natives = natives; depth = depth; world = untouched steps; stopped = false }
+
+-- the natives of a machine keep what its program declares of them
+abbrev pub AreKept : {N : Type 0} → (N → Takes) → (N → NativeAnswers) → Seen N → Type 0
+AreKept takes gives m = KeepPromises takes gives m.program m.natives
+
+-- the machine took these events with these answers, and goes on
+pub record Completes {N : Type 0} (gives : N → NativeAnswers) (before : Seen N) (events : List Event) (answers : List Answer)
+    (after : Seen N) : Type 0 where
+  pub went : before.stopped ≡ false
+  pub same : after ≡ record before { world = after.world }
+  pub whole : run.Completes before.program (gives before.natives) before.depth before.world events answers after.world
+
+-- the machine stopped on the way through these events, for this fault
+pub record Halts {N : Type 0} (gives : N → NativeAnswers) (before : Seen N) (events : List Event) (f : Fault) (after : Seen N)
+    : Type 0 where
+  pub went : before.stopped ≡ false
+  pub same : after ≡ record before { world = after.world; stopped = true }
+  pub way : run.Halts before.program (gives before.natives) before.depth before.world events f after.world
+
+-- a machine that has stopped does nothing more
+pub record Stays {N : Type 0} (before : Seen N) (f : Fault) (after : Seen N) : Type 0 where
+  pub stopped : before.stopped ≡ true
+  pub answers : f ≡ fault.Stopped
+  pub same : after ≡ before
+
+-- the machine stopped on the way, or had stopped before
+abbrev pub Stops : {N : Type 0} → (N → NativeAnswers) → Seen N → List Event → Fault → Seen N → Type 0
+Stops gives before events f after = Halts gives before events f after ⊎ Stays before f after
+
+abbrev pub RunsAll : {N : Type 0} → (N → NativeAnswers) → Seen N → List Event → Result (Unit {0}) Fault → Seen N → Type 0
+RunsAll gives before events (Ok done) after = (answers : List Answer) × Completes gives before events answers after
+RunsAll gives before events (Err f) after = Stops gives before events f after
+
+-- each bound property has the value of its binding's expression
+abbrev pub IsSettled : {N : Type 0} → Seen N → Type 0
+IsSettled m = AreSettled (at m.world [])
+
+-- a machine that has let go what it had written down
+abbrev pub cleared : {N : Type 0} → Seen N → Seen N
+cleared m = record m { world = record m.world { trace = [] } }
+
+-- a machine that had written this down before
+abbrev pub with_front : {N : Type 0} → List Entry → Seen N → Seen N
+with_front front m = record m { world = record m.world { trace = front ++ m.world.trace } }
+
+-- ---- refused events
+
+-- The event is refused exactly where its conditions refuse it, with the number of the first that doesn't hold; then only its
+-- line is written.
+pub record RefusesExactly {N : Type 0} (before : Seen N) (e : Event) (answer : Answer) (after : Seen N) : Type 0 where
+  pub must : (k : Refusal) → judged before.program (at before.world []) e (Err k) → answer ≡ Refused (refusal_number k)
+  pub may : (n : ℕ) → answer ≡ Refused n → IsRefusedAs before.program before.world e n after.world

@@ -1,5 +1,0 @@
-use Rattle.qt_runtime.proofs.CheckedRuns.Claims as law
-use Rattle.qt_runtime.proofs.laws.never_in_use.Goals as goal
-
-pub returns : goal.returns
-returns g c = law.never_in_use (g.N.Answering.gives c.args._natives.now)

@@ -1,0 +1,36 @@
+use Rattle.std.proofs.Common.{◌≡◌, ◌+◌, ◌++◌, [], ◌∷◌, List, take, drop, sym, ap, ◌∙◌, subst, take-append-drop}
+use Rattle.std.proofs.lemmas.List.{take_more, drop_more}
+use Rattle.script_lang.specs.declared.event.Event.{Event}
+use Rattle.object_machine.specs.Seen.{RunsAll}
+use Rattle.object_machine.proofs.Applying.{completes-none, completes-then, limit-behind, run-stops}
+use Rattle.qt_runtime.proofs.machine.MachineObjectMachine.run.Goals as goal
+
+pub loop-event-init : goal.loop-event-init
+loop-event-init g c = record { taken = ([], completes-none (sym c.is_stopped.ensures.value ∙ c.if-is_stopped.false) (c.is_stopped.ensures.idle c.if-is_stopped.false)); checked = λ checked. checked; kept = c.requires }
+
+pub loop-event-preserved : goal.loop-event-preserved
+loop-event-preserved g c =
+    let more = take_more c.args.events.now c.loop-event.event-index c.event-item.result c.loop-event-test.true in
+    record { taken = rw (more, ← c.event-item.is) (c.loop-event.invariant.taken.0 ++ c.in_ok-_answer._answer ∷ [], completes-then c.loop-event.invariant.taken.1 c.in_ok-_answer.ensures.taken); checked = λ checked. (c.in_ok-_answer.ensures.checked (c.loop-event.invariant.checked checked)).0; kept = c.in_ok-_answer.ensures.kept }
+
+pub returns-in_err-_answer-clause-ran : goal.returns-in_err-_answer-clause-ran
+returns-in_err-_answer-clause-ran g c =
+    let more = drop_more c.args.events.now c.loop-event.event-index c.event-item.result c.loop-event-test.true in
+    let rest = drop (c.loop-event.event-index + 1) c.args.events.now in
+    let split : take c.loop-event.event-index c.args.events.now ++ c.event-item.result ∷ rest ≡ c.args.events.now =
+    ap (λ (l : List Event). take c.loop-event.event-index c.args.events.now ++ l) (sym (rw (← c.event-item.is) at more)) ∙ take-append-drop c.loop-event.event-index c.args.events.now in
+    subst (λ (l : List Event). RunsAll g.N.Answering.gives c.args.self.now l c.from_residual.result c.apply.new.self) split (run-stops rest _ c.loop-event.invariant.taken.1 c.in_err-_answer.ensures.stopped c.from_residual.ensures.1)
+
+pub returns-in_err-_answer-clause-checked : goal.returns-in_err-_answer-clause-checked
+returns-in_err-_answer-clause-checked g c checked =
+    let after = c.in_err-_answer.ensures.checked (c.loop-event.invariant.checked checked) in
+    (after.0, limit-behind c.from_residual.result c.loop-event.invariant.taken.1 after.1 c.from_residual.ensures.1)
+
+pub returns-clause-checked : goal.returns-clause-checked
+returns-clause-checked g c checked = (c.loop-event.invariant.checked checked, tt)
+
+pub returns-in_err-_answer-clause-claims : goal.returns-in_err-_answer-clause-claims
+returns-in_err-_answer-clause-claims g c = c.is_stopped.ensures.claims c.requires
+
+pub returns-clause-claims : goal.returns-clause-claims
+returns-clause-claims g c = c.is_stopped.ensures.claims c.requires

@@ -1,0 +1,2 @@
+pub use Rattle.object_machine.specs.Claims
+pub use Rattle.object_machine.specs.Laws
