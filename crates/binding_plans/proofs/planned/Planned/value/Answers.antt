@@ -1,0 +1,11 @@
+use Rattle.std.proofs.Common.{Option, ap, sym, ◌∙◌}
+use Rattle.std.specs.Option.{option_map, unwrap_or}
+use Rattle.signatures.specs.declared.value.Value.{Value}
+use Rattle.binding_plans.specs.Values.{values_in}
+use Rattle.binding_plans.proofs.AssignedValues.{assigned-values}
+use Rattle.binding_plans.proofs.planned.Planned.value.Goals as goal
+
+pub returns : goal.returns
+returns c = λ objects.
+    assigned-values c.args.self.now.values.entries objects c.args.place.now
+    ∙ ap (λ (o : Option Value). option_map (unwrap_or o) (values_in objects c.args.place.now)) (sym c.value_given.ensures)
