@@ -14,8 +14,8 @@ use Rattle.object_tree.specs.declared.object.Object.{Object}
 use Rattle.object_tree.specs.Objects.{Lives, name_of}
 use Rattle.object_tree.specs.Seen.{seen_reference}
 use Rattle.binding_graph.specs.declared.place.Place.{Place}
-use Rattle.prop_bindings.specs.Changes.{valueless, DifferInValues}
-use Rattle.prop_bindings.proofs.Fitting.{seen-same}
+use Rattle.binding_plans.specs.Changes.{valueless, DifferInValues}
+use Rattle.binding_plans.proofs.Alive.{seen-same}
 use Rattle.trace_entries.specs.declared.entry.Entry.{Entry}
 use Rattle.trace_entries.specs.declared.entry.Entry.TheVariants.{At}
 use Rattle.trace_entries.specs.declared.entry.Shown.{Shown}

@@ -18,15 +18,15 @@ use Rattle.object_tree.specs.Typed.{AreTyped, IsTyped, ReadAs}
 use Rattle.object_tree.proofs.Changing.{lives-of-life}
 use Rattle.binding_graph.specs.declared.place.Place.{Place}
 use Rattle.binding_graph.specs.declared.binding.Binding.{Binding}
-use Rattle.prop_bindings.specs.Values.{values_in}
+use Rattle.binding_plans.specs.Values.{values_in}
 use Rattle.binding_graph.specs.Bindings.{without, replaced}
-use Rattle.prop_bindings.specs.declared.assignment.Assignment.{Assignment}
-use Rattle.prop_bindings.specs.Changes.{valueless, DifferInValues, ReadsAlike, AreChanged, none_changed, one_changed, one_stayed, IsInstalled, in_order, places_in}
-use Rattle.prop_bindings.specs.declared.planned.Planned.{Planned}
-use Rattle.prop_bindings.specs.declared.planned.PlannedBind.{PlannedBind}
-use Rattle.prop_bindings.specs.Fits.{FitsAt, IsFit, Agree}
-use Rattle.prop_bindings.specs.Calls.{AllFit, new_binding}
-use Rattle.prop_bindings.specs.Plans.{after, IsPlannedBind}
+use Rattle.binding_plans.specs.declared.assignment.Assignment.{Assignment}
+use Rattle.binding_plans.specs.Changes.{valueless, DifferInValues, ReadsAlike, AreChanged, none_changed, one_changed, one_stayed, IsInstalled, in_order, places_in}
+use Rattle.binding_plans.specs.declared.planned.Planned.{Planned}
+use Rattle.binding_plans.specs.declared.planned.PlannedBind.{PlannedBind}
+use Rattle.binding_plans.specs.Fits.{FitsAt, IsFit, Agree}
+use Rattle.binding_plans.specs.Calls.{AllFit, new_binding}
+use Rattle.binding_plans.specs.Plans.{after, IsPlannedBind}
 use Rattle.change_lines.specs.code.Planned.{CanBeTold, HaveValues, WillWrite}
 use Rattle.change_lines.specs.Telling.{HasValue}
 use Rattle.change_lines.proofs.Followers.{written-first}

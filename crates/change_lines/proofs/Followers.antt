@@ -6,11 +6,11 @@ use Rattle.object_tree.specs.declared.object.Object.{Object}
 use Rattle.binding_graph.specs.declared.binding.Binding.{Binding}
 use Rattle.binding_graph.specs.declared.place.Place.{Place}
 use Rattle.binding_graph.specs.Bindings.{without_all}
-use Rattle.prop_bindings.specs.Changes.{AreChanged, none_changed, one_changed, one_stayed, in_order, once}
+use Rattle.binding_plans.specs.Changes.{AreChanged, none_changed, one_changed, one_stayed, in_order, once}
 use Rattle.binding_graph.specs.Places.{Distinct, In, is_in, same_place}
 use Rattle.binding_graph.proofs.Places.{In-cases, different, is_in-false, same_place-refl}
 use Rattle.binding_graph.proofs.Several.{is_in-not, left, without_all-left}
-use Rattle.prop_bindings.proofs.EachOnce.{is_in-once, once-distinct, once-in}
+use Rattle.binding_plans.proofs.EachOnce.{is_in-once, once-distinct, once-in}
 use Rattle.change_lines.specs.Telling.{others}
 use Rattle.change_lines.specs.code.Planned.{StandFirst, none_left, changes, stays, behind}
 

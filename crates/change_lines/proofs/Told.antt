@@ -12,9 +12,9 @@ use Rattle.meta_model.specs.Loaded.{Loaded}
 use Rattle.object_tree.specs.declared.life.Life.{Life}
 use Rattle.object_tree.specs.declared.object.Object.{Object}
 use Rattle.binding_graph.specs.declared.place.Place.{Place}
-use Rattle.prop_bindings.specs.declared.assignment.Assignment.{Assignment}
-use Rattle.prop_bindings.specs.Changes.{places_in}
-use Rattle.prop_bindings.specs.Values.{values_in}
+use Rattle.binding_plans.specs.declared.assignment.Assignment.{Assignment}
+use Rattle.binding_plans.specs.Changes.{places_in}
+use Rattle.binding_plans.specs.Values.{values_in}
 use Rattle.object_tree.proofs.Changing.{life-of-lives}
 use Rattle.trace_entries.specs.declared.entry.Entry.{Entry}
 use Rattle.trace_entries.specs.declared.entry.Entry.TheVariants.{At}

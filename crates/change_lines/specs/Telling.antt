@@ -8,10 +8,10 @@ use Rattle.meta_model.specs.Members.{IsProperty}
 use Rattle.object_tree.specs.declared.life.Life.{Life}
 use Rattle.object_tree.specs.declared.object.Object.{Object}
 use Rattle.object_tree.specs.Objects.{Lives}
-use Rattle.prop_bindings.specs.declared.assignment.Assignment.{Assignment}
+use Rattle.binding_plans.specs.declared.assignment.Assignment.{Assignment}
 use Rattle.binding_graph.specs.declared.place.Place.{Place}
 use Rattle.binding_graph.specs.Places.{is_in}
-use Rattle.prop_bindings.specs.Changes.{places_in}
+use Rattle.binding_plans.specs.Changes.{places_in}
 use Rattle.trace_entries.specs.declared.entry.Entry.{Entry}
 use Rattle.trace_entries.specs.declared.entry.Entry.TheVariants.{At}
 use Rattle.trace_entries.specs.declared.entry.EntryKind.{EntryKind}

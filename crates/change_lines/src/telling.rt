@@ -3,16 +3,17 @@
 
 ghost use Rattle.std.specs.Prelude.{◌≡◌, [], ◌∷◌, IfOk, OnOk, OnErr};
 ghost use Rattle.std.specs.Option.{option_copied};
-ghost use Rattle.prop_bindings.specs.Changes.{DifferInValues, once, places_in};
-ghost use Rattle.prop_bindings.specs.Values.{values_in};
-ghost use Rattle.prop_bindings.specs.Plans.{after};
+ghost use Rattle.binding_plans.specs.Changes.{DifferInValues, once, places_in};
+ghost use Rattle.binding_plans.specs.Values.{values_in};
+ghost use Rattle.binding_plans.specs.Plans.{after};
 ghost use Rattle.change_lines.specs.Telling.{HasValue, IsTold, IsToldWith, IsSetTold, AreTold, IsGroupTold, Grouped, entry_kind_of, others, writes_of};
 ghost use Rattle.change_lines.specs.code.Planned.{CanBeTold, HaveValues, AddsFollowers, AddsSets, AddsTold, StandFirst, WillBeTold, behind};
 
 use crate::showing::show;
+use binding_graph::Place;
+use binding_plans::{Assignment, Planned};
 use meta_model::Meta;
 use object_tree::Tree;
-use prop_bindings::{Assignment, Place, Planned};
 use signatures::{Name, Value};
 use std::alloc::{AllocError, Global};
 use trace_entries::{Entry, EntryKind, Shown, Trace};

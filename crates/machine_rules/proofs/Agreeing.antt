@@ -29,7 +29,8 @@ use Rattle.machine_state.specs.Telling.{Assigning, writes_of}
 use Rattle.prop_bindings.specs.Fits.{IsFit, IsInOneLoop, Agree}
 use Rattle.binding_graph.specs.Places.{same_place}
 use Rattle.binding_graph.proofs.Apart.{apart-replaced}
-use Rattle.prop_bindings.proofs.Fitting.{all-stay, lives-on}
+use Rattle.prop_bindings.proofs.Fitting.{all-stay}
+use Rattle.prop_bindings.proofs.Alive.{lives-on}
 use Rattle.binding_graph.proofs.Replaced.{without-at, push-none}
 use Rattle.prop_bindings.proofs.Homes.{joined-stays, all-joined}
 use Rattle.prop_bindings.proofs.Leaving.{agree-fewer, left_agree}

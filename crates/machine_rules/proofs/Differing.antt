@@ -13,7 +13,7 @@ use Rattle.object_tree.proofs.TypedObjects.{typed-change}
 use Rattle.binding_graph.specs.declared.binding.Binding.{Binding}
 use Rattle.prop_bindings.specs.Changes.{valueless, DifferInValues}
 use Rattle.prop_bindings.specs.Fits.{Agree}
-use Rattle.prop_bindings.proofs.Fitting.{lives-alike, seen-same}
+use Rattle.prop_bindings.proofs.Alive.{lives-alike, seen-same}
 use Rattle.prop_bindings.proofs.Leaving.{Stays, agree-living}
 use Rattle.prop_bindings.proofs.Values.{life-changed, life-kept}
 use Rattle.machine_rules.specs.There.{NoneDied}

@@ -5,7 +5,7 @@ use Rattle.meta_model.specs.declared.object.Statement.{Statement}
 use Rattle.meta_model.specs.declared.object.Statement.TheViews.{out-Statement}
 use Rattle.meta_model.specs.Loaded.{Loaded}
 use Rattle.object_tree.specs.declared.object.Object.{Object}
-use Rattle.prop_bindings.specs.declared.assignment.Assignment.{Assignment}
+use Rattle.prop_bindings.specs.Assignment.{Assignment}
 use Rattle.prop_bindings.specs.Calls.{AllFit}
 use Rattle.machine_state.specs.State.{Step, Run, State, Activation, Body}
 use Rattle.machine_state.specs.Telling.{Assigning, writes_of}

@@ -6,7 +6,7 @@ use Rattle.meta_model.specs.declared.object.MetaProperty.{MetaProperty}
 use Rattle.meta_model.specs.Loaded.{Loaded}
 use Rattle.object_tree.specs.declared.object.Object.{Object}
 use Rattle.object_tree.specs.Typed.{ReadsAs}
-use Rattle.prop_bindings.specs.declared.assignment.Assignment.{Assignment}
+use Rattle.prop_bindings.specs.Assignment.{Assignment}
 use Rattle.machine_state.specs.State.{Step, State, Activation, Body}
 use Rattle.machine_state.specs.Telling.{Assigning, writes_of}
 use Rattle.machine_rules.specs.Operations.{Operation, Write, operation_of_step}

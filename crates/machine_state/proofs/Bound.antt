@@ -3,11 +3,11 @@ use Rattle.std.proofs.Common.{◌≡◌, ℕ, ◌+◌, ◌-◌, List, [], ◌∷
 use Rattle.meta_model.specs.Loaded.{Loaded}
 use Rattle.object_tree.specs.declared.object.Object.{Object}
 use Rattle.binding_graph.specs.declared.binding.Binding.{Binding}
-use Rattle.prop_bindings.specs.declared.fault.BindFault.{BindFault}
-use Rattle.prop_bindings.specs.declared.fault.BindFault.TheVariants as bind
+use Rattle.prop_bindings.specs.BindFault.{BindFault}
+use Rattle.prop_bindings.specs.BindFault.TheVariants as bind
 use Rattle.binding_graph.specs.declared.place.Place.{Place}
-use Rattle.prop_bindings.specs.declared.planned.Planned.{Planned}
-use Rattle.prop_bindings.specs.declared.planned.PlannedBind.{PlannedBind}
+use Rattle.prop_bindings.specs.Planned.{Planned}
+use Rattle.prop_bindings.specs.PlannedBind.{PlannedBind}
 use Rattle.binding_graph.specs.Bindings.{without, without_all, replaced}
 use Rattle.prop_bindings.specs.Calls.{IsNotBound, new_binding}
 use Rattle.prop_bindings.specs.Changes.{IsWritten, places_in}

@@ -4,7 +4,7 @@ use Rattle.signatures.specs.declared.value.Value.{Value}
 use Rattle.meta_model.specs.Loaded.{Loaded}
 use Rattle.object_tree.specs.declared.object.Object.{Object}
 use Rattle.binding_graph.specs.declared.place.Place.{Place}
-use Rattle.prop_bindings.specs.declared.fault.WriteFault.{WriteFault}
+use Rattle.prop_bindings.specs.WriteFault.{WriteFault}
 use Rattle.prop_bindings.specs.Calls.{IsNotWritten, bad_type, no_memory}
 use Rattle.prop_bindings.specs.Changes.{one}
 use Rattle.prop_bindings.specs.Fits.{FitsAt}

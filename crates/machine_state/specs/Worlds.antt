@@ -12,7 +12,7 @@ use Rattle.object_tree.specs.declared.life.Life.{Life}
 use Rattle.object_tree.specs.declared.object.Object.{Object}
 use Rattle.object_tree.specs.Objects.{life_of, change_life, blocked}
 use Rattle.binding_graph.specs.declared.binding.Binding.{Binding}
-use Rattle.prop_bindings.specs.declared.fault.BindFault.{BindFault}
+use Rattle.prop_bindings.specs.BindFault.{BindFault}
 use Rattle.binding_graph.specs.declared.place.Place.{Place}
 use Rattle.prop_bindings.specs.Calls.{IsBound, IsNotBound, new_binding}
 use Rattle.prop_bindings.specs.Changes.{IsWritten}

@@ -1,8 +1,6 @@
-pub mod Values
 pub mod Changed
 pub mod Alike
 pub mod Fitting
-pub mod EachOnce
 pub mod Settling
 pub mod There
 pub mod More
@@ -23,3 +21,7 @@ pub mod InOrder
 pub mod Counting
 pub mod Near
 pub mod Standing
+pub use Rattle.binding_plans.proofs.Values
+pub use Rattle.binding_plans.proofs.EachOnce
+pub use Rattle.binding_plans.proofs.Alive
+pub use Rattle.binding_plans.proofs.AssignedValues

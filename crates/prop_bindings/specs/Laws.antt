@@ -5,11 +5,11 @@ use Rattle.meta_model.specs.Loaded.{Loaded}
 use Rattle.object_tree.specs.declared.object.Object.{Object}
 use Rattle.object_tree.specs.Family.{without_life}
 use Rattle.binding_graph.specs.declared.place.Place.{Place}
-use Rattle.prop_bindings.specs.declared.assignment.Assignment.{Assignment}
+use Rattle.binding_plans.specs.declared.assignment.Assignment.{Assignment}
 use Rattle.binding_graph.specs.declared.binding.Binding.{Binding}
 use Rattle.binding_graph.specs.Bindings.{binding_at, replaced, dropped, Loop}
-use Rattle.prop_bindings.specs.Changes.{IsWritten, IsInstalled}
-use Rattle.prop_bindings.specs.Fits.{Agree}
+use Rattle.binding_plans.specs.Changes.{IsWritten, IsInstalled}
+use Rattle.binding_plans.specs.Fits.{Agree}
 
 -- what a write makes of bindings and objects that agree is one thing
 abbrev pub WrittenOnce : Type 0

@@ -1,12 +1,19 @@
-pub mod Values
-pub mod Changes
-pub mod Fits
-pub mod Calls
-pub mod Plans
 pub mod Counts
 pub mod Laws
-pub mod FaultNumbers
 pub mod code
 pub use Rattle.binding_graph.specs.Places
 pub use Rattle.binding_graph.specs.Bindings
 pub use Rattle.binding_graph.specs.Laws as BindingGraphLaws
+pub use Rattle.binding_plans.specs.Values
+pub use Rattle.binding_plans.specs.Changes
+pub use Rattle.binding_plans.specs.Fits
+pub use Rattle.binding_plans.specs.Calls
+pub use Rattle.binding_plans.specs.Plans
+pub use Rattle.binding_plans.specs.FaultNumbers
+pub use Rattle.binding_plans.specs.declared.assignment.Assignment
+pub use Rattle.binding_plans.specs.declared.planned.Planned
+pub use Rattle.binding_plans.specs.declared.planned.PlannedBind
+pub use Rattle.binding_plans.specs.declared.planned.PlannedGroup
+pub use Rattle.binding_plans.specs.declared.planned.PlannedWrite
+pub use Rattle.binding_plans.specs.declared.fault.BindFault
+pub use Rattle.binding_plans.specs.declared.fault.WriteFault

@@ -5,11 +5,12 @@ ghost use Rattle.std.specs.Option.{option_copied};
 ghost use Rattle.indexmap.specs.IndexMap.{get};
 ghost use Rattle.binding_graph.specs.code.Keys.{key_of, same_key};
 ghost use Rattle.expressions.specs.Evaluation.{Evaluates};
-ghost use Rattle.prop_bindings.specs.Values.{values_in};
-ghost use Rattle.prop_bindings.specs.Plans.{assigned};
+ghost use Rattle.binding_plans.specs.Values.{values_in};
+ghost use Rattle.binding_plans.specs.Plans.{assigned};
 ghost use Rattle.prop_bindings.specs.code.Parts.{value_ahead};
 
 use binding_graph::Place;
+use binding_plans::value_given;
 use expressions::{self, EvalFault};
 use indexmap::IndexMap;
 use meta_model::SourceProperty;
@@ -76,16 +77,6 @@ fn value_near<'w>(
         Some(value) => Some(value),
         None => value_given(values, place),
     }
-}
-
-/// The value that a property is to have; `None` where it is to have none.
-pub fn value_given<'w>(
-    values: &'w IndexMap<(usize, usize), Value>,
-    place: &Place,
-) -> Option<&'w Value>
-    ensures { option_copied result ≡ get same_key values.now (key_of place.now) }
-{
-    values.get(&place.key())
 }
 
 /// The value at this place among them, if it is the one that the property is to have.

@@ -4,17 +4,16 @@ ghost use Rattle.std.specs.Prelude.{◌≡◌, [], ◌∷◌, IfOk, IsTrue, OnOk
 ghost use Rattle.object_tree.specs.Objects.{change_life, written};
 ghost use Rattle.binding_graph.specs.Bindings.{binding_at, dropped, lead_out, replaced, without, without_all};
 ghost use Rattle.binding_graph.specs.code.Graph.{Unread};
-ghost use Rattle.prop_bindings.specs.Changes.{AreChanged, once, one, places_in};
-ghost use Rattle.prop_bindings.specs.Fits.{Agree};
-ghost use Rattle.prop_bindings.specs.Plans.{PlansBind, PlansGroup, PlansWrite, after};
+ghost use Rattle.binding_plans.specs.Changes.{AreChanged, once, one, places_in};
+ghost use Rattle.binding_plans.specs.Fits.{Agree};
+ghost use Rattle.binding_plans.specs.Plans.{PlansBind, PlansGroup, PlansWrite, after};
 ghost use Rattle.prop_bindings.specs.code.Parts.{MayInstall};
 
-use crate::assignment::Assignment;
 use crate::bindings::Bindings;
-use crate::changed_places::ChangedPlaces;
-use crate::fault::{BindFault, WriteFault};
-use crate::planned::{PlannedBind, PlannedGroup, PlannedWrite};
 use binding_graph::Place;
+use binding_plans::{
+    Assignment, BindFault, ChangedPlaces, PlannedBind, PlannedGroup, PlannedWrite, WriteFault,
+};
 use meta_model::Meta;
 use object_tree::Tree;
 use signatures::{ObjectId, Value};

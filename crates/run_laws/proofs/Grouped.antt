@@ -19,13 +19,13 @@ use Rattle.object_tree.specs.Objects.{Lives}
 use Rattle.object_tree.specs.Typed.{AreTyped, ReadAs}
 use Rattle.object_tree.proofs.Changing.{life-of-lives}
 use Rattle.object_tree.proofs.TypedObjects.{reads-still, read-still, typed-written}
-use Rattle.prop_bindings.specs.declared.assignment.Assignment.{Assignment}
+use Rattle.prop_bindings.specs.Assignment.{Assignment}
 use Rattle.binding_graph.specs.declared.place.Place.{Place}
 use Rattle.prop_bindings.specs.Calls.{AllFit}
 use Rattle.prop_bindings.specs.Changes.{DifferInValues}
 use Rattle.prop_bindings.specs.Fits.{FitsAt}
 use Rattle.binding_graph.specs.Places.{property_of}
-use Rattle.prop_bindings.proofs.Fitting.{lives-on}
+use Rattle.prop_bindings.proofs.Alive.{lives-on}
 use Rattle.prop_bindings.proofs.Values.{written-differs}
 use Rattle.machine_state.specs.Telling.{Grouped, writes_of}
 use Rattle.machine_rules.specs.Operations.{led_to, set_in, sets_in, after_set}

@@ -8,10 +8,10 @@ use Rattle.meta_model.specs.declared.object.Statement.{Statement}
 use Rattle.meta_model.specs.declared.object.Statement.TheViews.{out-Statement}
 use Rattle.object_tree.specs.declared.object.Object.{Object}
 use Rattle.object_tree.specs.Seen.{seen, seen_reference}
-use Rattle.prop_bindings.specs.declared.assignment.Assignment.{Assignment}
+use Rattle.prop_bindings.specs.Assignment.{Assignment}
 use Rattle.prop_bindings.specs.Plans.{assigned}
-use Rattle.prop_bindings.proofs.Assigned.{assigned-differs}
-use Rattle.prop_bindings.proofs.Fitting.{seen-same}
+use Rattle.prop_bindings.proofs.AssignedValues.{assigned-differs}
+use Rattle.prop_bindings.proofs.Alive.{seen-same}
 use Rattle.machine_rules.specs.Operations.{after_set, set_in, sets_in}
 use Rattle.statement_meaning.specs.code.Scope.{overlaid}
 

@@ -14,7 +14,7 @@ use Rattle.object_tree.specs.declared.object.Object.{Object}
 use Rattle.meta_model.specs.declared.object.MetaEndpoints.{MetaEndpoints}
 use Rattle.machine_state.specs.declared.endpoints.Endpoints.{Endpoints}
 use Rattle.statement_meaning.specs.declared.paths.Scope.{Scope}
-use Rattle.prop_bindings.specs.declared.assignment.Assignment.{Assignment}
+use Rattle.prop_bindings.specs.Assignment.{Assignment}
 use Rattle.binding_graph.specs.Places.{property_of}
 use Rattle.machine_rules.specs.Operations.{Operation, Choose, Nothing, led_to, on_object, on_ends, chosen_by, set_at}
 use Rattle.machine_rules.specs.Paths.{path_value, value_of}

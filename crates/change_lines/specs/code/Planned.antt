@@ -4,17 +4,17 @@ use Rattle.std.specs.List.{AllByRecursion, AllZip}
 use Rattle.signatures.specs.declared.value.Value.{Value}
 use Rattle.meta_model.specs.Loaded.{Loaded}
 use Rattle.object_tree.specs.declared.object.Object.{Object}
-use Rattle.prop_bindings.specs.declared.assignment.Assignment.{Assignment}
+use Rattle.binding_plans.specs.declared.assignment.Assignment.{Assignment}
 use Rattle.binding_graph.specs.declared.binding.Binding.{Binding}
 use Rattle.binding_graph.specs.declared.place.Place.{Place}
-use Rattle.prop_bindings.specs.declared.planned.Planned.{Planned}
-use Rattle.prop_bindings.specs.declared.planned.PlannedGroup.{PlannedGroup}
-use Rattle.prop_bindings.specs.declared.planned.PlannedWrite.{PlannedWrite}
+use Rattle.binding_plans.specs.declared.planned.Planned.{Planned}
+use Rattle.binding_plans.specs.declared.planned.PlannedGroup.{PlannedGroup}
+use Rattle.binding_plans.specs.declared.planned.PlannedWrite.{PlannedWrite}
 use Rattle.binding_graph.specs.Bindings.{without_all}
-use Rattle.prop_bindings.specs.Changes.{DifferInValues, IsWritten, once, one, places_in}
+use Rattle.binding_plans.specs.Changes.{DifferInValues, IsWritten, once, one, places_in}
 use Rattle.binding_graph.specs.Places.{is_in, same_place}
-use Rattle.prop_bindings.specs.Fits.{Agree}
-use Rattle.prop_bindings.specs.Plans.{after}
+use Rattle.binding_plans.specs.Fits.{Agree}
+use Rattle.binding_plans.specs.Plans.{after}
 use Rattle.trace_entries.specs.declared.entry.Entry.{Entry}
 use Rattle.change_lines.specs.declared.telling.Cause.{Cause}
 use Rattle.change_lines.specs.declared.telling.Cause.TheVariants.{Follow}

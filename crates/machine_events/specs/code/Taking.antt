@@ -7,8 +7,8 @@ use Rattle.object_tree.specs.declared.fault.CreateFault.{CreateFault}
 use Rattle.object_tree.specs.declared.fault.CreateFault.TheVariants as create
 use Rattle.delete_later.specs.declared.fault.MoveFault.{MoveFault}
 use Rattle.delete_later.specs.declared.fault.MoveFault.TheVariants as move
-use Rattle.prop_bindings.specs.declared.fault.BindFault.{BindFault}
-use Rattle.prop_bindings.specs.declared.fault.BindFault.TheVariants as bind
+use Rattle.prop_bindings.specs.BindFault.{BindFault}
+use Rattle.prop_bindings.specs.BindFault.TheVariants as bind
 use Rattle.script_lang.specs.declared.event.Event.{Event}
 use Rattle.script_lang.specs.declared.event.Event.TheVariants as event
 use Rattle.trace_entries.specs.declared.fault.Answer.{Answer}

@@ -4,8 +4,8 @@ use Rattle.signatures.specs.declared.value.Value.{Value}
 use Rattle.meta_model.specs.Loaded.{Loaded}
 use Rattle.object_tree.specs.declared.object.Object.{Object}
 use Rattle.binding_graph.specs.declared.place.Place.{Place}
-use Rattle.prop_bindings.specs.declared.fault.WriteFault.{WriteFault}
-use Rattle.prop_bindings.specs.declared.fault.WriteFault.TheVariants as write
+use Rattle.prop_bindings.specs.WriteFault.{WriteFault}
+use Rattle.prop_bindings.specs.WriteFault.TheVariants as write
 use Rattle.prop_bindings.specs.Fits.{FitsAt}
 use Rattle.trace_entries.specs.declared.fault.Fault.{Fault}
 use Rattle.trace_entries.specs.declared.fault.Fault.TheVariants.{BadType, Memory}

@@ -15,7 +15,7 @@ use Rattle.prop_bindings.specs.Changes.{DifferInValues, ReadsAlike, AreChanged, 
 use Rattle.binding_graph.specs.Places.{In}
 use Rattle.prop_bindings.specs.Values.{values_in}
 use Rattle.std.proofs.lemmas.Option.{same_Some}
-use Rattle.prop_bindings.proofs.Fitting.{seen-same}
+use Rattle.prop_bindings.proofs.Alive.{seen-same}
 use Rattle.effect_scan.specs.declared.node.Node.{Node}
 use Rattle.effect_scan.specs.declared.node.Member.TheVariants.{Property}
 use Rattle.effect_scan.specs.Edges.{MayLead}

@@ -56,7 +56,7 @@ use Rattle.run_laws.proofs.CheckedRuns.Lacking.{SetsAreTyped, paths-typed, reach
 use Rattle.run_laws.proofs.CheckedRuns.Leading.{occurs-sound, occurs-in}
 use Rattle.run_laws.proofs.Grouped.{IfWrites, within-first}
 use Rattle.machine_state.specs.Telling.{Alone, Grouped, writes_of}
-use Rattle.prop_bindings.specs.declared.assignment.Assignment.{Assignment}
+use Rattle.prop_bindings.specs.Assignment.{Assignment}
 use Rattle.prop_bindings.specs.Calls.{AllFit}
 use Rattle.prop_bindings.specs.Fits.{FitsAt}
 use Rattle.binding_graph.specs.Places.{property_of}

@@ -42,12 +42,12 @@ use Rattle.run_laws.proofs.TypedPaths.{Reaches, to_null, to_object, path-has, pa
 use Rattle.run_laws.proofs.Grouped.{IfWrites, Within, within-first, within-next, reaches-within, set-act, values-still}
 use Rattle.machine_rules.proofs.Differing.{differ-stay}
 use Rattle.machine_state.specs.Telling.{Grouped, writes_of}
-use Rattle.prop_bindings.specs.declared.assignment.Assignment.{Assignment}
+use Rattle.prop_bindings.specs.Assignment.{Assignment}
 use Rattle.prop_bindings.specs.Calls.{AllFit}
 use Rattle.prop_bindings.specs.Changes.{DifferInValues}
 use Rattle.prop_bindings.specs.Fits.{FitsAt}
 use Rattle.binding_graph.specs.Places.{property_of}
-use Rattle.prop_bindings.proofs.Fitting.{LivesOn, lives-on}
+use Rattle.prop_bindings.proofs.Alive.{LivesOn, lives-on}
 use Rattle.object_tree.proofs.Changing.{life-of-lives}
 use Rattle.effect_scan.specs.Effects.{Occurs, after}
 use Rattle.effect_scan.specs.Effects.{here as at_first}

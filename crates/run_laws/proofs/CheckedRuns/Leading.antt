@@ -50,11 +50,11 @@ use Rattle.run_laws.proofs.CheckedRuns.Lacking.{body-typed, sets-done}
 use Rattle.run_laws.proofs.Grouped.{IfWrites, Within, within-first, within-next, mapped-so, values-still}
 use Rattle.machine_rules.proofs.Differing.{differ-class}
 use Rattle.machine_state.specs.Telling.{Alone, Grouped, writes_of}
-use Rattle.prop_bindings.specs.declared.assignment.Assignment.{Assignment}
+use Rattle.prop_bindings.specs.Assignment.{Assignment}
 use Rattle.prop_bindings.specs.Calls.{AllFit}
 use Rattle.prop_bindings.specs.Changes.{DifferInValues}
 use Rattle.binding_graph.specs.Places.{property_of}
-use Rattle.prop_bindings.proofs.Fitting.{lives-on}
+use Rattle.prop_bindings.proofs.Alive.{lives-on}
 use Rattle.object_tree.proofs.Changing.{life-of-lives}
 use Rattle.std.proofs.lemmas.List.Elements.{recursion_from_All}
 use Rattle.type_check.specs.Bodies.{IsTypedStatement}

@@ -30,7 +30,7 @@ use Rattle.object_tree.specs.Objects.{Lives, class_of, life_of, change_life, sch
 use Rattle.object_tree.specs.Typed.{ReadAs}
 use Rattle.binding_graph.specs.declared.binding.Binding.{Binding}
 use Rattle.binding_graph.specs.declared.place.Place.{Place}
-use Rattle.prop_bindings.specs.declared.assignment.Assignment.{Assignment}
+use Rattle.prop_bindings.specs.Assignment.{Assignment}
 use Rattle.binding_graph.specs.Bindings.{binding_at, without, without_all, Settled}
 use Rattle.prop_bindings.specs.Changes.{DifferInValues, AreChanged, in_order, once, places_in}
 use Rattle.prop_bindings.specs.Fits.{Agree}

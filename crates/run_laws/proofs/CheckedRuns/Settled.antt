@@ -18,7 +18,7 @@ use Rattle.object_tree.proofs.Changing.{life-of-lives}
 use Rattle.object_tree.proofs.TypedObjects.{reads-still}
 use Rattle.binding_graph.specs.declared.binding.Binding.{Binding}
 use Rattle.binding_graph.specs.declared.place.Place.{Place}
-use Rattle.prop_bindings.specs.declared.assignment.Assignment.{Assignment}
+use Rattle.prop_bindings.specs.Assignment.{Assignment}
 use Rattle.prop_bindings.specs.Calls.{AllFit}
 use Rattle.binding_graph.specs.Bindings.{source_place, read_by, Reads, value_of, binding_at, AreApart, without, without_all, replaced, Settled, Loop}
 use Rattle.prop_bindings.specs.Changes.{DifferInValues, lasting, places_in}
@@ -29,7 +29,8 @@ use Rattle.prop_bindings.specs.Values.{values_in}
 use Rattle.binding_graph.proofs.Acyclic.{order-of}
 use Rattle.prop_bindings.proofs.Alike.{sort_of, BothAlike, values-alike, reads-sort, plain-has}
 use Rattle.binding_graph.proofs.Apart.{apart-replaced}
-use Rattle.prop_bindings.proofs.Fitting.{all-stay, lives-on}
+use Rattle.prop_bindings.proofs.Fitting.{all-stay}
+use Rattle.prop_bindings.proofs.Alive.{lives-on}
 use Rattle.prop_bindings.proofs.Homes.{all-joined}
 use Rattle.prop_bindings.proofs.Leaving.{agree-fewer}
 use Rattle.binding_graph.proofs.Naming.{value-agree}

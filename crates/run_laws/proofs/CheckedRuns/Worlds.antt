@@ -14,7 +14,7 @@ use Rattle.object_tree.specs.Objects.{class_of, life_of, change, change_life, wi
 use Rattle.object_tree.proofs.Changing.{part-change, life-part, length-change, get-change_same, get-change_other}
 use Rattle.object_tree.proofs.Families.{leaves-part}
 use Rattle.prop_bindings.specs.Changes.{DifferInValues, valueless}
-use Rattle.prop_bindings.proofs.Fitting.{lives-alike}
+use Rattle.prop_bindings.proofs.Alive.{lives-alike}
 use Rattle.effect_scan.specs.declared.node.Node.{Node}
 use Rattle.certificate_lang.specs.declared.certificate.Certificate.{Certificate}
 use Rattle.machine_state.specs.State.{Step, Activation, Body, Emit, Update, Destroy}

@@ -15,7 +15,7 @@ use Rattle.machine_rules.specs.Operations.{Operation, on_ends}
 use Rattle.statement_meaning.specs.declared.paths.Scope.{Scope}
 use Rattle.object_tree.specs.declared.object.Object.{Object}
 use Rattle.prop_bindings.specs.Plans.{assigned}
-use Rattle.prop_bindings.specs.declared.assignment.Assignment.{Assignment}
+use Rattle.prop_bindings.specs.Assignment.{Assignment}
 use Rattle.machine_rules.specs.Operations.{after_set, set_in, sets_in}
 
 -- the objects with what a group has written so far, if there is one

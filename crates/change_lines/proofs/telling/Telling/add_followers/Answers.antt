@@ -2,7 +2,7 @@ use Rattle.std.proofs.Common.{◌≡◌, ◌+◌, ◌++◌, [], ◌∷◌, List,
 use Rattle.std.proofs.lemmas.List.{take_more, take_all}
 use Rattle.std.proofs.lemmas.List.Elements.{All-from_recursion}
 use Rattle.binding_graph.specs.declared.place.Place.{Place}
-use Rattle.prop_bindings.specs.Plans.{after}
+use Rattle.binding_plans.specs.Plans.{after}
 use Rattle.change_lines.specs.Telling.{HasValue}
 use Rattle.change_lines.specs.code.Planned.{AddsFollowers}
 use Rattle.change_lines.proofs.Told.{no-followers, one-follower}

@@ -1,5 +1,5 @@
 use Rattle.std.proofs.Common.{take}
-use Rattle.prop_bindings.specs.Plans.{after}
+use Rattle.binding_plans.specs.Plans.{after}
 use Rattle.change_lines.specs.code.Planned.{AddsFollowers}
 use Rattle.change_lines.proofs.telling.Telling.add_followers.Given as goal
 

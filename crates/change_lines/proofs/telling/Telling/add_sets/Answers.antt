@@ -2,9 +2,9 @@ use Rattle.std.proofs.Common.{◌≡◌, ◌+◌, ◌++◌, [], ◌∷◌, List,
 use Rattle.std.specs.Prelude.{IfSome}
 use Rattle.std.proofs.lemmas.List.{take_more}
 use Rattle.std.proofs.lemmas.List.Elements.{All-from_recursion}
-use Rattle.prop_bindings.specs.declared.assignment.Assignment.{Assignment}
+use Rattle.binding_plans.specs.declared.assignment.Assignment.{Assignment}
 use Rattle.binding_graph.specs.declared.place.Place.{Place}
-use Rattle.prop_bindings.specs.Plans.{after}
+use Rattle.binding_plans.specs.Plans.{after}
 use Rattle.trace_entries.specs.declared.entry.Entry.{Entry}
 use Rattle.change_lines.specs.declared.telling.Cause.TheVariants.{Write}
 use Rattle.change_lines.specs.Telling.{HasValue, IsSetTold, IsToldWith}

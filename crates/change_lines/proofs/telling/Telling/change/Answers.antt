@@ -1,7 +1,7 @@
 use Rattle.std.proofs.Common.{[], ◌∷◌, sym, subst}
 use Rattle.std.specs.List.{AllByRecursion}
 use Rattle.binding_graph.specs.declared.place.Place.{Place}
-use Rattle.prop_bindings.specs.Plans.{after}
+use Rattle.binding_plans.specs.Plans.{after}
 use Rattle.change_lines.specs.Telling.{HasValue}
 use Rattle.change_lines.proofs.Followers.{others-have}
 use Rattle.change_lines.proofs.telling.Telling.change.Goals as goal

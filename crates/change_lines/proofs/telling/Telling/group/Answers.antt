@@ -1,8 +1,8 @@
 use Rattle.std.proofs.Common.{◌≡◌, ◌++◌, [], ◌∷◌, List, ap, sym, ◌∙◌, subst}
 use Rattle.std.specs.List.{AllByRecursion}
 use Rattle.binding_graph.specs.declared.place.Place.{Place}
-use Rattle.prop_bindings.specs.Changes.{places_in}
-use Rattle.prop_bindings.specs.Plans.{after}
+use Rattle.binding_plans.specs.Changes.{places_in}
+use Rattle.binding_plans.specs.Plans.{after}
 use Rattle.trace_entries.specs.declared.entry.Entry.{Entry}
 use Rattle.trace_entries.specs.declared.entry.Entry.TheVariants.{At}
 use Rattle.trace_entries.specs.declared.entry.EntryKind.TheVariants as entry_kind

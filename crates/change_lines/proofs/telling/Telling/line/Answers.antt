@@ -1,6 +1,6 @@
 use Rattle.std.proofs.Common.{sym}
 use Rattle.std.proofs.lemmas.Result.{IfOk-weaker}
-use Rattle.prop_bindings.specs.Plans.{after}
+use Rattle.binding_plans.specs.Plans.{after}
 use Rattle.trace_entries.specs.declared.entry.Entry.{Entry}
 use Rattle.change_lines.specs.Telling.{IsTold, IsToldWith}
 use Rattle.change_lines.proofs.Told.{told-now}

@@ -1,6 +1,6 @@
 use Rattle.std.proofs.Common.{[], ◌∷◌, List, refl, ap, sym, subst}
 use Rattle.binding_graph.specs.declared.place.Place.{Place}
-use Rattle.prop_bindings.specs.declared.planned.Planned.{Planned}
+use Rattle.prop_bindings.specs.Planned.{Planned}
 use Rattle.prop_bindings.specs.Plans.{after}
 use Rattle.change_lines.specs.declared.telling.Cause.TheVariants.{Bind}
 use Rattle.prop_bindings.specs.Calls.{IsNotBound}

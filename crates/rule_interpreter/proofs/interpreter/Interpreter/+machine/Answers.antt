@@ -12,7 +12,7 @@ use Rattle.machine_rules.specs.Operations.{Write, Begin, Delete, Nothing, operat
 use Rattle.meta_model.specs.declared.object.Statement.{Statement}
 use Rattle.meta_model.specs.declared.object.Statement.TheVariants.{outs-Set, outs-Emit, outs-Call, outs-If, outs-Connect, outs-Disconnect, outs-Delete, outs-Later, outs-Group}
 use Rattle.meta_model.specs.declared.object.Statement.TheViews.{out-Statement}
-use Rattle.prop_bindings.specs.declared.assignment.Assignment.{Assignment}
+use Rattle.prop_bindings.specs.Assignment.{Assignment}
 use Rattle.statement_meaning.specs.code.Scope.{path_in, value_in, values_in}
 use Rattle.statement_meaning.proofs.Yielding.{obtains-none, evaluates-none, finds-none, truth-none, at-null, at-object, if-chooses}
 use Rattle.machine_rules.specs.Good.{ArgumentsFit}

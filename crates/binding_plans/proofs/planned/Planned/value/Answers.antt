@@ -1,9 +1,9 @@
 use Rattle.std.proofs.Common.{Option, ap, sym, ◌∙◌}
 use Rattle.std.specs.Option.{option_map, unwrap_or}
 use Rattle.signatures.specs.declared.value.Value.{Value}
-use Rattle.prop_bindings.specs.Values.{values_in}
-use Rattle.prop_bindings.proofs.Assigned.{assigned-values}
-use Rattle.prop_bindings.proofs.planned.Planned.value.Goals as goal
+use Rattle.binding_plans.specs.Values.{values_in}
+use Rattle.binding_plans.proofs.AssignedValues.{assigned-values}
+use Rattle.binding_plans.proofs.planned.Planned.value.Goals as goal
 
 pub returns : goal.returns
 returns c = λ objects.

@@ -1,8 +1,8 @@
 -- Where the crate keeps the properties that changed.
 use Rattle.std.specs.Prelude.{List, [], ◌∷◌}
 use Rattle.binding_graph.specs.declared.place.Place.{Place}
-use Rattle.prop_bindings.specs.declared.changed_places.Held.{Held}
-use Rattle.prop_bindings.specs.declared.changed_places.Held.TheVariants.{Nothing, One, Many}
+use Rattle.binding_plans.specs.declared.changed_places.Held.{Held}
+use Rattle.binding_plans.specs.declared.changed_places.Held.TheVariants.{Nothing, One, Many}
 
 abbrev pub places_held : Held → List Place
 places_held Nothing = []

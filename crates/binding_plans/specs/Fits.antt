@@ -8,7 +8,7 @@ use Rattle.object_tree.specs.Objects.{home_of}
 use Rattle.object_tree.specs.Typed.{AreTyped, FitsProperty}
 use Rattle.binding_graph.specs.declared.place.Place.{Place}
 use Rattle.binding_graph.specs.declared.binding.Binding.{Binding}
-use Rattle.prop_bindings.specs.Values.{values_in}
+use Rattle.binding_plans.specs.Values.{values_in}
 use Rattle.binding_graph.specs.Bindings.{value_of, binding_at, AreApart, Settled, Loop}
 
 -- the value is of the type of a living object's property

@@ -7,9 +7,9 @@ use Rattle.object_tree.specs.declared.life.Life.{Life}
 use Rattle.object_tree.specs.declared.object.Object.{Object}
 use Rattle.object_tree.specs.Seen.{seen}
 use Rattle.binding_graph.specs.declared.place.Place.{Place}
-use Rattle.prop_bindings.specs.declared.assignment.Assignment.{Assignment}
+use Rattle.binding_plans.specs.declared.assignment.Assignment.{Assignment}
 use Rattle.binding_graph.specs.declared.binding.Binding.{Binding}
-use Rattle.prop_bindings.specs.Values.{values_in}
+use Rattle.binding_plans.specs.Values.{values_in}
 use Rattle.binding_graph.specs.Places.{In, is_in, same_place}
 use Rattle.binding_graph.specs.Bindings.{binding_at, without_all, replaced, Settled}
 

@@ -7,7 +7,7 @@ use Rattle.binding_graph.specs.declared.place.Place.{Place}
 use Rattle.binding_graph.specs.declared.binding.Binding.{Binding}
 use Rattle.binding_graph.specs.Places.{In, Distinct, is_in, same_place}
 use Rattle.binding_graph.specs.Bindings.{without_all}
-use Rattle.prop_bindings.specs.Changes.{once}
+use Rattle.binding_plans.specs.Changes.{once}
 use Rattle.binding_graph.specs.code.Lists.{forgotten}
 use Rattle.binding_graph.proofs.Places.{decide_in, decide_place, different, same_place-refl}
 use Rattle.binding_graph.proofs.Several.{distinct-filter, filter-in, filter-keeps, in-filter, is_in-of, is_in-not, without_all-left}

@@ -1,7 +1,7 @@
 use Rattle.std.proofs.Common.{◌≡◌, length}
-use Rattle.prop_bindings.specs.Plans.{assigned}
+use Rattle.binding_plans.specs.Plans.{assigned}
 use Rattle.prop_bindings.specs.code.Parts.{ahead}
-use Rattle.prop_bindings.proofs.planned.assign.Given as goal
+use Rattle.prop_bindings.proofs.assigning.assign.Given as goal
 
 -- what is left makes of the objects as they are what all values make of them as they were
 abbrev pub invariant-loop-key : goal.invariant-loop-key

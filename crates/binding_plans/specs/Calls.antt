@@ -7,16 +7,16 @@ use Rattle.object_tree.specs.declared.object.Object.{Object}
 use Rattle.object_tree.specs.Objects.{class_of}
 use Rattle.meta_model.specs.declared.site.MetaSite.{MetaSite}
 use Rattle.binding_graph.specs.declared.place.Place.{Place}
-use Rattle.prop_bindings.specs.declared.assignment.Assignment.{Assignment}
+use Rattle.binding_plans.specs.declared.assignment.Assignment.{Assignment}
 use Rattle.binding_graph.specs.declared.binding.Binding.{Binding}
-use Rattle.prop_bindings.specs.declared.fault.BindFault.{BindFault}
-use Rattle.prop_bindings.specs.declared.fault.BindFault.TheVariants as bind
-use Rattle.prop_bindings.specs.declared.fault.WriteFault.{WriteFault}
-use Rattle.prop_bindings.specs.declared.fault.WriteFault.TheVariants as write
+use Rattle.binding_plans.specs.declared.fault.BindFault.{BindFault}
+use Rattle.binding_plans.specs.declared.fault.BindFault.TheVariants as bind
+use Rattle.binding_plans.specs.declared.fault.WriteFault.{WriteFault}
+use Rattle.binding_plans.specs.declared.fault.WriteFault.TheVariants as write
 use Rattle.binding_graph.specs.Places.{property_of}
 use Rattle.binding_graph.specs.Bindings.{binding_at, replaced, Loop}
-use Rattle.prop_bindings.specs.Changes.{IsWritten, IsInstalled}
-use Rattle.prop_bindings.specs.Fits.{FitsAt, IsFit, InOneLoop}
+use Rattle.binding_plans.specs.Changes.{IsWritten, IsInstalled}
+use Rattle.binding_plans.specs.Fits.{FitsAt, IsFit, InOneLoop}
 
 -- ---- write
 -- each value is of its property's type

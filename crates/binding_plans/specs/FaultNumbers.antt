@@ -2,8 +2,8 @@
 use Rattle.std.specs.Prelude.{ℕ, Option, None, Some}
 use Rattle.expressions.specs.declared.evaluation.EvalFault.{EvalFault}
 use Rattle.expressions.specs.declared.evaluation.EvalFault.TheVariants as eval
-use Rattle.prop_bindings.specs.declared.fault.BindFault.{BindFault}
-use Rattle.prop_bindings.specs.declared.fault.BindFault.TheVariants.{BadSource, OtherLoop, BadType, BindingLoop, Memory}
+use Rattle.binding_plans.specs.declared.fault.BindFault.{BindFault}
+use Rattle.binding_plans.specs.declared.fault.BindFault.TheVariants.{BadSource, OtherLoop, BadType, BindingLoop, Memory}
 
 -- the number of a refusal; the others are faults of the run
 abbrev pub refusal_number : BindFault → Option ℕ

@@ -1,5 +1,5 @@
 ghost use Rattle.std.specs.Prelude.{◌≡◌};
-ghost use Rattle.prop_bindings.specs.FaultNumbers.{refusal_number};
+ghost use Rattle.binding_plans.specs.FaultNumbers.{refusal_number};
 
 use expressions::EvalFault;
 use std::alloc::AllocError;
@@ -27,7 +27,7 @@ pub enum BindFault {
 
 impl From<AllocError> for BindFault {
     ghost use Rattle.std.specs.Prelude.{◌≡◌};
-    ghost use Rattle.prop_bindings.specs.declared.fault.BindFault.TheVariants.{Memory};
+    ghost use Rattle.binding_plans.specs.declared.fault.BindFault.TheVariants.{Memory};
 
     ghost from_gives = { λ _ fault. fault ≡ Memory };
 
@@ -62,7 +62,7 @@ pub enum WriteFault {
 
 impl From<AllocError> for WriteFault {
     ghost use Rattle.std.specs.Prelude.{◌≡◌};
-    ghost use Rattle.prop_bindings.specs.declared.fault.WriteFault.TheVariants.{Memory};
+    ghost use Rattle.binding_plans.specs.declared.fault.WriteFault.TheVariants.{Memory};
 
     ghost from_gives = { λ _ fault. fault ≡ Memory };
 
@@ -73,7 +73,7 @@ impl From<AllocError> for WriteFault {
 
 impl From<EvalFault> for BindFault {
     ghost use Rattle.expressions.specs.declared.evaluation.EvalFault.{EvalFault};
-    ghost use Rattle.prop_bindings.specs.FaultNumbers.{fault_of};
+    ghost use Rattle.binding_plans.specs.FaultNumbers.{fault_of};
     ghost use Rattle.std.specs.Prelude.{◌≡◌};
 
     ghost from_gives = { λ given fault. fault ≡ fault_of given };

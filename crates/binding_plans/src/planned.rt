@@ -2,15 +2,13 @@
 
 ghost use Rattle.std.specs.Prelude.{◌≡◌, []};
 ghost use Rattle.std.specs.Option.{option_copied};
-ghost use Rattle.prop_bindings.specs.Plans.{WillBe};
-ghost use Rattle.prop_bindings.specs.code.Parts.{ahead};
+ghost use Rattle.binding_plans.specs.Plans.{WillBe};
 
-use crate::ahead::value_given;
 use crate::changed_places::ChangedPlaces;
+use crate::given::value_given;
 use binding_graph::{Place, Reader};
 use indexmap::IndexMap;
-use object_tree::Tree;
-use signatures::{ObjectId, Value};
+use signatures::Value;
 use sqlite_items::Items;
 use std::alloc::Global;
 
@@ -131,15 +129,5 @@ impl PlannedBind {
         ensures { result.now ≡ self.now.planned }
     {
         &self.planned
-    }
-}
-
-/// Gives properties their values. It takes no memory.
-pub fn assign(tree: &mut Tree, values: IndexMap<(usize, usize), Value>)
-    ensures { tree.new ≡ ahead values tree.old }
-{
-    let mut rest = values.into_iter();
-    while let Some((key, value)) = rest.next_back() {
-        tree.set_value(ObjectId::new(key.0), key.1, value);
     }
 }

@@ -7,18 +7,18 @@ use Rattle.meta_model.specs.Loaded.{Loaded}
 use Rattle.object_tree.specs.declared.object.Object.{Object}
 use Rattle.object_tree.specs.Objects.{change_life, written}
 use Rattle.binding_graph.specs.declared.place.Place.{Place}
-use Rattle.prop_bindings.specs.declared.assignment.Assignment.{Assignment}
+use Rattle.binding_plans.specs.declared.assignment.Assignment.{Assignment}
 use Rattle.binding_graph.specs.declared.binding.Binding.{Binding}
-use Rattle.prop_bindings.specs.declared.fault.BindFault.{BindFault}
-use Rattle.prop_bindings.specs.declared.fault.WriteFault.{WriteFault}
-use Rattle.prop_bindings.specs.declared.planned.Planned.{Planned}
-use Rattle.prop_bindings.specs.declared.planned.PlannedBind.{PlannedBind}
-use Rattle.prop_bindings.specs.declared.planned.PlannedGroup.{PlannedGroup}
-use Rattle.prop_bindings.specs.declared.planned.PlannedWrite.{PlannedWrite}
-use Rattle.prop_bindings.specs.Values.{values_in}
+use Rattle.binding_plans.specs.declared.fault.BindFault.{BindFault}
+use Rattle.binding_plans.specs.declared.fault.WriteFault.{WriteFault}
+use Rattle.binding_plans.specs.declared.planned.Planned.{Planned}
+use Rattle.binding_plans.specs.declared.planned.PlannedBind.{PlannedBind}
+use Rattle.binding_plans.specs.declared.planned.PlannedGroup.{PlannedGroup}
+use Rattle.binding_plans.specs.declared.planned.PlannedWrite.{PlannedWrite}
+use Rattle.binding_plans.specs.Values.{values_in}
 use Rattle.binding_graph.specs.Bindings.{replaced, without_all}
-use Rattle.prop_bindings.specs.Calls.{AllFit, IsNotWritten, IsNotBound, IsBound, new_binding}
-use Rattle.prop_bindings.specs.Changes.{IsWritten, places_in}
+use Rattle.binding_plans.specs.Calls.{AllFit, IsNotWritten, IsNotBound, IsBound, new_binding}
+use Rattle.binding_plans.specs.Changes.{IsWritten, places_in}
 
 -- the objects once each property of this object and of this number has this value
 abbrev pub assigned : List ((ℕ × ℕ) × Value) → List Object → List Object

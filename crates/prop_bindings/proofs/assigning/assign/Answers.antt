@@ -1,9 +1,9 @@
 use Rattle.std.proofs.Common.{◌∙◌, ℕ, List, ap, sym}
 use Rattle.signatures.specs.declared.value.Value.{Value}
 use Rattle.object_tree.specs.Objects.{change_life, written}
-use Rattle.prop_bindings.specs.Plans.{assigned}
-use Rattle.prop_bindings.proofs.Assigned.{assigned-last}
-use Rattle.prop_bindings.proofs.planned.assign.Goals as goal
+use Rattle.binding_plans.specs.Plans.{assigned}
+use Rattle.binding_plans.proofs.AssignedValues.{assigned-last}
+use Rattle.prop_bindings.proofs.assigning.assign.Goals as goal
 
 pub loop-key-preserved : goal.loop-key-preserved
 loop-key-preserved c =

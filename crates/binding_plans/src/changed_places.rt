@@ -32,7 +32,7 @@ impl Model for ChangedPlaces {
 
     ghost Value = { List Place };
 
-    ghost use Rattle.prop_bindings.specs.code.Holding.{places_held};
+    ghost use Rattle.binding_plans.specs.code.Holding.{places_held};
 
     ghost view = { λ changed. places_held changed.held };
 }

@@ -13,8 +13,8 @@ use Rattle.object_tree.specs.Objects.{life_of, change_life, with_life, written}
 use Rattle.object_tree.proofs.Changing.{get-change_same, get-change_other}
 use Rattle.binding_graph.specs.declared.place.Place.{Place}
 use Rattle.binding_graph.specs.Places.{property_of, same_place}
-use Rattle.prop_bindings.specs.Values.{values_in}
-use Rattle.prop_bindings.specs.Changes.{valueless, DifferInValues}
+use Rattle.binding_plans.specs.Values.{values_in}
+use Rattle.binding_plans.specs.Changes.{valueless, DifferInValues}
 use Rattle.binding_graph.specs.code.Orders.{update}
 use Rattle.binding_graph.proofs.Places.{decide_place, same_place-refl}
 

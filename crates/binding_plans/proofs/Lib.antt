@@ -1,0 +1,4 @@
+pub mod Values
+pub mod EachOnce
+pub mod Alive
+pub mod AssignedValues

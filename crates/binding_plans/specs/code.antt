@@ -1,0 +1,2 @@
+-- How the code keeps what is planned.
+pub mod Holding
