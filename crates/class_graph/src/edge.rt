@@ -1,8 +1,7 @@
 //! Edges: what may lead from one member to another, at once or later.
 
-use class_outlines::{DESTROYED, DESTROYED_ALONE};
 use effect_scan::{Member, Node, Reason, Scan, reason_for};
-use meta_model::{Meta, MetaWire, Work};
+use meta_model::{DESTROYED, DESTROYED_ALONE, Meta, MetaWire, Work};
 use signatures::Kind;
 use std::alloc::{AllocError, Global};
 

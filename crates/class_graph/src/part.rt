@@ -3,9 +3,8 @@
 use crate::edge::Edges;
 use crate::fault::PartFault;
 use crate::label::member_text;
-use class_outlines::{DELETE_LATER, OBJECT_NAME};
 use effect_scan::{Member, Node, Scan};
-use meta_model::{Meta, MetaObject};
+use meta_model::{DELETE_LATER, Meta, MetaObject, OBJECT_NAME};
 use std::alloc::{AllocError, Global};
 
 /// The part of a graph that is asked for.

@@ -1,7 +1,7 @@
 -- Lists of which some element has a property.
 use Rattle.std.proofs.Common.{◌≡◌, ℕ, zero, suc, Option, Some, None, List, [], ◌∷◌, ◌++◌, Any, ◌⊎◌, inl, inr, refl, sym, subst}
 use Rattle.std.proofs.lemmas.Option.{none-some, same_Some}
-use Rattle.class_outlines.specs.LookUps.{Tells}
+use Rattle.name_indexes.specs.LookUps.{Tells}
 use Rattle.name_indexes.specs.Places.{StandsAt}
 use Rattle.name_indexes.proofs.Once.{get_split_at}
 use Rattle.name_indexes.proofs.Zips.{any_of, place_of_any, get_front, get_back}

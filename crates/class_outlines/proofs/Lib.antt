@@ -1,4 +1,3 @@
-pub mod Choices
 pub mod Firsts
 pub mod OutlineSteps
 pub mod Outlined
@@ -11,8 +10,12 @@ pub mod TwinMembers
 pub mod Nexts
 pub mod Loading
 pub mod NamedClasses
+pub mod LackedTypes
+pub mod ReadTypes
+pub mod SiteProperties
 pub use Rattle.name_indexes.proofs.Searches
 pub use Rattle.name_indexes.proofs.Zips
 pub use Rattle.name_indexes.proofs.Once
 pub use Rattle.name_indexes.proofs.Fronts
 pub use Rattle.name_indexes.proofs.Indexing
+pub use Rattle.name_indexes.proofs.Choices

@@ -9,7 +9,8 @@ use Rattle.syntax_trees.specs.declared.program.Program.{Program}
 use Rattle.class_outlines.specs.declared.outline.Heading.{Heading}
 use Rattle.class_outlines.specs.declared.outline.Outline.{Outline}
 use Rattle.class_outlines.specs.declared.outline.Sort.TheVariants as sort
-use Rattle.class_outlines.specs.Outlines.{kinds_of, sig_of, base_name, signal_heading, slot_headings, own_methods, qobject, Outlines}
+use Rattle.meta_model.specs.QObject.{sig_of}
+use Rattle.class_outlines.specs.Outlines.{kinds_of, base_name, signal_heading, slot_headings, own_methods, qobject, Outlines}
 use Rattle.class_outlines.specs.Clashes.{DuplicateClass, IsTaken}
 use Rattle.name_indexes.proofs.Fronts.{get_take, inside}
 use Rattle.name_indexes.proofs.Zips.{any_of}

@@ -1,4 +1,3 @@
-pub mod LookUps
 pub mod Outlines
 pub mod Ends
 pub mod Clashes
@@ -7,10 +6,15 @@ pub mod Notifiers
 pub mod Indexed
 pub mod FaultNumbers
 pub mod Offences
+pub mod DeclaredKinds
+pub mod DeclaredSites
+pub mod Natives
+pub mod Conditions
 pub mod code
 pub use Rattle.name_indexes.specs.NamePlaces
 pub use Rattle.name_indexes.specs.Places
 pub use Rattle.name_indexes.specs.CallPlaces
 pub use Rattle.name_indexes.specs.Twice
+pub use Rattle.name_indexes.specs.LookUps
 pub use Rattle.signatures.specs.Name
 pub use Rattle.signatures.specs.Types

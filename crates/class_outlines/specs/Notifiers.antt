@@ -5,7 +5,7 @@ use Rattle.syntax_trees.specs.declared.program.Property.{Property}
 use Rattle.class_outlines.specs.declared.outline.Heading.{Heading}
 use Rattle.class_outlines.specs.declared.outline.Outline.{Outline}
 use Rattle.class_outlines.specs.declared.outline.Sort.TheVariants as sort
-use Rattle.class_outlines.specs.declared.qobject.TheConstants.{DELETE_LATER}
+use Rattle.meta_model.specs.declared.qobject.TheConstants.{DELETE_LATER}
 use Rattle.name_indexes.specs.Places.{StandsFirst}
 
 abbrev pub IsSignalOf : Sig → Heading → Type 0

@@ -4,7 +4,6 @@ use Rattle.std.specs.Borrow.{Bor}
 use Rattle.std.specs.Prelude.{◌≡◌, ℕ, suc, false, List, [], ◌∷◌, ◌++◌, map, length, take, Option, None, Some, slice_get, Result, codes}
 use Rattle.signatures.specs.declared.qtype.QType.{QType}
 use Rattle.signatures.specs.declared.sig.Sig.{Sig}
-use Rattle.signatures.specs.Normal.{pointer_type}
 use Rattle.signatures.specs.Types.{value_type}
 use Rattle.syntax_trees.specs.declared.program.Parameter.{Parameter}
 use Rattle.syntax_trees.specs.declared.program.Property.{Property}
@@ -18,28 +17,13 @@ use Rattle.class_outlines.specs.declared.outline.Outline.{Outline}
 use Rattle.class_outlines.specs.declared.offence.PartFault.{PartFault}
 use Rattle.class_outlines.specs.declared.fault.MetaFault.TheVariants as fault
 use Rattle.class_outlines.specs.Offences.{LoadsPart}
+use Rattle.meta_model.specs.QObject.{sig_of, destroyed, destroyed_alone, name_changed, delete_later}
 use Rattle.name_indexes.specs.Places.{StandsFirst, NoneStands, IsFirst}
-
--- a signature, by its parts
-abbrev pub sig_of : List ℕ → List QType → Sig
-sig_of name types = record { name = name; types = types }
 
 abbrev pub heading : Sig → Sort → Heading
 heading sig s = record { sig = sig; sort = s }
 
 -- ---- QObject
-abbrev pub destroyed : Sig
-destroyed = sig_of (codes "destroyed") (pointer_type (codes "QObject") false ∷ [])
-
-abbrev pub destroyed_alone : Sig
-destroyed_alone = sig_of (codes "destroyed") []
-
-abbrev pub name_changed : Sig
-name_changed = sig_of (codes "objectNameChanged") (value_type (codes "QString") ∷ [])
-
-abbrev pub delete_later : Sig
-delete_later = sig_of (codes "deleteLater") []
-
 abbrev pub object_name : Property
 object_name = record { kind = value_type (codes "QString"); name = codes "objectName"; initial = None; notify = Some name_changed }
 

@@ -14,9 +14,9 @@ ghost use Rattle.class_outlines.specs.declared.fault.MetaFault.TheVariants as fa
 use crate::bases::base_of;
 use crate::offence::LoadFault;
 use crate::outline::{Heading, Outline};
-use crate::qobject::OBJECT_NAME_CHANGED;
 use crate::reason::Near;
 use crate::twin_members::{find_twin_members, twin_offence};
+use meta_model::OBJECT_NAME_CHANGED;
 use name_indexes::{CallIndex, index_all, index_calls};
 use shared_values::Shared;
 use signatures::{Name, Sig};

@@ -2,7 +2,8 @@
 
 ghost use Rattle.std.specs.Prelude.{◌≡◌, ℕ, map, IfOk, OnOk, codes, [], ◌∷◌, ◌++◌};
 ghost use Rattle.class_outlines.specs.Bases.{LacksBase};
-ghost use Rattle.class_outlines.specs.Outlines.{kinds_of, sig_of, signal_heading, slot_headings, own_methods};
+ghost use Rattle.meta_model.specs.QObject.{sig_of};
+ghost use Rattle.class_outlines.specs.Outlines.{kinds_of, signal_heading, slot_headings, own_methods};
 ghost use Rattle.class_outlines.specs.Outlines.{FindsBase, OutlinesClass, Outlines};
 ghost use Rattle.class_outlines.specs.Offences.{fault_of, LoadsOf};
 ghost use Rattle.class_outlines.specs.declared.fault.MetaFault.TheVariants as fault;

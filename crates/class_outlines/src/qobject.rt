@@ -4,7 +4,8 @@ ghost use Rattle.std.specs.Prelude.{◌≡◌, false, [], ◌∷◌, ◌++◌, I
 ghost use Rattle.signatures.specs.Name.{IsName};
 ghost use Rattle.signatures.specs.Normal.{pointer_type};
 ghost use Rattle.signatures.specs.Types.{value_type};
-ghost use Rattle.class_outlines.specs.Outlines.{qobject, sig_of, heading, name_changed, object_name};
+ghost use Rattle.meta_model.specs.QObject.{sig_of, name_changed};
+ghost use Rattle.class_outlines.specs.Outlines.{qobject, heading, object_name};
 
 use crate::outline::{Heading, Outline, Sort};
 use shared_values::Shared;
@@ -12,24 +13,6 @@ use signatures::{Name, QType, Sig};
 use sqlite_items::Items;
 use std::alloc::{AllocError, Global};
 use syntax_trees::Property;
-
-/// The number of `QObject` among the classes.
-pub const QOBJECT: usize = 0;
-
-/// The number of the signal `destroyed(QObject*)` in every class.
-pub const DESTROYED: usize = 0;
-
-/// The number of the signal `destroyed()` in every class.
-pub const DESTROYED_ALONE: usize = 1;
-
-/// The number of the signal `objectNameChanged(QString)` in every class: the last of those that the runtime emits.
-pub const OBJECT_NAME_CHANGED: usize = 2;
-
-/// The number of the slot `deleteLater()` in every class: the last of `QObject`'s methods.
-pub const DELETE_LATER: usize = 3;
-
-/// The number of the property `objectName` in every class.
-pub const OBJECT_NAME: usize = 0;
 
 /// `QObject` with its four methods and its property.
 pub fn qobject(alloc: Global) -> Result<Outline, AllocError>

@@ -7,7 +7,7 @@ use Rattle.std.proofs.lemmas.Bool.{cases_lt}
 use Rattle.std.proofs.lemmas.List.{length-append, take_all, take_more, take-append-le, append-nil, map-append}
 use Rattle.std.proofs.lemmas.List.FromFn.{get_or-range_with_len, length-range_with_len, length-map-range_with_len, map-range_with_len_more}
 use Rattle.std.proofs.lemmas.Option.{slice_get_within, slice_get-get_or, slice_get-map, same_Some, none-some}
-use Rattle.class_outlines.specs.declared.qobject.TheConstants.{DESTROYED, OBJECT_NAME_CHANGED}
+use Rattle.meta_model.specs.declared.qobject.TheConstants.{DESTROYED, OBJECT_NAME_CHANGED}
 use Rattle.effect_scan.specs.declared.node.Node.{Node}
 use Rattle.effect_scan.specs.declared.node.Member.{Member}
 use Rattle.effect_scan.specs.declared.node.Member.TheVariants.{Method, Property, Destruction}

@@ -6,9 +6,9 @@ use Rattle.std.proofs.lemmas.List.{take_more, take_all}
 use Rattle.std.proofs.lemmas.List.Folds.{list_any_at}
 use Rattle.std.proofs.lemmas.Option.{same_Some, none-some}
 use Rattle.syntax_trees.specs.declared.syntax.Expr.{Expr}
-use Rattle.class_outlines.specs.declared.qobject.TheConstants.{DESTROYED}
-use Rattle.class_outlines.specs.Places.{StandsAt}
-use Rattle.class_outlines.proofs.Searches.{none_at_all}
+use Rattle.meta_model.specs.declared.qobject.TheConstants.{DESTROYED}
+use Rattle.meta_model.specs.Places.{StandsAt}
+use Rattle.meta_model.proofs.Searches.{none_at_all}
 use Rattle.meta_model.specs.declared.object.ValueType.{ValueType}
 use Rattle.meta_model.specs.declared.object.MetaObject.{MetaObject}
 use Rattle.meta_model.specs.declared.object.MetaPath.{MetaPath}

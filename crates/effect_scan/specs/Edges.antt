@@ -2,7 +2,7 @@
 use Rattle.std.specs.Prelude.{◌≡◌, ◌≢◌, ℕ, Some, slice_get}
 use Rattle.std.specs.List.{Contains}
 use Rattle.signatures.specs.declared.kind.Kind.TheVariants.{Queued}
-use Rattle.class_outlines.specs.declared.qobject.TheConstants.{DESTROYED}
+use Rattle.meta_model.specs.declared.qobject.TheConstants.{DESTROYED}
 use Rattle.meta_model.specs.declared.object.MetaMethod.{MetaMethod}
 use Rattle.meta_model.specs.declared.object.MetaProperty.{MetaProperty}
 use Rattle.meta_model.specs.declared.object.MetaWire.{MetaWire}

@@ -9,6 +9,6 @@ pub mod Reasons
 pub mod Scans
 pub mod Laws
 pub mod code
-pub use Rattle.class_outlines.specs.LookUps
+pub use Rattle.meta_model.specs.LookUps
 pub use Rattle.meta_model.specs.Members
 pub use Rattle.meta_model.specs.Sites

@@ -1,6 +1,6 @@
 -- The places of nodes, by what classes have.
 use Rattle.std.specs.Prelude.{◌≡◌, ◌⊎◌, ℕ, ◌+◌, ◌-◌, ◌≤◌, ◌<◌, List, length, take, Some, slice_get}
-use Rattle.class_outlines.specs.declared.qobject.TheConstants.{DESTROYED, OBJECT_NAME_CHANGED}
+use Rattle.meta_model.specs.declared.qobject.TheConstants.{DESTROYED, OBJECT_NAME_CHANGED}
 use Rattle.effect_scan.specs.declared.node.Node.{Node}
 use Rattle.effect_scan.specs.declared.node.Member.{Member}
 use Rattle.effect_scan.specs.declared.node.Member.TheVariants.{Method, Property, Destruction}

@@ -16,9 +16,9 @@ use crate::node::{Member, Node};
 use crate::places::Places;
 use crate::rows::join;
 use crate::targets::Targets;
-use class_outlines::{DESTROYED, DESTROYED_ALONE};
 use meta_model::{
-    MetaMethod, MetaObject, MetaProperty, MetaSite, MetaWire, SourceProperty, ValueType, Work,
+    DESTROYED, DESTROYED_ALONE, MetaMethod, MetaObject, MetaProperty, MetaSite, MetaWire,
+    SourceProperty, ValueType, Work,
 };
 use signatures::Kind;
 use sqlite_items::{Items, at};

@@ -1,13 +1,12 @@
 //! The nodes of a program in their order, and the numbers that this gives them.
 
 ghost use Rattle.std.specs.Prelude.{◌≡◌, ◌+◌, ◌-◌, ◌<◌, ◌^◌, ◌++◌, map, IfOk, OnOk};
-ghost use Rattle.class_outlines.specs.LookUps.{LooksUp, FindsOnly};
+ghost use Rattle.meta_model.specs.LookUps.{LooksUp, FindsOnly};
 ghost use Rattle.effect_scan.specs.Nodes.{IsAt, class_nodes, nodes_from, shape_of};
 ghost use Rattle.effect_scan.specs.Numbering.{IsPlaceIn, Numbers};
 
 use crate::node::{Member, Node};
-use class_outlines::{DESTROYED, OBJECT_NAME_CHANGED};
-use meta_model::MetaObject;
+use meta_model::{DESTROYED, MetaObject, OBJECT_NAME_CHANGED};
 use sqlite_items::Items;
 use std::alloc::{AllocError, Global};
 use std::marker::Model;

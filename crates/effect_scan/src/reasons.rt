@@ -9,9 +9,8 @@ ghost use Rattle.effect_scan.specs.Reasons.{BodyLeads, DoesTo, NativeLeads, Wire
 use crate::edges::named;
 use crate::effect::{Effect, Reach, effect_of};
 use crate::node::{Member, Node};
-use class_outlines::DESTROYED;
 use meta_model::{
-    Meta, MetaEffects, MetaSite, MetaWire, SourceProperty, Statement, ValueType, Work,
+    DESTROYED, Meta, MetaEffects, MetaSite, MetaWire, SourceProperty, Statement, ValueType, Work,
 };
 use signatures::Kind;
 use syntax_trees::Expr;

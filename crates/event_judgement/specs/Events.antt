@@ -13,7 +13,7 @@ use Rattle.meta_model.specs.Members.{IsMethod, IsClass, Owns, IsProperty}
 use Rattle.meta_model.specs.declared.object.MetaObject.{MetaObject}
 use Rattle.meta_model.specs.declared.object.MetaProperty.{MetaProperty}
 use Rattle.meta_model.specs.declared.site.MetaSite.{MetaSite}
-use Rattle.class_outlines.specs.declared.qobject.TheConstants.{OBJECT_NAME_CHANGED}
+use Rattle.meta_model.specs.declared.qobject.TheConstants.{OBJECT_NAME_CHANGED}
 use Rattle.object_tree.specs.declared.life.Life.{Life}
 use Rattle.object_tree.specs.declared.object.Object.{Object}
 use Rattle.object_tree.specs.Objects.{IsNamed, life_of, IsFree, change_life, blocked}

@@ -14,10 +14,11 @@ use Rattle.class_outlines.specs.declared.outline.Heading.{Heading}
 use Rattle.class_outlines.specs.declared.outline.Outline.{Outline}
 use Rattle.class_outlines.specs.declared.outline.Sort.TheVariants as sort
 use Rattle.class_outlines.specs.Places.{StandsAt, StandsFirst}
-use Rattle.meta_model.specs.Kinds.{LacksType}
+use Rattle.class_outlines.specs.DeclaredKinds.{LacksType}
 use Rattle.class_outlines.specs.Notifiers.{IsSignalOf, IsNotifiedBy, LacksNotifier, NotifiesBadly, BadNotify}
-use Rattle.meta_model.specs.Conditions.{LacksPropertyType, LacksParameterType, LacksTypes, LacksAnyType}
-use Rattle.class_outlines.specs.Outlines.{heading, destroyed, destroyed_alone, name_changed, object_name, kinds_of, signal_heading, slot_headings, own_methods, qobject, IsOutlineNamed, Outlines}
+use Rattle.class_outlines.specs.Conditions.{LacksPropertyType, LacksParameterType, LacksTypes, LacksAnyType}
+use Rattle.meta_model.specs.QObject.{destroyed, destroyed_alone, name_changed}
+use Rattle.class_outlines.specs.Outlines.{heading, object_name, kinds_of, signal_heading, slot_headings, own_methods, qobject, IsOutlineNamed, Outlines}
 use Rattle.load_rules.specs.code.OwnTypes.{DeclaresUnknown}
 use Rattle.class_outlines.proofs.Anys.{any_none, of_one, any_front, any_back, any_part}
 use Rattle.class_outlines.proofs.Firsts.{first_in_front}

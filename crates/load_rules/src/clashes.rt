@@ -3,12 +3,12 @@
 ghost use Rattle.std.specs.Prelude.{◌≡◌, ◌↔◌, IsTrue, Any};
 ghost use Rattle.class_outlines.specs.Twice.{FindsRepeated};
 ghost use Rattle.class_outlines.specs.Clashes.{IsTaken, DuplicateClass};
-ghost use Rattle.meta_model.specs.Conditions.{RepeatsInMethod, RepeatsInSlot, RepeatsName, AreOneParameter};
-ghost use Rattle.meta_model.specs.Conditions.{RepeatsDeclared};
+ghost use Rattle.class_outlines.specs.Conditions.{RepeatsInMethod, RepeatsInSlot, RepeatsName, AreOneParameter};
+ghost use Rattle.class_outlines.specs.Conditions.{RepeatsDeclared};
 ghost use Rattle.class_outlines.specs.LookUps.{FindsOne};
-ghost use Rattle.meta_model.specs.Natives.{RepeatsAction, RepeatsEffect, RepeatsEffectIn};
+ghost use Rattle.class_outlines.specs.Natives.{RepeatsAction, RepeatsEffect, RepeatsEffectIn};
 ghost use Rattle.class_outlines.specs.Offences.{TellsBreach, TellsOffence, TellsOffenceIn};
-ghost use Rattle.meta_model.specs.Sites.{RepeatsSite, RepeatsFormal};
+ghost use Rattle.class_outlines.specs.DeclaredSites.{RepeatsSite, RepeatsFormal};
 ghost use Rattle.class_outlines.specs.declared.fault.MetaFault.TheVariants as fault;
 ghost use Rattle.class_outlines.specs.declared.offence.Declaration.TheVariants as declaration;
 ghost use Rattle.class_outlines.specs.declared.reason.Reason.TheVariants as reason;

@@ -2,10 +2,10 @@
 
 ghost use Rattle.std.specs.Prelude.{◌≡◌, IfOk, Any};
 ghost use Rattle.class_outlines.specs.LookUps.{Tells};
-ghost use Rattle.meta_model.specs.Natives.{IsPointer, TakesReference, ActsOnReference, AffectsReference};
-ghost use Rattle.meta_model.specs.Natives.{TouchesReference, HasReferenceNative};
+ghost use Rattle.class_outlines.specs.Natives.{IsPointer, TakesReference, ActsOnReference, AffectsReference};
+ghost use Rattle.class_outlines.specs.Natives.{TouchesReference, HasReferenceNative};
 ghost use Rattle.class_outlines.specs.Offences.{TellsBreach, TellsOffence, TellsOffenceIn};
-ghost use Rattle.meta_model.specs.Sites.{IsReferenceIn};
+ghost use Rattle.class_outlines.specs.DeclaredSites.{IsReferenceIn};
 ghost use Rattle.class_outlines.specs.declared.fault.MetaFault.TheVariants as fault;
 ghost use Rattle.class_outlines.specs.declared.reason.Reason.TheVariants as reason;
 

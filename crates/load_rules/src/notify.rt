@@ -7,7 +7,8 @@ ghost use Rattle.class_outlines.specs.Outlines.{Outlines};
 ghost use Rattle.class_outlines.specs.declared.fault.MetaFault.TheVariants as fault;
 ghost use Rattle.syntax_trees.specs.declared.program.Property.{Property as AProperty};
 
-use class_outlines::{Breach, DELETE_LATER, Declaration, IndexedOutline, Member, Offence, Reason};
+use class_outlines::{Breach, Declaration, IndexedOutline, Member, Offence, Reason};
+use meta_model::DELETE_LATER;
 use signatures::{QType, Sig};
 use syntax_trees::{Class, Program, Property};
 

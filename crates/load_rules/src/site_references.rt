@@ -3,13 +3,14 @@
 ghost use Rattle.std.specs.Prelude.{◌≡◌, IfOk, Any};
 ghost use Rattle.class_outlines.specs.LookUps.{Tells};
 ghost use Rattle.class_outlines.specs.Offences.{fault_of, TellsBreach, TellsOffence};
-ghost use Rattle.meta_model.specs.Sites.{IsReferenceIn, ReadsReference, UsesReference, paths_in};
+ghost use Rattle.meta_model.specs.Sites.{paths_in};
+ghost use Rattle.class_outlines.specs.DeclaredSites.{IsReferenceIn, ReadsReference, UsesReference};
 ghost use Rattle.class_outlines.specs.declared.fault.MetaFault.TheVariants as fault;
 
 use class_outlines::{
-    Breach, ClassTable, Declaration, Offence, Reason, Unfit, names_before_expression,
+    Breach, ClassTable, Declaration, Offence, Reason, Unfit, names_before_expression, property_in,
+    source_property,
 };
-use meta_model::{property_in, source_property};
 use signatures::{Name, QType};
 use std::alloc::AllocError;
 use syntax_trees::{Expr, Path, Program, Site};

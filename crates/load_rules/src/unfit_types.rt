@@ -1,7 +1,7 @@
 //! Types that aren't there, and references where only values may stand.
 
 ghost use Rattle.std.specs.Prelude.{IfOk, Any};
-ghost use Rattle.meta_model.specs.Conditions.{MisusesReference, NoType};
+ghost use Rattle.class_outlines.specs.Conditions.{MisusesReference, NoType};
 ghost use Rattle.class_outlines.specs.Offences.{TellsOffence};
 ghost use Rattle.class_outlines.specs.Outlines.{Outlines};
 ghost use Rattle.class_outlines.specs.declared.fault.MetaFault.TheVariants as fault;

@@ -1,8 +1,8 @@
 //! Types that aren't there.
 
 ghost use Rattle.std.specs.Prelude.{Any};
-ghost use Rattle.meta_model.specs.Conditions.{LacksPropertyType, LacksAnyType};
-ghost use Rattle.meta_model.specs.Kinds.{LacksType};
+ghost use Rattle.class_outlines.specs.Conditions.{LacksPropertyType, LacksAnyType};
+ghost use Rattle.class_outlines.specs.DeclaredKinds.{LacksType};
 ghost use Rattle.class_outlines.specs.Offences.{TellsBreach, TellsOffence, TellsOffenceIn};
 ghost use Rattle.class_outlines.specs.Outlines.{Outlines, kinds_of};
 ghost use Rattle.load_rules.specs.code.OwnTypes.{DeclaresUnknown};
@@ -11,9 +11,9 @@ ghost use Rattle.syntax_trees.specs.declared.program.Signal.{Signal as ASignal};
 ghost use Rattle.syntax_trees.specs.declared.program.Slot.{Slot as ASlot};
 
 use class_outlines::{
-    Breach, ClassTable, Declaration, Member, Offence, Reason, Unfit, names_before_parameter,
+    Breach, ClassTable, Declaration, Member, Offence, Reason, Unfit, kind_of,
+    names_before_parameter,
 };
-use meta_model::kind_of;
 use signatures::QType;
 use syntax_trees::{Class, Parameter, Program};
 

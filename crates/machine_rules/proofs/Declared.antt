@@ -4,7 +4,7 @@ use Rattle.std.proofs.lemmas.Option.{same_Some}
 use Rattle.signatures.specs.declared.value.Value.{Value}
 use Rattle.meta_model.specs.declared.object.MetaMethod.{MetaMethod}
 use Rattle.meta_model.specs.declared.object.ValueType.{ValueType}
-use Rattle.class_outlines.specs.declared.qobject.TheConstants.{DESTROYED}
+use Rattle.meta_model.specs.declared.qobject.TheConstants.{DESTROYED}
 use Rattle.meta_model.specs.Loaded.{Loaded}
 use Rattle.meta_model.specs.Members.{IsMethod}
 use Rattle.meta_model.specs.Root.{root_methods}

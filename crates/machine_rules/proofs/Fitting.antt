@@ -7,7 +7,7 @@ use Rattle.signatures.specs.Types.{Fits, value_type}
 use Rattle.meta_model.specs.declared.object.MetaMethod.{MetaMethod}
 use Rattle.meta_model.specs.declared.object.ValueType.{ValueType}
 use Rattle.meta_model.specs.declared.object.ValueType.TheVariants as kind
-use Rattle.class_outlines.specs.declared.qobject.TheConstants.{DESTROYED, DESTROYED_ALONE}
+use Rattle.meta_model.specs.declared.qobject.TheConstants.{DESTROYED, DESTROYED_ALONE}
 use Rattle.meta_model.specs.Loaded.{Loaded}
 use Rattle.meta_model.specs.Members.{IsMethod}
 use Rattle.meta_model.specs.Sound.{IsKind, IsSound, AreDistinctClasses}

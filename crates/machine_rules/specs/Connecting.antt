@@ -6,7 +6,7 @@ use Rattle.signatures.specs.Types.{Fits}
 use Rattle.syntax_trees.specs.declared.connection.ConnectionType.{ConnectionType}
 use Rattle.syntax_trees.specs.declared.connection.Endpoints.{Endpoints as Named}
 use Rattle.meta_model.specs.declared.object.MetaMethod.{MetaMethod}
-use Rattle.class_outlines.specs.declared.qobject.TheConstants.{DESTROYED, DESTROYED_ALONE}
+use Rattle.meta_model.specs.declared.qobject.TheConstants.{DESTROYED, DESTROYED_ALONE}
 use Rattle.meta_model.specs.Loaded.{Loaded}
 use Rattle.meta_model.specs.Members.{Covers}
 use Rattle.object_tree.specs.declared.object.Object.{Object}

@@ -3,8 +3,8 @@
 use Rattle.std.specs.Prelude.{◌≡◌, ℕ, suc, List, [], ◌∷◌, ◌++◌, length, Option, None, Some, Bool, true, false}
 use Rattle.std.specs.List.{find}
 use Rattle.signatures.specs.declared.value.Value.TheVariants as value
-use Rattle.class_outlines.specs.declared.qobject.TheConstants.{DESTROYED}
-use Rattle.class_outlines.specs.Outlines.{destroyed}
+use Rattle.meta_model.specs.declared.qobject.TheConstants.{DESTROYED}
+use Rattle.meta_model.specs.QObject.{destroyed}
 use Rattle.delete_later.specs.Ending.{died_in, ended_in}
 use Rattle.delete_later.specs.Scheduling.{scheduled_with}
 use Rattle.event_loops.specs.Queues.{HasName}

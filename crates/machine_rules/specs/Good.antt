@@ -5,7 +5,7 @@ use Rattle.signatures.specs.declared.value.Value.{Value}
 use Rattle.meta_model.specs.declared.object.MetaMethod.{MetaMethod}
 use Rattle.meta_model.specs.declared.object.ValueType.{ValueType}
 use Rattle.meta_model.specs.declared.object.ValueType.TheVariants as type
-use Rattle.class_outlines.specs.declared.qobject.TheConstants.{QOBJECT, DESTROYED}
+use Rattle.meta_model.specs.declared.qobject.TheConstants.{QOBJECT, DESTROYED}
 use Rattle.meta_model.specs.Loaded.{Loaded}
 use Rattle.object_tree.specs.declared.object.Object.{Object}
 use Rattle.object_tree.specs.Forest.{is_the}

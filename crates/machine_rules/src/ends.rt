@@ -3,8 +3,8 @@
 ghost use Rattle.std.specs.Prelude.{◌≡◌};
 ghost use Rattle.machine_rules.specs.Connecting.{named_signal, kept_ends};
 
-use class_outlines::{DESTROYED, DESTROYED_ALONE};
 use machine_state::Endpoints;
+use meta_model::{DESTROYED, DESTROYED_ALONE};
 
 /// The ends of a connection, with the classes of the sender and of the receiver.
 #[derive(Clone, Copy)]

@@ -1,7 +1,7 @@
 -- The connections that are made and removed, and those that an emission uses (docs/machine.md, "Rules").
 use Rattle.std.specs.Prelude.{ℕ, ◌&&◌, not, eqb, if◌then◌else◌, Bool, false, List, Option, None, Some, is_some}
 use Rattle.std.specs.List.{find}
-use Rattle.class_outlines.specs.declared.qobject.TheConstants.{DESTROYED}
+use Rattle.meta_model.specs.declared.qobject.TheConstants.{DESTROYED}
 use Rattle.object_tree.specs.declared.life.Life.{Life}
 use Rattle.object_tree.specs.declared.object.Object.{Object}
 use Rattle.object_tree.specs.Objects.{life_of}

@@ -2,8 +2,8 @@
 use Rattle.std.proofs.Common.{◌≡◌, ℕ, List, length, slice_get, Option, Some, None, MatchOption, refl, sym, ap, ◌∙◌}
 use Rattle.std.specs.Option.{option_and_then}
 use Rattle.std.proofs.lemmas.Option.{none-some}
-use Rattle.class_outlines.specs.NamePlaces.{place_in}
-use Rattle.class_outlines.specs.CallPlaces.{Index, place_by}
+use Rattle.name_indexes.specs.NamePlaces.{place_in}
+use Rattle.name_indexes.specs.CallPlaces.{Index, place_by}
 use Rattle.signatures.specs.declared.sig.Sig.{Sig}
 use Rattle.meta_model.specs.declared.object.MetaObject.{MetaObject}
 use Rattle.meta_model.specs.declared.class_index.MemberIndex.{MemberIndex}
@@ -13,9 +13,9 @@ use Rattle.meta_model.specs.Members.{IsClassNamed, HasSig, IsMethodNamed, IsProp
 use Rattle.meta_model.specs.declared.site.MetaSite.{MetaSite}
 use Rattle.meta_model.specs.Sites.{IsSiteNamed}
 use Rattle.meta_model.specs.Indexes.{IndexesMembers, IsIndexOf, IndexesSites, property_in, method_in}
-use Rattle.class_outlines.proofs.Searches.{answer_of}
+use Rattle.name_indexes.proofs.Searches.{answer_of}
 use Rattle.meta_model.proofs.LookUps.{class_answer, method_answer, property_answer}
-use Rattle.class_outlines.proofs.Zips.{zip_left, zip_right}
+use Rattle.name_indexes.proofs.Zips.{zip_left, zip_right}
 
 -- a method of a signature has its name and as many parameters
 pub named_of : (p : Loaded) (c : ℕ) (sig : Sig) (count : ℕ) → count ≡ length sig.types → (m : ℕ) → HasSig p c sig m → IsMethodNamed p c sig.name count m

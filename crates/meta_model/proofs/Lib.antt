@@ -1,10 +1,9 @@
 pub mod OneAnswer
 pub mod Typing
 pub mod InLists
-pub mod LackedTypes
-pub mod ReadTypes
 pub mod Roots
 pub mod PathsIn
-pub mod SiteProperties
 pub mod LookUps
 pub mod Indexing
+pub use Rattle.name_indexes.proofs.Searches
+pub use Rattle.name_indexes.proofs.Zips

@@ -8,10 +8,10 @@ use Rattle.meta_model.specs.declared.object.MetaMethod.{MetaMethod}
 use Rattle.meta_model.specs.declared.object.MetaProperty.{MetaProperty}
 use Rattle.meta_model.specs.declared.object.MetaWire.{MetaWire}
 use Rattle.meta_model.specs.Loaded.{Loaded}
-use Rattle.class_outlines.specs.Places.{StandsAt, IsPlace}
+use Rattle.name_indexes.specs.Places.{StandsAt, IsPlace}
 use Rattle.meta_model.specs.declared.object.MetaOwns.{MetaOwns}
 use Rattle.meta_model.specs.Members.{IsClass, IsClassNamed, IsMethodNamed, IsPropertyNamed, CoversBy, Covers, OwnsBy, Owns, IsIn}
-use Rattle.class_outlines.proofs.Searches.{answer_of}
+use Rattle.name_indexes.proofs.Searches.{answer_of}
 use Rattle.meta_model.proofs.InLists.{in_list, place_in}
 
 module _ (p : Loaded) where

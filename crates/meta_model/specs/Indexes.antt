@@ -3,15 +3,15 @@
 use Rattle.std.specs.Prelude.{◌≡◌, ℕ, List, length, Option, slice_get}
 use Rattle.std.specs.Option.{option_and_then}
 use Rattle.std.specs.List.{AllZip}
-use Rattle.class_outlines.specs.NamePlaces.{place_in}
-use Rattle.class_outlines.specs.CallPlaces.{Index, Layers, place_by, IndexesCalls}
+use Rattle.name_indexes.specs.NamePlaces.{place_in}
+use Rattle.name_indexes.specs.CallPlaces.{Index, Layers, place_by, IndexesCalls}
 use Rattle.meta_model.specs.declared.object.MetaObject.{MetaObject}
 use Rattle.meta_model.specs.declared.object.MetaMethod.{MetaMethod}
 use Rattle.meta_model.specs.declared.object.MetaProperty.{MetaProperty}
 use Rattle.meta_model.specs.declared.site.MetaSite.{MetaSite}
 use Rattle.meta_model.specs.declared.class_index.MemberIndex.{MemberIndex}
 use Rattle.meta_model.specs.declared.class_index.ClassIndex.{ClassIndex}
-use Rattle.class_outlines.specs.Places.{IsPlace}
+use Rattle.name_indexes.specs.Places.{IsPlace}
 
 -- ---- what an index says of what it was made of
 abbrev pub IndexesClasses : List MetaObject → Index → Type 0

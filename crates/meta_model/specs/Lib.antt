@@ -6,12 +6,12 @@ pub mod Among
 pub mod Members
 pub mod Values
 pub mod Literals
+pub mod QObject
 pub mod Root
 pub mod Sound
 pub mod Kinds
 pub mod Sites
-pub mod Natives
-pub mod Conditions
 pub mod code
-pub use Rattle.class_outlines.specs.LookUps
-pub use Rattle.class_outlines.specs.NamePlaces
+pub use Rattle.name_indexes.specs.LookUps
+pub use Rattle.name_indexes.specs.NamePlaces
+pub use Rattle.name_indexes.specs.Places

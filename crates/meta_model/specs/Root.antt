@@ -14,8 +14,8 @@ use Rattle.meta_model.specs.declared.object.Work.TheVariants.{Signal, Slot}
 use Rattle.meta_model.specs.declared.object.MetaMethod.{MetaMethod}
 use Rattle.meta_model.specs.declared.object.MetaProperty.{MetaProperty}
 use Rattle.meta_model.specs.declared.object.MetaObject.{MetaObject}
-use Rattle.class_outlines.specs.declared.qobject.TheConstants.{QOBJECT, OBJECT_NAME_CHANGED}
-use Rattle.class_outlines.specs.Outlines.{destroyed, destroyed_alone, name_changed, delete_later}
+use Rattle.meta_model.specs.declared.qobject.TheConstants.{QOBJECT, OBJECT_NAME_CHANGED}
+use Rattle.meta_model.specs.QObject.{destroyed, destroyed_alone, name_changed, delete_later}
 
 abbrev pub root_method : Sig → List ValueType → Work → MetaMethod
 root_method sig kinds work = record { sig = sig; kinds = kinds; work = work }

@@ -31,13 +31,13 @@ use Rattle.meta_model.specs.declared.object.MetaOwns.{MetaOwns}
 use Rattle.meta_model.specs.declared.site.SourceProperty.{SourceProperty}
 use Rattle.meta_model.specs.declared.site.MetaSite.{MetaSite}
 use Rattle.meta_model.specs.Loaded.{Loaded}
-use Rattle.class_outlines.specs.declared.qobject.TheConstants.{QOBJECT, OBJECT_NAME_CHANGED}
+use Rattle.meta_model.specs.declared.qobject.TheConstants.{QOBJECT, OBJECT_NAME_CHANGED}
 use Rattle.meta_model.specs.Members.{IsClass, IsMethod, IsProperty, Below, Declares, IsIn}
 pub use Rattle.meta_model.specs.Kinds.{IsKind}
 use Rattle.meta_model.specs.Literals.{HoldsNoObject}
 use Rattle.meta_model.specs.Root.{root_class, BeginsAsRoot}
 use Rattle.meta_model.specs.Sites.{paths_in, literals_in}
-use Rattle.class_outlines.specs.Twice.{StandsTwice}
+use Rattle.name_indexes.specs.Twice.{StandsTwice}
 
 -- ---- paths, where `this` is declared to be of class `me`, and a body's parameters have `kinds`
 pub data HasRoot (me : ℕ) (kinds : List ValueType) : MetaRoot → ValueType → Type 0 where

@@ -2,12 +2,12 @@
 
 ghost use Rattle.std.specs.Prelude.{◌≡◌, IfOk};
 ghost use Rattle.std.specs.List.{AllZip};
-ghost use Rattle.class_outlines.specs.NamePlaces.{place_in};
+ghost use Rattle.name_indexes.specs.NamePlaces.{place_in};
 ghost use Rattle.meta_model.specs.Indexes.{IndexesClasses, IndexesMembers, IsIndexOf, IndexesSites, property_in, method_in};
 
 use crate::object::MetaObject;
 use crate::site::MetaSite;
-use class_outlines::{CallIndex, NameIndex};
+use name_indexes::{CallIndex, NameIndex};
 use signatures::Name;
 use sqlite_items::Items;
 use std::alloc::{AllocError, Global};

@@ -2,7 +2,7 @@
 
 ghost use Rattle.std.specs.Prelude.{◌≡◌, ◌<◌, List, IsTrue, ◌↔◌, IfOk, IfSome, option_copied, slice_get};
 ghost use Rattle.std.specs.List.{AllZip};
-ghost use Rattle.class_outlines.specs.LookUps.{LooksUp, LooksUpRef, FindsOnly};
+ghost use Rattle.name_indexes.specs.LookUps.{LooksUp, LooksUpRef, FindsOnly};
 ghost use Rattle.meta_model.specs.Indexes.{IndexesMembers};
 ghost use Rattle.meta_model.specs.Members.{IsClassNamed, IsMethod, HasSig, IsMethodNamed, IsPropertyNamed};
 ghost use Rattle.meta_model.specs.Members.{base_of, method_count, method_offset, Below};
@@ -16,7 +16,7 @@ ghost use Rattle.meta_model.specs.code.Ends.{IsEndOf};
 use crate::class_index::{ClassIndex, MemberIndex, index_sites};
 use crate::object::{MetaMethod, MetaObject, MetaOwns, MetaWire, ValueType};
 use crate::site::MetaSite;
-use class_outlines::NameIndex;
+use name_indexes::NameIndex;
 use signatures::{Kind, Name, ObjectId, Sig, Value, fits};
 use sqlite_items::Items;
 use std::alloc::{AllocError, Global};

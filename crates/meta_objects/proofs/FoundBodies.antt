@@ -34,7 +34,7 @@ use Rattle.meta_model.specs.Members.{IsClassNamed, IsMethod, IsProperty, HasSig}
 use Rattle.meta_model.specs.Kinds.{IsKind}
 use Rattle.class_outlines.specs.Outlines.{IsOutlineNamed, kinds_of}
 use Rattle.class_outlines.specs.Places.{StandsFirst}
-use Rattle.meta_model.specs.code.ReadTypes.{IsReadAs}
+use Rattle.class_outlines.specs.code.ReadTypes.{IsReadAs}
 use Rattle.class_outlines.specs.Clashes.{AreOneCall, HasTwoMembers}
 use Rattle.class_outlines.specs.Notifiers.{IsSignalOf}
 use Rattle.class_outlines.specs.Ends.{IsSigned}

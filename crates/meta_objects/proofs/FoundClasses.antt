@@ -29,9 +29,9 @@ use Rattle.meta_model.specs.Members.{IsClass, IsClassNamed}
 use Rattle.meta_model.specs.Sound.{IsKind, IsSound}
 use Rattle.meta_model.specs.Root.{root_class}
 use Rattle.class_outlines.specs.Outlines.{IsOutlineNamed, kinds_of, signal_heading, slot_headings, own_methods, qobject}
-use Rattle.meta_model.specs.code.ReadTypes.{IsReadAs}
+use Rattle.class_outlines.specs.code.ReadTypes.{IsReadAs}
 use Rattle.class_outlines.specs.Clashes.{HasTwoMembers}
-use Rattle.meta_model.specs.Conditions.{DuplicateMember}
+use Rattle.class_outlines.specs.Conditions.{DuplicateMember}
 use Rattle.class_outlines.specs.Notifiers.{IsSignalOf}
 use Rattle.name_resolution.specs.declared.body_resolution.work.ResolvedWork.{ResolvedWork}
 use Rattle.name_resolution.specs.declared.body_resolution.work.ResolvedWork.TheVariants as resolved

@@ -21,7 +21,7 @@ use Rattle.meta_model.specs.Loaded.{Loaded}
 use Rattle.meta_model.specs.Members.{IsClassNamed, IsPropertyNamed}
 use Rattle.class_outlines.specs.Outlines.{IsOutlineNamed}
 use Rattle.class_outlines.specs.Clashes.{HasTwoMembers}
-use Rattle.meta_model.specs.Sites.{IsPropertyIn, IsSourceProperty}
+use Rattle.class_outlines.specs.DeclaredSites.{IsPropertyIn, IsSourceProperty}
 use Rattle.name_resolution.specs.declared.body_resolution.work.ResolvedWork.{ResolvedWork}
 use Rattle.name_resolution.specs.code.Natives.{HasPropertyIn, HasSignalIn, AreEffects}
 use Rattle.meta_objects.specs.LoadedNatives.{IsEmitted, AreLoadedEffects}

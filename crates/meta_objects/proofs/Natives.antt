@@ -13,12 +13,12 @@ use Rattle.meta_model.specs.declared.object.MetaObject.{MetaObject}
 use Rattle.meta_model.specs.declared.object.MetaProperty.{MetaProperty}
 use Rattle.meta_model.specs.declared.object.ValueType.{ValueType}
 use Rattle.class_outlines.specs.declared.outline.Outline.{Outline}
-use Rattle.meta_model.specs.code.ReadTypes.{IsReadAs}
+use Rattle.class_outlines.specs.code.ReadTypes.{IsReadAs}
 use Rattle.meta_model.specs.Loaded.{Loaded}
 use Rattle.meta_model.specs.Members.{IsPropertyNamed}
-use Rattle.meta_model.specs.Natives.{RepeatsEffect, IsPointer, TakesReference, AffectsReference}
+use Rattle.class_outlines.specs.Natives.{RepeatsEffect, IsPointer, TakesReference, AffectsReference}
 use Rattle.class_outlines.specs.Outlines.{IsOutlineNamed, kinds_of}
-use Rattle.meta_model.specs.Sites.{IsReferenceIn}
+use Rattle.class_outlines.specs.DeclaredSites.{IsReferenceIn}
 use Rattle.meta_model.specs.Sound.{IsPlain, IsPlainProperty, IsPlainSignal, AreOnce, AreSoundEffects}
 use Rattle.class_outlines.specs.Twice.{StandsTwice}
 use Rattle.name_resolution.specs.declared.body_resolution.work.ResolvedWork.{ResolvedWork}

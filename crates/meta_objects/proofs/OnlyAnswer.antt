@@ -9,7 +9,7 @@ use Rattle.class_outlines.specs.declared.outline.Outline.{Outline}
 use Rattle.meta_model.specs.Loaded.{Loaded}
 use Rattle.class_outlines.specs.Clashes.{DuplicateClass}
 use Rattle.class_outlines.specs.Bases.{NoBase}
-use Rattle.meta_model.specs.Conditions.{DuplicateMember, NoType}
+use Rattle.class_outlines.specs.Conditions.{DuplicateMember, NoType}
 use Rattle.class_outlines.specs.Notifiers.{BadNotify}
 use Rattle.name_resolution.specs.LackedNames.{LacksMember}
 use Rattle.meta_objects.specs.Builds.{HasOutlines, Builds, OneAnswer}

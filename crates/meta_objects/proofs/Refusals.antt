@@ -11,7 +11,7 @@ use Rattle.meta_model.specs.Loaded.{Loaded}
 use Rattle.class_outlines.specs.Outlines.{Outlines}
 use Rattle.class_outlines.specs.Clashes.{DuplicateClass, HasTwoMembers}
 use Rattle.class_outlines.specs.Bases.{NoBase}
-use Rattle.meta_model.specs.Conditions.{RepeatsDeclared, DuplicateMember}
+use Rattle.class_outlines.specs.Conditions.{RepeatsDeclared, DuplicateMember}
 use Rattle.class_outlines.specs.Indexed.{AreIndexed}
 use Rattle.name_resolution.specs.declared.body_resolution.work.ResolvedWork.{ResolvedWork}
 use Rattle.name_resolution.specs.code.Bodies.{IsSlotWork, AreWorks}

@@ -16,12 +16,13 @@ use Rattle.meta_model.specs.declared.object.ValueType.TheVariants as type
 use Rattle.meta_model.specs.declared.site.SourceProperty.{SourceProperty}
 use Rattle.meta_model.specs.declared.site.MetaSite.{MetaSite}
 use Rattle.class_outlines.specs.declared.outline.Outline.{Outline}
-use Rattle.meta_model.specs.code.ReadTypes.{IsReadAs}
+use Rattle.class_outlines.specs.code.ReadTypes.{IsReadAs}
 use Rattle.meta_model.specs.Literals.{literal, HoldsNoObject}
 use Rattle.meta_model.specs.Loaded.{Loaded}
 use Rattle.meta_model.specs.Members.{IsClassNamed, IsPropertyNamed}
 use Rattle.class_outlines.specs.Outlines.{IsOutlineNamed}
-use Rattle.meta_model.specs.Sites.{IsPropertyIn, IsSourceProperty, paths_in, literals_in, ReadsReference, UsesReference, by_target, by_source}
+use Rattle.meta_model.specs.Sites.{paths_in, literals_in}
+use Rattle.class_outlines.specs.DeclaredSites.{IsPropertyIn, IsSourceProperty, ReadsReference, UsesReference, by_target, by_source}
 use Rattle.meta_model.specs.Sound.{IsPlain, IsPlainProperty, IsSoundSource, IsSoundSite}
 use Rattle.name_resolution.specs.declared.body_resolution.work.ResolvedWork.{ResolvedWork}
 use Rattle.name_resolution.specs.code.Loading.{IsObject}

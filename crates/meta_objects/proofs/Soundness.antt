@@ -34,10 +34,10 @@ use Rattle.meta_model.specs.Loaded.{Loaded}
 use Rattle.meta_model.specs.Members.{IsClassNamed, IsMethod, IsMethodNamed, IsProperty}
 use Rattle.meta_model.specs.Kinds.{IsKind}
 use Rattle.class_outlines.specs.Outlines.{IsOutlineNamed, kinds_of}
-use Rattle.class_outlines.specs.declared.qobject.TheConstants.{OBJECT_NAME_CHANGED}
+use Rattle.meta_model.specs.declared.qobject.TheConstants.{OBJECT_NAME_CHANGED}
 use Rattle.class_outlines.specs.Places.{StandsFirst}
-use Rattle.meta_model.specs.Kinds.{IsKindIn}
-use Rattle.meta_model.specs.code.ReadTypes.{IsReadAs}
+use Rattle.class_outlines.specs.DeclaredKinds.{IsKindIn}
+use Rattle.class_outlines.specs.code.ReadTypes.{IsReadAs}
 use Rattle.class_outlines.specs.Notifiers.{IsSignalOf}
 use Rattle.class_outlines.specs.Ends.{IsSigned}
 use Rattle.meta_objects.specs.LoadedEnds.{Connects}
@@ -48,7 +48,7 @@ use Rattle.meta_objects.specs.LoadedBodies.{Site, site, IsLoadedRoot, this_loade
 use Rattle.name_resolution.specs.code.Loading.{work_at, found_work, work_of, IsMethodOf, IsPropertyOf, IsObject}
 use Rattle.class_outlines.proofs.Zips.{zip_left, zip_right}
 use Rattle.class_outlines.proofs.Searches.{same_first}
-use Rattle.meta_model.proofs.ReadTypes.{same_read}
+use Rattle.class_outlines.proofs.ReadTypes.{same_read}
 
 -- what a declared type is read as, which is its kind
 abbrev pub IsTyped : List Outline → Loaded → QType → ValueType → Type 0

@@ -35,15 +35,15 @@ use Rattle.class_outlines.specs.Places.{StandsFirst}
 use Rattle.meta_model.specs.Members.{IsClass, IsProperty, methods_in, method_count, methods_before, method_offset, Declares, base_of, Below, same, under, IsIn}
 use Rattle.meta_model.specs.Sound.{IsKind, IsSoundWork, IsSoundMethod, IsNotifier, IsSoundProperty, IsUnder, HasDistinctMethods, HasDistinctProperties, IsSoundClass, IsSoundWire, IsSoundOwns, IsSoundSite, AreDistinctSites, IsSound}
 use Rattle.meta_model.specs.Literals.{HoldsNoObject}
-use Rattle.meta_model.specs.Sites.{UsesReference}
+use Rattle.class_outlines.specs.DeclaredSites.{UsesReference}
 use Rattle.meta_model.specs.Root.{root_methods, root_class, BeginsAsRoot}
 use Rattle.class_outlines.specs.Outlines.{IsOutlineNamed, kinds_of, signal_heading, slot_headings, own_methods, qobject}
-use Rattle.meta_model.specs.Kinds.{LacksType}
-use Rattle.meta_model.specs.code.ReadTypes.{IsReadAs}
+use Rattle.class_outlines.specs.DeclaredKinds.{LacksType}
+use Rattle.class_outlines.specs.code.ReadTypes.{IsReadAs}
 use Rattle.class_outlines.specs.Clashes.{AreOneCall, HasTwoMembers}
-use Rattle.meta_model.specs.Conditions.{RepeatsName, RepeatsInSlot, RepeatsInMethod, LacksTypes}
+use Rattle.class_outlines.specs.Conditions.{RepeatsName, RepeatsInSlot, RepeatsInMethod, LacksTypes}
 use Rattle.class_outlines.specs.Notifiers.{IsSignalOf, LacksNotifier}
-use Rattle.meta_model.specs.Natives.{RepeatsEffectIn, TouchesReference, HasReferenceNative}
+use Rattle.class_outlines.specs.Natives.{RepeatsEffectIn, TouchesReference, HasReferenceNative}
 use Rattle.name_resolution.specs.declared.body_resolution.work.ResolvedWork.{ResolvedWork}
 use Rattle.name_resolution.specs.declared.body_resolution.work.ResolvedWork.TheVariants as resolved
 use Rattle.name_resolution.specs.code.Bodies.{scope_of, IsWork, IsSlotWork, AreWorks}
@@ -61,7 +61,7 @@ use Rattle.meta_model.proofs.InLists.{place_in}
 use Rattle.class_outlines.proofs.Once.{once, none_at}
 use Rattle.class_outlines.proofs.Firsts.{first_in_front}
 use Rattle.load_rules.proofs.OwnMembers.{name_changed_first}
-use Rattle.meta_model.proofs.ReadTypes.{same_read}
+use Rattle.class_outlines.proofs.ReadTypes.{same_read}
 use Rattle.meta_objects.proofs.Deciding.{carries}
 use Rattle.name_resolution.proofs.OneSite.{same_zip}
 use Rattle.name_resolution.proofs.Unique.{same_method, same_property_by, same_place, same_object}

@@ -11,7 +11,7 @@ use Rattle.meta_model.specs.Loaded.{Loaded}
 use Rattle.class_outlines.specs.Outlines.{Outlines}
 use Rattle.class_outlines.specs.Clashes.{DuplicateClass}
 use Rattle.class_outlines.specs.Bases.{NoBase}
-use Rattle.meta_model.specs.Conditions.{DuplicateMember, NoType}
+use Rattle.class_outlines.specs.Conditions.{DuplicateMember, NoType}
 use Rattle.class_outlines.specs.Notifiers.{BadNotify}
 use Rattle.name_resolution.specs.LackedNames.{LacksMember}
 use Rattle.meta_objects.specs.LoadedProgram.{IsLoadedProgram}

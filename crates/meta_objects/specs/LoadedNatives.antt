@@ -6,7 +6,7 @@ use Rattle.signatures.specs.declared.sig.Sig.{Sig}
 use Rattle.syntax_trees.specs.declared.program.EffectNames.{EffectNames}
 use Rattle.meta_model.specs.declared.effects.MetaEffects.{MetaEffects}
 use Rattle.meta_model.specs.declared.object.Work.TheVariants.{Signal}
-use Rattle.class_outlines.specs.declared.qobject.TheConstants.{OBJECT_NAME_CHANGED}
+use Rattle.meta_model.specs.declared.qobject.TheConstants.{OBJECT_NAME_CHANGED}
 use Rattle.meta_model.specs.Loaded.{Loaded}
 use Rattle.meta_model.specs.Members.{HasSig, IsPropertyNamed}
 

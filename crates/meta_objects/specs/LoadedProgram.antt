@@ -19,10 +19,11 @@ use Rattle.meta_model.specs.declared.object.MetaProperty.{MetaProperty}
 use Rattle.meta_model.specs.declared.object.MetaObject.{MetaObject}
 use Rattle.meta_model.specs.declared.object.MetaWire.{MetaWire}
 use Rattle.meta_model.specs.declared.object.MetaOwns.{MetaOwns}
-use Rattle.class_outlines.specs.declared.qobject.TheConstants.{QOBJECT}
+use Rattle.meta_model.specs.declared.qobject.TheConstants.{QOBJECT}
 use Rattle.meta_model.specs.Loaded.{Loaded}
 use Rattle.meta_model.specs.Members.{IsClass, IsClassNamed}
-use Rattle.class_outlines.specs.Outlines.{sig_of, kinds_of, base_name}
+use Rattle.meta_model.specs.QObject.{sig_of}
+use Rattle.class_outlines.specs.Outlines.{kinds_of, base_name}
 use Rattle.meta_model.specs.Root.{root_class}
 use Rattle.meta_model.specs.Kinds.{IsKind}
 use Rattle.name_resolution.specs.InitialValues.{initial_of}

@@ -1,3 +1,4 @@
+pub mod Choices
 pub mod Searches
 pub mod Zips
 pub mod Once

@@ -2,5 +2,6 @@ pub mod NamePlaces
 pub mod Places
 pub mod CallPlaces
 pub mod Twice
+pub mod LookUps
 pub mod code
 pub use Rattle.signatures.specs.Name

@@ -12,10 +12,10 @@ use Rattle.meta_model.specs.declared.site.MetaSite.{MetaSite}
 use Rattle.class_outlines.specs.declared.outline.Outline.{Outline}
 use Rattle.meta_model.specs.Literals.{literal}
 use Rattle.class_outlines.specs.Outlines.{IsOutlineNamed}
-use Rattle.meta_model.specs.Sites.{IsSourceProperty}
+use Rattle.class_outlines.specs.DeclaredSites.{IsSourceProperty}
 use Rattle.name_resolution.specs.code.Sites.{IsFormula, literal_is, path_is, unary_is, binary_is, IsSite}
 use Rattle.class_outlines.proofs.Searches.{same_first}
-use Rattle.meta_model.proofs.SiteProperties.{one_property_in, one_source}
+use Rattle.class_outlines.proofs.SiteProperties.{one_property_in, one_source}
 
 -- two lists that relate to one list in the same way are the same
 pub same_zip : {A B : Type 0} (R : A → B → Type 0) (xs : List A) (ys zs : List B) → ((x : A) (y z : B) → R x y → R x z → y ≡ z) → AllZip R xs ys → AllZip R xs zs → ys ≡ zs

@@ -15,7 +15,7 @@ use Rattle.meta_model.specs.declared.site.SourceProperty.{SourceProperty}
 use Rattle.class_outlines.specs.declared.outline.Outline.{Outline}
 use Rattle.meta_model.specs.Literals.{literal}
 use Rattle.class_outlines.specs.Outlines.{IsOutlineNamed}
-use Rattle.meta_model.specs.Sites.{IsSourceProperty}
+use Rattle.class_outlines.specs.DeclaredSites.{IsSourceProperty}
 use Rattle.name_resolution.specs.code.Sites.{IsFormula, literal_is, path_is, unary_is, binary_is}
 use Rattle.name_resolution.specs.LackedNames.{LacksInSite}
 use Rattle.class_outlines.proofs.Zips.{none_of_zip}

@@ -29,7 +29,7 @@ use Rattle.class_outlines.specs.declared.outline.Outline.{Outline}
 use Rattle.meta_model.specs.Loaded.{Loaded}
 use Rattle.class_outlines.specs.Places.{IsPlace}
 use Rattle.class_outlines.specs.Outlines.{IsOutline, Outlines, base_name, own_methods, qobject}
-use Rattle.meta_model.specs.code.ReadTypes.{IsReadAs}
+use Rattle.class_outlines.specs.code.ReadTypes.{IsReadAs}
 use Rattle.class_outlines.specs.Notifiers.{IsSignalOf}
 use Rattle.name_resolution.specs.declared.body_resolution.work.ResolvedWork.{ResolvedWork}
 use Rattle.name_resolution.specs.declared.body_resolution.work.ResolvedWork.TheVariants as loads
@@ -42,11 +42,11 @@ use Rattle.name_resolution.specs.code.Sites.{IsSite}
 use Rattle.class_outlines.proofs.Searches.{same_first}
 use Rattle.class_outlines.proofs.Firsts.{first_item}
 use Rattle.class_outlines.proofs.Fronts.{inside, next_take}
-use Rattle.meta_model.proofs.SiteProperties.{one_property_in}
+use Rattle.class_outlines.proofs.SiteProperties.{one_property_in}
 use Rattle.name_resolution.proofs.Ends.{one_end}
 use Rattle.name_resolution.proofs.Bodies.{same_statements}
 use Rattle.name_resolution.proofs.OneSite.{same_zip, same_site}
-use Rattle.meta_model.proofs.ReadTypes.{same_read}
+use Rattle.class_outlines.proofs.ReadTypes.{same_read}
 
 -- ---- outlines
 abbrev outline_by : ℕ → Class → ℕ → Outline → Outline

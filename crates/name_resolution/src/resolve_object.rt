@@ -9,10 +9,9 @@ ghost use Rattle.name_resolution.specs.code.Loading.{IsNotify, IsPropertyOf, Are
 ghost use Rattle.name_resolution.specs.code.Loading.{IsObject, AreObjects};
 
 use crate::body_resolution::ResolvedWork;
-use class_outlines::{ClassTable, Heading, IndexedOutline, Sort};
+use class_outlines::{ClassTable, Heading, IndexedOutline, Sort, read_kind, read_kinds};
 use meta_model::{
-    MetaMethod, MetaObject, MetaProperty, SlotBody, ValueType, Work, delete_later_body, read_kind,
-    read_kinds,
+    MetaMethod, MetaObject, MetaProperty, SlotBody, ValueType, Work, delete_later_body,
 };
 use shared_values::Shared;
 use signatures::Value;

@@ -10,8 +10,9 @@ use crate::literals::literal_of;
 use crate::missing::{no_property, undeclared};
 use class_outlines::{
     ClassTable, Declaration, LoadFault, Missing, PartFault, find, names_before_expression,
+    property_in, source_property,
 };
-use meta_model::{Formula, MetaSite, SourceProperty, property_in, source_property};
+use meta_model::{Formula, MetaSite, SourceProperty};
 use sqlite_items::{Boxed, Items};
 use std::alloc::Global;
 use syntax_trees::{Expr, Formal, Path, Program, Root, Site};

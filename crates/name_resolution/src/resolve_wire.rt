@@ -7,10 +7,8 @@ ghost use Rattle.name_resolution.specs.code.Wires.{IsWire, IsOwns};
 ghost use Rattle.name_resolution.specs.code.Resolving.{FindsEnd, Resolves, ResolvesAll};
 
 use crate::missing::{no_end, undeclared};
-use class_outlines::{
-    ClassTable, Declaration, End, LoadFault, Missing, OBJECT_NAME_CHANGED, PartFault, names_of_sig,
-};
-use meta_model::{MetaOwns, MetaWire};
+use class_outlines::{ClassTable, Declaration, End, LoadFault, Missing, PartFault, names_of_sig};
+use meta_model::{MetaOwns, MetaWire, OBJECT_NAME_CHANGED};
 use signatures::{Name, Sig};
 use sqlite_items::Items;
 use std::alloc::Global;

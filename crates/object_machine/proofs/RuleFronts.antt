@@ -34,8 +34,8 @@ use Rattle.trace_entries.specs.declared.entry.EntryKind.TheVariants as entry_kin
 use Rattle.trace_entries.specs.declared.entry.Shown.TheVariants as show
 use Rattle.trace_entries.specs.declared.refusal.Refusal.{Refusal}
 use Rattle.machine_state.specs.declared.turn.Turn.{Turn}
-use Rattle.class_outlines.specs.Outlines.{destroyed}
-use Rattle.class_outlines.specs.declared.qobject.TheConstants.{DESTROYED}
+use Rattle.meta_model.specs.QObject.{destroyed}
+use Rattle.meta_model.specs.declared.qobject.TheConstants.{DESTROYED}
 use Rattle.signatures.specs.declared.value.Value.TheVariants as value
 use Rattle.machine_rules.specs.Destroying.{Dies, NextRule, ChildRule, DestroyRule, TellsSchedule, scheduled_now, scheduled_before, not_living, Schedules, living_child}
 use Rattle.machine_rules.specs.Natives.{NativeAnswers}

@@ -11,5 +11,5 @@ pub mod Forest
 pub mod Moving
 pub mod Kept
 pub mod Slots
-pub use Rattle.class_outlines.specs.NamePlaces
+pub use Rattle.meta_model.specs.NamePlaces
 pub use Rattle.meta_model.specs.Typed as MetaObjectsTyped

@@ -11,8 +11,7 @@ use crate::object::Object;
 use crate::objects::Objects;
 use crate::typing::begin_well;
 use crate::values::Values;
-use class_outlines::NameIndex;
-use meta_model::{Meta, MetaObject};
+use meta_model::{Meta, MetaObject, NameIndex};
 use signatures::{LoopId, Name};
 use std::alloc::{AllocError, Global};
 

@@ -2,7 +2,7 @@
 
 ghost use Rattle.std.specs.Prelude.{◌≡◌, [], ◌∷◌, ◌++◌, ◌<◌, length, slice_get, count_by, true, OnOk, OnErr, IsSome, IfSome, Some, ◌≢◌};
 ghost use Rattle.std.specs.Option.{option_copied};
-ghost use Rattle.class_outlines.specs.NamePlaces.{Adds};
+ghost use Rattle.meta_model.specs.NamePlaces.{Adds};
 ghost use Rattle.object_tree.specs.Objects.{name_of, life_of, class_of, class_with, change, change_life, blocked, scheduled, written};
 ghost use Rattle.object_tree.specs.Held.{is_held, held_in, is_dead};
 ghost use Rattle.object_tree.specs.Forest.{Forest, HasDistinct};
@@ -15,7 +15,7 @@ use crate::slot::{
     Entry, Slot, adoption_in, block_in, end_in, give_up, house_in, join_in, key_of, lose_in,
     name_in, object_in, put, put_under_in, schedule_in, write_in,
 };
-use class_outlines::NameIndex;
+use meta_model::NameIndex;
 use signatures::{LoopId, Name, ObjectId, Value};
 use slab::Slab;
 use std::alloc::{AllocError, Global};

@@ -19,7 +19,8 @@ use Rattle.meta_model.specs.declared.object.MetaProperty.{MetaProperty}
 use Rattle.meta_model.specs.declared.object.MetaObject.{MetaObject}
 use Rattle.meta_model.specs.Loaded.{Loaded}
 use Rattle.meta_model.specs.Members.{IsClass}
-use Rattle.class_outlines.specs.Outlines.{sig_of, kinds_of}
+use Rattle.meta_model.specs.QObject.{sig_of}
+use Rattle.class_outlines.specs.Outlines.{kinds_of}
 use Rattle.meta_model.specs.Root.{root_class}
 use Rattle.meta_objects.specs.LoadedProgram.{IsLoadedSignal, IsLoadedSlot, IsLoadedProperty, IsLoadedClass, IsLoadedProgram}
 use Rattle.program_names.specs.Names.{IsNamedClass, IsNamedProgram, IsNamedObject, LoadedProgramsAreNamed}

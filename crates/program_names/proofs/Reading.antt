@@ -31,7 +31,8 @@ use Rattle.class_lang.specs.Limits.{ClassHasFewParameters, SlotHasFewParameters}
 use Rattle.class_lang.specs.Members.{MemberReading, a_property, a_signal, a_slot, a_native, property, signal, slot, spell_member, tree_of_member, properties_in, signals_in, slots_in}
 use Rattle.class_lang.specs.Natives.{native}
 use Rattle.class_lang.specs.Parameters.{SignalParameter, signal_parameter, spell_signal_parameter, tree_of_signal_parameter, SlotParameter, slot_parameter, spell_slot_parameter, tree_of_slot_parameter}
-use Rattle.class_outlines.specs.Outlines.{sig_of, kinds_of}
+use Rattle.meta_model.specs.QObject.{sig_of}
+use Rattle.class_outlines.specs.Outlines.{kinds_of}
 use Rattle.program_names.specs.Names.{IsNamedClass, ReadProgramsAreNamed}
 use Rattle.program_names.proofs.Behind as behind
 

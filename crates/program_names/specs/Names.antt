@@ -13,7 +13,8 @@ use Rattle.meta_model.specs.declared.object.MetaMethod.{MetaMethod}
 use Rattle.meta_model.specs.declared.object.MetaProperty.{MetaProperty}
 use Rattle.meta_model.specs.declared.object.MetaObject.{MetaObject}
 use Rattle.meta_model.specs.Loaded.{Loaded}
-use Rattle.class_outlines.specs.Outlines.{sig_of, kinds_of}
+use Rattle.meta_model.specs.QObject.{sig_of}
+use Rattle.class_outlines.specs.Outlines.{kinds_of}
 use Rattle.meta_objects.specs.Builds.{Builds}
 
 -- ---- what is declared

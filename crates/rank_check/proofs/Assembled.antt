@@ -3,7 +3,7 @@ use Rattle.std.proofs.Common.{◌≡◌, ℕ, ◌<◌, List, length, slice_get, 
 use Rattle.std.specs.List.{AllZip}
 use Rattle.std.proofs.lemmas.Option.{slice_get_within, same_Some, none-some}
 use Rattle.meta_model.specs.Loaded.{Loaded}
-use Rattle.class_outlines.proofs.Zips.{zip_left, zip_right}
+use Rattle.meta_model.proofs.Zips.{zip_left, zip_right}
 use Rattle.effect_scan.specs.declared.node.Node.{Node}
 use Rattle.effect_scan.specs.Nodes.{nodes_of, IsAt}
 use Rattle.certificate_lang.specs.declared.certificate.Line.{Line}

@@ -4,7 +4,7 @@ use Rattle.std.specs.List.{AllZip}
 use Rattle.std.proofs.lemmas.Bool.{cases_eq, cases_lt}
 use Rattle.std.proofs.lemmas.List.{length-set, length-replicate, get_or-replicate, get_or_past}
 use Rattle.std.proofs.lemmas.Option.{slice_get_within, slice_get-get_or, get_or_from_slice_get, same_Some, none-some}
-use Rattle.class_outlines.proofs.Zips.{zip_right}
+use Rattle.meta_model.proofs.Zips.{zip_right}
 use Rattle.rank_check.specs.Entries.{IsFor, place_at, PlacesFirst, PlacesEach, ArePlaces, LacksPlace, FindsAll, FindsPlaces, LacksLine, IsPlaced, IsSecond}
 
 none_at : (count n : ℕ) → place_at (replicate count None) n ≡ None

@@ -5,7 +5,7 @@ use Rattle.std.proofs.lemmas.Option.{slice_get_within}
 use Rattle.meta_model.specs.Loaded.{Loaded}
 use Rattle.meta_model.specs.Sound.{IsSound}
 use Rattle.meta_model.proofs.OneAnswer.{one_class}
-use Rattle.class_outlines.proofs.Zips.{zip_left, zip_right}
+use Rattle.meta_model.proofs.Zips.{zip_left, zip_right}
 use Rattle.effect_scan.specs.declared.node.Node.{Node}
 use Rattle.effect_scan.specs.Nodes.{nodes_of, IsAt}
 use Rattle.effect_scan.specs.Rows.{Edge}

@@ -6,7 +6,7 @@ use Rattle.std.proofs.lemmas.List.{length-append, length-replicate, take_more, m
 use Rattle.std.proofs.lemmas.List.Elements.{Contains-append_left, Contains-push, Contains-push_cases}
 use Rattle.std.proofs.lemmas.Option.{slice_get-get_or, same_Some, none-some}
 use Rattle.meta_model.specs.Loaded.{Loaded}
-use Rattle.class_outlines.proofs.Zips.{zip_append, zip_push}
+use Rattle.meta_model.proofs.Zips.{zip_append, zip_push}
 use Rattle.effect_scan.specs.declared.node.Node.{Node}
 use Rattle.effect_scan.specs.Nodes.{nodes_of, IsAt}
 use Rattle.effect_scan.specs.Destroying.{Closure}

@@ -3,7 +3,7 @@ use Rattle.std.proofs.Common.{◌≡◌, ℕ, zero, suc, ◌<◌, ◌≤◌, Lis
 use Rattle.std.specs.List.{Contains, AllZip}
 use Rattle.std.proofs.lemmas.Option.{slice_get_within, get_or_from_slice_get, same_Some, none-some}
 use Rattle.meta_model.specs.Loaded.{Loaded}
-use Rattle.class_outlines.proofs.Zips.{zip_right}
+use Rattle.meta_model.proofs.Zips.{zip_right}
 use Rattle.effect_scan.specs.declared.node.Node.{Node}
 use Rattle.effect_scan.specs.Nodes.{nodes_of, IsAt}
 use Rattle.effect_scan.specs.Rows.{Edge}

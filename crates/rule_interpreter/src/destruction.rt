@@ -10,8 +10,8 @@ ghost use Rattle.machine_rules.specs.Natives.{KeepPromises};
 
 use crate::active::Active;
 use crate::interpreter::Interpreter;
-use class_outlines::DESTROYED;
 use machine_state::World;
+use meta_model::DESTROYED;
 use native_slots::Answering;
 use run_context::MethodCall;
 use signatures::{ObjectId, Value};

@@ -7,7 +7,7 @@ use Rattle.meta_model.specs.declared.object.ValueType.{ValueType}
 use Rattle.meta_model.specs.Loaded.{Loaded}
 use Rattle.connections.specs.declared.connection.Connection.{Connection}
 use Rattle.std.specs.Prelude.{is_some}
-use Rattle.class_outlines.specs.declared.qobject.TheConstants.{DESTROYED}
+use Rattle.meta_model.specs.declared.qobject.TheConstants.{DESTROYED}
 use Rattle.object_tree.specs.Objects.{Lives, life_of}
 use Rattle.object_tree.proofs.Changing.{lives-of-life}
 use Rattle.object_tree.specs.declared.life.Life.{Life}

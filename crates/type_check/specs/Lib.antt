@@ -9,6 +9,6 @@ pub mod Laws
 pub use Rattle.signatures.specs.Name
 pub use Rattle.signatures.specs.Types
 pub use Rattle.expressions.specs.Typing
-pub use Rattle.class_outlines.specs.LookUps
+pub use Rattle.meta_model.specs.LookUps
 pub use Rattle.meta_model.specs.Members
 pub use Rattle.meta_model.specs.Sound

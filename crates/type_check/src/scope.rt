@@ -2,7 +2,7 @@
 
 ghost use Rattle.std.specs.Prelude.{◌≡◌, ◌↔◌, IsTrue, IfOk};
 ghost use Rattle.std.specs.List.{AllZip};
-ghost use Rattle.class_outlines.specs.LookUps.{LooksUp, FindsOnly};
+ghost use Rattle.meta_model.specs.LookUps.{LooksUp, FindsOnly};
 ghost use Rattle.meta_model.specs.declared.object.Statement.TheViews.{out-Statement};
 ghost use Rattle.type_check.specs.Bodies.{kind_of_root, kind_of_path, LeadsToMutable, IsGivenIn, AcceptsArguments};
 ghost use Rattle.type_check.specs.Bodies.{IsTypedSet, IsTypedCall, IsTypedDeletion, IsTypedStatement};

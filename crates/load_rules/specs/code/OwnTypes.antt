@@ -4,8 +4,8 @@ use Rattle.syntax_trees.specs.declared.program.Signal.{Signal}
 use Rattle.syntax_trees.specs.declared.program.Slot.{Slot}
 use Rattle.syntax_trees.specs.declared.program.Class.{Class}
 use Rattle.class_outlines.specs.declared.outline.Outline.{Outline}
-use Rattle.meta_model.specs.Conditions.{LacksPropertyType}
-use Rattle.meta_model.specs.Kinds.{LacksType}
+use Rattle.class_outlines.specs.Conditions.{LacksPropertyType}
+use Rattle.class_outlines.specs.DeclaredKinds.{LacksType}
 use Rattle.class_outlines.specs.Outlines.{kinds_of}
 
 -- the type of one of its own properties, or of a parameter of one of its own methods, isn't there

@@ -37,10 +37,10 @@ use Rattle.class_outlines.specs.declared.outline.Sort.TheVariants as sort
 use Rattle.class_outlines.specs.Places.{StandsFirst}
 pub use Rattle.class_outlines.specs.Indexed.{IsCallOf, IsPropertyOfName}
 use Rattle.class_outlines.specs.Outlines.{IsOutlineNamed}
-use Rattle.class_outlines.specs.declared.qobject.TheConstants.{OBJECT_NAME_CHANGED}
+use Rattle.meta_model.specs.declared.qobject.TheConstants.{OBJECT_NAME_CHANGED}
 use Rattle.meta_model.specs.Literals.{literal}
 use Rattle.meta_model.specs.Sound.{AreSets}
-use Rattle.meta_model.specs.code.ReadTypes.{IsReadAs}
+use Rattle.class_outlines.specs.code.ReadTypes.{IsReadAs}
 use Rattle.class_outlines.specs.Notifiers.{IsSignalOf}
 use Rattle.class_outlines.specs.Ends.{IsSigned}
 use Rattle.name_resolution.specs.declared.body_resolution.work.ResolvedWork.{ResolvedWork}

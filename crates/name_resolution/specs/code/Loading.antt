@@ -20,7 +20,7 @@ use Rattle.class_outlines.specs.declared.outline.Outline.{Outline}
 use Rattle.meta_model.specs.Loaded.{Loaded}
 use Rattle.class_outlines.specs.Places.{IsPlace}
 use Rattle.meta_model.specs.Root.{delete_later_body}
-use Rattle.meta_model.specs.code.ReadTypes.{IsReadAs}
+use Rattle.class_outlines.specs.code.ReadTypes.{IsReadAs}
 use Rattle.class_outlines.specs.Notifiers.{IsSignalOf}
 use Rattle.meta_model.specs.declared.site.MetaSite.{MetaSite}
 use Rattle.name_resolution.specs.declared.body_resolution.work.ResolvedWork.{ResolvedWork}

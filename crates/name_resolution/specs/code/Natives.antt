@@ -6,10 +6,10 @@ use Rattle.syntax_trees.specs.declared.program.EffectNames.{EffectNames}
 use Rattle.syntax_trees.specs.declared.program.Property.{Property}
 use Rattle.meta_model.specs.declared.effects.MetaEffects.{MetaEffects}
 use Rattle.class_outlines.specs.declared.outline.Outline.{Outline}
-use Rattle.class_outlines.specs.declared.qobject.TheConstants.{OBJECT_NAME_CHANGED}
+use Rattle.meta_model.specs.declared.qobject.TheConstants.{OBJECT_NAME_CHANGED}
 use Rattle.class_outlines.specs.Notifiers.{IsSignalOf}
 use Rattle.class_outlines.specs.Ends.{IsEnd}
-use Rattle.meta_model.specs.Sites.{IsPropertyIn}
+use Rattle.class_outlines.specs.DeclaredSites.{IsPropertyIn}
 
 -- property q of the class of this name, inherited or its own, has this name
 pub record HasPropertyIn (outlines : List Outline) (class name : List ℕ) (q : ℕ) : Type 0 where

@@ -16,7 +16,7 @@ use Rattle.meta_model.specs.declared.site.MetaSite.{MetaSite}
 use Rattle.class_outlines.specs.declared.outline.Outline.{Outline}
 use Rattle.meta_model.specs.Literals.{literal}
 use Rattle.class_outlines.specs.Outlines.{IsOutlineNamed}
-use Rattle.meta_model.specs.Sites.{IsPropertyIn, IsSourceProperty}
+use Rattle.class_outlines.specs.DeclaredSites.{IsPropertyIn, IsSourceProperty}
 
 -- the site's expression, each of its paths a property of a formal source
 pub data IsFormula (outlines : List Outline) (site : Site) : Expr Path → Expr SourceProperty → Type 0 where

@@ -6,7 +6,7 @@ use Rattle.meta_model.specs.declared.object.MetaWire.{MetaWire}
 use Rattle.meta_model.specs.declared.object.MetaOwns.{MetaOwns}
 use Rattle.class_outlines.specs.declared.outline.Outline.{Outline}
 use Rattle.class_outlines.specs.Outlines.{IsOutlineNamed}
-use Rattle.class_outlines.specs.declared.qobject.TheConstants.{OBJECT_NAME_CHANGED}
+use Rattle.meta_model.specs.declared.qobject.TheConstants.{OBJECT_NAME_CHANGED}
 use Rattle.class_outlines.specs.Notifiers.{IsSignalOf}
 use Rattle.class_outlines.specs.Ends.{IsSigned, IsEnd}
 

@@ -6,8 +6,8 @@ ghost use Rattle.name_resolution.specs.code.Resolving.{scope, Resolves};
 use crate::body_resolution::path::Target;
 use crate::body_resolution::scope::Scope;
 use crate::missing::no_method;
-use class_outlines::{End, OBJECT_NAME_CHANGED, PartFault, names_of_sig};
-use meta_model::MetaEndpoints;
+use class_outlines::{End, PartFault, names_of_sig};
+use meta_model::{MetaEndpoints, OBJECT_NAME_CHANGED};
 use syntax_trees::{Endpoints, Path};
 
 impl<'a> Scope<'a> {

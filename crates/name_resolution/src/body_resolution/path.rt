@@ -9,8 +9,8 @@ ghost use Rattle.name_resolution.specs.code.Resolving.{FindsClass, FindsMember};
 
 use crate::body_resolution::scope::Scope;
 use crate::missing::undeclared;
-use class_outlines::{IndexedOutline, Missing, PartFault, find, reference_to};
-use meta_model::{MetaPath, MetaRoot, Step, read_kind};
+use class_outlines::{IndexedOutline, Missing, PartFault, find, read_kind, reference_to};
+use meta_model::{MetaPath, MetaRoot, Step};
 use signatures::{Name, QType};
 use sqlite_items::Items;
 use syntax_trees::{Path, Property, Root};

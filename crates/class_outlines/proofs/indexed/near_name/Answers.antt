@@ -1,4 +1,4 @@
-use Rattle.class_outlines.proofs.Choices.{fails}
+use Rattle.name_indexes.proofs.Choices.{fails}
 use Rattle.class_outlines.proofs.indexed.near_name.Goals as goal
 
 pub returns-then-has_named : goal.returns-then-has_named

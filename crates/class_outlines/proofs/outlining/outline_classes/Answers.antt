@@ -6,7 +6,7 @@ use Rattle.class_outlines.specs.declared.outline.Outline.{Outline}
 use Rattle.class_outlines.specs.declared.offence.Declaration.TheVariants as declaration
 use Rattle.class_outlines.specs.Bases.{LacksBase}
 use Rattle.class_outlines.specs.Outlines.{Outlines, qobject, base_name}
-use Rattle.class_outlines.specs.Places.{StandsAt}
+use Rattle.name_indexes.specs.Places.{StandsAt}
 use Rattle.class_outlines.specs.declared.fault.MetaFault.TheVariants as fault
 use Rattle.class_outlines.proofs.Loading.{stops_at}
 use Rattle.class_outlines.proofs.Offending.{item_at, within}

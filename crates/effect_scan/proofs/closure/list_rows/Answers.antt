@@ -1,6 +1,6 @@
 use Rattle.std.proofs.Common.{length}
 use Rattle.class_sets.specs.Marks.{IsMarked}
-use Rattle.class_outlines.proofs.Zips.{zip_push}
+use Rattle.meta_model.proofs.Zips.{zip_push}
 use Rattle.effect_scan.specs.code.Places.{Lists}
 use Rattle.effect_scan.proofs.closure.list_rows.Goals as goal
 

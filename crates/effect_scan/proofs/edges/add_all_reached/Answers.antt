@@ -1,4 +1,4 @@
-use Rattle.class_outlines.proofs.Searches.{read_at}
+use Rattle.meta_model.proofs.Searches.{read_at}
 use Rattle.effect_scan.specs.code.Places.{IsReached}
 use Rattle.effect_scan.proofs.Gathering.{some_first, some_next, some_last}
 use Rattle.effect_scan.proofs.edges.add_all_reached.Goals as goal

@@ -1,5 +1,5 @@
 use Rattle.std.proofs.Common.{◌≡◌, ◌+◌, ◌-◌, ℕ, arith}
-use Rattle.class_outlines.specs.declared.qobject.TheConstants.{OBJECT_NAME_CHANGED}
+use Rattle.meta_model.specs.declared.qobject.TheConstants.{OBJECT_NAME_CHANGED}
 use Rattle.effect_scan.specs.declared.node.Member.TheVariants.{Method, Property}
 use Rattle.effect_scan.specs.Nodes.{node}
 use Rattle.effect_scan.proofs.Numbered.{members_more, class_made, if_made}

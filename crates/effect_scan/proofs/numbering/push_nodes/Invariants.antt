@@ -1,6 +1,6 @@
 use Rattle.std.proofs.Common.{◌≡◌, ◌++◌, ◌-◌, ◌≤◌, map}
 use Rattle.std.specs.List.{range_with_len}
-use Rattle.class_outlines.specs.declared.qobject.TheConstants.{OBJECT_NAME_CHANGED}
+use Rattle.meta_model.specs.declared.qobject.TheConstants.{OBJECT_NAME_CHANGED}
 use Rattle.effect_scan.specs.declared.node.Member.TheVariants.{Method, Property}
 use Rattle.effect_scan.specs.Nodes.{node}
 use Rattle.effect_scan.proofs.numbering.push_nodes.Given as goal

@@ -1,7 +1,7 @@
 use Rattle.std.proofs.Common.{◌≡◌, List, Some, sym, ap, ◌∙◌, subst}
 use Rattle.std.specs.Prelude.{slice_get}
 use Rattle.std.proofs.lemmas.Option.{slice_get-get_or}
-use Rattle.class_outlines.proofs.Searches.{none_more}
+use Rattle.meta_model.proofs.Searches.{none_more}
 use Rattle.meta_model.specs.declared.site.MetaSite.{MetaSite}
 use Rattle.effect_scan.specs.Reasons.{SiteBinds}
 use Rattle.effect_scan.proofs.Undrawn.{no_site}

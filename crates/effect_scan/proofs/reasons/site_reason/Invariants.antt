@@ -1,5 +1,5 @@
 use Rattle.std.proofs.Common.{◌<◌, ℕ}
-use Rattle.class_outlines.specs.Places.{StandsAt}
+use Rattle.meta_model.specs.Places.{StandsAt}
 use Rattle.effect_scan.specs.Reasons.{SiteBinds}
 use Rattle.effect_scan.proofs.reasons.site_reason.Given as goal
 

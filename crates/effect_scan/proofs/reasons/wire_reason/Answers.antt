@@ -1,4 +1,4 @@
-use Rattle.class_outlines.proofs.Searches.{none_more, read_at}
+use Rattle.meta_model.proofs.Searches.{none_more, read_at}
 use Rattle.effect_scan.specs.Reasons.{WireJoins}
 use Rattle.effect_scan.proofs.Undrawn.{no_wire}
 use Rattle.effect_scan.proofs.reasons.wire_reason.Goals as goal

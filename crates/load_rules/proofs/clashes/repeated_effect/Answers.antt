@@ -1,5 +1,5 @@
 use Rattle.std.specs.Prelude.{◌≡◌, ℕ, List}
-use Rattle.meta_model.specs.Natives.{RepeatsAction}
+use Rattle.class_outlines.specs.Natives.{RepeatsAction}
 use Rattle.class_outlines.specs.Twice.{StandsTwice}
 use Rattle.std.proofs.Common.{inl, refl}
 use Rattle.class_outlines.specs.declared.fault.MetaFault.TheVariants as fault

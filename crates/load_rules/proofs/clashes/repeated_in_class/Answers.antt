@@ -1,6 +1,6 @@
 use Rattle.std.specs.Prelude.{Any}
 use Rattle.syntax_trees.specs.declared.program.Signal.{Signal}
-use Rattle.meta_model.specs.Conditions.{RepeatsName, RepeatsInSlot}
+use Rattle.class_outlines.specs.Conditions.{RepeatsName, RepeatsInSlot}
 use Rattle.std.proofs.Common.{inl}
 use Rattle.class_outlines.specs.declared.fault.MetaFault.TheVariants as fault
 use Rattle.class_outlines.proofs.Offending.{or_offence_in}

@@ -1,4 +1,4 @@
-use Rattle.meta_model.specs.Conditions.{RepeatsInMethod}
+use Rattle.class_outlines.specs.Conditions.{RepeatsInMethod}
 use Rattle.class_outlines.specs.declared.fault.MetaFault.TheVariants as fault
 use Rattle.class_outlines.proofs.Offending.{item_at, none_further, any_met, none_met, offends_from}
 use Rattle.load_rules.proofs.clashes.repeated_in_classes.Goals as goal

@@ -1,4 +1,4 @@
-use Rattle.meta_model.specs.Sites.{RepeatsFormal}
+use Rattle.class_outlines.specs.DeclaredSites.{RepeatsFormal}
 use Rattle.class_outlines.specs.declared.fault.MetaFault.TheVariants as fault
 use Rattle.class_outlines.specs.declared.offence.Declaration.TheVariants as declaration
 use Rattle.class_outlines.proofs.Offending.{within, none_further, any_met, none_met, offends}

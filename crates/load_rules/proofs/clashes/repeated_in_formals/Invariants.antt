@@ -1,5 +1,5 @@
 use Rattle.std.proofs.Common.{ℕ, ◌<◌}
-use Rattle.meta_model.specs.Sites.{RepeatsFormal}
+use Rattle.class_outlines.specs.DeclaredSites.{RepeatsFormal}
 use Rattle.class_outlines.specs.Places.{StandsAt}
 use Rattle.load_rules.proofs.clashes.repeated_in_formals.Given as goal
 

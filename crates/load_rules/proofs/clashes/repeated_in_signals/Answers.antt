@@ -1,5 +1,5 @@
 use Rattle.syntax_trees.specs.declared.program.Signal.{Signal}
-use Rattle.meta_model.specs.Conditions.{RepeatsName}
+use Rattle.class_outlines.specs.Conditions.{RepeatsName}
 use Rattle.class_outlines.specs.declared.fault.MetaFault.TheVariants as fault
 use Rattle.class_outlines.specs.declared.offence.Member.TheVariants as member
 use Rattle.class_outlines.proofs.Offending.{within, none_further, any_met, none_met, offends_in}

@@ -1,6 +1,6 @@
 use Rattle.std.proofs.Common.{ℕ, ◌<◌}
 use Rattle.syntax_trees.specs.declared.program.Signal.{Signal}
-use Rattle.meta_model.specs.Conditions.{RepeatsName}
+use Rattle.class_outlines.specs.Conditions.{RepeatsName}
 use Rattle.class_outlines.specs.Places.{StandsAt}
 use Rattle.load_rules.proofs.clashes.repeated_in_signals.Given as goal
 

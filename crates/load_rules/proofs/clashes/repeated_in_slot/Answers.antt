@@ -1,5 +1,5 @@
-use Rattle.meta_model.specs.Conditions.{RepeatsName}
-use Rattle.meta_model.specs.Natives.{RepeatsEffectIn}
+use Rattle.class_outlines.specs.Conditions.{RepeatsName}
+use Rattle.class_outlines.specs.Natives.{RepeatsEffectIn}
 use Rattle.std.proofs.Common.{inl}
 use Rattle.class_outlines.specs.declared.fault.MetaFault.TheVariants as fault
 use Rattle.class_outlines.proofs.Offending.{or_breach}

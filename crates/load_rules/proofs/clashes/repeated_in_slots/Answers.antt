@@ -1,4 +1,4 @@
-use Rattle.meta_model.specs.Conditions.{RepeatsInSlot}
+use Rattle.class_outlines.specs.Conditions.{RepeatsInSlot}
 use Rattle.class_outlines.specs.declared.fault.MetaFault.TheVariants as fault
 use Rattle.class_outlines.specs.declared.offence.Member.TheVariants as member
 use Rattle.class_outlines.proofs.Offending.{within, none_further, any_met, none_met, offends_in}

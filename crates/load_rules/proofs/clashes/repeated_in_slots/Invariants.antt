@@ -1,5 +1,5 @@
 use Rattle.std.proofs.Common.{ℕ, ◌<◌}
-use Rattle.meta_model.specs.Conditions.{RepeatsInSlot}
+use Rattle.class_outlines.specs.Conditions.{RepeatsInSlot}
 use Rattle.class_outlines.specs.Places.{StandsAt}
 use Rattle.load_rules.proofs.clashes.repeated_in_slots.Given as goal
 

@@ -1,6 +1,6 @@
 use Rattle.std.specs.Prelude.{Any}
-use Rattle.meta_model.specs.Conditions.{RepeatsInMethod}
-use Rattle.meta_model.specs.Sites.{RepeatsSite}
+use Rattle.class_outlines.specs.Conditions.{RepeatsInMethod}
+use Rattle.class_outlines.specs.DeclaredSites.{RepeatsSite}
 use Rattle.std.proofs.Common.{inl}
 use Rattle.class_outlines.specs.declared.fault.MetaFault.TheVariants as fault
 use Rattle.class_outlines.proofs.Offending.{or_offence}

@@ -1,7 +1,7 @@
 use Rattle.std.specs.Prelude.{Any}
 use Rattle.signatures.specs.declared.sig.Sig.{Sig}
-use Rattle.meta_model.specs.Natives.{IsPointer}
-use Rattle.meta_model.specs.Sites.{IsReferenceIn}
+use Rattle.class_outlines.specs.Natives.{IsPointer}
+use Rattle.class_outlines.specs.DeclaredSites.{IsReferenceIn}
 use Rattle.std.proofs.Common.{inl}
 use Rattle.std.proofs.lemmas.Result.{IfOk-weaker}
 use Rattle.class_outlines.specs.declared.fault.MetaFault.TheVariants as fault

@@ -1,6 +1,6 @@
 use Rattle.std.specs.Prelude.{Any}
-use Rattle.meta_model.specs.Natives.{ActsOnReference}
-use Rattle.meta_model.specs.Sites.{IsReferenceIn}
+use Rattle.class_outlines.specs.Natives.{ActsOnReference}
+use Rattle.class_outlines.specs.DeclaredSites.{IsReferenceIn}
 use Rattle.std.proofs.Common.{inl}
 use Rattle.std.proofs.lemmas.Result.{IfOk-weaker}
 use Rattle.class_outlines.specs.declared.fault.MetaFault.TheVariants as fault

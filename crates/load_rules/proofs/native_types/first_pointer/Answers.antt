@@ -1,5 +1,5 @@
 use Rattle.std.proofs.Common.{refl}
-use Rattle.meta_model.specs.Natives.{IsPointer}
+use Rattle.class_outlines.specs.Natives.{IsPointer}
 use Rattle.class_outlines.proofs.Offending.{none_further, any_met, none_met}
 use Rattle.load_rules.proofs.native_types.first_pointer.Goals as goal
 

@@ -1,5 +1,5 @@
 use Rattle.std.proofs.Common.{ℕ, ◌<◌}
-use Rattle.meta_model.specs.Natives.{IsPointer}
+use Rattle.class_outlines.specs.Natives.{IsPointer}
 use Rattle.class_outlines.specs.Places.{StandsAt}
 use Rattle.load_rules.proofs.native_types.first_pointer.Given as goal
 

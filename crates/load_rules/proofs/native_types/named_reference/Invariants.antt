@@ -1,5 +1,5 @@
 use Rattle.std.proofs.Common.{ℕ, ◌<◌}
-use Rattle.meta_model.specs.Sites.{IsReferenceIn}
+use Rattle.class_outlines.specs.DeclaredSites.{IsReferenceIn}
 use Rattle.class_outlines.specs.Places.{StandsAt}
 use Rattle.load_rules.proofs.native_types.named_reference.Given as goal
 

@@ -1,6 +1,6 @@
 use Rattle.std.proofs.Common.{refl}
 use Rattle.syntax_trees.specs.declared.program.Parameter.{Parameter}
-use Rattle.meta_model.specs.Natives.{IsPointer}
+use Rattle.class_outlines.specs.Natives.{IsPointer}
 use Rattle.class_outlines.proofs.Offending.{none_further, any_met, none_met}
 use Rattle.load_rules.proofs.native_types.taken_reference.Goals as goal
 

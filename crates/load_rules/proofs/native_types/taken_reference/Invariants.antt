@@ -1,6 +1,6 @@
 use Rattle.std.proofs.Common.{ℕ, ◌<◌}
 use Rattle.syntax_trees.specs.declared.program.Parameter.{Parameter}
-use Rattle.meta_model.specs.Natives.{IsPointer}
+use Rattle.class_outlines.specs.Natives.{IsPointer}
 use Rattle.class_outlines.specs.Places.{StandsAt}
 use Rattle.load_rules.proofs.native_types.taken_reference.Given as goal
 

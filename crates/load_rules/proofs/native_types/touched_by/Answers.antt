@@ -1,4 +1,4 @@
-use Rattle.meta_model.specs.Natives.{TakesReference, AffectsReference}
+use Rattle.class_outlines.specs.Natives.{TakesReference, AffectsReference}
 use Rattle.std.proofs.Common.{inl}
 use Rattle.std.proofs.lemmas.Result.{IfOk-weaker}
 use Rattle.class_outlines.specs.declared.fault.MetaFault.TheVariants as fault

@@ -1,5 +1,5 @@
 use Rattle.syntax_trees.specs.declared.program.Slot.{Slot}
-use Rattle.meta_model.specs.Natives.{TouchesReference}
+use Rattle.class_outlines.specs.Natives.{TouchesReference}
 use Rattle.class_outlines.specs.declared.fault.MetaFault.TheVariants as fault
 use Rattle.class_outlines.specs.declared.offence.Member.TheVariants as member
 use Rattle.class_outlines.proofs.Offending.{within, none_further, any_met, none_met, offends_in}

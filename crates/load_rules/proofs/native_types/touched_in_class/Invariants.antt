@@ -1,6 +1,6 @@
 use Rattle.std.proofs.Common.{ℕ, ◌<◌}
 use Rattle.syntax_trees.specs.declared.program.Slot.{Slot}
-use Rattle.meta_model.specs.Natives.{TouchesReference}
+use Rattle.class_outlines.specs.Natives.{TouchesReference}
 use Rattle.class_outlines.specs.Places.{StandsAt}
 use Rattle.load_rules.proofs.native_types.touched_in_class.Given as goal
 

@@ -1,4 +1,4 @@
-use Rattle.meta_model.specs.Natives.{HasReferenceNative}
+use Rattle.class_outlines.specs.Natives.{HasReferenceNative}
 use Rattle.class_outlines.specs.declared.fault.MetaFault.TheVariants as fault
 use Rattle.class_outlines.proofs.Offending.{item_at, none_further, any_met, none_met, offends_from}
 use Rattle.load_rules.proofs.native_types.touched_reference.Goals as goal

@@ -1,5 +1,5 @@
 use Rattle.std.proofs.Common.{ℕ, ◌<◌}
-use Rattle.meta_model.specs.Natives.{HasReferenceNative}
+use Rattle.class_outlines.specs.Natives.{HasReferenceNative}
 use Rattle.class_outlines.specs.Places.{StandsAt}
 use Rattle.load_rules.proofs.native_types.touched_reference.Given as goal
 

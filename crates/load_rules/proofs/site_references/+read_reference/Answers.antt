@@ -1,5 +1,6 @@
 use Rattle.std.proofs.Common.{ap, ◌∙◌, sym, subst, Any}
-use Rattle.meta_model.specs.Sites.{ReadsReference, paths_in}
+use Rattle.meta_model.specs.Sites.{paths_in}
+use Rattle.class_outlines.specs.DeclaredSites.{ReadsReference}
 use Rattle.class_outlines.proofs.Anys.{any_one, of_one, any_front, tells_back}
 use Rattle.meta_model.proofs.PathsIn.{paths-Path, paths-Binary}
 use Rattle.load_rules.proofs.site_references.+read_reference.Goals as goal

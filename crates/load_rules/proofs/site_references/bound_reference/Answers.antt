@@ -1,6 +1,6 @@
 use Rattle.class_outlines.specs.declared.fault.MetaFault.TheVariants as fault
 use Rattle.class_outlines.specs.declared.offence.Declaration.TheVariants as declaration
-use Rattle.meta_model.specs.Sites.{UsesReference}
+use Rattle.class_outlines.specs.DeclaredSites.{UsesReference}
 use Rattle.class_outlines.proofs.Offending.{within, none_further, any_met, none_met, offends}
 use Rattle.load_rules.proofs.site_references.bound_reference.Goals as goal
 

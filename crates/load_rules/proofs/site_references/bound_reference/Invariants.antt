@@ -1,6 +1,6 @@
 use Rattle.std.proofs.Common.{ℕ, ◌<◌}
 use Rattle.class_outlines.specs.Places.{StandsAt}
-use Rattle.meta_model.specs.Sites.{UsesReference}
+use Rattle.class_outlines.specs.DeclaredSites.{UsesReference}
 use Rattle.load_rules.proofs.site_references.bound_reference.Given as goal
 
 abbrev pub invariant-loop-place : goal.invariant-loop-place

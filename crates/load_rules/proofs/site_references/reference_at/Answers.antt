@@ -1,4 +1,4 @@
-use Rattle.meta_model.proofs.SiteProperties.{reads_not}
+use Rattle.class_outlines.proofs.SiteProperties.{reads_not}
 use Rattle.load_rules.proofs.site_references.reference_at.Goals as goal
 
 pub returns-in_default : goal.returns-in_default

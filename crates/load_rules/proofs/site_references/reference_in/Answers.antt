@@ -1,4 +1,4 @@
-use Rattle.meta_model.proofs.SiteProperties.{refers_not}
+use Rattle.class_outlines.proofs.SiteProperties.{refers_not}
 use Rattle.load_rules.proofs.site_references.reference_in.Goals as goal
 
 pub returns-in_default : goal.returns-in_default

@@ -1,5 +1,5 @@
-use Rattle.meta_model.specs.Sites.{by_target, by_source}
-use Rattle.meta_model.proofs.SiteProperties.{uses_none}
+use Rattle.class_outlines.specs.DeclaredSites.{by_target, by_source}
+use Rattle.class_outlines.proofs.SiteProperties.{uses_none}
 use Rattle.load_rules.proofs.site_references.used_reference.Goals as goal
 
 pub returns-in-Some : goal.returns-in-Some

@@ -1,6 +1,6 @@
 use Rattle.std.specs.Prelude.{Any}
 use Rattle.syntax_trees.specs.declared.program.Signal.{Signal}
-use Rattle.meta_model.specs.Kinds.{LacksType}
+use Rattle.class_outlines.specs.DeclaredKinds.{LacksType}
 use Rattle.class_outlines.specs.Outlines.{kinds_of}
 use Rattle.class_outlines.specs.declared.fault.MetaFault.TheVariants as fault
 use Rattle.class_outlines.specs.declared.offence.Member.TheVariants as member

@@ -1,6 +1,6 @@
 use Rattle.std.proofs.Common.{refl}
 use Rattle.syntax_trees.specs.declared.program.Parameter.{Parameter}
-use Rattle.meta_model.specs.Kinds.{LacksType}
+use Rattle.class_outlines.specs.DeclaredKinds.{LacksType}
 use Rattle.class_outlines.proofs.Offending.{none_further, any_met, none_met}
 use Rattle.load_rules.proofs.OwnMembers.{any_kind, kind_any}
 use Rattle.load_rules.proofs.unknown_types.unknown_of_parameter.Goals as goal

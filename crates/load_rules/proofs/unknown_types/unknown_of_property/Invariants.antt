@@ -1,5 +1,5 @@
 use Rattle.std.proofs.Common.{ℕ, ◌<◌}
-use Rattle.meta_model.specs.Conditions.{LacksPropertyType}
+use Rattle.class_outlines.specs.Conditions.{LacksPropertyType}
 use Rattle.class_outlines.specs.Places.{StandsAt}
 use Rattle.load_rules.proofs.unknown_types.unknown_of_property.Given as goal
 

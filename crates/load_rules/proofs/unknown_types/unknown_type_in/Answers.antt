@@ -1,8 +1,8 @@
 use Rattle.std.specs.Prelude.{Any, ◌⊎◌}
 use Rattle.syntax_trees.specs.declared.program.Signal.{Signal}
 use Rattle.syntax_trees.specs.declared.program.Slot.{Slot}
-use Rattle.meta_model.specs.Conditions.{LacksPropertyType}
-use Rattle.meta_model.specs.Kinds.{LacksType}
+use Rattle.class_outlines.specs.Conditions.{LacksPropertyType}
+use Rattle.class_outlines.specs.DeclaredKinds.{LacksType}
 use Rattle.class_outlines.specs.Outlines.{kinds_of}
 use Rattle.std.proofs.Common.{inl, inr}
 use Rattle.class_outlines.specs.declared.fault.MetaFault.TheVariants as fault

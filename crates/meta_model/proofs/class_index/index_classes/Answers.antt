@@ -1,5 +1,5 @@
 use Rattle.meta_model.specs.declared.object.MetaObject.{MetaObject}
-use Rattle.class_outlines.proofs.Indexing.{names_more, names_all}
+use Rattle.name_indexes.proofs.Indexing.{names_more, names_all}
 use Rattle.meta_model.proofs.class_index.index_classes.Goals as goal
 
 pub loop-number-preserved : goal.loop-number-preserved

@@ -1,7 +1,7 @@
 use Rattle.std.proofs.Common.{◌≡◌, ℕ, List}
-use Rattle.class_outlines.specs.NamePlaces.{place_in}
+use Rattle.name_indexes.specs.NamePlaces.{place_in}
 use Rattle.meta_model.specs.declared.site.MetaSite.{MetaSite}
-use Rattle.class_outlines.proofs.Indexing.{IsPlaceBefore}
+use Rattle.name_indexes.proofs.Indexing.{IsPlaceBefore}
 use Rattle.meta_model.proofs.class_index.index_sites.Given as goal
 
 -- the index is that of the items so far

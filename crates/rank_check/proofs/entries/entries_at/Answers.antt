@@ -1,7 +1,7 @@
 use Rattle.std.proofs.Common.{◌<◌, length, get_or}
 use Rattle.std.proofs.lemmas.Option.{slice_get-get_or}
-use Rattle.class_outlines.proofs.Zips.{zip_push}
-use Rattle.class_outlines.proofs.Searches.{read_at}
+use Rattle.meta_model.proofs.Zips.{zip_push}
+use Rattle.meta_model.proofs.Searches.{read_at}
 use Rattle.rank_check.specs.Entries.{IsEntryAt}
 use Rattle.rank_check.proofs.Elements.{at_index}
 use Rattle.rank_check.proofs.entries.entries_at.Goals as goal

@@ -1,4 +1,4 @@
-use Rattle.class_outlines.proofs.Zips.{zip_push}
+use Rattle.meta_model.proofs.Zips.{zip_push}
 use Rattle.rank_check.specs.Entries.{HasNumber}
 use Rattle.rank_check.proofs.naming.line_numbers.Goals as goal
 

@@ -1,8 +1,8 @@
 use Rattle.std.proofs.Common.{ℕ, Option, None, List, subst}
 use Rattle.std.specs.List.{AllZip}
 use Rattle.std.proofs.lemmas.List.{take_all}
-use Rattle.class_outlines.proofs.Zips.{zip_push}
-use Rattle.class_outlines.proofs.Searches.{read_at}
+use Rattle.meta_model.proofs.Zips.{zip_push}
+use Rattle.meta_model.proofs.Searches.{read_at}
 use Rattle.rank_check.proofs.Placing.{IsThere, place_lacks}
 use Rattle.rank_check.proofs.places.all_places.Goals as goal
 

@@ -1,6 +1,6 @@
 use Rattle.std.proofs.Common.{List, map, ap, ◌∙◌}
 use Rattle.meta_model.specs.declared.object.MetaObject.{MetaObject}
-use Rattle.class_outlines.proofs.Searches.{read_at}
+use Rattle.meta_model.proofs.Searches.{read_at}
 use Rattle.effect_scan.specs.Nodes.{shape_of, nodes_from}
 use Rattle.type_check.proofs.Firsts.{have_more}
 use Rattle.type_check.proofs.Ordered.{all_nodes, first_node}

@@ -1,7 +1,7 @@
 use Rattle.std.proofs.Common.{length, inl, inr}
 use Rattle.class_outlines.specs.Ends.{IsSigned}
 use Rattle.class_outlines.specs.Indexed.{IsCallOf}
-use Rattle.class_outlines.proofs.Choices.{fails}
+use Rattle.name_indexes.proofs.Choices.{fails}
 use Rattle.class_outlines.proofs.OneMember.{called_by}
 use Rattle.name_indexes.proofs.Searches.{none_also, found_also, none_but}
 use Rattle.class_outlines.proofs.indexed.IndexedOutline.near_signed.Goals as goal

@@ -1,6 +1,6 @@
 use Rattle.std.proofs.Common.{refl}
 use Rattle.meta_model.proofs.LookUps.{not_covered, covered}
-use Rattle.class_outlines.proofs.Searches.{none_more, none_at_all, read_at}
+use Rattle.name_indexes.proofs.Searches.{none_more, none_at_all, read_at}
 use Rattle.meta_model.proofs.meta.Meta.covers.Goals as goal
 
 pub returns-then-is_covered_by : goal.returns-then-is_covered_by

@@ -1,8 +1,8 @@
 use Rattle.std.proofs.Common.{◌≡◌, None, rules, subst}
 use Rattle.meta_model.specs.Members.{HasSig}
-use Rattle.class_outlines.proofs.Choices.{fails}
+use Rattle.name_indexes.proofs.Choices.{fails}
 use Rattle.meta_model.proofs.Indexing.{named_of}
-use Rattle.class_outlines.proofs.Zips.{lacks}
+use Rattle.name_indexes.proofs.Zips.{lacks}
 use Rattle.meta_model.proofs.meta.Meta.method.Goals as goal
 
 pub returns-in_err-found-clause-value : goal.returns-in_err-found-clause-value

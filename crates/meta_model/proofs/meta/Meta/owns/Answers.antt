@@ -1,6 +1,6 @@
 use Rattle.std.proofs.Common.{refl}
 use Rattle.meta_model.proofs.LookUps.{not_owned, owned_by}
-use Rattle.class_outlines.proofs.Searches.{none_more, none_at_all, read_at}
+use Rattle.name_indexes.proofs.Searches.{none_more, none_at_all, read_at}
 use Rattle.meta_model.proofs.meta.Meta.owns.Goals as goal
 
 pub returns-then-is_owned_by : goal.returns-then-is_owned_by

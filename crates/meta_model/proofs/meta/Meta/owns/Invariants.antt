@@ -1,6 +1,6 @@
 use Rattle.std.proofs.Common.{ℕ, ◌<◌}
 use Rattle.meta_model.specs.Members.{OwnsBy}
-use Rattle.class_outlines.specs.Places.{StandsAt}
+use Rattle.name_indexes.specs.Places.{StandsAt}
 use Rattle.meta_model.proofs.meta.Meta.owns.Given as goal
 
 -- no earlier declaration says so

@@ -1,7 +1,7 @@
 use Rattle.std.proofs.Common.{subst, List, sym}
 use Rattle.meta_model.specs.declared.object.MetaWire.{MetaWire}
 use Rattle.meta_model.specs.Members.{IsIn}
-use Rattle.class_outlines.proofs.Searches.{none_more, none_at_all, read_at}
+use Rattle.meta_model.proofs.Searches.{none_more, none_at_all, read_at}
 use Rattle.meta_model.proofs.InLists.{place_in}
 use Rattle.program_warnings.proofs.connects.Wiring.is_served.Goals as goal
 

@@ -1,5 +1,5 @@
 use Rattle.std.proofs.Common.{ℕ, ◌<◌}
-use Rattle.class_outlines.specs.Places.{StandsAt}
+use Rattle.meta_model.specs.Places.{StandsAt}
 use Rattle.meta_model.specs.declared.object.MetaWire.{MetaWire}
 use Rattle.program_warnings.specs.Wires.{MayServe}
 use Rattle.program_warnings.proofs.connects.Wiring.is_served.Given as goal

@@ -1,7 +1,7 @@
 use Rattle.std.proofs.Common.{◌≡◌, [], ◌∷◌, length, arith, rules}
 use Rattle.syntax_trees.specs.declared.syntax.Root.TheVariants as root
-use Rattle.meta_model.proofs.SiteProperties.{alone_of, no_formal, no_source, a_source}
-use Rattle.meta_model.proofs.site_properties.source_property.Goals as goal
+use Rattle.class_outlines.proofs.SiteProperties.{alone_of, no_formal, no_source, a_source}
+use Rattle.class_outlines.proofs.site_properties.source_property.Goals as goal
 
 pub returns-in_err-source : goal.returns-in_err-source
 returns-in_err-source c =

@@ -9,11 +9,11 @@ use Rattle.syntax_trees.specs.declared.program.Class.{Class}
 use Rattle.syntax_trees.specs.declared.program.Program.{Program}
 use Rattle.class_outlines.specs.declared.outline.Heading.{Heading}
 use Rattle.class_outlines.specs.declared.outline.Outline.{Outline}
-use Rattle.class_outlines.specs.Twice.{StandsTwice}
+use Rattle.name_indexes.specs.Twice.{StandsTwice}
 use Rattle.class_outlines.specs.Clashes.{HasTwoMembers}
-use Rattle.meta_model.specs.Kinds.{LacksType}
-use Rattle.meta_model.specs.Sites.{RepeatsSite, UsesReference}
-use Rattle.meta_model.specs.Natives.{RepeatsEffectIn, HasReferenceNative}
+use Rattle.class_outlines.specs.DeclaredKinds.{LacksType}
+use Rattle.class_outlines.specs.DeclaredSites.{RepeatsSite, UsesReference}
+use Rattle.class_outlines.specs.Natives.{RepeatsEffectIn, HasReferenceNative}
 
 -- ---- members that appear twice
 -- both parameters have a name, and it is the same

@@ -1,9 +1,10 @@
 //! The properties that binding sites name.
 
-ghost use Rattle.meta_model.specs.Sites.{FindsProperty, FindsSource};
+ghost use Rattle.class_outlines.specs.DeclaredSites.{FindsProperty, FindsSource};
 
-use crate::site::SourceProperty;
-use class_outlines::{ClassTable, find};
+use crate::class_table::ClassTable;
+use crate::places::find;
+use meta_model::SourceProperty;
 use signatures::Name;
 use syntax_trees::{Path, Property, Root, Site};
 

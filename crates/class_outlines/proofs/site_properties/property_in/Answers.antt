@@ -1,5 +1,5 @@
-use Rattle.meta_model.proofs.SiteProperties.{a_property_in, no_property_in}
-use Rattle.meta_model.proofs.site_properties.property_in.Goals as goal
+use Rattle.class_outlines.proofs.SiteProperties.{a_property_in, no_property_in}
+use Rattle.class_outlines.proofs.site_properties.property_in.Goals as goal
 
 pub returns-in_err-class : goal.returns-in_err-class
 returns-in_err-class c = rw c.from_residual.ensures (λ d q x h. c.in_err-class.ensures d h.of_class.at)

@@ -3,8 +3,8 @@ use Rattle.std.proofs.Common.{◌≡◌, ℕ, true, List, ap}
 use Rattle.signatures.specs.declared.qtype.QType.{QType}
 use Rattle.meta_model.specs.declared.object.ValueType.TheVariants.{Int, Bool, Text, Reference}
 use Rattle.class_outlines.specs.declared.outline.Outline.{Outline}
-use Rattle.class_outlines.specs.Places.{StandsAt}
-use Rattle.meta_model.specs.Kinds.{LacksType}
+use Rattle.name_indexes.specs.Places.{StandsAt}
+use Rattle.class_outlines.specs.DeclaredKinds.{LacksType}
 
 -- a pointer to what is no class
 pub no_pointer : (outlines : List Outline) (T : QType) → T.pointer ≡ true → ((k : ℕ) → ¬ StandsAt (λ (o : Outline). o.name ≡ T.name) outlines k) → LacksType outlines T

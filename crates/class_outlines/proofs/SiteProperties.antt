@@ -7,8 +7,9 @@ use Rattle.syntax_trees.specs.declared.program.Property.{Property}
 use Rattle.syntax_trees.specs.declared.program.Site.{Site}
 use Rattle.meta_model.specs.declared.site.SourceProperty.{SourceProperty}
 use Rattle.class_outlines.specs.declared.outline.Outline.{Outline}
-use Rattle.class_outlines.specs.Places.{StandsAt, StandsFirst, NoneStands, Found}
-use Rattle.meta_model.specs.Sites.{IsPropertyIn, IsSourceProperty, IsReferenceIn, paths_in, BindsReference, ReadsReference, UsesReference, by_target, by_source}
+use Rattle.name_indexes.specs.Places.{StandsAt, StandsFirst, NoneStands, Found}
+use Rattle.meta_model.specs.Sites.{paths_in}
+use Rattle.class_outlines.specs.DeclaredSites.{IsPropertyIn, IsSourceProperty, IsReferenceIn, BindsReference, ReadsReference, UsesReference, by_target, by_source}
 use Rattle.class_outlines.proofs.Firsts.{found_item, one_by, same_in}
 
 -- the properties of this name

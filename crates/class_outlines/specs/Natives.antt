@@ -10,8 +10,8 @@ use Rattle.syntax_trees.specs.declared.program.SlotWork.TheVariants as work
 use Rattle.syntax_trees.specs.declared.program.Slot.{Slot}
 use Rattle.syntax_trees.specs.declared.program.Class.{Class}
 use Rattle.class_outlines.specs.declared.outline.Outline.{Outline}
-use Rattle.class_outlines.specs.Twice.{StandsTwice}
-use Rattle.meta_model.specs.Sites.{IsReferenceIn}
+use Rattle.name_indexes.specs.Twice.{StandsTwice}
+use Rattle.class_outlines.specs.DeclaredSites.{IsReferenceIn}
 
 -- ---- names that appear twice
 -- two of the signals that the native emits have one name, or a property is named twice among those that it sets

@@ -2,13 +2,13 @@
 
 ghost use Rattle.std.specs.Prelude.{◌≡◌, ◌↔◌, ℕ, List, IsTrue, IfOk};
 ghost use Rattle.std.specs.List.{AllZip};
-ghost use Rattle.meta_model.specs.Kinds.{IsKindIn};
-ghost use Rattle.meta_model.specs.code.ReadTypes.{IsReadAs};
-ghost use Rattle.class_outlines.specs.LookUps.{LooksUp};
+ghost use Rattle.class_outlines.specs.DeclaredKinds.{IsKindIn};
+ghost use Rattle.class_outlines.specs.code.ReadTypes.{IsReadAs};
+ghost use Rattle.name_indexes.specs.LookUps.{LooksUp};
 ghost use Rattle.signatures.specs.Types.{value_type};
 
-use crate::object::ValueType;
-use class_outlines::ClassTable;
+use crate::class_table::ClassTable;
+use meta_model::ValueType;
 use signatures::QType;
 use sqlite_items::Items;
 use std::alloc::{AllocError, Global};

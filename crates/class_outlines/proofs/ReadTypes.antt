@@ -4,9 +4,9 @@ use Rattle.signatures.specs.declared.qtype.QType.{QType}
 use Rattle.meta_model.specs.declared.object.ValueType.{ValueType}
 use Rattle.meta_model.specs.declared.object.ValueType.TheVariants.{Int, Bool, Text, Reference}
 use Rattle.class_outlines.specs.declared.outline.Outline.{Outline}
-use Rattle.meta_model.specs.Kinds.{IsKindIn}
-use Rattle.meta_model.specs.code.ReadTypes.{IsReadAs}
-use Rattle.class_outlines.proofs.Searches.{same_first}
+use Rattle.class_outlines.specs.DeclaredKinds.{IsKindIn}
+use Rattle.class_outlines.specs.code.ReadTypes.{IsReadAs}
+use Rattle.name_indexes.proofs.Searches.{same_first}
 
 module _ (outlines : List Outline) (T : QType) where
   -- the name of a value type; a pointer is none

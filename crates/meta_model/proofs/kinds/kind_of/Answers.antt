@@ -1,5 +1,0 @@
-use Rattle.meta_model.proofs.LackedTypes.{no_pointer}
-use Rattle.meta_model.proofs.kinds.kind_of.Goals as goal
-
-pub returns-in-None : goal.returns-in-None
-returns-in-None c = no_pointer _ _ c.if-declared.true c.in-None.ensures

@@ -1,0 +1,22 @@
+-- The methods of `QObject`, by their signatures (Qt 6, "QObject Class").
+use Rattle.std.specs.Prelude.{ℕ, false, List, [], ◌∷◌, codes}
+use Rattle.signatures.specs.declared.qtype.QType.{QType}
+use Rattle.signatures.specs.declared.sig.Sig.{Sig}
+use Rattle.signatures.specs.Normal.{pointer_type}
+use Rattle.signatures.specs.Types.{value_type}
+
+-- a signature, by its parts
+abbrev pub sig_of : List ℕ → List QType → Sig
+sig_of name types = record { name = name; types = types }
+
+abbrev pub destroyed : Sig
+destroyed = sig_of (codes "destroyed") (pointer_type (codes "QObject") false ∷ [])
+
+abbrev pub destroyed_alone : Sig
+destroyed_alone = sig_of (codes "destroyed") []
+
+abbrev pub name_changed : Sig
+name_changed = sig_of (codes "objectNameChanged") (value_type (codes "QString") ∷ [])
+
+abbrev pub delete_later : Sig
+delete_later = sig_of (codes "deleteLater") []
