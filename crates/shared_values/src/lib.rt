@@ -3,5 +3,7 @@
 #![tactic(auto)]
 
 mod shared;
+mod shared_bytes;
 
 pub use shared::{Shared, copy_all};
+pub use shared_bytes::SharedBytes;

@@ -1,7 +1,7 @@
 ghost use Rattle.std.specs.Prelude.{◌≡◌, ◌↔◌, [], IsTrue, IfOk};
 ghost use Rattle.signatures.specs.Text.{IsText, IsTextByte, FindsText};
 
-use crate::shared_bytes::SharedBytes;
+use shared_values::SharedBytes;
 use std::alloc::{AllocError, Global};
 use std::marker::Model;
 
