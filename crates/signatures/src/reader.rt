@@ -84,7 +84,7 @@ impl<'a> Scanner<'a> {
     {
         let saved = self.copy();
         match self.next() {
-            Some(Scanned::Word(found)) if found == b"const".as_slice() => true,
+            Some(Scanned::Word(found)) if found == Word::Const.spelling() => true,
             _ => {
                 *self = saved;
                 false
