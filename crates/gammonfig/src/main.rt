@@ -7,7 +7,7 @@ use explained_commands::{EXPLAIN, WriteFault, explained_command, is_asked, tell_
 use native_slots::{NativeSlot, Natives};
 use qt_runtime::Machine;
 use signatures::Value;
-use std::alloc::{AllocError, Global};
+use std::alloc::AllocError;
 use std::io::{ErrorKind, Write};
 use std::process::ExitCode;
 use std::{env, io};
@@ -32,17 +32,11 @@ fn start(rt: &HostRuntime) -> Result<ExitCode, AllocError> {
         }
     };
     let words = words.skip(1).collect::<Vec<String>>(rt.alloc())?;
-    let words = borrowed(rt.alloc(), words.as_slice())?;
+    let words = words
+        .iter()
+        .map(String::as_str)
+        .collect::<Vec<&str>>(rt.alloc())?;
     answer(rt, words.as_slice())
-}
-
-/// The same words as slices.
-fn borrowed<'a>(alloc: Global, words: &'a [String]) -> Result<Vec<&'a str>, AllocError> {
-    let mut borrowed = Vec::new(alloc);
-    for word in words {
-        borrowed.push(word.as_str())?;
-    }
-    Ok(borrowed)
 }
 
 /// Does what the words say, on standard input, output and error, where programs may declare the native `twice(int)` of

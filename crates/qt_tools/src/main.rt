@@ -18,7 +18,6 @@ use crate::session::session;
 use crate::verdict::tell_verdict;
 use crate::view::view;
 use crate::witness::witness;
-use std::alloc::{AllocError, Global};
 use std::env;
 use std::process::ExitCode;
 
@@ -35,7 +34,10 @@ fn main(rt: HostRuntime) -> ExitCode {
 /// Takes the process's words, and does what they say.
 fn start(rt: &HostRuntime) -> Result<(), ToolFault> {
     let words = words(rt)?;
-    let words = borrowed(rt.alloc(), words.as_slice())?;
+    let words = words
+        .iter()
+        .map(String::as_str)
+        .collect::<Vec<&str>>(rt.alloc())?;
     match words.as_slice() {
         [word, options @ ..] if *word == "graph" => graph(rt, options),
         [word, options @ ..] if *word == "import" => import_classes(rt, options),
@@ -56,13 +58,4 @@ fn words(rt: &HostRuntime) -> Result<Vec<String>, ToolFault> {
         Ok(words) => Ok(words),
         Err(_) => Err(ToolFault::Memory),
     }
-}
-
-/// The same words as slices.
-fn borrowed<'a>(alloc: Global, words: &'a [String]) -> Result<Vec<&'a str>, AllocError> {
-    let mut borrowed = Vec::new(alloc);
-    for word in words {
-        borrowed.push(word.as_str())?;
-    }
-    Ok(borrowed)
 }
