@@ -1,5 +1,5 @@
 #!/usr/bin/env python3
-"""Compares the words that the files of editors/ colour with those of the language: the reserved words as the crate `signatures`
+"""Compares the words that the files of editors/ colour with those of the language: the reserved words as the crate `basic_types`
 spells them, the names that begin a statement, the other words that begin an event, and those of a certificate.
 
 Usage: tests/editors/run.py. The last line is `N passed, M failed`."""
@@ -23,7 +23,7 @@ def text(path):
 
 
 def reserved():
-    return set(re.findall(r"^    /// `([a-z]+)`$", text(f"{built.ROOT}/crates/signatures/src/word.rt"), re.M))
+    return set(re.findall(r"^    /// `([a-z]+)`$", text(f"{built.ROOT}/crates/basic_types/src/word.rt"), re.M))
 
 
 def events():

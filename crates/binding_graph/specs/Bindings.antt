@@ -3,7 +3,7 @@
 use Rattle.std.specs.Prelude.{◌≡◌, ℕ, eqb, ◌||◌, ◌&&◌, not, Bool, List, [], ◌∷◌, ◌++◌, filter, filter_map, cond, Option, Some, None, slice_get}
 use Rattle.std.specs.List.{list_any}
 use Rattle.std.specs.Option.{option_and_then, option_map}
-use Rattle.signatures.specs.declared.value.Value.{Value}
+use Rattle.basic_types.specs.declared.value.Value.{Value}
 use Rattle.syntax_trees.specs.declared.syntax.Expr.{Expr}
 use Rattle.syntax_trees.specs.declared.syntax.Expr.TheOpen as layer
 use Rattle.syntax_trees.specs.declared.syntax.Expr.TheFolds.{fold-Expr}

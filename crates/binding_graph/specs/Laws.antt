@@ -1,6 +1,6 @@
 -- Settled values are determined by the bindings and by what isn't bound (docs/machine.md, "Bindings").
 use Rattle.std.specs.Prelude.{◌≡◌, List, Option, None}
-use Rattle.signatures.specs.declared.value.Value.{Value}
+use Rattle.basic_types.specs.declared.value.Value.{Value}
 use Rattle.binding_graph.specs.declared.place.Place.{Place}
 use Rattle.binding_graph.specs.declared.binding.Binding.{Binding}
 use Rattle.binding_graph.specs.Bindings.{binding_at, AreApart, Settled, Loop}

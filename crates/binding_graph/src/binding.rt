@@ -6,8 +6,8 @@ ghost use Rattle.meta_model.specs.Among.{is_among};
 ghost use Rattle.binding_graph.specs.Bindings.{leads_out, named_in, source_place, read_by, touches};
 
 use crate::place::Place;
+use basic_types::ObjectId;
 use meta_model::{Formula, SourceProperty};
-use signatures::ObjectId;
 use sqlite_items::Items;
 use std::alloc::{AllocError, Global};
 use syntax_trees::Expr;

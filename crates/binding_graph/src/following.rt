@@ -15,8 +15,8 @@ ghost use Rattle.binding_graph.specs.code.Ranks.{rank_of};
 use crate::graph::Graph;
 use crate::numbering::{Numbered, put_in};
 use crate::place::{Place, contains};
+use basic_types::Value;
 use indexmap::IndexMap;
-use signatures::Value;
 use std::alloc::{AllocError, Global};
 
 /// What chains of the other bindings lead to from these properties, each once, a source before its reader. These have the

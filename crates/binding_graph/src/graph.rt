@@ -13,8 +13,8 @@ use crate::installed::{Installed, Reader};
 use crate::place::{Place, contains};
 use crate::ranks::Ranks;
 use crate::readers::Readers;
+use basic_types::ObjectId;
 use indexmap::IndexSet;
-use signatures::ObjectId;
 use std::alloc::{AllocError, Global};
 
 /// The installed bindings, each property's readers, the numbers of the bound properties, in whose order they are evaluated,

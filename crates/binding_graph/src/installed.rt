@@ -9,8 +9,8 @@ ghost use Rattle.binding_graph.specs.code.Graph.{AreKeyed, HasRoom, bindings_in,
 
 use crate::binding::Binding;
 use crate::place::{Place, contains};
+use basic_types::ObjectId;
 use indexmap::IndexMap;
-use signatures::ObjectId;
 use std::alloc::{AllocError, Global};
 use std::marker::Model;
 

@@ -4,7 +4,7 @@ ghost use Rattle.std.specs.Prelude.{◌≡◌};
 ghost use Rattle.binding_graph.specs.Places.{same_place, is_in};
 ghost use Rattle.binding_graph.specs.code.Keys.{key_of};
 
-use signatures::ObjectId;
+use basic_types::ObjectId;
 
 /// A property of an object.
 #[derive(Clone, Copy, Debug, PartialEq, Eq)]

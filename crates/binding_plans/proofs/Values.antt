@@ -6,7 +6,7 @@ use Rattle.std.specs.Option.{option_map, option_and_then}
 use Rattle.std.proofs.lemmas.Bool.{false≢true, cases_Bool}
 use Rattle.std.proofs.lemmas.Bool.Decides.{nat_tests}
 use Rattle.std.proofs.lemmas.Option.{same_Some}
-use Rattle.signatures.specs.declared.value.Value.{Value}
+use Rattle.basic_types.specs.declared.value.Value.{Value}
 use Rattle.object_tree.specs.declared.life.Life.{Life}
 use Rattle.object_tree.specs.declared.object.Object.{Object}
 use Rattle.object_tree.specs.Objects.{life_of, change_life, with_life, written}

@@ -1,6 +1,6 @@
 -- When a value may be a property's, and what stands of objects and bindings (docs/machine.md, "Bindings").
 use Rattle.std.specs.Prelude.{◌≡◌, ℕ, List, All, Some}
-use Rattle.signatures.specs.declared.value.Value.{Value}
+use Rattle.basic_types.specs.declared.value.Value.{Value}
 use Rattle.meta_model.specs.Loaded.{Loaded}
 use Rattle.meta_model.specs.Sound.{IsPlain}
 use Rattle.object_tree.specs.declared.object.Object.{Object}

@@ -1,7 +1,7 @@
 -- The values that properties of objects have (docs/machine.md, "Bindings"). Bound properties, and those that expressions of
 -- bindings read, are of value types, whose values read as they are stored.
 use Rattle.std.specs.Prelude.{List, Option}
-use Rattle.signatures.specs.declared.value.Value.{Value}
+use Rattle.basic_types.specs.declared.value.Value.{Value}
 use Rattle.object_tree.specs.declared.object.Object.{Object}
 use Rattle.object_tree.specs.Objects.{stored}
 use Rattle.binding_graph.specs.declared.place.Place.{Place}

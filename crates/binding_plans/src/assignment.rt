@@ -1,7 +1,7 @@
 //! Values that properties are to have.
 
+use basic_types::Value;
 use binding_graph::Place;
-use signatures::Value;
 
 /// A property is to have this value.
 #[derive(Drop)]

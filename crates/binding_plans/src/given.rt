@@ -5,9 +5,9 @@ ghost use Rattle.std.specs.Option.{option_copied};
 ghost use Rattle.indexmap.specs.IndexMap.{get};
 ghost use Rattle.binding_graph.specs.code.Keys.{key_of, same_key};
 
+use basic_types::Value;
 use binding_graph::Place;
 use indexmap::IndexMap;
-use signatures::Value;
 
 /// The value that a property is to have; `None` where it is to have none.
 pub fn value_given<'w>(

@@ -6,9 +6,9 @@ ghost use Rattle.binding_plans.specs.Plans.{WillBe};
 
 use crate::changed_places::ChangedPlaces;
 use crate::given::value_given;
+use basic_types::Value;
 use binding_graph::{Place, Reader};
 use indexmap::IndexMap;
-use signatures::Value;
 use sqlite_items::Items;
 use std::alloc::Global;
 

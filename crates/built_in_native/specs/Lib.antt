@@ -1,3 +1,3 @@
 pub mod Doubling
-pub use Rattle.signatures.specs.Types
+pub use Rattle.basic_types.specs.Types
 pub use Rattle.native_slots.specs.Effects

@@ -1,12 +1,12 @@
 //! What the native is for, and what it does.
 
 ghost use Rattle.std.specs.Prelude.{◌≡◌, [], ◌∷◌, IfOk, IsTrue, codes};
-ghost use Rattle.signatures.specs.Types.{value_type};
+ghost use Rattle.basic_types.specs.Types.{value_type};
 ghost use Rattle.native_slots.specs.Effects.{are_within};
 ghost use Rattle.built_in_native.specs.Doubling.{doubling};
 
+use basic_types::{Arguments, Name, QType, Sig, Value};
 use native_slots::{Action, Effects, PlainProperty, PlainSignal, PlainType};
-use signatures::{Arguments, Name, QType, Sig, Value};
 use sqlite_items::Items;
 use std::alloc::{AllocError, Global};
 

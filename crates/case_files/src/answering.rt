@@ -1,10 +1,10 @@
 //! What command lines answer.
 
+use basic_types::Value;
 use built_in_native::{class, doubled, effects, twice};
 use explained_commands::{WriteFault, explained_command};
 use native_slots::{NativeSlot, Natives};
 use qt_runtime::Machine;
-use signatures::Value;
 use std::alloc::Global;
 use std::io;
 

@@ -1,6 +1,6 @@
 -- Reading nodes and lines from their parts.
 use Rattle.std.proofs.Common.{ℕ, ◌≡◌, Result, Ok, Err, List, [], ◌∷◌, map, refl, sym, ◌∙◌, ap}
-use Rattle.signatures.specs.declared.qtype.QType.{QType}
+use Rattle.basic_types.specs.declared.qtype.QType.{QType}
 use Rattle.token_reading.specs.code.Cursor.{NotAt}
 use Rattle.token_reading.specs.Lists.{spell_each, spell_listed}
 use Rattle.token_reading.specs.Literals.{greatest}

@@ -1,6 +1,6 @@
 //! Certificates: what they say of each node of a program.
 
-use signatures::{Name, Sig};
+use basic_types::{Name, Sig};
 use sqlite_items::Items;
 
 /// A member of a class, as a certificate names it.

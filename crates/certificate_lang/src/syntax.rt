@@ -10,7 +10,7 @@ ghost use Rattle.token_reading.specs.code.Reading.{Reads, EndsAnywhere, IsAtEnd}
 
 use crate::certificate::{Line, MemberName, NodeName, SetItem};
 use crate::version::Version;
-use signatures::Sig;
+use basic_types::Sig;
 use sqlite_items::Items;
 use syntax_trees::has_few_types;
 use texts::{Symbol, Token};

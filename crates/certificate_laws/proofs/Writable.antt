@@ -1,10 +1,10 @@
 -- What is valid for a program can be written.
 use Rattle.std.proofs.Common.{ℕ, List, subst, arith}
 use Rattle.std.specs.List.{Contains}
-use Rattle.signatures.specs.Signatures.{IsFreeName}
+use Rattle.basic_types.specs.Signatures.{IsFreeName}
 use Rattle.meta_model.specs.declared.object.MetaMethod.{MetaMethod}
 use Rattle.meta_model.specs.declared.object.MetaProperty.{MetaProperty}
-use Rattle.signatures.specs.Laws.{IsNormalSig}
+use Rattle.basic_types.specs.Laws.{IsNormalSig}
 use Rattle.meta_model.specs.Loaded.{Loaded}
 use Rattle.meta_model.specs.Members.{IsClassNamed}
 use Rattle.effect_scan.specs.declared.node.Member.{Member}

@@ -4,12 +4,12 @@ use Rattle.std.specs.List.{AllByRecursion, AllZip, flat_map}
 use Rattle.std.proofs.lemmas.Bool.{eq-eqb, false≢true}
 use Rattle.std.proofs.lemmas.List.{append-nil}
 use Rattle.std.proofs.lemmas.List.Elements.{All-from_recursion}
-use Rattle.signatures.specs.Name.{is_digit, is_name_byte}
-use Rattle.signatures.specs.Signatures.{IsFreeName}
-use Rattle.signatures.specs.Spelling.{text_of_sig}
-use Rattle.signatures.specs.Tokens.{StopsBy}
-use Rattle.signatures.specs.Words.{IsFree, word_spelling}
-use Rattle.signatures.specs.declared.word.Word.TheVariants as word
+use Rattle.basic_types.specs.Name.{is_digit, is_name_byte}
+use Rattle.basic_types.specs.Signatures.{IsFreeName}
+use Rattle.basic_types.specs.Spelling.{text_of_sig}
+use Rattle.basic_types.specs.Tokens.{StopsBy}
+use Rattle.basic_types.specs.Words.{IsFree, word_spelling}
+use Rattle.basic_types.specs.declared.word.Word.TheVariants as word
 use Rattle.texts.specs.Lines.{AreFrontLines}
 use Rattle.token_reading.specs.Lists.{spell_each}
 use Rattle.token_reading.specs.Literals.{greatest}

@@ -5,10 +5,10 @@ use Rattle.std.proofs.lemmas.Bool.{or_left}
 use Rattle.std.proofs.lemmas.Bool.Decides.{nat_tests}
 use Rattle.std.proofs.lemmas.Fmt.{decimal_by_steps}
 use Rattle.std.proofs.lemmas.List.Elements.{recursion_from_All}
-use Rattle.signatures.specs.Name.{is_letter, is_digit, is_name_byte, IsName}
-use Rattle.signatures.specs.Signatures.{IsFreeName}
-use Rattle.signatures.specs.Tokens.{StopsBy}
-use Rattle.signatures.specs.declared.word.Word.TheVariants as word
+use Rattle.basic_types.specs.Name.{is_letter, is_digit, is_name_byte, IsName}
+use Rattle.basic_types.specs.Signatures.{IsFreeName}
+use Rattle.basic_types.specs.Tokens.{StopsBy}
+use Rattle.basic_types.specs.declared.word.Word.TheVariants as word
 use Rattle.texts.specs.Numerals.{value_from, value_of}
 use Rattle.texts.specs.Pieces.{blank, name, reserved, number, symbol, AreTokens, StartsWithLetter, IsNotEmpty}
 use Rattle.texts.specs.Symbols.{spelling, Begins}

@@ -3,15 +3,15 @@ use Rattle.std.proofs.Common.{◌≡◌, ◌∙◌, ℕ, Bool, true, false, List
 use Rattle.std.specs.List.{AllByRecursion}
 use Rattle.std.proofs.lemmas.Bool.{false≢true}
 use Rattle.std.proofs.lemmas.List.{append-nil}
-use Rattle.signatures.specs.Laws.{IsNormalType, IsNormalSig}
-use Rattle.signatures.specs.Name.{is_name_byte}
-use Rattle.signatures.specs.Signatures.{IsFreeName}
-use Rattle.signatures.specs.Spelling.{const_text, star_text, text_of_type, text_of_others, text_of_types, text_of_sig}
-use Rattle.signatures.specs.Tokens.{StopsBy}
-use Rattle.signatures.specs.declared.normal.ConstPlace.TheVariants.{Nowhere, Before}
-use Rattle.signatures.specs.declared.normal.TypeEnding.TheVariants.{Bare, Pointer}
-use Rattle.signatures.specs.declared.qtype.QType.{QType}
-use Rattle.signatures.specs.declared.sig.Sig.{Sig}
+use Rattle.basic_types.specs.Laws.{IsNormalType, IsNormalSig}
+use Rattle.basic_types.specs.Name.{is_name_byte}
+use Rattle.basic_types.specs.Signatures.{IsFreeName}
+use Rattle.basic_types.specs.Spelling.{const_text, star_text, text_of_type, text_of_others, text_of_types, text_of_sig}
+use Rattle.basic_types.specs.Tokens.{StopsBy}
+use Rattle.basic_types.specs.declared.normal.ConstPlace.TheVariants.{Nowhere, Before}
+use Rattle.basic_types.specs.declared.normal.TypeEnding.TheVariants.{Bare, Pointer}
+use Rattle.basic_types.specs.declared.qtype.QType.{QType}
+use Rattle.basic_types.specs.declared.sig.Sig.{Sig}
 use Rattle.token_reading.specs.Lists.{spell_others, spell_listed}
 use Rattle.token_reading.specs.Signatures.{TypeReading, spelled_type, spell_type, tree_of_type, SigReading, sig, spell_sig, tree_of_sig}
 use Rattle.texts.specs.declared.symbol.Symbol.TheVariants as s

@@ -1,7 +1,7 @@
 -- A certificate as a text, as the maker writes it (docs/certificate.md, "The certificate").
 use Rattle.std.specs.Prelude.{ℕ, List, ◌++◌, codes, decimal}
 use Rattle.std.specs.List.{flat_map}
-use Rattle.signatures.specs.Spelling.{text_of_sig}
+use Rattle.basic_types.specs.Spelling.{text_of_sig}
 use Rattle.certificate_lang.specs.declared.certificate.MemberName.{MemberName}
 use Rattle.certificate_lang.specs.declared.certificate.MemberName.TheVariants.{Method, Property, Destruction}
 use Rattle.certificate_lang.specs.declared.certificate.NodeName.{NodeName}

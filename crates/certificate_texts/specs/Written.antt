@@ -1,8 +1,8 @@
 -- The certificates whose text is read again (docs/certificate.md, "The certificate").
 use Rattle.std.specs.Prelude.{ℕ, ◌≡◌, ◌≤◌, List, []}
 use Rattle.std.specs.List.{AllByRecursion}
-use Rattle.signatures.specs.Laws.{IsNormalSig}
-use Rattle.signatures.specs.Signatures.{IsFreeName}
+use Rattle.basic_types.specs.Laws.{IsNormalSig}
+use Rattle.basic_types.specs.Signatures.{IsFreeName}
 use Rattle.token_reading.specs.Literals.{greatest}
 use Rattle.texts.specs.Pieces.{AreTokens}
 use Rattle.certificate_lang.specs.Grammar.{NodeReading, spell_node, tree_of_node}

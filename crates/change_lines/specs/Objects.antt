@@ -1,7 +1,7 @@
 -- How values are written down (docs/machine.md, "Objects").
 use Rattle.std.specs.Prelude.{ℕ, List, map, Option, None, Some}
-use Rattle.signatures.specs.declared.value.Value.{Value}
-use Rattle.signatures.specs.declared.value.Value.TheVariants as value
+use Rattle.basic_types.specs.declared.value.Value.{Value}
+use Rattle.basic_types.specs.declared.value.Value.TheVariants as value
 use Rattle.object_tree.specs.declared.object.Object.{Object}
 use Rattle.object_tree.specs.Objects.{name_of}
 use Rattle.object_tree.specs.Seen.{seen_reference}

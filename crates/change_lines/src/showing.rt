@@ -3,8 +3,8 @@
 ghost use Rattle.std.specs.Prelude.{◌≡◌, IfOk};
 ghost use Rattle.change_lines.specs.Objects.{shown, shown_reference, all_shown};
 
+use basic_types::{ObjectId, Value};
 use object_tree::Tree;
-use signatures::{ObjectId, Value};
 use std::alloc::{AllocError, Global};
 use trace_entries::{Shown, ShownValues};
 

@@ -10,11 +10,11 @@ ghost use Rattle.change_lines.specs.Telling.{HasValue, IsTold, IsToldWith, IsSet
 ghost use Rattle.change_lines.specs.code.Planned.{CanBeTold, HaveValues, AddsFollowers, AddsSets, AddsTold, StandFirst, WillBeTold, behind};
 
 use crate::showing::show;
+use basic_types::{Name, Value};
 use binding_graph::Place;
 use binding_plans::{Assignment, Planned};
 use meta_model::Meta;
 use object_tree::Tree;
-use signatures::{Name, Value};
 use std::alloc::{AllocError, Global};
 use trace_entries::{Entry, EntryKind, Shown, Trace};
 

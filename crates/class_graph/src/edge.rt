@@ -1,8 +1,8 @@
 //! Edges: what may lead from one member to another, at once or later.
 
+use basic_types::Kind;
 use effect_scan::{Member, Node, Reason, Scan, reason_for};
 use meta_model::{DESTROYED, DESTROYED_ALONE, Meta, MetaWire, Work};
-use signatures::Kind;
 use std::alloc::{AllocError, Global};
 
 /// What draws an edge.

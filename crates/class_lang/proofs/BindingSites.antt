@@ -1,6 +1,6 @@
 -- Bindings from their parts.
 use Rattle.std.proofs.Common.{◌≡◌, ◌∙◌, sym, ap, ℕ, List, ◌∷◌, map, Bool, true, false, ◌&&◌}
-use Rattle.signatures.specs.declared.value.Value.{Value}
+use Rattle.basic_types.specs.declared.value.Value.{Value}
 use Rattle.slot_lang.specs.Expressions.{Expression, tree_of_expression}
 use Rattle.slot_lang.specs.Grammar.{spell_value}
 use Rattle.slot_lang.proofs.Unique.{one_value}

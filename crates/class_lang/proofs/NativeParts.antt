@@ -1,8 +1,8 @@
 -- Natives from their parts.
 use Rattle.std.proofs.Common.{◌≡◌, ◌∙◌, ℕ, List, [], ◌∷◌, sym, map}
 use Rattle.std.proofs.lemmas.List.{map-id}
-use Rattle.signatures.specs.declared.sig.Sig.{Sig}
-use Rattle.signatures.specs.declared.word.Word.TheVariants as word
+use Rattle.basic_types.specs.declared.sig.Sig.{Sig}
+use Rattle.basic_types.specs.declared.word.Word.TheVariants as word
 use Rattle.token_reading.specs.code.Lists.{EndsAfter}
 use Rattle.token_reading.specs.Lists.{spell_listed}
 use Rattle.token_reading.specs.code.Reading.{Found, EndsAnywhere}

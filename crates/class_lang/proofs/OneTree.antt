@@ -1,7 +1,7 @@
 -- No two readings with the same tokens stand for different trees.
 use Rattle.std.proofs.Common.{◌≡◌, ◌∙◌, ℕ, List, [], ◌∷◌, refl, sym, ap, map, Option, Some, None, option_map}
 use Rattle.std.proofs.lemmas.List.{map-id}
-use Rattle.signatures.specs.declared.word.Word.TheVariants as word
+use Rattle.basic_types.specs.declared.word.Word.TheVariants as word
 use Rattle.slot_lang.specs.Grammar.{spell_block, spell_value}
 use Rattle.token_reading.specs.Lists.{spell_each}
 use Rattle.token_reading.specs.Literals.{spell_literal, tree_of_literal}

@@ -8,15 +8,15 @@
 --   end         = Name sig
 --   owns        = Name Name ";"
 use Rattle.std.specs.Prelude.{ℕ, ◌≡◌, List, [], ◌∷◌, map, Option}
-use Rattle.signatures.specs.declared.kind.Kind.{Kind}
-use Rattle.signatures.specs.declared.sig.Sig.{Sig}
+use Rattle.basic_types.specs.declared.kind.Kind.{Kind}
+use Rattle.basic_types.specs.declared.sig.Sig.{Sig}
 use Rattle.token_reading.specs.Lists.{spell_each}
 use Rattle.token_reading.specs.Reading.{spell_name}
 use Rattle.token_reading.specs.Signatures.{SigReading, spell_sig, tree_of_sig, spell_kind}
 use Rattle.texts.specs.declared.symbol.Symbol.TheVariants.{Semicolon, Colon, OpenBrace, CloseBrace, Arrow}
 use Rattle.texts.specs.declared.token.Token.{Token}
 use Rattle.texts.specs.declared.token.Token.TheVariants as token
-use Rattle.signatures.specs.declared.word.Word.TheVariants as word
+use Rattle.basic_types.specs.declared.word.Word.TheVariants as word
 use Rattle.token_reading.specs.Optional.{spell_optional}
 use Rattle.class_lang.specs.Members.{MemberReading, spell_member, tree_of_member, properties_in, signals_in, slots_in}
 use Rattle.class_lang.specs.Sites.{SiteReading, spell_site, tree_of_site}

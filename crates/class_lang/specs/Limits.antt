@@ -1,7 +1,7 @@
 -- How large programs may be (docs/language.md, "Limits").
 use Rattle.std.specs.Prelude.{ℕ, ◌+◌, ◌≤◌, Bool, true, false, List, length, count_by, sum_by, All, IfSome}
-use Rattle.signatures.specs.declared.sig.Sig.{Sig}
-use Rattle.signatures.specs.Signatures.{most_parameters}
+use Rattle.basic_types.specs.declared.sig.Sig.{Sig}
+use Rattle.basic_types.specs.Signatures.{most_parameters}
 use Rattle.syntax_trees.specs.Connections.{HasFewTypes}
 use Rattle.slot_lang.specs.Bodies.{signatures_in}
 use Rattle.syntax_trees.specs.declared.program.Class.{Class}

@@ -13,7 +13,7 @@ use Rattle.token_reading.specs.Signatures.{TypeReading, spell_type, tree_of_type
 use Rattle.texts.specs.declared.symbol.Symbol.TheVariants.{Semicolon, Assign}
 use Rattle.texts.specs.declared.token.Token.{Token}
 use Rattle.texts.specs.declared.token.Token.TheVariants as token
-use Rattle.signatures.specs.declared.word.Word.TheVariants as word
+use Rattle.basic_types.specs.declared.word.Word.TheVariants as word
 use Rattle.token_reading.specs.Optional.{spell_optional}
 use Rattle.class_lang.specs.Natives.{NativeReading, spell_native, tree_of_native}
 use Rattle.class_lang.specs.Parameters.{SignalParameter, spell_signal_parameter, tree_of_signal_parameter, SlotParameter, spell_slot_parameter, tree_of_slot_parameter}

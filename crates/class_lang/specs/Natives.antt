@@ -4,7 +4,7 @@
 --   native  = Name "(" [signal_parameter {"," signal_parameter}] ")" effects
 --   effects = ["reads" Name {"," Name}] ["emits" sig {"," sig}] ["sets" Name {"," Name}] ";"
 use Rattle.std.specs.Prelude.{ℕ, List, ◌∷◌, map}
-use Rattle.signatures.specs.declared.word.Word.TheVariants as word
+use Rattle.basic_types.specs.declared.word.Word.TheVariants as word
 use Rattle.token_reading.specs.Lists.{spell_listed, spell_after}
 use Rattle.token_reading.specs.Reading.{spell_name}
 use Rattle.token_reading.specs.Signatures.{SigReading, spell_sig, tree_of_sig}

@@ -5,8 +5,8 @@
 --   formal  = Name Name
 --   bexpr   = expr, in which no null stands, and each path of which is Name "." Name
 use Rattle.std.specs.Prelude.{ℕ, ◌≡◌, ◌&&◌, Bool, true, false, List, [], ◌∷◌, map}
-use Rattle.signatures.specs.declared.value.Value.{Value}
-use Rattle.signatures.specs.declared.value.Value.TheVariants as value
+use Rattle.basic_types.specs.declared.value.Value.{Value}
+use Rattle.basic_types.specs.declared.value.Value.TheVariants as value
 use Rattle.slot_lang.specs.Expressions.{Expression, tree_of_expression}
 use Rattle.slot_lang.specs.Grammar.{spell_value}
 use Rattle.token_reading.specs.Lists.{spell_listed}

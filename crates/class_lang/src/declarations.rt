@@ -9,7 +9,7 @@ ghost use Rattle.class_lang.specs.Declarations.{spell_class, tree_of_class, spel
 
 use crate::members::{add_member, next_member};
 use crate::sites::site;
-use signatures::{Name, Sig};
+use basic_types::{Name, Sig};
 use std::alloc::AllocError;
 use syntax_trees::{Class, Owns, Program, Site, Wire};
 use texts::{Symbol, Word};

@@ -4,7 +4,7 @@ ghost use Rattle.std.specs.Prelude.{◌≡◌, ◌↔◌, IsTrue, IfSome, All};
 ghost use Rattle.syntax_trees.specs.Connections.{HasFewTypes};
 ghost use Rattle.class_lang.specs.Limits.{is_native, natives_among, HaveFewNatives, signatures_at_work, SlotHasFewParameters, ClassHasFewParameters, WireHasFewParameters, HasFewParameters, ClassIsWithinLimits, IsWithinLimits};
 
-use signatures::MOST_PARAMETERS;
+use basic_types::MOST_PARAMETERS;
 use slot_lang::body_has_few_parameters;
 use syntax_trees::{Class, Program, Property, Slot, SlotWork, Wire, has_few_types};
 

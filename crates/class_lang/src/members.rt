@@ -7,7 +7,7 @@ ghost use Rattle.class_lang.specs.Members.{spell_signal, tree_of_signal, spell_s
 
 use crate::natives::native;
 use crate::parameters::{SignalParameterPart, SlotParameterPart};
-use signatures::Sig;
+use basic_types::Sig;
 use slot_lang::block;
 use std::alloc::AllocError;
 use syntax_trees::{Class, Literal, Property, Signal, Slot, SlotWork};

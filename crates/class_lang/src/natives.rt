@@ -7,7 +7,7 @@ ghost use Rattle.token_reading.specs.Signatures.{SigReading, spell_sig, tree_of_
 ghost use Rattle.class_lang.specs.code.Members.{ReadsEffects, ReadsNative};
 
 use crate::parameters::SignalParameterPart;
-use signatures::{Name, Sig};
+use basic_types::{Name, Sig};
 use syntax_trees::{EffectNames, Slot, SlotWork};
 use texts::{Symbol, Word};
 use token_reading::{Cursor, ParseFault, Part, list, list_after};

@@ -5,7 +5,7 @@ ghost use Rattle.token_reading.specs.code.Reading.{EndsAnywhere};
 ghost use Rattle.class_lang.specs.Sites.{FormalReading, spell_formal, tree_of_formal, is_bexpr, is_of_formal, is_no_null};
 ghost use Rattle.class_lang.specs.code.Declarations.{ReadsFormal, ReadsSite};
 
-use signatures::Value;
+use basic_types::Value;
 use slot_lang::value;
 use syntax_trees::{Expr, Formal, Path, Root, Site};
 use texts::Symbol;

@@ -1,6 +1,6 @@
 -- What a declared type stands for.
 use Rattle.std.proofs.Common.{◌≡◌, ℕ, true, List, ap}
-use Rattle.signatures.specs.declared.qtype.QType.{QType}
+use Rattle.basic_types.specs.declared.qtype.QType.{QType}
 use Rattle.meta_model.specs.declared.object.ValueType.TheVariants.{Int, Bool, Text, Reference}
 use Rattle.class_outlines.specs.declared.outline.Outline.{Outline}
 use Rattle.name_indexes.specs.Places.{StandsAt}

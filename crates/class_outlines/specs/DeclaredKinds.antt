@@ -1,6 +1,6 @@
 -- What declared types stand for while a program is loaded (docs/language.md, "Types").
 use Rattle.std.specs.Prelude.{ℕ, List}
-use Rattle.signatures.specs.declared.qtype.QType.{QType}
+use Rattle.basic_types.specs.declared.qtype.QType.{QType}
 use Rattle.meta_model.specs.declared.object.ValueType.{ValueType}
 use Rattle.meta_model.specs.Kinds.{IsTypeOf}
 use Rattle.class_outlines.specs.declared.outline.Outline.{Outline}

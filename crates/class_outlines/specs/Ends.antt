@@ -1,6 +1,6 @@
 -- The ends of wires: members of classes, by the names of their classes and by their signatures (docs/language.md, "Names").
 use Rattle.std.specs.Prelude.{◌≡◌, ℕ, List}
-use Rattle.signatures.specs.declared.sig.Sig.{Sig}
+use Rattle.basic_types.specs.declared.sig.Sig.{Sig}
 use Rattle.class_outlines.specs.declared.outline.Heading.{Heading}
 use Rattle.class_outlines.specs.declared.outline.Outline.{Outline}
 use Rattle.name_indexes.specs.Places.{StandsFirst}

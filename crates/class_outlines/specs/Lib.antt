@@ -16,5 +16,5 @@ pub use Rattle.name_indexes.specs.Places
 pub use Rattle.name_indexes.specs.CallPlaces
 pub use Rattle.name_indexes.specs.Twice
 pub use Rattle.name_indexes.specs.LookUps
-pub use Rattle.signatures.specs.Name
-pub use Rattle.signatures.specs.Types
+pub use Rattle.basic_types.specs.Name
+pub use Rattle.basic_types.specs.Types

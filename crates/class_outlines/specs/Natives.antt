@@ -1,8 +1,8 @@
 -- Natives as declared: which names may not appear twice, and that no reference may be among what a native takes, reads,
 -- emits or sets (docs/language.md, "Names").
 use Rattle.std.specs.Prelude.{◌≡◌, ℕ, ◌⊎◌, true, List, Any}
-use Rattle.signatures.specs.declared.qtype.QType.{QType}
-use Rattle.signatures.specs.declared.sig.Sig.{Sig}
+use Rattle.basic_types.specs.declared.qtype.QType.{QType}
+use Rattle.basic_types.specs.declared.sig.Sig.{Sig}
 use Rattle.syntax_trees.specs.declared.program.Parameter.{Parameter}
 use Rattle.syntax_trees.specs.declared.program.EffectNames.{EffectNames}
 use Rattle.syntax_trees.specs.declared.program.SlotWork.{SlotWork}

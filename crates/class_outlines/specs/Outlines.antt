@@ -2,9 +2,9 @@
 -- Compiler"; docs/machine.md, "Meta-objects").
 use Rattle.std.specs.Borrow.{Bor}
 use Rattle.std.specs.Prelude.{◌≡◌, ℕ, suc, false, List, [], ◌∷◌, ◌++◌, map, length, take, Option, None, Some, slice_get, Result, codes}
-use Rattle.signatures.specs.declared.qtype.QType.{QType}
-use Rattle.signatures.specs.declared.sig.Sig.{Sig}
-use Rattle.signatures.specs.Types.{value_type}
+use Rattle.basic_types.specs.declared.qtype.QType.{QType}
+use Rattle.basic_types.specs.declared.sig.Sig.{Sig}
+use Rattle.basic_types.specs.Types.{value_type}
 use Rattle.syntax_trees.specs.declared.program.Parameter.{Parameter}
 use Rattle.syntax_trees.specs.declared.program.Property.{Property}
 use Rattle.syntax_trees.specs.declared.program.Signal.{Signal}

@@ -6,8 +6,8 @@ ghost use Rattle.class_outlines.specs.declared.outline.Outline.{Outline};
 ghost use Rattle.name_indexes.specs.Places.{IsPlace, IsFirst};
 
 use crate::indexed::IndexedOutline;
+use basic_types::Name;
 use name_indexes::NameIndex;
-use signatures::Name;
 use sqlite_items::Items;
 use std::alloc::{AllocError, Global};
 use std::marker::Model;

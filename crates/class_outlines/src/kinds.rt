@@ -5,11 +5,11 @@ ghost use Rattle.std.specs.List.{AllZip};
 ghost use Rattle.class_outlines.specs.DeclaredKinds.{IsKindIn};
 ghost use Rattle.class_outlines.specs.code.ReadTypes.{IsReadAs};
 ghost use Rattle.name_indexes.specs.LookUps.{LooksUp};
-ghost use Rattle.signatures.specs.Types.{value_type};
+ghost use Rattle.basic_types.specs.Types.{value_type};
 
 use crate::class_table::ClassTable;
+use basic_types::QType;
 use meta_model::ValueType;
-use signatures::QType;
 use sqlite_items::Items;
 use std::alloc::{AllocError, Global};
 

@@ -1,6 +1,6 @@
 //! How many names the parts of declarations have. A declaration's names are counted from 0, in the order of its text.
 
-use signatures::Sig;
+use basic_types::Sig;
 use syntax_trees::{Parameter, Site};
 
 /// The names of a signature: its own, and one of each type.

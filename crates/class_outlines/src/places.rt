@@ -4,7 +4,7 @@ ghost use Rattle.std.specs.Prelude.{◌≡◌, ◌↔◌, ℕ, List, IsTrue, Som
 ghost use Rattle.name_indexes.specs.Places.{IsFirst};
 
 use crate::outline::Outline;
-use signatures::Name;
+use basic_types::Name;
 use syntax_trees::{Formal, Parameter};
 
 /// What may have a name.

@@ -1,15 +1,15 @@
 //! The class `QObject`, the base of all others.
 
 ghost use Rattle.std.specs.Prelude.{◌≡◌, false, [], ◌∷◌, ◌++◌, IfOk, OnOk, codes};
-ghost use Rattle.signatures.specs.Name.{IsName};
-ghost use Rattle.signatures.specs.Normal.{pointer_type};
-ghost use Rattle.signatures.specs.Types.{value_type};
+ghost use Rattle.basic_types.specs.Name.{IsName};
+ghost use Rattle.basic_types.specs.Normal.{pointer_type};
+ghost use Rattle.basic_types.specs.Types.{value_type};
 ghost use Rattle.meta_model.specs.QObject.{sig_of, name_changed};
 ghost use Rattle.class_outlines.specs.Outlines.{qobject, heading, object_name};
 
 use crate::outline::{Heading, Outline, Sort};
+use basic_types::{Name, QType, Sig};
 use shared_values::Shared;
-use signatures::{Name, QType, Sig};
 use sqlite_items::Items;
 use std::alloc::{AllocError, Global};
 use syntax_trees::Property;

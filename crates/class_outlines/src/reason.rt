@@ -4,7 +4,7 @@ ghost use Rattle.std.specs.Prelude.{◌≡◌};
 ghost use Rattle.class_outlines.specs.Offences.{fault_of};
 
 use crate::fault::MetaFault;
-use signatures::{QType, Sig};
+use basic_types::{QType, Sig};
 
 /// How a declaration breaks a rule of loading. What it says of types and signatures is as declared; classes have their
 /// numbers.

@@ -4,8 +4,8 @@ ghost use Rattle.class_outlines.specs.DeclaredSites.{FindsProperty, FindsSource}
 
 use crate::class_table::ClassTable;
 use crate::places::find;
+use basic_types::Name;
 use meta_model::SourceProperty;
-use signatures::Name;
 use syntax_trees::{Path, Property, Root, Site};
 
 /// A property of a class, by the numbers of both.

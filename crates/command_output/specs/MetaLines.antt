@@ -2,7 +2,7 @@
 use Rattle.std.specs.Prelude.{ℕ, suc, List, [], ◌∷◌, ◌++◌, length, drop, codes, decimal, Option, None, Some, slice_get}
 use Rattle.std.specs.List.{flat_map}
 use Rattle.std.specs.Option.{option_and_then}
-use Rattle.signatures.specs.Spelling.{text_of_sig, text_of_type}
+use Rattle.basic_types.specs.Spelling.{text_of_sig, text_of_type}
 use Rattle.meta_model.specs.Loaded.{Loaded}
 use Rattle.meta_model.specs.Members.{base_class, methods_in, properties_in}
 use Rattle.meta_model.specs.declared.object.MetaObject.{MetaObject}

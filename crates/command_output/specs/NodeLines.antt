@@ -1,7 +1,7 @@
 -- Nodes of a program, as reasons name them (docs/certificate.md, "Nodes").
 use Rattle.std.specs.Prelude.{ℕ, List, [], ◌++◌, codes, Option, None, Some, slice_get}
 use Rattle.std.specs.List.{flat_map}
-use Rattle.signatures.specs.Spelling.{text_of_sig}
+use Rattle.basic_types.specs.Spelling.{text_of_sig}
 use Rattle.meta_model.specs.Loaded.{Loaded}
 use Rattle.meta_model.specs.declared.object.MetaObject.{MetaObject}
 use Rattle.meta_model.specs.declared.object.MetaMethod.{MetaMethod}

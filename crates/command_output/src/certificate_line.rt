@@ -2,14 +2,14 @@
 
 ghost use Rattle.std.specs.Prelude.{◌++◌, codes, decimal};
 ghost use Rattle.std.specs.List.{flat_map};
-ghost use Rattle.signatures.specs.Spelling.{text_of_sig};
+ghost use Rattle.basic_types.specs.Spelling.{text_of_sig};
 ghost use Rattle.certificate_texts.specs.Texts.{node_text, item_text, listed_text, node_line};
 ghost use Rattle.command_output.specs.Lines.{member_text};
 ghost use Rattle.command_output.specs.Sent.{Puts};
 
 use crate::output::Output;
+use basic_types::{Name, Sig};
 use certificate_lang::{Line, MemberName, NodeName, SetItem};
-use signatures::{Name, Sig};
 use std::io::Write;
 
 impl<W: Write> Output<'_, W> {

@@ -5,7 +5,7 @@ ghost use Rattle.command_output.specs.Lines.{kind_text, given_text, type_text, e
 ghost use Rattle.command_output.specs.Sent.{Puts};
 
 use crate::output::Output;
-use signatures::{Kind, Name, Sig};
+use basic_types::{Kind, Name, Sig};
 use std::io::Write;
 use syntax_trees::{ConnectionType, Endpoints};
 

@@ -6,8 +6,8 @@ ghost use Rattle.command_output.specs.Lines.{newline, value_text, bare_call_text
 ghost use Rattle.command_output.specs.Sent.{Puts};
 
 use crate::output::Output;
+use basic_types::{Name, Text};
 use itoa::{Buffer, Integer};
-use signatures::{Name, Text};
 use std::io::Write;
 use trace_entries::{Entry, EntryKind, Shown, ShownAction};
 

@@ -2,15 +2,15 @@
 
 ghost use Rattle.std.specs.Prelude.{◌≡◌, drop, option_copied};
 ghost use Rattle.std.specs.List.{flat_map};
-ghost use Rattle.signatures.specs.Spelling.{const_text, star_text, text_of_sig, text_of_type, text_of_types, text_of_others};
+ghost use Rattle.basic_types.specs.Spelling.{const_text, star_text, text_of_sig, text_of_type, text_of_types, text_of_others};
 ghost use Rattle.meta_model.specs.Members.{base_class, methods_in, properties_in};
 ghost use Rattle.command_output.specs.MetaLines.{described, class_line, class_lines, method_line, method_lines, notify_text, property_line, meta_text, work_text, base_text};
 ghost use Rattle.command_output.specs.Sent.{Puts};
 
 use crate::output::Output;
+use basic_types::{QType, Sig};
 use meta_model::{Meta, MetaMethod, MetaObject, MetaProperty, Work};
 use shared_values::Shared;
-use signatures::{QType, Sig};
 use std::io::Write;
 
 impl<W: Write> Output<'_, W> {

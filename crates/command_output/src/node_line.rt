@@ -6,9 +6,9 @@ ghost use Rattle.command_output.specs.NodeLines.{method_text, name_text, text_in
 ghost use Rattle.command_output.specs.Sent.{Puts};
 
 use crate::output::Output;
+use basic_types::Name;
 use effect_scan::{Member, Node};
 use meta_model::{Meta, MetaMethod, MetaObject, MetaProperty};
-use signatures::Name;
 use std::io::Write;
 
 impl<W: Write> Output<'_, W> {

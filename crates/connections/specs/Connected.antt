@@ -3,7 +3,7 @@
 -- (Qt 6, "Signals & Slots" and `QObject::connect`).
 use Rattle.std.specs.Prelude.{ℕ, ◌+◌, ◌<◌, ◌≤◌, ◌&&◌, ◌||◌, not, nat_lt, nat_le, eqb, Bool, List, [], ◌∷◌, ◌++◌, filter, count_by, Option, None, Some, if◌then◌else◌}
 use Rattle.std.specs.List.{list_any}
-use Rattle.signatures.specs.declared.kind.Kind.{Kind}
+use Rattle.basic_types.specs.declared.kind.Kind.{Kind}
 use Rattle.connections.specs.declared.connection.Connection.{Connection}
 
 -- those that were made and not removed, in the order in which they were made, and the last number given

@@ -9,8 +9,8 @@ use crate::link::Link;
 use crate::listed::{Listed, add_item, add_near, index_near, insert_first, push_at};
 use crate::lists::{Lists, ends_between};
 use crate::place::Place;
+use basic_types::ObjectId;
 use indexmap::IndexMap;
-use signatures::ObjectId;
 use std::alloc::{AllocError, Global};
 
 /// Adds a link of a sender and signal, whose number is the next one. Without memory nothing changes that is seen.

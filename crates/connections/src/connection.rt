@@ -1,7 +1,7 @@
 ghost use Rattle.std.specs.Prelude.{◌≡◌};
 ghost use Rattle.connections.specs.Connected.{is_of, joins, touches};
 
-use signatures::{Kind, ObjectId};
+use basic_types::{Kind, ObjectId};
 
 /// A connection, with the number under which it was made.
 #[derive(Clone, Copy, Debug)]

@@ -16,8 +16,8 @@ use crate::lists::{Lists, ends_between};
 use crate::removing::{Removal, remove};
 use crate::search::{lead_to_any, next_above};
 use crate::sweeping::sweep;
+use basic_types::{Kind, ObjectId};
 use indexmap::IndexMap;
-use signatures::{Kind, ObjectId};
 use std::alloc::{AllocError, Global};
 use std::marker::Model;
 

@@ -6,8 +6,8 @@ ghost use Rattle.connections.specs.code.Store.{links_in};
 use crate::hint::SignalHint;
 use crate::link::Link;
 use crate::listed::{Listed, items_of};
+use basic_types::ObjectId;
 use indexmap::IndexMap;
-use signatures::ObjectId;
 
 /// The links of a sender and signal.
 pub fn links_of(

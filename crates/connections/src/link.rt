@@ -2,7 +2,7 @@ ghost use Rattle.std.specs.Prelude.{◌≡◌};
 ghost use Rattle.connections.specs.code.Links.{connection_of, is_due};
 
 use crate::connection::Connection;
-use signatures::{Kind, ObjectId};
+use basic_types::{Kind, ObjectId};
 
 /// A connection in the list of its sender and signal, and whether it is still there.
 #[derive(Clone, Copy)]

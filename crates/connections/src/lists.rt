@@ -4,8 +4,8 @@ ghost use Rattle.connections.specs.code.Store.{IsEmpty};
 use crate::link::Link;
 use crate::listed::Listed;
 use crate::place::Place;
+use basic_types::ObjectId;
 use indexmap::IndexMap;
-use signatures::ObjectId;
 use std::alloc::Global;
 
 /// The places of all connections, the links of each sender and signal, and the numbers of those with the same ends.

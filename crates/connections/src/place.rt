@@ -5,7 +5,7 @@ ghost use Rattle.std.specs.List.{find};
 ghost use Rattle.connections.specs.code.Links.{place_number, is_placed, passing};
 ghost use Rattle.connections.specs.code.Rising.{AreRisingBy};
 
-use signatures::ObjectId;
+use basic_types::ObjectId;
 
 /// Where the connection of a number is read: among those of this sender and signal, if it is still there.
 #[derive(Clone, Copy)]

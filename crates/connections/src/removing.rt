@@ -14,8 +14,8 @@ use crate::lists::{Lists, ends_between};
 use crate::pairs::{break_all, break_links, forget_number};
 use crate::place::{Place, place_numbered};
 use crate::search::find_numbered;
+use basic_types::ObjectId;
 use indexmap::IndexMap;
-use signatures::ObjectId;
 
 /// Which connections are to be removed.
 #[derive(Clone, Copy)]

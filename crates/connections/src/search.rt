@@ -7,7 +7,7 @@ ghost use Rattle.connections.specs.code.Rising.{SplitsBy};
 
 use crate::connection::Connection;
 use crate::link::Link;
-use signatures::ObjectId;
+use basic_types::ObjectId;
 
 /// How many links have lower numbers.
 pub fn from_number(links: &[Link], number: u64) -> usize

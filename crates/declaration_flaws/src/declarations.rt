@@ -1,8 +1,8 @@
 //! Declarations by their places in a program.
 
 use crate::sentence::{Piece, push_pieces};
+use basic_types::Name;
 use class_outlines::{Declaration, Member};
-use signatures::Name;
 use std::alloc::{AllocError, Global};
 use syntax_trees::{Class, Owns, Parameter, Program, Property, Signal, Site, Slot, SlotWork, Wire};
 

@@ -1,7 +1,7 @@
 //! Declared names that are like one that isn't there.
 
+use basic_types::Name;
 use diagnostics::{Printed, nearest};
-use signatures::Name;
 use std::alloc::{AllocError, Global};
 use syntax_trees::{Class, Formal, Parameter, Program};
 

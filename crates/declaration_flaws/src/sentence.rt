@@ -1,7 +1,7 @@
 //! Sentences of words, names and types.
 
+use basic_types::{Name, QType, Sig};
 use diagnostics::push_printed;
-use signatures::{Name, QType, Sig};
 use std::alloc::{AllocError, Global};
 use syntax_trees::Parameter;
 

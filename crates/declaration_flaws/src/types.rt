@@ -4,8 +4,8 @@ use crate::declarations::Declared;
 use crate::finding::{Finding, found};
 use crate::sentence::Piece;
 use crate::words::Told;
+use basic_types::{Name, QType};
 use class_outlines::{Unfit, names_before_parameter};
-use signatures::{Name, QType};
 use std::alloc::AllocError;
 
 const NO_FRACTIONS: &str = "there are no fractions: write `int`";

@@ -3,8 +3,8 @@
 use crate::finding::{Finding, found};
 use crate::sentence::Piece;
 use crate::words::Told;
+use basic_types::{QType, Sig};
 use class_outlines::{End, Missing, Near, Sought};
-use signatures::{QType, Sig};
 use std::alloc::AllocError;
 
 /// That the name isn't declared, of which this is looked for.

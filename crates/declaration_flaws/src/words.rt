@@ -5,9 +5,9 @@ use crate::finding::{Finding, found};
 use crate::sentence::Piece;
 use crate::types::unfit_type;
 use crate::undeclared::undeclared;
+use basic_types::{Name, Sig};
 use class_outlines::{BasePlace, ClassClash, Near, Offence, Reason, Repeated};
 use diagnostics::Flaw;
-use signatures::{Name, Sig};
 use std::alloc::{AllocError, Global};
 use syntax_trees::{Program, Property};
 

@@ -3,8 +3,8 @@ ghost use Rattle.std.specs.List.{find};
 ghost use Rattle.connections.specs.Connected.{unconnected, joins, is_due, is_numbered, touches, are_connected, connected_by, removed, Rises};
 ghost use Rattle.connections.specs.declared.fault.ConnectFault.TheVariants.{Exists};
 
+use basic_types::{Kind, ObjectId};
 use connections::{ConnectFault, Connection, Connections, DisconnectFault, SignalHint};
-use signatures::{Kind, ObjectId};
 use std::alloc::Global;
 use std::marker::Model;
 

@@ -9,10 +9,10 @@ ghost use Rattle.delete_later.specs.Ending.{died_in, ended_in, next_in, IsNext, 
 
 use crate::fault::MoveFault;
 use crate::live_connections::LiveConnections;
+use basic_types::{LoopId, ObjectId};
 use event_loops::{Item, Loops, PostFault};
 use object_tree::Tree;
 use prop_bindings::UncountedBindings;
-use signatures::{LoopId, ObjectId};
 use std::alloc::{AllocError, Global};
 
 /// The stores in which a run keeps its objects, what connects them and what waits for them.

@@ -1,7 +1,7 @@
 -- What may be done at once by what (docs/certificate.md, "Edges").
 use Rattle.std.specs.Prelude.{◌≡◌, ◌≢◌, ℕ, Some, slice_get}
 use Rattle.std.specs.List.{Contains}
-use Rattle.signatures.specs.declared.kind.Kind.TheVariants.{Queued}
+use Rattle.basic_types.specs.declared.kind.Kind.TheVariants.{Queued}
 use Rattle.meta_model.specs.declared.qobject.TheConstants.{DESTROYED}
 use Rattle.meta_model.specs.declared.object.MetaMethod.{MetaMethod}
 use Rattle.meta_model.specs.declared.object.MetaProperty.{MetaProperty}

@@ -2,7 +2,7 @@
 use Rattle.std.specs.Prelude.{◌≡◌, ◌≢◌, ℕ, List, Some, slice_get}
 use Rattle.std.specs.List.{Contains}
 use Rattle.syntax_trees.specs.declared.syntax.Expr.{Expr}
-use Rattle.signatures.specs.declared.kind.Kind.TheVariants.{Queued}
+use Rattle.basic_types.specs.declared.kind.Kind.TheVariants.{Queued}
 use Rattle.meta_model.specs.declared.qobject.TheConstants.{DESTROYED}
 use Rattle.meta_model.specs.declared.object.ValueType.{ValueType}
 use Rattle.meta_model.specs.declared.object.Statement.{Statement}

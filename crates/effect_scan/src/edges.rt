@@ -16,11 +16,11 @@ use crate::node::{Member, Node};
 use crate::places::Places;
 use crate::rows::join;
 use crate::targets::Targets;
+use basic_types::Kind;
 use meta_model::{
     DESTROYED, DESTROYED_ALONE, MetaMethod, MetaObject, MetaProperty, MetaSite, MetaWire,
     SourceProperty, ValueType, Work,
 };
-use signatures::Kind;
 use sqlite_items::{Items, at};
 use std::alloc::{AllocError, Global};
 use syntax_trees::Expr;

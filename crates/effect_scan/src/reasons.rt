@@ -9,10 +9,10 @@ ghost use Rattle.effect_scan.specs.Reasons.{BodyLeads, DoesTo, NativeLeads, Wire
 use crate::edges::named;
 use crate::effect::{Effect, Reach, effect_of};
 use crate::node::{Member, Node};
+use basic_types::Kind;
 use meta_model::{
     DESTROYED, Meta, MetaEffects, MetaSite, MetaWire, SourceProperty, Statement, ValueType, Work,
 };
-use signatures::Kind;
 use syntax_trees::Expr;
 
 /// What draws an edge.

@@ -12,12 +12,12 @@ ghost use Rattle.event_judgement.specs.Events.{assign, IsPropertyOf};
 use crate::named::find_living;
 use crate::not_accepted::NotAccepted;
 use crate::values::read_input;
+use basic_types::{Name, ObjectId};
 use machine_state::World;
 use meta_model::{Meta, MetaProperty};
 use prop_bindings::{Assignment, Place};
 use run_context::RunContext;
 use script_lang::Input;
-use signatures::{Name, ObjectId};
 use trace_entries::Refusal;
 
 /// What the event writes, or why it isn't accepted.

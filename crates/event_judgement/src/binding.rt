@@ -8,9 +8,9 @@ ghost use Rattle.event_judgement.specs.Events.{may_bind};
 
 use crate::named::{find_all_living, find_living};
 use crate::not_accepted::NotAccepted;
+use basic_types::{Name, ObjectId};
 use machine_state::World;
 use run_context::RunContext;
-use signatures::{Name, ObjectId};
 use sqlite_items::Items;
 use trace_entries::Refusal;
 

@@ -9,10 +9,10 @@ ghost use Rattle.event_judgement.specs.Events.{connect, disconnect};
 
 use crate::ends::find_ends;
 use crate::not_accepted::NotAccepted;
+use basic_types::Name;
 use machine_state::{Endpoints, World};
 use meta_model::ConnectionEnd;
 use run_context::RunContext;
-use signatures::Name;
 use syntax_trees::{self, ConnectionType};
 use trace_entries::Refusal;
 

@@ -8,11 +8,11 @@ ghost use Rattle.event_judgement.specs.Events.{find_ends, IsSignalOf};
 
 use crate::named::find_living;
 use crate::not_accepted::NotAccepted;
+use basic_types::{Name, ObjectId, Sig};
 use machine_rules::{FoundEnds, named_signal};
 use machine_state::{Endpoints, World};
 use meta_model::{Meta, MetaMethod, Work};
 use run_context::RunContext;
-use signatures::{Name, ObjectId, Sig};
 use syntax_trees;
 use trace_entries::Refusal;
 

@@ -12,11 +12,11 @@ use crate::ends::is_signal;
 use crate::named::find_living;
 use crate::not_accepted::NotAccepted;
 use crate::values::read_inputs;
+use basic_types::{Arguments, Name, ObjectId};
 use machine_state::World;
 use meta_model::{Meta, MetaMethod, OBJECT_NAME_CHANGED};
 use run_context::RunContext;
 use script_lang::Input;
-use signatures::{Arguments, Name, ObjectId};
 use trace_entries::Refusal;
 
 /// What an event asks of a method.

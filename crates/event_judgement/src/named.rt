@@ -6,9 +6,9 @@ ghost use Rattle.event_judgement.specs.code.Judgement.{IsNotAccepted, IsLiving};
 ghost use Rattle.event_judgement.specs.Events.{living, all_living};
 
 use crate::not_accepted::NotAccepted;
+use basic_types::{Name, ObjectId};
 use machine_state::World;
 use object_tree::Life;
-use signatures::{Name, ObjectId};
 use sqlite_items::Items;
 use std::alloc::Global;
 use trace_entries::Refusal;

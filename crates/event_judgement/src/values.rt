@@ -6,9 +6,9 @@ ghost use Rattle.event_judgement.specs.Events.{value, values};
 
 use crate::named::find_living;
 use crate::not_accepted::NotAccepted;
+use basic_types::{Arguments, ObjectId, Value};
 use machine_state::World;
 use script_lang::Input;
-use signatures::{Arguments, ObjectId, Value};
 use std::alloc::Global;
 
 /// The value that a script writes: a literal, or a reference to the living object of a name.

@@ -1,7 +1,7 @@
 ghost use Rattle.std.specs.Prelude.{◌≡◌};
 ghost use Rattle.event_loops.specs.Queues.{receiver_of};
 
-use signatures::{Arguments, ObjectId};
+use basic_types::{Arguments, ObjectId};
 
 /// What a loop delivers.
 #[derive(Drop)]

@@ -6,7 +6,7 @@ ghost use Rattle.event_loops.specs.Marks.{mark_of, since_of, waits, WaitAlike, N
 ghost use Rattle.event_loops.specs.code.Sure.{is_told};
 
 use crate::item::Posted;
-use signatures::{LoopId, ObjectId};
+use basic_types::{LoopId, ObjectId};
 use std::alloc::{AllocError, Global};
 
 /// Since when items wait for an object.

@@ -8,8 +8,8 @@ ghost use Rattle.event_loops.specs.Queues.{all_items, items_at, change, with_ite
 ghost use Rattle.event_loops.specs.Rings.{loops_in, goes, those_going, those_staying, without_going, gathered};
 
 use crate::item::Posted;
+use basic_types::{Name, ObjectId};
 use indexmap::{IndexMap, IndexSet};
-use signatures::{Name, ObjectId};
 use std::alloc::{AllocError, Global};
 use std::collections::VecDeque;
 use std::mem;

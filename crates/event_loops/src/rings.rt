@@ -13,8 +13,8 @@ use crate::fault::PostFault;
 use crate::item::{Item, Posted};
 use crate::marks::Marks;
 use crate::queue::{peek_before, push, take_before, trim};
+use basic_types::{LoopId, Name, ObjectId};
 use indexmap::IndexMap;
-use signatures::{LoopId, Name, ObjectId};
 use std::alloc::AllocError;
 use std::collections::VecDeque;
 

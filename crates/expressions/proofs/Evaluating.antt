@@ -2,7 +2,7 @@
 use Rattle.std.proofs.Common.{◌≡◌, ℕ, suc, ◌+◌, ◌<◌, List, [], ◌∷◌, ◌++◌, length, get_or, drop, drop-cons, add-one, Option, Some, None, Result, Ok, Err, ap, sym, ◌∙◌, append_assoc}
 use Rattle.std.specs.Result.{IsErrAnd}
 use Rattle.std.specs.Option.{option_and_then, option_map}
-use Rattle.signatures.specs.declared.value.Value.{Value}
+use Rattle.basic_types.specs.declared.value.Value.{Value}
 use Rattle.syntax_trees.specs.declared.syntax.Unary.{Unary}
 use Rattle.syntax_trees.specs.declared.syntax.Binary.{Binary}
 use Rattle.syntax_trees.specs.declared.syntax.Expr.{Expr}

@@ -1,7 +1,7 @@
 -- Texts that are compared and joined.
 use Rattle.std.proofs.Common.{ℕ, List, ◌++◌, take, length-take, arith}
 use Rattle.std.proofs.lemmas.List.Elements.{All-take, All-append}
-use Rattle.signatures.specs.Text.{longest_text, IsText, IsTextByte}
+use Rattle.basic_types.specs.Text.{longest_text, IsText, IsTextByte}
 
 -- the bytes that are kept of two texts are a text
 pub joined_text : (a b : List ℕ) → IsText a → IsText b → IsText (take longest_text (a ++ b))

@@ -5,11 +5,11 @@ use Rattle.std.specs.Prelude.{neg_ℤ}
 use Rattle.std.specs.Int.{saturate_signed, w32}
 use Rattle.std.proofs.lemmas.Option.{same_Some}
 use Rattle.std.proofs.lemmas.Bool.{false≢true}
-use Rattle.signatures.specs.declared.value.Value.{Value}
-use Rattle.signatures.specs.declared.value.Value.TheVariants as value
-use Rattle.signatures.specs.declared.qtype.QType.{QType}
-use Rattle.signatures.specs.Normal.{pointer_type}
-use Rattle.signatures.specs.Values.{Has, number_has, truth_has, text_has, null_has, object_has}
+use Rattle.basic_types.specs.declared.value.Value.{Value}
+use Rattle.basic_types.specs.declared.value.Value.TheVariants as value
+use Rattle.basic_types.specs.declared.qtype.QType.{QType}
+use Rattle.basic_types.specs.Normal.{pointer_type}
+use Rattle.basic_types.specs.Values.{Has, number_has, truth_has, text_has, null_has, object_has}
 use Rattle.syntax_trees.specs.declared.syntax.Unary.{Unary}
 use Rattle.syntax_trees.specs.declared.syntax.Unary.TheVariants.{Not, Minus}
 use Rattle.syntax_trees.specs.declared.syntax.Binary.{Binary}

@@ -1,7 +1,7 @@
 -- The value of an expression, where `read` gives what its paths lead to (docs/language.md, "Expressions").
 use Rattle.std.specs.Prelude.{◌≡◌, List, [], ◌∷◌, Option, Some, None, Result, Ok, Err}
 use Rattle.std.specs.Option.{option_and_then, option_map}
-use Rattle.signatures.specs.declared.value.Value.{Value}
+use Rattle.basic_types.specs.declared.value.Value.{Value}
 use Rattle.syntax_trees.specs.declared.syntax.Expr.{Expr}
 use Rattle.syntax_trees.specs.declared.syntax.Expr.TheOpen as layer
 use Rattle.syntax_trees.specs.declared.syntax.Expr.TheFolds.{fold-Expr}

@@ -4,9 +4,9 @@ use Rattle.std.specs.Cmp.Lexicographic.{pointwise}
 use Rattle.std.specs.Option.{option_eq, option_map}
 use Rattle.std.specs.Ordering.{int_eq}
 use Rattle.std.specs.Int.{saturate_signed, w32}
-use Rattle.signatures.specs.Text.{longest_text}
-use Rattle.signatures.specs.declared.value.Value.{Value}
-use Rattle.signatures.specs.declared.value.Value.TheVariants.{Int, Bool as Truth, Text, Ref}
+use Rattle.basic_types.specs.Text.{longest_text}
+use Rattle.basic_types.specs.declared.value.Value.{Value}
+use Rattle.basic_types.specs.declared.value.Value.TheVariants.{Int, Bool as Truth, Text, Ref}
 use Rattle.syntax_trees.specs.declared.syntax.Unary.{Unary}
 use Rattle.syntax_trees.specs.declared.syntax.Unary.TheVariants.{Not, Minus}
 use Rattle.syntax_trees.specs.declared.syntax.Binary.{Binary}

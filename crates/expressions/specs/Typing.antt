@@ -1,12 +1,12 @@
 -- The types of expressions (docs/language.md, "Types").
 use Rattle.std.specs.Prelude.{◌≡◌, ◌⊎◌, if◌then◌else◌, ℕ, true, false, List, Option, Some, None, codes}
 use Rattle.std.specs.Option.{option_and_then, option_map}
-use Rattle.signatures.specs.declared.value.Value.{Value}
-use Rattle.signatures.specs.declared.value.Value.TheVariants as value
-use Rattle.signatures.specs.declared.qtype.QType.{QType}
-use Rattle.signatures.specs.Normal.{pointer_type}
-use Rattle.signatures.specs.Types.{value_type}
-use Rattle.signatures.specs.Values.{Types, Has}
+use Rattle.basic_types.specs.declared.value.Value.{Value}
+use Rattle.basic_types.specs.declared.value.Value.TheVariants as value
+use Rattle.basic_types.specs.declared.qtype.QType.{QType}
+use Rattle.basic_types.specs.Normal.{pointer_type}
+use Rattle.basic_types.specs.Types.{value_type}
+use Rattle.basic_types.specs.Values.{Types, Has}
 use Rattle.syntax_trees.specs.declared.syntax.Unary.{Unary}
 use Rattle.syntax_trees.specs.declared.syntax.Unary.TheVariants.{Not, Minus}
 use Rattle.syntax_trees.specs.declared.syntax.Binary.{Binary}

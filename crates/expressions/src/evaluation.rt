@@ -3,10 +3,10 @@
 ghost use Rattle.std.specs.Prelude.{◌≡◌, Option, Some, None, MatchResult};
 ghost use Rattle.expressions.specs.declared.evaluation.EvalFault.TheVariants as fault;
 ghost use Rattle.expressions.specs.Evaluation.{value, values, Evaluates, EvaluatesAll};
-ghost use Rattle.signatures.specs.declared.value.Value.{Value as AValue};
+ghost use Rattle.basic_types.specs.declared.value.Value.{Value as AValue};
 
 use crate::operators::{apply_binary, apply_unary};
-use signatures::{Arguments, Value};
+use basic_types::{Arguments, Value};
 use std::alloc::{AllocError, Global};
 use syntax_trees::Expr;
 use thiserror::Error;

@@ -3,14 +3,14 @@
 ghost use Rattle.std.specs.Prelude.{◌≡◌, ◌++◌, take, neg_ℤ, IfOk};
 ghost use Rattle.std.specs.Option.{option_map};
 ghost use Rattle.std.specs.Int.{saturate_signed, w32};
-ghost use Rattle.signatures.specs.Text.{longest_text};
-ghost use Rattle.signatures.specs.declared.value.Value.{Value as AValue};
-ghost use Rattle.signatures.specs.declared.value.Value.TheVariants as value;
+ghost use Rattle.basic_types.specs.Text.{longest_text};
+ghost use Rattle.basic_types.specs.declared.value.Value.{Value as AValue};
+ghost use Rattle.basic_types.specs.declared.value.Value.TheVariants as value;
 ghost use Rattle.expressions.specs.Operators.{unary, binary, AnswersTexts};
 ghost use Rattle.expressions.specs.Evaluation.{Evaluates};
 
 use crate::evaluation::EvalFault;
-use signatures::{LONGEST_TEXT, ObjectId, Text, Value};
+use basic_types::{LONGEST_TEXT, ObjectId, Text, Value};
 use std::alloc::{AllocError, Global};
 use syntax_trees::{Binary, Unary};
 

@@ -3,7 +3,7 @@
 ghost use Rattle.std.specs.Prelude.{◌≡◌};
 ghost use Rattle.expressions.specs.Typing.{named_sort, value_sort, unary_sort, binary_sort};
 
-use signatures::{Name, Value};
+use basic_types::{Name, Value};
 use syntax_trees::{Binary, Unary};
 
 /// What operators see of a value and of a type.

@@ -2,12 +2,12 @@
 
 ghost use Rattle.std.specs.Prelude.{◌≡◌, ◌↔◌, ℕ, List, Option, Some, None, IsTrue, IfOk};
 ghost use Rattle.std.specs.Option.{option_and_then, option_map};
-ghost use Rattle.signatures.specs.declared.qtype.QType.{QType as AQType};
+ghost use Rattle.basic_types.specs.declared.qtype.QType.{QType as AQType};
 ghost use Rattle.expressions.specs.Typing.{sort_of, type_of_sort, literal_type, type_of, this_type, Accepts, TakesValues, TypedHaveValues, ThisIsTyped};
 
 use crate::evaluation::World;
 use crate::sort::{Sort, binary_sort, named_sort, unary_sort, value_sort};
-use signatures::{Name, QType, Value};
+use basic_types::{Name, QType, Value};
 use std::alloc::{AllocError, Global};
 use syntax_trees::Expr;
 

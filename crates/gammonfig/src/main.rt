@@ -2,11 +2,11 @@
 //! process's. What another answer than success means goes to standard error.
 #![tactic(auto)]
 
+use basic_types::Value;
 use built_in_native::{class, doubled, effects, twice};
 use explained_commands::{EXPLAIN, WriteFault, explained_command, is_asked, tell_fault};
 use native_slots::{NativeSlot, Natives};
 use qt_runtime::Machine;
-use signatures::Value;
 use std::alloc::AllocError;
 use std::io::{ErrorKind, Write};
 use std::process::ExitCode;

@@ -2,8 +2,8 @@
 use Rattle.std.proofs.Common.{◌≡◌, ℕ, zero, suc, ◌+◌, ◌<◌, ◌≤◌, Bool, true, false, List, [], ◌∷◌, ◌++◌, map, length, slice_get, Option, Some, None, Any, ◌⊎◌, inl, inr, refl, sym, ap, ◌∙◌, subst, below_more, arith}
 use Rattle.std.specs.Prelude.{codes}
 use Rattle.std.proofs.lemmas.Option.{none-some, same_Some}
-use Rattle.signatures.specs.declared.qtype.QType.{QType}
-use Rattle.signatures.specs.declared.sig.Sig.{Sig}
+use Rattle.basic_types.specs.declared.qtype.QType.{QType}
+use Rattle.basic_types.specs.declared.sig.Sig.{Sig}
 use Rattle.syntax_trees.specs.declared.program.Parameter.{Parameter}
 use Rattle.syntax_trees.specs.declared.program.Property.{Property}
 use Rattle.syntax_trees.specs.declared.program.Signal.{Signal}

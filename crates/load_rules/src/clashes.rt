@@ -15,11 +15,11 @@ ghost use Rattle.class_outlines.specs.declared.reason.Reason.TheVariants as reas
 ghost use Rattle.syntax_trees.specs.declared.program.Class.{Class as AClass};
 ghost use Rattle.syntax_trees.specs.declared.program.Signal.{Signal as ASignal};
 
+use basic_types::{Name, Sig};
 use class_outlines::{
     Breach, ClassClash, Declaration, Member, Offence, Reason, Repeated, names_before_parameter,
     names_before_work, names_of_sig,
 };
-use signatures::{Name, Sig};
 use syntax_trees::{Class, EffectNames, Formal, Parameter, Program, Signal, Site, Slot, SlotWork};
 
 /// What may not appear twice in a list.

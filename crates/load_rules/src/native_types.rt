@@ -10,11 +10,11 @@ ghost use Rattle.class_outlines.specs.declared.fault.MetaFault.TheVariants as fa
 ghost use Rattle.class_outlines.specs.declared.reason.Reason.TheVariants as reason;
 
 use crate::site_references::reference_in;
+use basic_types::{Name, QType, Sig};
 use class_outlines::{
     Breach, ClassTable, Declaration, Member, Offence, Reason, Unfit, names_before_parameter,
     names_before_work, names_of_sig,
 };
-use signatures::{Name, QType, Sig};
 use std::alloc::AllocError;
 use syntax_trees::{Class, EffectNames, Parameter, Program, Slot, SlotWork};
 

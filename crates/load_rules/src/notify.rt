@@ -7,9 +7,9 @@ ghost use Rattle.class_outlines.specs.Outlines.{Outlines};
 ghost use Rattle.class_outlines.specs.declared.fault.MetaFault.TheVariants as fault;
 ghost use Rattle.syntax_trees.specs.declared.program.Property.{Property as AProperty};
 
+use basic_types::{QType, Sig};
 use class_outlines::{Breach, Declaration, IndexedOutline, Member, Offence, Reason};
 use meta_model::DELETE_LATER;
-use signatures::{QType, Sig};
 use syntax_trees::{Class, Program, Property};
 
 /// The first property, in the order of the classes, whose notify signature isn't that of a signal which may notify it.

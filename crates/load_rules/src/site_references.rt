@@ -7,11 +7,11 @@ ghost use Rattle.meta_model.specs.Sites.{paths_in};
 ghost use Rattle.class_outlines.specs.DeclaredSites.{IsReferenceIn, ReadsReference, UsesReference};
 ghost use Rattle.class_outlines.specs.declared.fault.MetaFault.TheVariants as fault;
 
+use basic_types::{Name, QType};
 use class_outlines::{
     Breach, ClassTable, Declaration, Offence, Reason, Unfit, names_before_expression, property_in,
     source_property,
 };
-use signatures::{Name, QType};
 use std::alloc::AllocError;
 use syntax_trees::{Expr, Path, Program, Site};
 

@@ -10,11 +10,11 @@ ghost use Rattle.class_outlines.specs.declared.fault.MetaFault.TheVariants as fa
 ghost use Rattle.syntax_trees.specs.declared.program.Signal.{Signal as ASignal};
 ghost use Rattle.syntax_trees.specs.declared.program.Slot.{Slot as ASlot};
 
+use basic_types::QType;
 use class_outlines::{
     Breach, ClassTable, Declaration, Member, Offence, Reason, Unfit, kind_of,
     names_before_parameter,
 };
-use signatures::QType;
 use syntax_trees::{Class, Parameter, Program};
 
 /// The first property or method, in the order of the classes, whose type or one of whose parameters' isn't there.

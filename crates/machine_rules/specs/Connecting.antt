@@ -1,8 +1,8 @@
 -- Whether connections are made and removed, by events and by statements (docs/machine.md, "Connections"; Qt 6,
 -- `QObject::connect` and `QObject::disconnect`).
 use Rattle.std.specs.Prelude.{◌&&◌, ℕ, eqb, if◌then◌else◌, IsTrue, List, Result}
-use Rattle.signatures.specs.declared.sig.Sig.{Sig}
-use Rattle.signatures.specs.Types.{Fits}
+use Rattle.basic_types.specs.declared.sig.Sig.{Sig}
+use Rattle.basic_types.specs.Types.{Fits}
 use Rattle.syntax_trees.specs.declared.connection.ConnectionType.{ConnectionType}
 use Rattle.syntax_trees.specs.declared.connection.Endpoints.{Endpoints as Named}
 use Rattle.meta_model.specs.declared.object.MetaMethod.{MetaMethod}

@@ -2,7 +2,7 @@
 -- `QObject::deleteLater` and "Object Trees & Ownership").
 use Rattle.std.specs.Prelude.{◌≡◌, ℕ, suc, List, [], ◌∷◌, ◌++◌, length, Option, None, Some, Bool, true, false}
 use Rattle.std.specs.List.{find}
-use Rattle.signatures.specs.declared.value.Value.TheVariants as value
+use Rattle.basic_types.specs.declared.value.Value.TheVariants as value
 use Rattle.meta_model.specs.declared.qobject.TheConstants.{DESTROYED}
 use Rattle.meta_model.specs.QObject.{destroyed}
 use Rattle.delete_later.specs.Ending.{died_in, ended_in}

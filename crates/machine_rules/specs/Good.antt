@@ -1,7 +1,7 @@
 -- The bad moments that a rule, or the taking of an event, may bring (docs/machine.md, "Faults"). None of them is forbidden.
 use Rattle.std.specs.Prelude.{◌≡◌, ℕ, ◌<◌, ◌≤◌, Bool, false, IsTrue, List, [], ◌∷◌, length, Option, None, Some}
 use Rattle.std.specs.List.{list_any}
-use Rattle.signatures.specs.declared.value.Value.{Value}
+use Rattle.basic_types.specs.declared.value.Value.{Value}
 use Rattle.meta_model.specs.declared.object.MetaMethod.{MetaMethod}
 use Rattle.meta_model.specs.declared.object.ValueType.{ValueType}
 use Rattle.meta_model.specs.declared.object.ValueType.TheVariants as type

@@ -3,7 +3,7 @@
 -- are faults of a run, and not of a rule.
 use Rattle.std.specs.Prelude.{◌≡◌, ℕ, suc, List, [], ◌∷◌, ◌++◌, length, take, map, Option, None, Some, Result, Ok, Err, Bool, true, false}
 use Rattle.std.specs.List.{find}
-use Rattle.signatures.specs.declared.value.Value.{Value}
+use Rattle.basic_types.specs.declared.value.Value.{Value}
 use Rattle.syntax_trees.specs.declared.connection.ConnectionType.{ConnectionType}
 use Rattle.syntax_trees.specs.declared.connection.Endpoints.{Endpoints as Named}
 use Rattle.meta_model.specs.declared.object.Work.{Work}

@@ -1,7 +1,7 @@
 -- What a write of a property that no binding reads leaves of the world.
 use Rattle.std.proofs.Common.{◌≡◌, ℕ, Bool, not, false, cond, ◌||◌, List, [], ◌∷◌, refl, ap, sym, subst}
 use Rattle.std.specs.List.{AllZip}
-use Rattle.signatures.specs.declared.value.Value.{Value}
+use Rattle.basic_types.specs.declared.value.Value.{Value}
 use Rattle.meta_model.specs.Loaded.{Loaded}
 use Rattle.object_tree.specs.declared.object.Object.{Object}
 use Rattle.object_tree.specs.Objects.{change_life, written}

@@ -1,8 +1,8 @@
 -- Which event loop runs, and how a connection reaches its receiver (docs/machine.md, "Event loops"; Qt 6, "Threads and
 -- QObjects", "Signals and Slots Across Threads").
 use Rattle.std.specs.Prelude.{ℕ, eqb, Bool, true, false, Option, None, Some}
-use Rattle.signatures.specs.declared.kind.Kind.{Kind}
-use Rattle.signatures.specs.declared.kind.Kind.TheVariants.{Auto, Direct, Queued}
+use Rattle.basic_types.specs.declared.kind.Kind.{Kind}
+use Rattle.basic_types.specs.declared.kind.Kind.TheVariants.{Auto, Direct, Queued}
 use Rattle.machine_state.specs.declared.turn.Turn.{Turn}
 
 -- the loop `main` is the first

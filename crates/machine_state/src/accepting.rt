@@ -14,10 +14,10 @@ use crate::connecting::{join, part};
 use crate::endpoints::Endpoints;
 use crate::turn::Turn;
 use crate::world::World;
+use basic_types::{LoopId, Name, ObjectId};
 use delete_later::MoveFault;
 use meta_model::Meta;
 use object_tree::{AdoptFault, CreateFault};
-use signatures::{LoopId, Name, ObjectId};
 use syntax_trees::ConnectionType;
 use trace_entries::{Answer, Entry, Fault, Refusal};
 

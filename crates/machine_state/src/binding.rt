@@ -17,6 +17,7 @@ ghost use Rattle.machine_state.specs.Worlds.{noted, accepting_entries, with_boun
 ghost use Rattle.change_lines.specs.code.Planned.{CanBeTold, WillWrite, WillWriteOne, WillWriteAll};
 
 use crate::world::World;
+use basic_types::{ObjectId, Value};
 use change_lines::{Cause, Telling, line_of};
 use delete_later::Store;
 use meta_model::Meta;
@@ -24,7 +25,6 @@ use prop_bindings::{
     Assignment, BindFault, ChangedPlaces, Place, Planned, PlannedGroup, PlannedWrite, WriteFault,
     fits,
 };
-use signatures::{ObjectId, Value};
 use std::alloc::{AllocError, Global};
 use trace_entries::{Entry, Fault};
 

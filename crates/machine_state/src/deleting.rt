@@ -5,7 +5,7 @@ ghost use Rattle.delete_later.specs.Scheduling.{IsHoused};
 ghost use Rattle.machine_state.specs.Worlds.{GoesTo, IsUnscheduled, dying, ending, scheduling};
 
 use crate::world::World;
-use signatures::ObjectId;
+use basic_types::ObjectId;
 use trace_entries::{Entry, Fault};
 
 impl World {

@@ -1,4 +1,4 @@
-use signatures::ObjectId;
+use basic_types::ObjectId;
 
 /// What a connection joins: a signal of its sender to a method of its receiver.
 #[derive(Clone, Copy)]

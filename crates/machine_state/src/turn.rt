@@ -6,9 +6,9 @@ ghost use Rattle.machine_state.specs.Turns.{running, reaches_at_once};
 ghost use Rattle.machine_state.specs.Worlds.{GoesTo, TakesFirst, having_used, posting, taking_unwritten, turn_ended};
 
 use crate::world::World;
+use basic_types::{Kind, LoopId, ObjectId};
 use connections::Connection;
 use event_loops::{Item, Posted};
-use signatures::{Kind, LoopId, ObjectId};
 use trace_entries::{Entry, Fault};
 
 /// The number of the loop `main`.

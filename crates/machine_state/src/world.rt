@@ -8,11 +8,11 @@ ghost use Rattle.machine_state.specs.Connections.{next_used, can_be_used, silenc
 ghost use Rattle.machine_state.specs.Worlds.{untouched, Ticks, IsLeft, GoesTo, noted, using};
 
 use crate::turn::Turn;
+use basic_types::{Name, ObjectId};
 use connections::{Connection, SignalHint};
 use delete_later::Store;
 use meta_model::DESTROYED;
 use object_tree::{Life, Object};
-use signatures::{Name, ObjectId};
 use std::alloc::{AllocError, Global};
 use trace_entries::{Entry, Fault, Trace};
 

@@ -6,11 +6,11 @@ ghost use Rattle.prop_bindings.specs.Fits.{Agree};
 use crate::holding::Bound;
 use crate::holds::{Holds, is_as_told, told_of};
 use crate::stores::put;
+use basic_types::{ObjectId, Value};
 use memory_trials::{Told, TrialAnswer, loaded, once_or_twice};
 use meta_model::Meta;
 use object_tree::Tree;
 use prop_bindings::{Assignment, BindFault, Bindings, Place, WriteFault};
-use signatures::{ObjectId, Value};
 use std::alloc::Global;
 
 /// A program, of whose classes there is one object each, and what is done with these one after another.

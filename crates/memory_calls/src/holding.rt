@@ -1,13 +1,13 @@
 //! What stores hold, part by part.
 
 use crate::holds::Holds;
+use basic_types::{LoopId, ObjectId};
 use connections::{Connection, Connections, SignalHint};
 use delete_later::Store;
 use event_loops::{Item, Loops};
 use memory_trials::Told;
 use object_tree::{Life, Tree};
 use prop_bindings::{Binding, Bindings};
-use signatures::{LoopId, ObjectId};
 
 /// How many objects, signals, loops and bindings are looked at.
 const FEW: usize = 6;

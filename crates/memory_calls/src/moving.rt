@@ -2,11 +2,11 @@
 
 use crate::holds::{Holds, is_as_told, told_of};
 use crate::stores::{IO, MAIN, call_of, post_to, put};
+use basic_types::{LoopId, Name, ObjectId};
 use delete_later::{MoveFault, Store};
 use event_loops::{Item, Loops, PostFault};
 use memory_trials::{Told, TrialAnswer, loaded, once_or_twice};
 use object_tree::Tree;
-use signatures::{LoopId, Name, ObjectId};
 use std::alloc::{AllocError, Global};
 
 const TARGETS: &str = "class T { property int n; slot hit(int v) { set this.n = v; } } owns T T;";

@@ -3,11 +3,11 @@
 ghost use Rattle.std.specs.Prelude.{◌≡◌, ◌<◌, IfOk, Some, length, slice_get};
 ghost use Rattle.built_in_native.specs.Doubling.{doubling};
 
+use basic_types::{Name, Sig, Value};
 use built_in_native::{class, doubled, effects, twice};
 use memory_trials::{Told, TrialAnswer, loaded, once_or_twice};
 use meta_model::Meta;
 use native_slots::{Action, Effects, NativeSlot, Natives};
-use signatures::{Name, Sig, Value};
 use std::alloc::{AllocError, Global};
 
 /// A class with the native.

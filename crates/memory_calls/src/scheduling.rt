@@ -2,10 +2,10 @@
 
 use crate::holds::{Holds, is_as_told, told_of};
 use crate::stores::put;
+use basic_types::{Arguments, Kind, LoopId, ObjectId, Value};
 use delete_later::Store;
 use event_loops::Item;
 use memory_trials::{Told, TrialAnswer, loaded, once_or_twice};
-use signatures::{Arguments, Kind, LoopId, ObjectId, Value};
 use std::alloc::{AllocError, Global};
 
 /// What is emitted waits in the loop of its target.

@@ -3,6 +3,7 @@
 ghost use Rattle.object_tree.specs.Typed.{AreTyped};
 
 use crate::holds::{Holds, is_as_told, told_of};
+use basic_types::{Arguments, Kind, LoopId, Name, ObjectId, Value};
 use connections::{ConnectFault, Connections};
 use delete_later::Store;
 use event_loops::{AddFault, Item, Loops, PostFault};
@@ -10,7 +11,6 @@ use memory_trials::{Told, TrialAnswer, loaded, once_or_twice};
 use meta_model::Meta;
 use object_tree::{AdoptFault, CreateFault, Tree};
 use prop_bindings::Bindings;
-use signatures::{Arguments, Kind, LoopId, Name, ObjectId, Value};
 use std::alloc::{AllocError, Global};
 
 const NODES: &str = "class Node { } class Leaf { } owns Node Node;";

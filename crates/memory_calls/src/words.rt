@@ -1,7 +1,8 @@
 //! The calls for signatures, texts and values, and for expressions.
 
+use basic_types::{LONGEST_TEXT, Name, QType, Sig, Text, Value};
 use memory_trials::{Told, TrialAnswer, once_or_twice};
-use signatures::{LONGEST_TEXT, Name, QType, Sig, SigFault, Text, Value, normalise};
+use signatures::{SigFault, normalise};
 use slot_lang::{EvalFault, Expr, ExprType, Names, Path, World, eval, parse_expr, tokens, type_of};
 use std::alloc::{AllocError, Global};
 

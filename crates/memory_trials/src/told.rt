@@ -1,6 +1,6 @@
 //! What calls answer and stores hold, as a text.
 
-use signatures::{Name, QType, Sig, Value};
+use basic_types::{Name, QType, Sig, Value};
 use std::alloc::{AllocError, Global};
 use std::fmt::Debug;
 use std::io::Write;

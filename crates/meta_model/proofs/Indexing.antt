@@ -4,7 +4,7 @@ use Rattle.std.specs.Option.{option_and_then}
 use Rattle.std.proofs.lemmas.Option.{none-some}
 use Rattle.name_indexes.specs.NamePlaces.{place_in}
 use Rattle.name_indexes.specs.CallPlaces.{Index, place_by}
-use Rattle.signatures.specs.declared.sig.Sig.{Sig}
+use Rattle.basic_types.specs.declared.sig.Sig.{Sig}
 use Rattle.meta_model.specs.declared.object.MetaObject.{MetaObject}
 use Rattle.meta_model.specs.declared.class_index.MemberIndex.{MemberIndex}
 use Rattle.meta_model.specs.declared.class_index.ClassIndex.{ClassIndex}

@@ -1,8 +1,8 @@
 -- What a search in the lists of a class says of the loaded program.
 use Rattle.std.proofs.Common.{◌≡◌, ℕ, List, length, get_or, ◌<◌, slice_get, Option, Some, MatchOption, refl, sym, ap, ◌∙◌, subst}
 use Rattle.std.proofs.lemmas.Option.{same_Some, slice_get_read}
-use Rattle.signatures.specs.declared.sig.Sig.{Sig}
-use Rattle.signatures.specs.declared.kind.Kind.{Kind}
+use Rattle.basic_types.specs.declared.sig.Sig.{Sig}
+use Rattle.basic_types.specs.declared.kind.Kind.{Kind}
 use Rattle.meta_model.specs.declared.object.MetaObject.{MetaObject}
 use Rattle.meta_model.specs.declared.object.MetaMethod.{MetaMethod}
 use Rattle.meta_model.specs.declared.object.MetaProperty.{MetaProperty}

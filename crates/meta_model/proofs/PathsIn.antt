@@ -1,6 +1,6 @@
 -- The paths and the literals of an expression, from those of its parts.
 use Rattle.std.proofs.Common.{◌≡◌, List, [], ◌∷◌, ◌++◌, sym, ap, ◌∙◌}
-use Rattle.signatures.specs.declared.value.Value.{Value}
+use Rattle.basic_types.specs.declared.value.Value.{Value}
 use Rattle.syntax_trees.specs.declared.syntax.Unary.{Unary}
 use Rattle.syntax_trees.specs.declared.syntax.Binary.{Binary}
 use Rattle.syntax_trees.specs.declared.syntax.Expr.{Expr}

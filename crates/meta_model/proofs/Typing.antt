@@ -1,7 +1,7 @@
 -- The types of a value, by what the value is.
 use Rattle.std.proofs.Common.{◌≡◌, ℕ, Bool, true, Option, Some, None, IsTrue, ◌↔◌, refl, sym, subst, ◌∙◌}
 use Rattle.std.proofs.lemmas.Option.{same_Some}
-use Rattle.signatures.specs.declared.value.Value.TheVariants as value
+use Rattle.basic_types.specs.declared.value.Value.TheVariants as value
 use Rattle.meta_model.specs.declared.object.ValueType.TheVariants as type
 use Rattle.meta_model.specs.Loaded.{Loaded}
 use Rattle.meta_model.specs.Members.{Below}

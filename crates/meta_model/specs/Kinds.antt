@@ -1,7 +1,7 @@
 -- What declared types stand for, their classes replaced by numbers (docs/language.md, "Types").
 use Rattle.std.specs.Prelude.{◌≡◌, ℕ, true, List, codes}
-use Rattle.signatures.specs.declared.qtype.QType.{QType}
-use Rattle.signatures.specs.Types.{value_type}
+use Rattle.basic_types.specs.declared.qtype.QType.{QType}
+use Rattle.basic_types.specs.Types.{value_type}
 use Rattle.meta_model.specs.declared.object.ValueType.{ValueType}
 use Rattle.meta_model.specs.declared.object.ValueType.TheVariants.{Int, Bool, Text, Reference}
 use Rattle.meta_model.specs.Loaded.{Loaded}

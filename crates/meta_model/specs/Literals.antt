@@ -1,7 +1,7 @@
 -- The literals of programs, which can't name an object (docs/language.md, "Values").
 use Rattle.std.specs.Prelude.{◌≢◌, ℕ, Some, None}
-use Rattle.signatures.specs.declared.value.Value.{Value}
-use Rattle.signatures.specs.declared.value.Value.TheVariants as value
+use Rattle.basic_types.specs.declared.value.Value.{Value}
+use Rattle.basic_types.specs.declared.value.Value.TheVariants as value
 
 -- what a literal stands for: of references it can be null alone
 abbrev pub literal : Value → Value

@@ -1,9 +1,9 @@
 -- The methods of `QObject`, by their signatures (Qt 6, "QObject Class").
 use Rattle.std.specs.Prelude.{ℕ, false, List, [], ◌∷◌, codes}
-use Rattle.signatures.specs.declared.qtype.QType.{QType}
-use Rattle.signatures.specs.declared.sig.Sig.{Sig}
-use Rattle.signatures.specs.Normal.{pointer_type}
-use Rattle.signatures.specs.Types.{value_type}
+use Rattle.basic_types.specs.declared.qtype.QType.{QType}
+use Rattle.basic_types.specs.declared.sig.Sig.{Sig}
+use Rattle.basic_types.specs.Normal.{pointer_type}
+use Rattle.basic_types.specs.Types.{value_type}
 
 -- a signature, by its parts
 abbrev pub sig_of : List ℕ → List QType → Sig

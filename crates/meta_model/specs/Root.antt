@@ -1,9 +1,9 @@
 -- The class `QObject` as every program has it, with which each class begins (Qt 6, "QObject Class"; docs/machine.md,
 -- "Meta-objects").
 use Rattle.std.specs.Prelude.{◌≡◌, false, List, [], ◌∷◌, ◌++◌, None, Some, codes}
-use Rattle.signatures.specs.declared.sig.Sig.{Sig}
-use Rattle.signatures.specs.declared.value.Value.TheVariants as value
-use Rattle.signatures.specs.Types.{value_type}
+use Rattle.basic_types.specs.declared.sig.Sig.{Sig}
+use Rattle.basic_types.specs.declared.value.Value.TheVariants as value
+use Rattle.basic_types.specs.Types.{value_type}
 use Rattle.meta_model.specs.declared.object.ValueType.{ValueType}
 use Rattle.meta_model.specs.declared.object.ValueType.TheVariants as type
 use Rattle.meta_model.specs.declared.object.MetaRoot.TheVariants.{This}

@@ -1,7 +1,7 @@
 -- Binding sites: the properties and the values that their expressions name, and loaded sites by name (docs/language.md,
 -- "Names" and "Bindings").
 use Rattle.std.specs.Prelude.{◌≡◌, ℕ, List, [], ◌∷◌, ◌++◌}
-use Rattle.signatures.specs.declared.value.Value.{Value}
+use Rattle.basic_types.specs.declared.value.Value.{Value}
 use Rattle.syntax_trees.specs.declared.syntax.Expr.{Expr}
 use Rattle.syntax_trees.specs.declared.syntax.Expr.TheOpen as layer
 use Rattle.syntax_trees.specs.declared.syntax.Expr.TheFolds.{fold-Expr}

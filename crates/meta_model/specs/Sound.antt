@@ -3,7 +3,7 @@
 -- object (docs/machine.md, "Loading").
 use Rattle.std.specs.Prelude.{◌≡◌, ◌≢◌, All, ℕ, ◌<◌, ◌⊎◌, Bool, false, List, [], ◌∷◌, ◌++◌, length, None, Some, slice_get}
 use Rattle.std.specs.List.{AllZip}
-use Rattle.signatures.specs.declared.value.Value.{Value}
+use Rattle.basic_types.specs.declared.value.Value.{Value}
 use Rattle.syntax_trees.specs.declared.syntax.Unary.{Unary}
 use Rattle.syntax_trees.specs.declared.syntax.Binary.{Binary}
 use Rattle.syntax_trees.specs.declared.syntax.Expr.{Expr}

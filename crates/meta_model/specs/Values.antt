@@ -1,9 +1,9 @@
 -- Which values have a type, and which one a property of the type has by itself (docs/language.md, "Values").
 use Rattle.std.specs.Prelude.{ℕ, false, pos, List, [], ◌∷◌, Option, None}
-use Rattle.signatures.specs.declared.value.Value.{Value}
-use Rattle.signatures.specs.declared.value.Value.TheVariants as value
-use Rattle.signatures.specs.Values.{Types, Has as AnyHas}
-pub use Rattle.signatures.specs.Values.{number_has, truth_has, text_has, null_has, object_has}
+use Rattle.basic_types.specs.declared.value.Value.{Value}
+use Rattle.basic_types.specs.declared.value.Value.TheVariants as value
+use Rattle.basic_types.specs.Values.{Types, Has as AnyHas}
+pub use Rattle.basic_types.specs.Values.{number_has, truth_has, text_has, null_has, object_has}
 use Rattle.meta_model.specs.declared.object.ValueType.{ValueType}
 use Rattle.meta_model.specs.declared.object.ValueType.TheVariants as type
 use Rattle.meta_model.specs.Loaded.{Loaded}

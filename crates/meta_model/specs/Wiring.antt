@@ -1,8 +1,8 @@
 -- Whether a wire covers a connection (docs/machine.md, "Wires").
 use Rattle.std.specs.Prelude.{ℕ}
-use Rattle.signatures.specs.declared.sig.Sig.{Sig}
-use Rattle.signatures.specs.declared.kind.Kind.{Kind}
-use Rattle.signatures.specs.Types.{Fits}
+use Rattle.basic_types.specs.declared.sig.Sig.{Sig}
+use Rattle.basic_types.specs.declared.kind.Kind.{Kind}
+use Rattle.basic_types.specs.Types.{Fits}
 use Rattle.meta_model.specs.declared.meta.Wired.{Wired}
 use Rattle.meta_model.specs.declared.meta.Wired.TheVariants.{No, Unfit, Fit}
 use Rattle.meta_model.specs.Loaded.{Loaded}

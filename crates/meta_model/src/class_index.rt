@@ -7,8 +7,8 @@ ghost use Rattle.meta_model.specs.Indexes.{IndexesClasses, IndexesMembers, IsInd
 
 use crate::object::MetaObject;
 use crate::site::MetaSite;
+use basic_types::Name;
 use name_indexes::{CallIndex, NameIndex};
-use signatures::Name;
 use sqlite_items::Items;
 use std::alloc::{AllocError, Global};
 

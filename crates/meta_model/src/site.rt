@@ -2,7 +2,7 @@
 
 ghost use Rattle.std.specs.Prelude.{◌≡◌, IfOk};
 
-use signatures::Name;
+use basic_types::Name;
 use sqlite_items::Items;
 use std::alloc::{AllocError, Global};
 use std::marker::Model;

@@ -1,6 +1,6 @@
 -- Types are the same, or they are not.
 use Rattle.std.proofs.Common.{◌≡◌, ℕ, zero, suc, Bool, true, false, List, [], ◌∷◌, ◌⊎◌, inl, inr, refl, ap, ◌∙◌}
-use Rattle.signatures.specs.declared.qtype.QType.{QType}
+use Rattle.basic_types.specs.declared.qtype.QType.{QType}
 
 abbrev Decided : Type 0 → Type 0
 Decided A = A ⊎ (¬ A)

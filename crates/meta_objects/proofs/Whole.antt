@@ -4,8 +4,8 @@ use Rattle.std.specs.Prelude.{codes}
 use Rattle.std.specs.List.{AllZip}
 use Rattle.std.specs.Option.{option_and_then}
 use Rattle.std.proofs.lemmas.Option.{slice_get_within, slice_get-get_or, none-some, same_Some}
-use Rattle.signatures.specs.declared.qtype.QType.{QType}
-use Rattle.signatures.specs.declared.sig.Sig.{Sig}
+use Rattle.basic_types.specs.declared.qtype.QType.{QType}
+use Rattle.basic_types.specs.declared.sig.Sig.{Sig}
 use Rattle.syntax_trees.specs.declared.syntax.Literal.{Literal}
 use Rattle.syntax_trees.specs.declared.syntax.Literal.TheVariants as literal
 use Rattle.syntax_trees.specs.declared.program.Property.{Property}

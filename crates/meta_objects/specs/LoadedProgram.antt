@@ -2,7 +2,7 @@
 -- declared, and names are replaced by numbers (Qt 6, "The Meta-Object System"; docs/machine.md, "Loading").
 use Rattle.std.specs.Prelude.{◌≡◌, ℕ, suc, ◌<◌, List, ◌++◌, length, Option, None, Some, slice_get}
 use Rattle.std.specs.List.{AllZip}
-use Rattle.signatures.specs.declared.sig.Sig.{Sig}
+use Rattle.basic_types.specs.declared.sig.Sig.{Sig}
 use Rattle.syntax_trees.specs.declared.program.Property.{Property}
 use Rattle.syntax_trees.specs.declared.program.Signal.{Signal}
 use Rattle.syntax_trees.specs.declared.program.SlotWork.{SlotWork}

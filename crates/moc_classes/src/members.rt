@@ -3,7 +3,7 @@
 use crate::catalogue::Catalogue;
 use crate::kinds::{Kind, Mapped, mapped_type};
 use crate::moc::{MocArgument, MocMethod, MocProperty};
-use signatures::{MOST_PARAMETERS, Word, is_name};
+use basic_types::{MOST_PARAMETERS, Word, is_name};
 use std::alloc::{AllocError, Global};
 use thiserror::Error;
 

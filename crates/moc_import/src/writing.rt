@@ -1,11 +1,11 @@
 //! What is written: class declarations, with comments on what isn't as in C++.
 
 use crate::bodies::push_body;
+use basic_types::is_name;
 use moc_classes::{
     Import, Listed, Mapped, Method, Missing, MocMethod, NoClass, Placed, Property, QOBJECT, Sort,
     full_name, is_free, push_plain,
 };
-use signatures::is_name;
 use slot_effects::Effects;
 use std::alloc::{AllocError, Global};
 

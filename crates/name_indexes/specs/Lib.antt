@@ -4,4 +4,4 @@ pub mod CallPlaces
 pub mod Twice
 pub mod LookUps
 pub mod code
-pub use Rattle.signatures.specs.Name
+pub use Rattle.basic_types.specs.Name

@@ -1,8 +1,8 @@
 ghost use Rattle.std.specs.Prelude.{◌≡◌, [], OnOk, OnErr};
 ghost use Rattle.name_indexes.specs.NamePlaces.{place_in, Adds};
 
+use basic_types::Name;
 use indexmap::IndexMap;
-use signatures::Name;
 use std::alloc::{AllocError, Global};
 use std::marker::Model;
 

@@ -1,7 +1,7 @@
 -- A body is resolved in one way at most.
 use Rattle.std.proofs.Common.{◌≡◌, ℕ, List, [], ◌∷◌, length, slice_get, refl, sym, ap, ◌∙◌, subst}
 use Rattle.std.proofs.lemmas.Option.{same_Some}
-use Rattle.signatures.specs.declared.qtype.QType.{QType}
+use Rattle.basic_types.specs.declared.qtype.QType.{QType}
 use Rattle.syntax_trees.specs.declared.syntax.Expr.{Expr}
 use Rattle.syntax_trees.specs.declared.syntax.Expr.TheOpen as expr
 use Rattle.syntax_trees.specs.declared.syntax.Expr.TheViews.{out-Expr, roll-Expr, roll-out-Expr}

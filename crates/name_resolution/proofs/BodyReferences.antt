@@ -1,6 +1,6 @@
 -- Resolving `delete` and `later`.
 use Rattle.std.proofs.Common.{◌≡◌, true, false, sym, ap, ◌∙◌}
-use Rattle.signatures.specs.declared.qtype.QType.{QType}
+use Rattle.basic_types.specs.declared.qtype.QType.{QType}
 use Rattle.syntax_trees.specs.declared.syntax.Path.{Path}
 use Rattle.syntax_trees.specs.declared.syntax.Stmt.TheVariants as stmt_by
 use Rattle.syntax_trees.specs.declared.syntax.Stmt.TheOpen as stmt

@@ -1,6 +1,6 @@
 -- Resolving the expressions of binding sites piece by piece.
 use Rattle.std.proofs.Common.{◌≡◌, ℕ, List, Any, subst}
-use Rattle.signatures.specs.declared.value.Value.{Value}
+use Rattle.basic_types.specs.declared.value.Value.{Value}
 use Rattle.syntax_trees.specs.declared.syntax.Unary.{Unary}
 use Rattle.syntax_trees.specs.declared.syntax.Binary.{Binary}
 use Rattle.syntax_trees.specs.declared.syntax.Expr.{Expr}

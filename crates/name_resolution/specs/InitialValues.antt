@@ -1,6 +1,6 @@
 -- The value that a property of a new object has.
 use Rattle.std.specs.Prelude.{Option, None, Some}
-use Rattle.signatures.specs.declared.value.Value.{Value}
+use Rattle.basic_types.specs.declared.value.Value.{Value}
 use Rattle.syntax_trees.specs.Literals.{literal_value}
 use Rattle.syntax_trees.specs.declared.syntax.Literal.{Literal}
 use Rattle.meta_model.specs.declared.object.ValueType.{ValueType}

@@ -3,7 +3,7 @@
 ghost use Rattle.std.specs.Prelude.{◌≡◌, IfOk};
 ghost use Rattle.meta_model.specs.Literals.{literal};
 
-use signatures::Value;
+use basic_types::Value;
 use std::alloc::AllocError;
 
 /// The value of the literal: a program can't name an object, so a reference is null.

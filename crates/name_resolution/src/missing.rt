@@ -5,8 +5,8 @@ ghost use Rattle.class_outlines.specs.Offences.{fault_in};
 ghost use Rattle.class_outlines.specs.declared.fault.MetaFault.TheVariants.{NoMember};
 ghost use Rattle.class_outlines.specs.declared.offence.PartFault.TheVariants.{Memory};
 
+use basic_types::{Name, Sig};
 use class_outlines::{Breach, ClassTable, End, IndexedOutline, Missing, PartFault, Reason, Sought};
-use signatures::{Name, Sig};
 
 /// That the declaration's name of this number isn't declared.
 pub fn undeclared(name: usize, missing: Missing) -> PartFault

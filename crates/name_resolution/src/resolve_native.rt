@@ -7,9 +7,9 @@ ghost use Rattle.name_resolution.specs.code.Resolving.{Resolves, ResolvesEach};
 
 use crate::missing::{no_end, no_property};
 use crate::resolve_wire::signal_end;
+use basic_types::{Name, Sig};
 use class_outlines::{ClassTable, End, PartFault, names_of_sig, property_in};
 use meta_model::{MetaEffects, OBJECT_NAME_CHANGED};
-use signatures::{Name, Sig};
 use sqlite_items::Items;
 use std::alloc::Global;
 use syntax_trees::EffectNames;

@@ -7,9 +7,9 @@ ghost use Rattle.name_resolution.specs.code.Wires.{IsWire, IsOwns};
 ghost use Rattle.name_resolution.specs.code.Resolving.{FindsEnd, Resolves, ResolvesAll};
 
 use crate::missing::{no_end, undeclared};
+use basic_types::{Name, Sig};
 use class_outlines::{ClassTable, Declaration, End, LoadFault, Missing, PartFault, names_of_sig};
 use meta_model::{MetaOwns, MetaWire, OBJECT_NAME_CHANGED};
-use signatures::{Name, Sig};
 use sqlite_items::Items;
 use std::alloc::Global;
 use syntax_trees::{Owns, Program, Wire};

@@ -2,8 +2,8 @@
 use Rattle.std.proofs.Common.{◌≡◌, ℕ, List, Bool, true, false, ◌&&◌, refl, sym, ap}
 use Rattle.std.specs.Bool.{beq, Decides}
 use Rattle.std.specs.Cmp.Lexicographic.{pointwise_decides, bytes_decides}
-use Rattle.signatures.specs.declared.qtype.QType.{QType}
-use Rattle.signatures.specs.declared.sig.Sig.{Sig}
+use Rattle.basic_types.specs.declared.qtype.QType.{QType}
+use Rattle.basic_types.specs.declared.sig.Sig.{Sig}
 use Rattle.native_slots.specs.declared.head.NativeHead.{NativeHead}
 use Rattle.native_slots.specs.Heads.{same_types, same_sigs, is_for}
 

@@ -1,6 +1,6 @@
 -- What a native may be given, and what it may answer, by its effects (docs/natives.md, "Effects").
 use Rattle.std.specs.Prelude.{Bool, ◌&&◌, List, map, slice_get}
-use Rattle.signatures.specs.declared.value.Value.{Value}
+use Rattle.basic_types.specs.declared.value.Value.{Value}
 use Rattle.meta_model.specs.declared.object.ValueType.{ValueType}
 use Rattle.native_slots.specs.declared.action.Action.{Action}
 use Rattle.native_slots.specs.declared.effects.Effects.{Effects}

@@ -2,8 +2,8 @@
 use Rattle.std.specs.Prelude.{ℕ, Bool, ◌&&◌, nat_eq, List, Option, find}
 use Rattle.std.specs.Bool.{beq}
 use Rattle.std.specs.Cmp.Lexicographic.{pointwise}
-use Rattle.signatures.specs.declared.qtype.QType.{QType}
-use Rattle.signatures.specs.declared.sig.Sig.{Sig}
+use Rattle.basic_types.specs.declared.qtype.QType.{QType}
+use Rattle.basic_types.specs.declared.sig.Sig.{Sig}
 use Rattle.native_slots.specs.declared.head.NativeHead.{NativeHead}
 
 abbrev pub same_names : List ℕ → List ℕ → Bool

@@ -1,4 +1,4 @@
-use signatures::{Arguments, Value};
+use basic_types::{Arguments, Value};
 
 /// The most actions that a native answers at once.
 pub const MOST_ACTIONS: usize = 64;

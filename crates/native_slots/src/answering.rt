@@ -1,12 +1,12 @@
 //! What a machine asks of natives.
 
 ghost use Rattle.std.specs.Prelude.{ℕ, List, Bool, IsTrue, IfOk};
-ghost use Rattle.signatures.specs.declared.sig.Sig.{Sig as ASig};
-ghost use Rattle.signatures.specs.declared.value.Value.{Value as AValue};
+ghost use Rattle.basic_types.specs.declared.sig.Sig.{Sig as ASig};
+ghost use Rattle.basic_types.specs.declared.value.Value.{Value as AValue};
 ghost use Rattle.native_slots.specs.declared.action.Action.{Action as AnAction};
 
 use crate::action::Action;
-use signatures::{Name, Sig, Value};
+use basic_types::{Name, Sig, Value};
 use std::alloc::AllocError;
 
 /// What answers the calls of natives. A native is named by the class that declares it, and its signature there.

@@ -1,7 +1,7 @@
 //! What a native takes, and what it may read and do.
 
 use crate::plain_type::PlainType;
-use signatures::Name;
+use basic_types::Name;
 use sqlite_items::Items;
 
 /// A property that a native reads or writes, in its own class or one above it.

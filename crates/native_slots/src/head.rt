@@ -2,7 +2,7 @@ ghost use Rattle.std.specs.Prelude.{◌≡◌, ◌↔◌, IsTrue};
 ghost use Rattle.native_slots.specs.Heads.{is_for};
 
 use crate::effects::Effects;
-use signatures::{Name, Sig};
+use basic_types::{Name, Sig};
 
 /// Which native a closure is for, and the effects that it keeps to.
 pub struct NativeHead {

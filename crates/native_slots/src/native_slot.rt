@@ -8,7 +8,7 @@ ghost use Rattle.native_slots.specs.Effects.{accepts, are_within};
 use crate::action::Action;
 use crate::effects::Effects;
 use crate::head::NativeHead;
-use signatures::{Name, Sig, Value};
+use basic_types::{Name, Sig, Value};
 use std::alloc::AllocError;
 
 /// What a native does: from its arguments, and the present values of the properties that it reads, it tells what it asks

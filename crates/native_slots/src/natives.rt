@@ -7,8 +7,8 @@ use crate::fitting::difference;
 use crate::head::NativeHead;
 use crate::misfit::{Misfit, NativePlace, first_of};
 use crate::native_slot::{NativeSlot, Work};
+use basic_types::{Name, Sig, Value};
 use meta_model::{Meta, MetaMethod, MetaObject, Work as MethodWork};
-use signatures::{Name, Sig, Value};
 use std::alloc::AllocError;
 
 /// Closures for natives, in the order in which they were given. Of two for one native the first counts, and one for what

@@ -1,8 +1,8 @@
 -- What values read as: a reference to a dead object is null (docs/machine.md, "Objects").
 use Rattle.std.specs.Prelude.{ℕ, List, map, Option, None, Some, slice_get}
 use Rattle.std.specs.Option.{option_map}
-use Rattle.signatures.specs.declared.value.Value.{Value}
-use Rattle.signatures.specs.declared.value.Value.TheVariants.{Int, Bool as Truth, Text, Ref}
+use Rattle.basic_types.specs.declared.value.Value.{Value}
+use Rattle.basic_types.specs.declared.value.Value.TheVariants.{Int, Bool as Truth, Text, Ref}
 use Rattle.object_tree.specs.declared.life.Life.{Life}
 use Rattle.object_tree.specs.declared.object.Object.{Object}
 

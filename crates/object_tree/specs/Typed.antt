@@ -1,6 +1,6 @@
 -- Objects whose properties have values of their types (docs/machine.md, "What every run keeps").
 use Rattle.std.specs.Prelude.{ℕ, List, map}
-use Rattle.signatures.specs.declared.value.Value.{Value}
+use Rattle.basic_types.specs.declared.value.Value.{Value}
 use Rattle.meta_model.specs.declared.object.MetaObject.{MetaObject}
 use Rattle.meta_model.specs.declared.object.MetaProperty.{MetaProperty}
 use Rattle.meta_model.specs.declared.object.ValueType.{ValueType}

@@ -8,8 +8,8 @@ ghost use Rattle.object_tree.specs.Forest.{Forest};
 use crate::fault::AdoptFault;
 use crate::life::Life;
 use crate::objects::Objects;
+use basic_types::ObjectId;
 use meta_model::Meta;
-use signatures::ObjectId;
 
 /// Whether the first object is the second or one of its ancestors, which are counted up to the first dead one.
 fn is_above(objects: &Objects, above: ObjectId, object: ObjectId) -> bool

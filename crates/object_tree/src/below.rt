@@ -7,7 +7,7 @@ ghost use Rattle.object_tree.specs.Moving.{AreBelow};
 ghost use Rattle.object_tree.specs.Objects.{life_of};
 
 use crate::objects::Objects;
-use signatures::ObjectId;
+use basic_types::ObjectId;
 use std::alloc::{AllocError, Global};
 
 /// A living object and its living descendants, reached through living objects.

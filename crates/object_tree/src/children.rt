@@ -4,7 +4,7 @@ ghost use Rattle.object_tree.specs.Adoptions.{adopted};
 ghost use Rattle.object_tree.specs.Children.{without, is_child, are_distinct};
 ghost use Rattle.object_tree.specs.Held.{are_any};
 
-use signatures::ObjectId;
+use basic_types::ObjectId;
 use std::alloc::{AllocError, Global};
 use std::collections::VecDeque;
 use std::marker::Model;

@@ -11,8 +11,8 @@ use crate::object::Object;
 use crate::objects::Objects;
 use crate::typing::begin_well;
 use crate::values::Values;
+use basic_types::{LoopId, Name};
 use meta_model::{Meta, MetaObject, NameIndex};
-use signatures::{LoopId, Name};
 use std::alloc::{AllocError, Global};
 
 /// How many objects may be created.

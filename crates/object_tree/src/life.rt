@@ -1,7 +1,7 @@
 ghost use Rattle.std.specs.Prelude.{◌≡◌, ◌↔◌, IsTrue, Some};
 
 use crate::values::Values;
-use signatures::{LoopId, ObjectId};
+use basic_types::{LoopId, ObjectId};
 
 /// What an object has while it lives.
 #[derive(Drop)]

@@ -6,7 +6,7 @@ ghost use Rattle.object_tree.specs.Moving.{in_loop};
 
 use crate::children::Children;
 use crate::life::Life;
-use signatures::{LoopId, Name, ObjectId, Value};
+use basic_types::{LoopId, Name, ObjectId, Value};
 
 /// An object that was created.
 #[derive(Drop)]

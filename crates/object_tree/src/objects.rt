@@ -15,8 +15,8 @@ use crate::slot::{
     Entry, Slot, adoption_in, block_in, end_in, give_up, house_in, join_in, key_of, lose_in,
     name_in, object_in, put, put_under_in, schedule_in, write_in,
 };
+use basic_types::{LoopId, Name, ObjectId, Value};
 use meta_model::NameIndex;
-use signatures::{LoopId, Name, ObjectId, Value};
 use slab::Slab;
 use std::alloc::{AllocError, Global};
 use std::marker::Model;

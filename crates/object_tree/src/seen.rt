@@ -4,7 +4,7 @@ ghost use Rattle.std.specs.Prelude.{◌≡◌, ◌↔◌, IsTrue, slice_get};
 ghost use Rattle.object_tree.specs.Seen.{seen, seen_object, seen_reference};
 
 use crate::objects::Objects;
-use signatures::{ObjectId, Value};
+use basic_types::{ObjectId, Value};
 
 /// A value as it reads, which takes no memory.
 pub fn seen(objects: &Objects, value: Value) -> Value

@@ -10,7 +10,7 @@ ghost use Rattle.object_tree.specs.Moving.{in_loop};
 ghost use Rattle.object_tree.specs.Slots.{new_slot, key_at, name_at, object_in, adoption_in, is_idle, AreDistinctIn, Changes, Writes, KeepsSlots, GivesUp};
 
 use crate::object::Object;
-use signatures::{LoopId, Name, ObjectId, Value};
+use basic_types::{LoopId, Name, ObjectId, Value};
 use slab::Slab;
 use std::alloc::AllocError;
 

@@ -20,8 +20,8 @@ use crate::object::Object;
 use crate::objects::Objects;
 use crate::seen::{is_same, seen, seen_reference};
 use crate::typing::{has_type, have_types};
+use basic_types::{LoopId, Name, ObjectId, Value};
 use meta_model::{Meta, NameIndex, ValueType};
-use signatures::{LoopId, Name, ObjectId, Value};
 use std::alloc::{AllocError, Global};
 use std::marker::Model;
 

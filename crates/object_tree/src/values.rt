@@ -2,9 +2,9 @@ ghost use Rattle.std.specs.Prelude.{◌≡◌, slice_get, slice_set, IfOk};
 ghost use Rattle.std.specs.Option.{option_copied};
 ghost use Rattle.object_tree.specs.Creating.{initials};
 
+use basic_types::Value;
 use meta_model::MetaProperty;
 use shared_values::Shared;
-use signatures::Value;
 use std::alloc::{AllocError, Global};
 use std::marker::Model;
 
@@ -16,7 +16,7 @@ pub struct Values {
 
 impl Model for Values {
     ghost use Rattle.std.specs.Prelude.{List};
-    ghost use Rattle.signatures.specs.declared.value.Value.{Value as AValue};
+    ghost use Rattle.basic_types.specs.declared.value.Value.{Value as AValue};
 
     ghost Value = { List AValue };
 

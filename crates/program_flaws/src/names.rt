@@ -1,8 +1,8 @@
 //! How classes, members and their types are written.
 
+use basic_types::{QType, Sig};
 use effect_scan::{Member, Node};
 use meta_model::{Meta, MetaObject};
-use signatures::{QType, Sig};
 use std::alloc::{AllocError, Global};
 
 /// Bytes of names and types, which are ASCII, as a text.

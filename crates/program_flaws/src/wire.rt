@@ -2,8 +2,8 @@
 
 use crate::names::{class_text, sig_text, type_text};
 use crate::source::Source;
+use basic_types::{Kind, Sig};
 use meta_model::{Meta, MetaWire};
-use signatures::{Kind, Sig};
 use std::alloc::{AllocError, Global};
 
 /// The wire at this place as it is declared, if there is one.

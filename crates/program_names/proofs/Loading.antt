@@ -4,11 +4,11 @@ use Rattle.std.specs.List.{AllByRecursion, AllZip}
 use Rattle.std.proofs.lemmas.Bool.{eq-eqb, false≢true}
 use Rattle.std.proofs.lemmas.List.Elements.{All-from_recursion}
 use Rattle.std.proofs.lemmas.Option.{same_Some, none-some, slice_get_within}
-use Rattle.signatures.specs.Laws.{IsNormalSig}
-use Rattle.signatures.specs.Name.{is_name_byte}
-use Rattle.signatures.specs.Signatures.{IsFreeName}
-use Rattle.signatures.specs.Words.{IsFree, word_spelling}
-use Rattle.signatures.specs.declared.word.Word.TheVariants as word
+use Rattle.basic_types.specs.Laws.{IsNormalSig}
+use Rattle.basic_types.specs.Name.{is_name_byte}
+use Rattle.basic_types.specs.Signatures.{IsFreeName}
+use Rattle.basic_types.specs.Words.{IsFree, word_spelling}
+use Rattle.basic_types.specs.declared.word.Word.TheVariants as word
 use Rattle.syntax_trees.specs.declared.program.Property.{Property}
 use Rattle.syntax_trees.specs.declared.program.Signal.{Signal}
 use Rattle.syntax_trees.specs.declared.program.Slot.{Slot}

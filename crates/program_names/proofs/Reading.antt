@@ -4,13 +4,13 @@ use Rattle.std.specs.List.{AllByRecursion}
 use Rattle.std.proofs.lemmas.Bool.{false≢true}
 use Rattle.std.proofs.lemmas.List.{length-map}
 use Rattle.std.proofs.lemmas.List.Elements.{recursion_from_All}
-use Rattle.signatures.specs.Laws.{IsNormalType, IsNormalSig}
-use Rattle.signatures.specs.Normal.{pointer_type}
-use Rattle.signatures.specs.Signatures.{IsFreeName, most_parameters}
-use Rattle.signatures.specs.Types.{value_type}
-use Rattle.signatures.specs.declared.normal.ConstPlace.TheVariants.{Nowhere, Before, After}
-use Rattle.signatures.specs.declared.normal.TypeEnding.TheVariants.{Bare, Reference, Pointer}
-use Rattle.signatures.specs.declared.word.Word.TheVariants as word
+use Rattle.basic_types.specs.Laws.{IsNormalType, IsNormalSig}
+use Rattle.basic_types.specs.Normal.{pointer_type}
+use Rattle.basic_types.specs.Signatures.{IsFreeName, most_parameters}
+use Rattle.basic_types.specs.Types.{value_type}
+use Rattle.basic_types.specs.declared.normal.ConstPlace.TheVariants.{Nowhere, Before, After}
+use Rattle.basic_types.specs.declared.normal.TypeEnding.TheVariants.{Bare, Reference, Pointer}
+use Rattle.basic_types.specs.declared.word.Word.TheVariants as word
 use Rattle.token_reading.specs.Lists.{spell_each, spell_further, spell_listed}
 use Rattle.token_reading.specs.Literals.{spell_literal}
 use Rattle.texts.specs.Pieces.{AreTokens, Piece, IsCut, tokens_of}

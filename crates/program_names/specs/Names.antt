@@ -1,8 +1,8 @@
 -- The names of a program's classes and members (docs/language.md, "Names").
 use Rattle.std.specs.Prelude.{ℕ, List, Ok}
 use Rattle.std.specs.List.{AllByRecursion}
-use Rattle.signatures.specs.Laws.{IsNormalSig}
-use Rattle.signatures.specs.Signatures.{IsFreeName}
+use Rattle.basic_types.specs.Laws.{IsNormalSig}
+use Rattle.basic_types.specs.Signatures.{IsFreeName}
 use Rattle.syntax_trees.specs.declared.program.Property.{Property}
 use Rattle.syntax_trees.specs.declared.program.Signal.{Signal}
 use Rattle.syntax_trees.specs.declared.program.Slot.{Slot}

@@ -1,7 +1,7 @@
 -- What wider wires cover, and what no wire covers.
 use Rattle.std.proofs.Common.{◌≡◌, ℕ, ◌<◌, List, length, get_or, Some, slice_get, sym, ◌∙◌, subst}
 use Rattle.std.proofs.lemmas.Option.{slice_get-get_or}
-use Rattle.signatures.specs.declared.sig.Sig.{Sig}
+use Rattle.basic_types.specs.declared.sig.Sig.{Sig}
 use Rattle.meta_model.specs.declared.object.MetaWire.{MetaWire}
 use Rattle.meta_model.specs.Loaded.{Loaded}
 use Rattle.meta_model.specs.Members.{HasSig, CoversBy}

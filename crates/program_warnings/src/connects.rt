@@ -10,8 +10,8 @@ ghost use Rattle.program_warnings.specs.Wires.{IsLineageOf, IsLacking, MayServe,
 use crate::bodies::OwnSlot;
 use crate::lineage::Lineage;
 use crate::warning::Warning;
+use basic_types::Kind;
 use meta_model::{Meta, MetaEndpoints, MetaWire, Statement};
-use signatures::Kind;
 use std::alloc::AllocError;
 
 /// Where `connect` statements are looked for.

@@ -3,7 +3,7 @@ use Rattle.std.proofs.Common.{◌≡◌, ◌-◌, ℕ, true, false, All, List, [
 use Rattle.std.proofs.lemmas.List.{take_rest}
 use Rattle.std.proofs.lemmas.List.Elements.{All-filter, All-push}
 use Rattle.std.proofs.lemmas.Option.{same_Some}
-use Rattle.signatures.specs.declared.value.Value.{Value}
+use Rattle.basic_types.specs.declared.value.Value.{Value}
 use Rattle.meta_model.specs.Loaded.{Loaded}
 use Rattle.object_tree.specs.declared.object.Object.{Object}
 use Rattle.binding_graph.specs.declared.place.Place.{Place}

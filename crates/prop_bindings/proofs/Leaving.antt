@@ -6,7 +6,7 @@ use Rattle.std.specs.Option.{option_map, option_and_then}
 use Rattle.std.proofs.lemmas.Bool.{false≢true, cases_Bool, eq-eqb}
 use Rattle.std.proofs.lemmas.List.Elements.{All-nil, All-filter, All-weaker, filter_passes}
 use Rattle.std.proofs.lemmas.Option.{same_Some, none-some}
-use Rattle.signatures.specs.declared.value.Value.{Value}
+use Rattle.basic_types.specs.declared.value.Value.{Value}
 use Rattle.meta_model.specs.Loaded.{Loaded}
 use Rattle.meta_model.specs.Members.{IsProperty}
 use Rattle.object_tree.specs.declared.life.Life.{Life}

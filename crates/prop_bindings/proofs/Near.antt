@@ -4,7 +4,7 @@ use Rattle.std.specs.Prelude.{slice_get}
 use Rattle.std.specs.Cmp.{IsEquivalence}
 use Rattle.std.proofs.lemmas.Map.Entries.{lookup_from_place}
 use Rattle.indexmap.specs.IndexMap.{IndexMap, IsUnique, get}
-use Rattle.signatures.specs.declared.value.Value.{Value}
+use Rattle.basic_types.specs.declared.value.Value.{Value}
 use Rattle.binding_graph.specs.Places.{property_of}
 use Rattle.binding_graph.specs.code.Keys.{same_key}
 use Rattle.binding_graph.proofs.Keyed.{key-refl, key-same, same_place-sym}

@@ -1,7 +1,7 @@
 -- What a write and a bind make of settled values, where what follows was found.
 use Rattle.std.proofs.Common.{◌≡◌, true, false, List, [], ◌∷◌, inl, inr, Option, Some, None, refl, ap, sym, ◌∙◌, subst}
 use Rattle.std.proofs.Math.Path.{fun_ext}
-use Rattle.signatures.specs.declared.value.Value.{Value}
+use Rattle.basic_types.specs.declared.value.Value.{Value}
 use Rattle.binding_graph.specs.declared.place.Place.{Place}
 use Rattle.binding_graph.specs.declared.binding.Binding.{Binding}
 use Rattle.binding_graph.specs.Places.{In, same_place}

@@ -1,7 +1,7 @@
 -- How many evaluations a write and a bind take (Qt 6, "Qt Bindable Properties": what doesn't depend on a change isn't
 -- evaluated; docs/machine.md, "Bindings").
 use Rattle.std.specs.Prelude.{◌≡◌, ◌⊎◌, ℕ, suc, List, [], ◌∷◌, length, Option, Some, slice_get}
-use Rattle.signatures.specs.declared.value.Value.{Value}
+use Rattle.basic_types.specs.declared.value.Value.{Value}
 use Rattle.meta_model.specs.Loaded.{Loaded}
 use Rattle.meta_model.specs.declared.site.MetaSite.{MetaSite}
 use Rattle.object_tree.specs.declared.object.Object.{Object}

@@ -9,13 +9,13 @@ ghost use Rattle.binding_plans.specs.Values.{values_in};
 ghost use Rattle.binding_plans.specs.Plans.{assigned};
 ghost use Rattle.prop_bindings.specs.code.Parts.{value_ahead};
 
+use basic_types::{ObjectId, Value};
 use binding_graph::Place;
 use binding_plans::value_given;
 use expressions::{self, EvalFault};
 use indexmap::IndexMap;
 use meta_model::SourceProperty;
 use object_tree::Tree;
-use signatures::{ObjectId, Value};
 
 /// The objects, the values that some properties are to have, and the objects that stand for the formal sources.
 #[derive(Clone, Copy)]

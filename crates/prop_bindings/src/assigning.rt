@@ -3,9 +3,9 @@
 ghost use Rattle.std.specs.Prelude.{◌≡◌};
 ghost use Rattle.prop_bindings.specs.code.Parts.{ahead};
 
+use basic_types::{ObjectId, Value};
 use indexmap::IndexMap;
 use object_tree::Tree;
-use signatures::{ObjectId, Value};
 
 /// Gives properties their values. It takes no memory.
 pub fn assign(tree: &mut Tree, values: IndexMap<(usize, usize), Value>)

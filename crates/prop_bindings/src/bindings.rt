@@ -17,6 +17,7 @@ use crate::assigning::assign;
 use crate::changes::{changed_alone, plan};
 use crate::preparing::{Prepared, fits, has_value, prepare};
 use crate::writes::{Given, all_fit, give_all, give_one, have_all, plan_given, plan_one};
+use basic_types::{ObjectId, Value};
 use binding_graph::{Binding, Graph, Place, Reader, followers};
 use binding_plans::{
     Assignment, BindFault, ChangedPlaces, Planned, PlannedBind, PlannedGroup, PlannedWrite,
@@ -24,7 +25,6 @@ use binding_plans::{
 };
 use meta_model::Meta;
 use object_tree::Tree;
-use signatures::{ObjectId, Value};
 use sqlite_items::Items;
 use std::alloc::{AllocError, Global};
 use std::marker::Model;

@@ -17,11 +17,11 @@ ghost use Rattle.prop_bindings.specs.code.Parts.{AddsChanged, GivesOnly, IsSound
 
 use crate::ahead::value_ahead;
 use crate::evaluation::evaluate_all;
+use basic_types::Value;
 use binding_graph::{Installed, Numbered, Place};
 use binding_plans::{ChangedPlaces, Planned};
 use indexmap::IndexMap;
 use object_tree::Tree;
-use signatures::Value;
 use std::alloc::{AllocError, Global};
 
 /// Different properties are to have these values, and then each of their followers, in their order, its expression's value,

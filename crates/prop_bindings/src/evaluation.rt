@@ -13,11 +13,11 @@ ghost use Rattle.binding_graph.specs.code.Orders.{AreBound, pass};
 ghost use Rattle.prop_bindings.specs.code.Parts.{IsSoundBySome, StaySound, ahead, value_ahead};
 
 use crate::ahead::Ahead;
+use basic_types::Value;
 use binding_graph::{Binding, Installed, Numbered, Place, Reader};
 use expressions::{EvalFault, eval};
 use indexmap::IndexMap;
 use object_tree::Tree;
-use signatures::Value;
 use std::alloc::{AllocError, Global};
 
 /// Each of these bound properties is to have its expression's value, in this order. It answers where their bindings stand

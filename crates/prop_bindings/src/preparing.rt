@@ -10,13 +10,13 @@ ghost use Rattle.binding_plans.specs.Calls.{IsOf, CoversBinding};
 ghost use Rattle.prop_bindings.specs.code.Parts.{Prepares};
 
 use crate::evaluation::value_of;
+use basic_types::{ObjectId, Value};
 use binding_graph::{Binding, Place};
 use binding_plans::BindFault;
 use expressions::EvalFault;
 use indexmap::IndexMap;
 use meta_model::{Meta, MetaSite};
 use object_tree::Tree;
-use signatures::{ObjectId, Value};
 use sqlite_items::Items;
 use std::alloc::Global;
 

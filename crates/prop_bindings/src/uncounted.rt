@@ -10,13 +10,13 @@ ghost use Rattle.binding_plans.specs.Plans.{PlansBind, PlansGroup, PlansWrite, a
 ghost use Rattle.prop_bindings.specs.code.Parts.{MayInstall};
 
 use crate::bindings::Bindings;
+use basic_types::{ObjectId, Value};
 use binding_graph::Place;
 use binding_plans::{
     Assignment, BindFault, ChangedPlaces, PlannedBind, PlannedGroup, PlannedWrite, WriteFault,
 };
 use meta_model::Meta;
 use object_tree::Tree;
-use signatures::{ObjectId, Value};
 use std::alloc::{AllocError, Global};
 use std::marker::Model;
 

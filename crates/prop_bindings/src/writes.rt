@@ -10,12 +10,12 @@ ghost use Rattle.prop_bindings.specs.code.Parts.{AreGiven, HaveAhead, MayGiveSom
 use crate::ahead::value_ahead;
 use crate::changes::plan;
 use crate::preparing::{fits, has_value};
+use basic_types::Value;
 use binding_graph::{Graph, Place, followers};
 use binding_plans::{Assignment, Planned};
 use indexmap::IndexMap;
 use meta_model::Meta;
 use object_tree::Tree;
-use signatures::Value;
 use std::alloc::{AllocError, Global};
 
 /// What writes give: their properties, each once, in the order in which they are written first, and of each the value that

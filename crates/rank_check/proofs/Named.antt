@@ -1,6 +1,6 @@
 -- The numbers of the nodes that are named.
 use Rattle.std.proofs.Common.{◌≡◌, ℕ, length, Option, Some, None, sym, ap, ◌∙◌, subst}
-use Rattle.signatures.specs.declared.sig.Sig.{Sig}
+use Rattle.basic_types.specs.declared.sig.Sig.{Sig}
 use Rattle.meta_model.specs.Loaded.{Loaded}
 use Rattle.meta_model.specs.LookUps.{LooksUp, FindsOnly}
 use Rattle.meta_model.specs.Members.{IsClassNamed, HasSig, IsMethodNamed}

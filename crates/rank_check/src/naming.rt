@@ -7,10 +7,10 @@ ghost use Rattle.effect_scan.specs.Scans.{IsScan};
 ghost use Rattle.rank_check.specs.Names.{IsMemberNamed, IsMemberOf};
 ghost use Rattle.rank_check.specs.Entries.{IsNumberNamed, AreNumbers};
 
+use basic_types::{Name, Sig};
 use certificate_lang::{Line, MemberName, NodeName};
 use effect_scan::{Member, Node, Scan};
 use meta_model::Meta;
-use signatures::{Name, Sig};
 use sqlite_items::{Items, at};
 use std::alloc::{AllocError, Global};
 

@@ -10,11 +10,11 @@ ghost use Rattle.rank_check.specs.Valid.{most_bound};
 ghost use Rattle.rank_graph.specs.Solutions.{rank_of, leads_of};
 ghost use Rattle.rank_make.specs.Solved.{AreLow, AreItems, IsLineFor, AreLinesFor, HasMember};
 
+use basic_types::Sig;
 use effect_scan::{Member, Node, Scan, row_at};
 use meta_model::{Meta, MetaObject};
 use rank_check::{ClassSet, Line, MemberName, NodeName, SetItem};
 use rank_graph::Solution;
-use signatures::Sig;
 use sqlite_items::Items;
 use std::alloc::{AllocError, Global};
 

@@ -5,7 +5,7 @@ use Rattle.std.specs.List.{find}
 use Rattle.std.specs.Option.{option_map}
 use Rattle.std.proofs.lemmas.Bool.{cases_eq, eqb-true}
 use Rattle.std.proofs.lemmas.List.{reverse-append}
-use Rattle.signatures.specs.declared.value.Value.TheVariants as value
+use Rattle.basic_types.specs.declared.value.Value.TheVariants as value
 use Rattle.meta_model.specs.declared.qobject.TheConstants.{DESTROYED}
 use Rattle.meta_model.specs.Loaded.{Loaded}
 use Rattle.meta_model.specs.Values.{null_has}

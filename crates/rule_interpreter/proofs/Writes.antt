@@ -3,7 +3,7 @@ use Rattle.std.proofs.Common.{◌≡◌, IsErrAnd, inl, inr, ℕ, zero, suc, ◌
 use Rattle.std.specs.Prelude.{◌↔◌, IfOk, IfErr, IfSome, IsTrue}
 use Rattle.std.specs.List.{AllByRecursion, Contains}
 use Rattle.std.proofs.lemmas.List.Elements.{All-contains, All-from_recursion, Contains-append_right}
-use Rattle.signatures.specs.declared.value.Value.{Value}
+use Rattle.basic_types.specs.declared.value.Value.{Value}
 use Rattle.meta_model.specs.declared.object.MetaObject.{MetaObject}
 use Rattle.meta_model.specs.declared.object.MetaProperty.{MetaProperty}
 use Rattle.meta_model.specs.Loaded.{Loaded}

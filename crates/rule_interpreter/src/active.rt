@@ -4,7 +4,7 @@ ghost use Rattle.std.specs.Prelude.{◌≡◌, ◌<◌, [], ◌∷◌, length};
 ghost use Rattle.texts.specs.Limits.{most_depth};
 ghost use Rattle.rule_interpreter.specs.code.Active.{shows_body, frame_shows};
 
-use signatures::ObjectId;
+use basic_types::ObjectId;
 use std::marker::Model;
 
 /// One activation after the other, each over those that were active when it began.

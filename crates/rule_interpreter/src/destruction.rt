@@ -10,11 +10,11 @@ ghost use Rattle.machine_rules.specs.Natives.{KeepPromises};
 
 use crate::active::Active;
 use crate::interpreter::Interpreter;
+use basic_types::{ObjectId, Value};
 use machine_state::World;
 use meta_model::DESTROYED;
 use native_slots::Answering;
 use run_context::MethodCall;
-use signatures::{ObjectId, Value};
 use trace_entries::{Entry, EntryKind, Fault};
 
 impl<N: Answering> Interpreter<N> {

@@ -12,12 +12,12 @@ ghost use Rattle.machine_rules.specs.Natives.{KeepPromises};
 
 use crate::active::Active;
 use crate::interpreter::Interpreter;
+use basic_types::Value;
 use connections::{Connection, SignalHint};
 use machine_state::{World, reaches_at_once};
 use meta_model::Work;
 use native_slots::Answering;
 use run_context::{Callee, MethodCall, front};
-use signatures::Value;
 use trace_entries::{Entry, Fault};
 
 impl<N: Answering> Interpreter<N> {

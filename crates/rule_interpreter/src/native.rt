@@ -11,12 +11,12 @@ ghost use Rattle.machine_rules.specs.code.Sound.{IsSoundWorld};
 
 use crate::active::Active;
 use crate::interpreter::Interpreter;
+use basic_types::ObjectId;
 use machine_state::World;
 use meta_model::MetaEffects;
 use native_slots::{Action, Answering};
 use prop_bindings::Place;
 use run_context::MethodCall;
-use signatures::ObjectId;
 use trace_entries::Fault;
 
 impl<N: Answering> Interpreter<N> {

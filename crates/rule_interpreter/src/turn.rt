@@ -8,11 +8,11 @@ ghost use Rattle.machine_rules.specs.Natives.{KeepPromises};
 
 use crate::active::Active;
 use crate::interpreter::Interpreter;
+use basic_types::Arguments;
 use event_loops::{Item, Posted};
 use machine_state::{Turn, World};
 use native_slots::Answering;
 use run_context::MethodCall;
-use signatures::Arguments;
 use trace_entries::{Entry, Fault};
 
 impl<N: Answering> Interpreter<N> {

@@ -12,12 +12,12 @@ ghost use Rattle.machine_rules.specs.Natives.{KeepPromises};
 
 use crate::active::Active;
 use crate::interpreter::Interpreter;
+use basic_types::Value;
 use machine_state::World;
 use native_slots::Answering;
 use object_tree::Tree;
 use prop_bindings::{Assignment, Place};
 use run_context::{MethodCall, front};
-use signatures::Value;
 use std::alloc::AllocError;
 use trace_entries::Fault;
 

@@ -1,7 +1,7 @@
 -- What a connection delivers.
 use Rattle.std.proofs.Common.{◌≡◌, ℕ, ◌+◌, ◌-◌, inl, inr, true, List, ◌++◌, length, take, Option, None, Some, refl, sym, ap, ◌∙◌, subst, ◌≢◌}
 use Rattle.std.specs.List.{AllByRecursion}
-use Rattle.signatures.specs.declared.value.Value.{Value}
+use Rattle.basic_types.specs.declared.value.Value.{Value}
 use Rattle.meta_model.specs.declared.object.MetaMethod.{MetaMethod}
 use Rattle.meta_model.specs.declared.object.ValueType.{ValueType}
 use Rattle.meta_model.specs.Loaded.{Loaded}

@@ -1,7 +1,7 @@
 -- What each rule leaves as it was.
 use Rattle.machine_state.specs.Telling.{Assigning}
 use Rattle.std.proofs.Common.{◌≡◌, ◌⊎◌, inl, inr, ℕ, suc, ◌+◌, List, [], ◌∷◌, ◌++◌, Option, Some, None, refl, sym, ap, ◌∙◌, subst, arith, Result, Ok, Err, append_assoc, append-nil, ◌<◌, ◌≤◌, Bool, true, false, length, map}
-use Rattle.signatures.specs.declared.value.Value.{Value}
+use Rattle.basic_types.specs.declared.value.Value.{Value}
 use Rattle.meta_model.specs.Loaded.{Loaded}
 use Rattle.meta_model.specs.declared.object.Work.{Work}
 use Rattle.meta_model.specs.declared.object.Work.TheVariants.{Signal, Slot, Native}
@@ -34,7 +34,7 @@ use Rattle.object_tree.proofs.Changing.{life-of-lives, lives-of-life}
 use Rattle.object_tree.specs.Typed.{ReadAs}
 use Rattle.trace_entries.specs.declared.entry.Entry.{Entry}
 use Rattle.machine_rules.specs.There.{IsMember, IsDead}
-use Rattle.signatures.specs.Types.{Fits}
+use Rattle.basic_types.specs.Types.{Fits}
 use Rattle.syntax_trees.specs.declared.connection.ConnectionType.{ConnectionType}
 use Rattle.syntax_trees.specs.declared.connection.Endpoints.{Endpoints as Named}
 use Rattle.meta_model.specs.Sound.{IsSound}

@@ -5,8 +5,8 @@ use Rattle.native_slots.specs.declared.action.TheConstants.{MOST_ACTIONS}
 use Rattle.std.specs.List.{AllByRecursion, AllZip, list_all}
 use Rattle.std.specs.Option.{option_and_then, option_map_or}
 use Rattle.std.proofs.lemmas.List.Elements.{recursion_from_All}
-use Rattle.signatures.specs.declared.value.Value.{Value}
-use Rattle.signatures.specs.declared.value.Value.TheVariants as value
+use Rattle.basic_types.specs.declared.value.Value.{Value}
+use Rattle.basic_types.specs.declared.value.Value.TheVariants as value
 use Rattle.meta_model.specs.declared.effects.MetaEffects.{MetaEffects}
 use Rattle.meta_model.specs.declared.object.MetaMethod.{MetaMethod}
 use Rattle.meta_model.specs.declared.object.MetaObject.{MetaObject}

@@ -1,7 +1,7 @@
 -- What a call of the machine's code does, whatever activations are below (docs/machine.md, "Runs").
 use Rattle.std.specs.Prelude.{◌≡◌, ℕ, ◌<◌, ◌≤◌, ◌⊎◌, List, [], ◌∷◌, ◌++◌, length, Result, Ok, Err, MatchResult, Option, Some}
 use Rattle.meta_model.specs.Loaded.{Loaded}
-use Rattle.signatures.specs.declared.value.Value.{Value}
+use Rattle.basic_types.specs.declared.value.Value.{Value}
 use Rattle.meta_model.specs.declared.object.MetaMethod.{MetaMethod}
 use Rattle.meta_model.specs.declared.object.Work.{Work}
 use Rattle.object_tree.specs.declared.object.Object.{Object}

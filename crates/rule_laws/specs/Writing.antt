@@ -13,7 +13,7 @@ use Rattle.prop_bindings.specs.Assignment.{Assignment}
 use Rattle.binding_graph.specs.declared.place.Place.{Place}
 use Rattle.prop_bindings.specs.Calls.{AllFit}
 use Rattle.prop_bindings.specs.Fits.{FitsAt}
-use Rattle.signatures.specs.declared.value.Value.{Value}
+use Rattle.basic_types.specs.declared.value.Value.{Value}
 use Rattle.trace_entries.specs.declared.fault.Fault.{Fault}
 use Rattle.trace_entries.specs.declared.fault.Fault.TheVariants.{BadType, TooDeep}
 use Rattle.machine_rules.specs.Faults.{IsAfterFit}

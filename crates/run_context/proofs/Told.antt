@@ -1,6 +1,6 @@
 -- What an action that can be written down speaks of is there.
 use Rattle.std.proofs.Common.{◌≡◌, ℕ, List, Some, slice_get, sym, ap, ◌∙◌, subst}
-use Rattle.signatures.specs.declared.value.Value.{Value}
+use Rattle.basic_types.specs.declared.value.Value.{Value}
 use Rattle.meta_model.specs.declared.effects.MetaEffects.{MetaEffects}
 use Rattle.meta_model.specs.Loaded.{Loaded}
 use Rattle.native_slots.specs.declared.action.Action.{Action}

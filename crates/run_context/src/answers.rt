@@ -6,10 +6,10 @@ ghost use Rattle.meta_model.specs.Members.{method_count};
 ghost use Rattle.machine_rules.specs.Natives.{DeclaredBy, AreRead, HasStored, IsShownAs, IsTellable, AreTellable, TellsAnswer};
 
 use crate::context::RunContext;
+use basic_types::{ObjectId, Value};
 use machine_state::{World, show, show_all};
 use meta_model::{Meta, MetaEffects};
 use native_slots::Action;
-use signatures::{ObjectId, Value};
 use sqlite_items::Items;
 use std::alloc::AllocError;
 use trace_entries::{Entry, EntryKind, ShownAction};

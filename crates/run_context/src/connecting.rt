@@ -9,10 +9,10 @@ ghost use Rattle.machine_rules.specs.Connecting.{may_connect};
 ghost use Rattle.run_context.specs.code.Statements.{IsJudged, LacksEnds, NamesEnds, LacksNames, ConnectsIn, DisconnectsIn};
 
 use crate::context::RunContext;
+use basic_types::Name;
 use machine_rules::kept_ends;
 use machine_state::{Endpoints, World};
 use meta_model::{ConnectionEnd, Wired};
-use signatures::Name;
 use syntax_trees::{self, ConnectionType};
 use trace_entries::{Entry, EntryKind, Fault, Refusal};
 

@@ -6,10 +6,10 @@ ghost use Rattle.texts.specs.Limits.{most_depth};
 ghost use Rattle.machine_rules.specs.There.{IsMember, IsField, LacksMember, LacksField};
 
 use crate::method_call::MethodCall;
+use basic_types::ObjectId;
 use machine_state::{World, is_silent, show_all};
 use meta_model::{Meta, MetaMethod, MetaProperty, Work};
 use object_tree::Object;
-use signatures::ObjectId;
 use std::alloc::{AllocError, Global};
 use trace_entries::{Entry, EntryKind, Fault};
 

@@ -6,8 +6,8 @@ ghost use Rattle.run_context.specs.code.Statements.{SchedulesIn};
 ghost use Rattle.machine_rules.specs.code.Sound.{IsSoundWorld};
 
 use crate::context::RunContext;
+use basic_types::{Name, ObjectId};
 use machine_state::World;
-use signatures::{Name, ObjectId};
 use std::alloc::AllocError;
 use trace_entries::{Entry, EntryKind, Fault, Shown, ShownValues};
 

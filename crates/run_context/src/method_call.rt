@@ -2,7 +2,7 @@
 
 ghost use Rattle.std.specs.Prelude.{◌≡◌, take};
 
-use signatures::{ObjectId, Value};
+use basic_types::{ObjectId, Value};
 
 /// A call of an object's method, which is a signal or a slot.
 #[derive(Clone, Copy)]

@@ -7,12 +7,12 @@ ghost use Rattle.run_context.specs.code.Posting.{PostsCall, entry_of_post};
 
 use crate::context::RunContext;
 use crate::method_call::MethodCall;
+use basic_types::{Arguments, Name, Value};
 use connections::Connection;
 use event_loops::Item;
 use machine_state::{World, show_all};
 use meta_model::MetaMethod;
 use object_tree::Object;
-use signatures::{Arguments, Name, Value};
 use std::alloc::AllocError;
 use trace_entries::{Entry, EntryKind, Fault};
 

@@ -1,7 +1,7 @@
 -- Why what is going on goes on: its members and statements are there, and the objects whose bodies are active live.
 use Rattle.std.proofs.Common.{◌≡◌, ℕ, suc, ◌+◌, ◌<◌, Bool, List, [], ◌∷◌, ◌++◌, map, length, take, true, false, Option, Some, None, slice_get, refl, sym, ap, IsTrue, inl, length-append, ◌∙◌, subst, Ok, arith, inr, ◌⊎◌}
 use Rattle.std.specs.List.{AllByRecursion, find}
-use Rattle.signatures.specs.declared.value.Value.{Value}
+use Rattle.basic_types.specs.declared.value.Value.{Value}
 use Rattle.script_lang.specs.declared.event.Event.{Event}
 use Rattle.script_lang.specs.declared.event.Event.TheVariants.{Loop, Turn, New, Adopt, Move, Connect, Disconnect, Set, Bind, Emit as EmitEvent, Call as CallEvent, Block, Unblock, Delete as DeleteEvent, Later as LaterEvent}
 use Rattle.meta_model.specs.declared.object.MetaMethod.{MetaMethod}
@@ -58,8 +58,8 @@ use Rattle.machine_state.specs.declared.turn.Turn.{Turn as ATurn}
 use Rattle.machine_state.specs.Turns.{running, reaches_at_once}
 use Rattle.machine_state.specs.Worlds.{store_of, with_store}
 use Rattle.machine_state.specs.Connections.{is_living, next_used}
-use Rattle.signatures.specs.declared.sig.Sig.{Sig}
-use Rattle.signatures.specs.Types.{Fits}
+use Rattle.basic_types.specs.declared.sig.Sig.{Sig}
+use Rattle.basic_types.specs.Types.{Fits}
 use Rattle.syntax_trees.specs.declared.connection.ConnectionType.{ConnectionType}
 use Rattle.syntax_trees.specs.declared.connection.Endpoints.{Endpoints as Named}
 use Rattle.script_lang.specs.declared.event.Input.{Input}

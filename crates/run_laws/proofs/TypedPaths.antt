@@ -1,8 +1,8 @@
 -- Paths that loading resolved lead to values of their types.
 use Rattle.std.proofs.Common.{◌≡◌, ℕ, Bool, List, Option, Some, None, refl, ap, ◌∙◌, sym, subst}
 use Rattle.std.specs.Option.{option_map}
-use Rattle.signatures.specs.declared.value.Value.{Value}
-use Rattle.signatures.specs.declared.value.Value.TheVariants as value
+use Rattle.basic_types.specs.declared.value.Value.{Value}
+use Rattle.basic_types.specs.declared.value.Value.TheVariants as value
 use Rattle.meta_model.specs.declared.object.MetaPath.{MetaPath}
 use Rattle.meta_model.specs.declared.object.MetaProperty.{MetaProperty}
 use Rattle.meta_model.specs.declared.object.MetaRoot.{MetaRoot}

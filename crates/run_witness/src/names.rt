@@ -1,7 +1,7 @@
 //! How classes, members and values are written in a script.
 
+use basic_types::{Kind, Name};
 use meta_model::{Meta, ValueType};
-use signatures::{Kind, Name};
 use std::alloc::AllocError;
 
 /// Adds a name.

@@ -1,6 +1,6 @@
 -- No two readings with the same tokens stand for different events.
 use Rattle.std.proofs.Common.{◌≡◌, ℕ, true, false, List, [], ◌∷◌, map, Option, Some, None, cond, nat_eq, sum, refl, sym, ◌∙◌, ap, subst}
-use Rattle.signatures.specs.Words.{word_spelling}
+use Rattle.basic_types.specs.Words.{word_spelling}
 use Rattle.token_reading.specs.Connections.{spell_connection_type}
 use Rattle.token_reading.specs.code.Connections.{EndsConnectionType}
 use Rattle.token_reading.specs.Literals.{UnsignedReading, plain, truth, quoted, null, token_of_unsigned, LiteralReading, unsigned, negative, spell_literal}

@@ -22,8 +22,8 @@
 --
 -- `connect`, `disconnect`, `set`, `emit`, `call`, `delete` and `later` are reserved words; the other verbs are names.
 use Rattle.std.specs.Prelude.{ℕ, ◌≡◌, List, [], ◌∷◌, map, codes, Option, None, All}
-use Rattle.signatures.specs.declared.sig.Sig.{Sig}
-use Rattle.signatures.specs.declared.word.Word.TheVariants as word
+use Rattle.basic_types.specs.declared.sig.Sig.{Sig}
+use Rattle.basic_types.specs.declared.word.Word.TheVariants as word
 use Rattle.token_reading.specs.Connections.{BothEnds, spell_ends, tree_of_ends, spell_connection_type}
 use Rattle.syntax_trees.specs.Connections.{signatures_at}
 use Rattle.token_reading.specs.Lists.{spell_each, spell_listed}

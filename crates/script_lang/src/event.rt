@@ -1,6 +1,6 @@
 //! The events of a script.
 
-use signatures::Name;
+use basic_types::Name;
 use sqlite_items::Items;
 use syntax_trees::{ConnectionType, Endpoints, Literal};
 

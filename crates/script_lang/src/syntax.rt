@@ -9,7 +9,7 @@ ghost use Rattle.token_reading.specs.Reading.{spell_name};
 
 use crate::event::{Event, Input};
 use crate::verb::Verb;
-use signatures::Name;
+use basic_types::Name;
 use sqlite_items::Items;
 use texts::{Symbol, Token};
 use token_reading::{Cursor, ParseFault, Part, Wanted, both_ends, list};

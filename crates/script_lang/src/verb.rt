@@ -3,7 +3,7 @@
 ghost use Rattle.script_lang.specs.code.Grammar.{IsVerbOf};
 ghost use Rattle.texts.specs.declared.token.Token.TheVariants as token;
 
-use signatures::{Name, Word};
+use basic_types::{Name, Word};
 use texts::Token;
 
 /// The first word of an event: a reserved word, or a name, which objects, classes and event loops may have too.

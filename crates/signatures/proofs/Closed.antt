@@ -2,10 +2,10 @@
 use Rattle.std.proofs.Common.{◌≡◌, ◌↔◌, true, false, List, [], ◌∷◌, ◌++◌, refl, ap}
 use Rattle.std.specs.Prelude.{not, IsTrue, is_some, Option, Some, None, Bool}
 use Rattle.std.specs.List.{AllByRecursion}
-use Rattle.signatures.specs.Signatures.{IsPart, IsClosed}
-use Rattle.signatures.specs.Tokens.{Token, mark}
+use Rattle.basic_types.specs.Signatures.{IsPart, IsClosed}
+use Rattle.basic_types.specs.Tokens.{Token, mark}
 use Rattle.signatures.specs.code.Scanning.{TakesNext}
-use Rattle.signatures.specs.declared.scanner.Mark.TheVariants.{Close}
+use Rattle.basic_types.specs.declared.mark.Mark.TheVariants.{Close}
 use Rattle.signatures.specs.declared.scanner.Scanned.{Scanned}
 
 -- a part in front changes nothing

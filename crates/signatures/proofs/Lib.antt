@@ -1,5 +1,3 @@
-pub mod Words
-pub mod Tokens
 pub mod Closed
 pub mod Unique
 pub mod Reading

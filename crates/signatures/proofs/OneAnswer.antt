@@ -1,16 +1,17 @@
 -- A text has one normal form, and one answer.
 use Rattle.std.proofs.Common.{◌≡◌, ◌⊎◌, ℕ, List, [], ◌∷◌, Result, Ok, Err, refl, sym, ap, arith, inl, inr}
 use Rattle.signatures.specs.code.Reading.{const_word}
-use Rattle.signatures.specs.Signatures.{spell_ending, spell_named, spell_type, spell_others, spell_list, TypeReading, IsClosed, IsFramed, IsTyped, Normal, HasTooMany, Normalises}
-use Rattle.signatures.specs.Tokens.{Token, word, mark}
+use Rattle.basic_types.specs.Signatures.{spell_ending, spell_named, spell_type, spell_others, spell_list, TypeReading, IsClosed, IsFramed, IsTyped, Normal}
+use Rattle.signatures.specs.Normalising.{HasTooMany, Normalises}
+use Rattle.basic_types.specs.Tokens.{Token, word, mark}
 use Rattle.signatures.specs.declared.fault.SigFault.{SigFault}
 use Rattle.signatures.specs.declared.fault.SigFault.TheVariants.{BadName, BadType, TooMany, Memory}
-use Rattle.signatures.specs.declared.normal.ConstPlace.{ConstPlace}
-use Rattle.signatures.specs.declared.normal.ConstPlace.TheVariants.{Nowhere, Before, After}
-use Rattle.signatures.specs.declared.normal.TypeEnding.{TypeEnding}
-use Rattle.signatures.specs.declared.normal.TypeEnding.TheVariants.{Bare, Reference, Pointer}
-use Rattle.signatures.specs.declared.scanner.Mark.TheVariants.{Comma, Ampersand, Star}
-use Rattle.signatures.specs.declared.sig.Sig.{Sig}
+use Rattle.basic_types.specs.declared.normal.ConstPlace.{ConstPlace}
+use Rattle.basic_types.specs.declared.normal.ConstPlace.TheVariants.{Nowhere, Before, After}
+use Rattle.basic_types.specs.declared.normal.TypeEnding.{TypeEnding}
+use Rattle.basic_types.specs.declared.normal.TypeEnding.TheVariants.{Bare, Reference, Pointer}
+use Rattle.basic_types.specs.declared.mark.Mark.TheVariants.{Comma, Ampersand, Star}
+use Rattle.basic_types.specs.declared.sig.Sig.{Sig}
 use Rattle.signatures.proofs.Unique.{one_typed}
 use Rattle.signatures.proofs.Closed.{part_more}
 

@@ -4,17 +4,18 @@ use Rattle.std.proofs.lemmas.List.{append-nil}
 use Rattle.std.specs.Prelude.{Err}
 use Rattle.std.specs.List.{AllByRecursion, AllZip}
 use Rattle.signatures.specs.code.Reading.{NotAt, Eats, const_word, separator, NamedAt, NoNamedAt, TypeAt, ReadsType, ReadsTypes}
-use Rattle.signatures.specs.Signatures.{spell_ending, spell_named, spell_type, spell_others, spell_list, TypeReading, IsFreeName, IsTypeOf, AreTypes, IsPart, IsClosed, IsTyped, Normalises}
-use Rattle.signatures.specs.Tokens.{Token, word, mark, tokens_of}
+use Rattle.basic_types.specs.Signatures.{spell_ending, spell_named, spell_type, spell_others, spell_list, TypeReading, IsFreeName, IsTypeOf, AreTypes, IsPart, IsClosed, IsTyped}
+use Rattle.signatures.specs.Normalising.{Normalises}
+use Rattle.basic_types.specs.Tokens.{Token, word, mark, tokens_of}
 use Rattle.signatures.specs.declared.fault.SigFault.{SigFault}
 use Rattle.signatures.specs.declared.fault.SigFault.TheVariants.{BadName, BadType, TooMany, Memory}
-use Rattle.signatures.specs.declared.sig.Sig.{Sig}
-use Rattle.signatures.specs.declared.normal.ConstPlace.{ConstPlace}
-use Rattle.signatures.specs.declared.normal.ConstPlace.TheVariants.{Nowhere, Before, After}
-use Rattle.signatures.specs.declared.normal.TypeEnding.{TypeEnding}
-use Rattle.signatures.specs.declared.normal.TypeEnding.TheVariants.{Bare, Reference, Pointer}
-use Rattle.signatures.specs.declared.qtype.QType.{QType}
-use Rattle.signatures.specs.declared.scanner.Mark.TheVariants.{Open, Close, Comma, Ampersand, Star, Other}
+use Rattle.basic_types.specs.declared.sig.Sig.{Sig}
+use Rattle.basic_types.specs.declared.normal.ConstPlace.{ConstPlace}
+use Rattle.basic_types.specs.declared.normal.ConstPlace.TheVariants.{Nowhere, Before, After}
+use Rattle.basic_types.specs.declared.normal.TypeEnding.{TypeEnding}
+use Rattle.basic_types.specs.declared.normal.TypeEnding.TheVariants.{Bare, Reference, Pointer}
+use Rattle.basic_types.specs.declared.qtype.QType.{QType}
+use Rattle.basic_types.specs.declared.mark.Mark.TheVariants.{Open, Close, Comma, Ampersand, Star, Other}
 use Rattle.signatures.proofs.Unique.{const_is_reserved, one_type, others_separator, type_word}
 
 -- ---- names with their `const`

@@ -4,21 +4,20 @@ use Rattle.std.proofs.lemmas.List.{append-nil}
 use Rattle.std.proofs.lemmas.List.Elements.{recursion_from_All}
 use Rattle.std.specs.Prelude.{codes, Some}
 use Rattle.std.specs.List.{AllByRecursion, AllZip}
-use Rattle.signatures.specs.Laws.{IsNormalType, IsNormalSig}
-use Rattle.signatures.specs.Name.{IsName, is_name_byte}
-use Rattle.signatures.specs.Normal.{normal_of}
-use Rattle.signatures.specs.Signatures.{spell_type, spell_others, spell_list, TypeReading, IsFreeName, IsTypeOf, Normal}
-use Rattle.signatures.specs.Spelling.{const_text, star_text, text_of_type, text_of_others, text_of_types, text_of_sig}
-use Rattle.signatures.specs.Tokens.{word, mark, tokens_of}
-use Rattle.signatures.specs.code.Scanning.{EndsWord}
-use Rattle.signatures.specs.declared.normal.ConstPlace.{ConstPlace}
-use Rattle.signatures.specs.declared.normal.ConstPlace.TheVariants.{Nowhere, Before, After}
-use Rattle.signatures.specs.declared.normal.TypeEnding.{TypeEnding}
-use Rattle.signatures.specs.declared.normal.TypeEnding.TheVariants.{Bare, Reference, Pointer}
-use Rattle.signatures.specs.declared.qtype.QType.{QType}
-use Rattle.signatures.specs.declared.scanner.Mark.TheVariants.{Comma}
-use Rattle.signatures.specs.declared.sig.Sig.{Sig}
-use Rattle.signatures.proofs.Tokens.{taken, stopped}
+use Rattle.basic_types.specs.Laws.{IsNormalType, IsNormalSig}
+use Rattle.basic_types.specs.Name.{IsName, is_name_byte}
+use Rattle.basic_types.specs.Normal.{normal_of}
+use Rattle.basic_types.specs.Signatures.{spell_type, spell_others, spell_list, TypeReading, IsFreeName, IsTypeOf, Normal}
+use Rattle.basic_types.specs.Spelling.{const_text, star_text, text_of_type, text_of_others, text_of_types, text_of_sig}
+use Rattle.basic_types.specs.Tokens.{word, mark, tokens_of, EndsWord}
+use Rattle.basic_types.specs.declared.normal.ConstPlace.{ConstPlace}
+use Rattle.basic_types.specs.declared.normal.ConstPlace.TheVariants.{Nowhere, Before, After}
+use Rattle.basic_types.specs.declared.normal.TypeEnding.{TypeEnding}
+use Rattle.basic_types.specs.declared.normal.TypeEnding.TheVariants.{Bare, Reference, Pointer}
+use Rattle.basic_types.specs.declared.qtype.QType.{QType}
+use Rattle.basic_types.specs.declared.mark.Mark.TheVariants.{Comma}
+use Rattle.basic_types.specs.declared.sig.Sig.{Sig}
+use Rattle.basic_types.proofs.Tokens.{taken, stopped}
 
 -- ---- one type
 

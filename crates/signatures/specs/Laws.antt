@@ -1,13 +1,12 @@
--- What holds of normal forms and of fitting (docs/language.md, "Signatures").
-use Rattle.std.specs.Prelude.{ℕ, ◌≡◌, ◌≤◌, ◌⊎◌, true, List, length, Result, Err}
-use Rattle.std.specs.List.{AllByRecursion}
-use Rattle.signatures.specs.Signatures.{IsFreeName, Normal, Normalises, most_parameters}
-use Rattle.signatures.specs.Spelling.{text_of_sig}
-use Rattle.signatures.specs.Types.{Fits}
+-- What holds of normal forms (docs/language.md, "Signatures").
+use Rattle.std.specs.Prelude.{ℕ, ◌≡◌, ◌≤◌, ◌⊎◌, List, length, Result, Err}
+use Rattle.basic_types.specs.Laws.{IsNormalSig}
+use Rattle.basic_types.specs.Signatures.{Normal}
+use Rattle.basic_types.specs.Spelling.{text_of_sig}
+use Rattle.basic_types.specs.declared.sig.Sig.{Sig}
+use Rattle.signatures.specs.Normalising.{Normalises}
 use Rattle.signatures.specs.declared.fault.SigFault.{SigFault}
 use Rattle.signatures.specs.declared.fault.SigFault.TheVariants.{Memory}
-use Rattle.signatures.specs.declared.qtype.QType.{QType}
-use Rattle.signatures.specs.declared.sig.Sig.{Sig}
 
 -- a text has at most one normal form
 abbrev pub OneNormalForm : Type 0
@@ -16,16 +15,6 @@ OneNormalForm = (text : List ℕ) → (a b : Sig) → Normal text a → Normal t
 -- a text has at most one answer, unless memory runs out
 abbrev pub OneAnswer : Type 0
 OneAnswer = (text : List ℕ) → (a b : Result Sig SigFault) → Normalises text a → Normalises text b → (a ≡ Err Memory) ⊎ (b ≡ Err Memory) ⊎ (a ≡ b)
-
--- `T`, `T*` or `const T*`
-pub record IsNormalType (type : QType) : Type 0 where
-  pub named : IsFreeName type.name
-  pub const_pointer : type.constant ≡ true → type.pointer ≡ true
-
-pub record IsNormalSig (sig : Sig) : Type 0 where
-  pub named : IsFreeName sig.name
-  pub types : AllByRecursion IsNormalType sig.types
-  pub few : length sig.types ≤ most_parameters
 
 -- such signatures are the normal forms
 abbrev pub NormalFormsAreNormal : Type 0
@@ -37,9 +26,3 @@ TextsAreNormal = (sig : Sig) → IsNormalSig sig → Normal (text_of_sig sig) si
 
 abbrev pub AtMostEight : Type 0
 AtMostEight = (text : List ℕ) → (sig : Sig) → Normal text sig → length sig.types ≤ 8
-
-abbrev pub FitsItself : Type 0
-FitsItself = (sig : Sig) → Fits sig sig
-
-abbrev pub FitsAlong : Type 0
-FitsAlong = (a b c : Sig) → Fits a b → Fits b c → Fits a c

@@ -1,5 +1,3 @@
 -- What the contracts of this crate's functions need besides: what its readers do, step by step.
-pub mod Holding
 pub mod Reading
 pub mod Scanning
-pub mod Words

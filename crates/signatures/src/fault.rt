@@ -1,7 +1,7 @@
 //! Why a text is no signature.
 
 ghost use Rattle.std.specs.Prelude.{◌≡◌};
-ghost use Rattle.signatures.specs.Signatures.{number_of};
+ghost use Rattle.signatures.specs.Normalising.{number_of};
 
 use std::alloc::AllocError;
 use thiserror::Error;

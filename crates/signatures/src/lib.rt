@@ -1,35 +1,16 @@
-//! Names, values, types and signatures: the plain data that every layer speaks of.
+//! From the text of a signature to its normal form. The types that a signature is made of are those of `basic_types`, which
+//! this crate passes on.
 #![tactic(auto)]
 
-mod arguments;
 mod fault;
-mod kind;
-mod loop_id;
-mod name;
-mod normal;
-mod object_id;
-mod parameter_types;
-mod qtype;
 mod reader;
 mod scanner;
-mod sig;
-mod text;
-mod value;
-mod word;
 
-pub use arguments::Arguments;
+pub use basic_types::{
+    Arguments, ConstPlace, Kind, LONGEST_TEXT, LoopId, MOST_PARAMETERS, Mark, Name, ObjectId,
+    ParameterTypes, QType, SharedBytes, Sig, Text, TypeEnding, Value, Word, fits, fits_in_order,
+    is_blank, is_digit, is_letter, is_name, is_name_byte, is_text, is_text_byte, types_are_same,
+    types_begin_with,
+};
 pub use fault::SigFault;
-pub use kind::Kind;
-pub use loop_id::LoopId;
-pub use name::{Name, is_digit, is_letter, is_name, is_name_byte};
-pub use normal::{ConstPlace, TypeEnding};
-pub use object_id::ObjectId;
-pub use parameter_types::ParameterTypes;
-pub use qtype::{QType, types_are_same, types_begin_with};
-pub use reader::{MOST_PARAMETERS, normalise, one_normal_form, texts_are_normal};
-pub use scanner::is_blank;
-pub use shared_values::SharedBytes;
-pub use sig::{Sig, fits, fits_in_order};
-pub use text::{LONGEST_TEXT, Text, is_text, is_text_byte};
-pub use value::Value;
-pub use word::Word;
+pub use reader::{normalise, one_normal_form, texts_are_normal};

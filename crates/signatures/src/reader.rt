@@ -2,22 +2,16 @@
 
 ghost use Rattle.std.specs.Prelude.{◌<◌, length, OnOk, IsTrue, ◌↔◌};
 ghost use Rattle.signatures.specs.Laws.{AtMostEight, NormalFormsAreNormal, OneAnswer, OneNormalForm, TextsAreNormal};
+ghost use Rattle.signatures.specs.Normalising.{Normalises};
 ghost use Rattle.signatures.specs.code.Reading.{const_word, Eats, TakesName, TakesSeparator, TakesNamed, EndingAt, ReadsType, ReadsTypes};
-ghost use Rattle.signatures.specs.Signatures.{IsClosed, Normalises};
-ghost use Rattle.signatures.specs.Tokens.{mark as mark_token};
+ghost use Rattle.basic_types.specs.Signatures.{IsClosed};
+ghost use Rattle.basic_types.specs.Tokens.{mark as mark_token};
 
 use crate::fault::SigFault;
-use crate::name::{Name, is_name};
-use crate::normal::{ConstPlace, TypeEnding};
-use crate::qtype::QType;
-use crate::scanner::{Mark, Scanned, Scanner};
-use crate::sig::Sig;
-use crate::word::Word;
+use crate::scanner::{Scanned, Scanner};
+use basic_types::{ConstPlace, MOST_PARAMETERS, Mark, Name, QType, Sig, TypeEnding, Word, is_name};
 use sqlite_items::Items;
 use std::alloc::Global;
-
-/// The most parameters that a signature has.
-pub const MOST_PARAMETERS: usize = 8;
 
 /// The normal form of a signature's text: `done( const  QString & )` is `done(QString)`. Blanks, which are space, tab,
 /// carriage return and newline, may stand between any two words or marks.

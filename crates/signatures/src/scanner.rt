@@ -1,30 +1,13 @@
 //! A cursor over a signature's bytes, which contracts see as the words and marks that are left.
 
 ghost use Rattle.std.specs.Prelude.{◌≡◌, ◌↔◌, IsTrue};
-ghost use Rattle.signatures.specs.Name.{is_name_byte};
-ghost use Rattle.signatures.specs.Signatures.{IsPart};
-ghost use Rattle.signatures.specs.Tokens.{is_blank, mark as mark_token, mark_of, tokens_of, IsRunBy};
+ghost use Rattle.basic_types.specs.Name.{is_name_byte};
+ghost use Rattle.basic_types.specs.Signatures.{IsPart};
+ghost use Rattle.basic_types.specs.Tokens.{mark as mark_token, mark_of, tokens_of, IsRunBy};
 ghost use Rattle.signatures.specs.code.Scanning.{token_of, TakesNext};
 
-use crate::name::is_name_byte;
+use basic_types::{Mark, is_blank, is_name_byte};
 use std::marker::Model;
-
-/// A byte that is no blank and belongs to no word.
-#[derive(Clone, Copy, Debug, PartialEq, Eq)]
-pub enum Mark {
-    /// `(`
-    Open,
-    /// `)`
-    Close,
-    /// `,`
-    Comma,
-    /// `&`
-    Ampersand,
-    /// `*`
-    Star,
-    /// A byte that no signature has.
-    Other,
-}
 
 /// A word or a mark.
 #[derive(Drop)]
@@ -68,7 +51,7 @@ pub struct Scanner<'a> {
 
 impl<'a> Model for Scanner<'a> {
     ghost use Rattle.std.specs.Prelude.{List};
-    ghost use Rattle.signatures.specs.Tokens.{Token, tokens_of};
+    ghost use Rattle.basic_types.specs.Tokens.{Token, tokens_of};
 
     ghost Value = { List Token };
 
@@ -110,14 +93,6 @@ impl<'a> Scanner<'a> {
         self.rest = rest;
         None
     }
-}
-
-/// Whether it is a space, a tab, a carriage return or a newline.
-#[inline(always)]
-pub fn is_blank(byte: u8) -> bool
-    ensures { result ≡ is_blank byte }
-{
-    byte == b' ' || byte == b'\t' || byte == b'\r' || byte == b'\n'
 }
 
 /// The mark that the byte is.

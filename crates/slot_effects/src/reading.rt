@@ -11,8 +11,8 @@
 use crate::fault::LineFault;
 use crate::line::{Effect, EffectLine, Line, Verb};
 use crate::scanner::Scanner;
+use basic_types::is_name;
 use moc_classes::{MocArgument, MocMethod};
-use signatures::is_name;
 use std::alloc::{AllocError, Global};
 
 /// The lines of a text that have more than a comment.

@@ -1,8 +1,8 @@
 -- Statements and blocks.
 use Rattle.std.proofs.Common.{◌≡◌, ◌∙◌, ℕ, codes, List, [], ◌∷◌, ◌++◌, Result, Ok, Err, refl, sym, ap, append_assoc}
 use Rattle.std.proofs.lemmas.List.{append-nil}
-use Rattle.signatures.specs.declared.word.Word.{Word}
-use Rattle.signatures.specs.declared.word.Word.TheVariants as word
+use Rattle.basic_types.specs.declared.word.Word.{Word}
+use Rattle.basic_types.specs.declared.word.Word.TheVariants as word
 use Rattle.token_reading.specs.code.Cursor.{NotNext, NotAt, NotAtWord}
 use Rattle.slot_lang.specs.Expressions.{Expression, tree_of_expression}
 use Rattle.slot_lang.specs.code.Expressions.{EndsFactor}

@@ -1,6 +1,6 @@
 -- Factors.
 use Rattle.std.proofs.Common.{◌≡◌, ◌∙◌, ℕ, List, [], ◌∷◌, Result, Ok, Err, MatchResult, true, false, refl, sym, ap}
-use Rattle.signatures.specs.declared.word.Word.TheVariants as word
+use Rattle.basic_types.specs.declared.word.Word.TheVariants as word
 use Rattle.token_reading.specs.code.Cursor.{NotAt, NotAtWord}
 use Rattle.slot_lang.specs.Expressions.{Expression, Factor, prefixed, literal, path, grouped, spell_expression, spell_factor, spell_group, spell_names, spell_root, tree_of_expression, tree_of_factor}
 use Rattle.slot_lang.specs.code.Expressions.{EndsExpression, EndsFactor}

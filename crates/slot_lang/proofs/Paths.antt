@@ -1,7 +1,7 @@
 -- Paths, and the member at the end of one.
 use Rattle.std.proofs.Common.{◌≡◌, ◌∙◌, ℕ, List, [], ◌∷◌, ◌++◌, refl, sym, ap, append_assoc}
 use Rattle.std.proofs.lemmas.List.{append-nil}
-use Rattle.signatures.specs.declared.word.Word.TheVariants as word
+use Rattle.basic_types.specs.declared.word.Word.TheVariants as word
 use Rattle.token_reading.specs.code.Cursor.{NotAt, NotAtWord}
 use Rattle.slot_lang.specs.Expressions.{spell_root, spell_names, spell_path}
 use Rattle.slot_lang.specs.code.Expressions.{EndsFactor}

@@ -1,7 +1,7 @@
 -- The sets of a group.
 use Rattle.std.proofs.Common.{◌≡◌, ◌∙◌, List, [], ◌∷◌, ◌++◌, Result, Ok, Err, map, sym, ap, append_assoc}
 use Rattle.std.proofs.lemmas.List.{append-nil}
-use Rattle.signatures.specs.declared.word.Word.TheVariants as word
+use Rattle.basic_types.specs.declared.word.Word.TheVariants as word
 use Rattle.slot_lang.specs.Grammar.{Assignment, spell_assignment, tree_of_assignment, spell_set, spell_sets, trees_of_sets}
 use Rattle.token_reading.specs.Lists.{spell_each}
 use Rattle.token_reading.specs.code.Cursor.{NotAt, NotAtWord}

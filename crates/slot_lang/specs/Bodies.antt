@@ -1,6 +1,6 @@
 -- The signatures in slot bodies (docs/language.md, "Limits").
 use Rattle.std.specs.Prelude.{List, [], ◌++◌, flat_map}
-use Rattle.signatures.specs.declared.sig.Sig.{Sig}
+use Rattle.basic_types.specs.declared.sig.Sig.{Sig}
 use Rattle.syntax_trees.specs.Connections.{signatures_at}
 use Rattle.syntax_trees.specs.declared.syntax.Stmt.{Stmt}
 use Rattle.syntax_trees.specs.declared.syntax.Stmt.TheOpen as layer

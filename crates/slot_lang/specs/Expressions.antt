@@ -9,7 +9,7 @@
 --   factor = ("!" | "-") factor | unsigned | path | "(" expr ")"
 --   path   = ("this" | Name) {"." Name}
 use Rattle.std.specs.Prelude.{ℕ, ◌≡◌, List, [], ◌∷◌}
-use Rattle.signatures.specs.declared.word.Word.TheVariants as word
+use Rattle.basic_types.specs.declared.word.Word.TheVariants as word
 use Rattle.token_reading.specs.Literals.{UnsignedReading, token_of_unsigned, tree_of_unsigned}
 use Rattle.syntax_trees.specs.Literals.{literal_value}
 use Rattle.slot_lang.specs.Precedence.{symbol_of, prefix_symbol_of, Operator}

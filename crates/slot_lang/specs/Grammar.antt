@@ -17,7 +17,7 @@
 --
 -- `group` is a name; the other statements begin with reserved words.
 use Rattle.std.specs.Prelude.{ℕ, ◌≡◌, List, [], ◌∷◌, map, codes, Some}
-use Rattle.signatures.specs.declared.word.Word.TheVariants as word
+use Rattle.basic_types.specs.declared.word.Word.TheVariants as word
 use Rattle.token_reading.specs.Connections.{BothEnds, spell_ends, tree_of_ends, spell_connection_type}
 use Rattle.slot_lang.specs.Expressions.{Expression, spell_expression, spell_group, spell_path, tree_of_expression}
 use Rattle.token_reading.specs.Lists.{spell_each, spell_listed, trees_of_parts}

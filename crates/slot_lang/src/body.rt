@@ -16,7 +16,7 @@ use crate::fault::BodyFault;
 use crate::limits::body_has_few_parameters;
 use crate::path::target;
 use crate::update_group::update_group;
-use signatures::{Name, Word};
+use basic_types::{Name, Word};
 use sqlite_items::Items;
 use std::alloc::Global;
 use syntax_trees::{Body, Expr, Path, Stmt};

@@ -13,7 +13,7 @@ ghost use Rattle.syntax_trees.specs.declared.syntax.Path.{Path};
 
 use crate::path::names;
 use crate::precedence::{Level, Precedence, is_operator_next, operator};
-use signatures::Word;
+use basic_types::Word;
 use sqlite_items::Boxed;
 use std::alloc::{AllocError, Global};
 use syntax_trees::{Binary, Expr, Path, Root, Unary};

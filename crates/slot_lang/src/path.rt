@@ -7,7 +7,7 @@ ghost use Rattle.slot_lang.specs.Grammar.{spell_target};
 ghost use Rattle.token_reading.specs.code.Reading.{Reads, EndsAnywhere};
 ghost use Rattle.syntax_trees.specs.declared.syntax.Path.{Path};
 
-use signatures::{Name, Word};
+use basic_types::{Name, Word};
 use sqlite_items::Items;
 use syntax_trees::{Path, Root};
 use texts::Symbol;

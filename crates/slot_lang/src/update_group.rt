@@ -6,7 +6,7 @@ ghost use Rattle.slot_lang.specs.code.Grammar.{ReadsSets, ReadsUpdateGroup};
 ghost use Rattle.token_reading.specs.code.Reading.{Reads, EndsAnywhere};
 
 use crate::body::assignment;
-use signatures::Word;
+use basic_types::Word;
 use sqlite_items::Items;
 use syntax_trees::Stmt;
 use texts::Symbol;

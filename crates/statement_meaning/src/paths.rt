@@ -10,12 +10,12 @@ ghost use Rattle.object_tree.specs.Objects.{stored};
 ghost use Rattle.object_tree.specs.Seen.{seen, seen_reference};
 ghost use Rattle.prop_bindings.specs.Plans.{assigned};
 
+use basic_types::{Arguments, ObjectId, Value};
 use expressions::{self, EvalFault};
 use indexmap::IndexMap;
 use meta_model::{MetaPath, MetaRoot, Step};
 use object_tree::Tree;
 use prop_bindings::{Place, value_ahead};
-use signatures::{Arguments, ObjectId, Value};
 use std::alloc::Global;
 use syntax_trees::Expr;
 

@@ -8,11 +8,11 @@ ghost use Rattle.statement_meaning.specs.code.Scope.{set_of, sets_of, KeepsSet};
 ghost use Rattle.statement_meaning.specs.code.Coded.{Obtains};
 
 use crate::paths::Scope;
+use basic_types::Value;
 use expressions::EvalFault;
 use indexmap::IndexMap;
 use meta_model::{MetaPath, Statement};
 use prop_bindings::{Assignment, Place};
-use signatures::Value;
 use sqlite_items::Items;
 use std::alloc::AllocError;
 use syntax_trees::Expr;

@@ -6,10 +6,10 @@ mod plain;
 use crate::fault::Fault;
 use crate::pair::Pair;
 use crate::random::Random;
+use basic_types::ObjectId;
 use call::{Call, Link, MEMBERS, OBJECTS, Wanted, some_number, some_object};
 use connections::{ConnectFault, Connection, Connections, DisconnectFault, SignalHint};
 use plain::PlainConnections;
-use signatures::ObjectId;
 use std::alloc::{AllocError, Global};
 
 /// The connections, and a plain list of them, and a hint that is kept through all calls, so that it is often stale.

@@ -2,9 +2,9 @@
 
 use crate::fault::Fault;
 use crate::trees::{Class, loaded, name_of};
+use basic_types::{Kind, LoopId, ObjectId};
 use connections::Connections;
 use object_tree::{MOST_OBJECTS, Tree};
-use signatures::{Kind, LoopId, ObjectId};
 use std::alloc::Global;
 
 /// How many things were made, and for how many of them memory was held at the most and at the end.

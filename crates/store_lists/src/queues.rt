@@ -6,10 +6,10 @@ mod plain;
 use crate::fault::Fault;
 use crate::pair::Pair;
 use crate::random::Random;
+use basic_types::{LoopId, ObjectId};
 use call::{Call, Delivery, HOMES, Label, Waiting, some_home, some_number};
 use event_loops::{AddFault, Loops, PostFault};
 use plain::PlainLoops;
-use signatures::{LoopId, ObjectId};
 use std::alloc::{AllocError, Global};
 
 /// The event loops, and plain lists of what waits in them.

@@ -6,12 +6,12 @@ mod plain;
 use crate::fault::Fault;
 use crate::pair::Pair;
 use crate::random::Random;
+use basic_types::{ObjectId, Value};
 pub use call::{Class, loaded, name_of};
 use call::{Call, FRIEND, SIZE, Wanted, some_name, some_object};
 use meta_model::Meta;
 use object_tree::{CreateFault, Life, Tree};
 use plain::{PlainObject, PlainTree};
-use signatures::{ObjectId, Value};
 use std::alloc::{AllocError, Global};
 
 /// The tree of objects, and plain lists of the objects and of who is whose parent.

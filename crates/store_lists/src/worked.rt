@@ -2,10 +2,10 @@
 
 use crate::fault::Fault;
 use crate::trees::{Class, loaded, name_of};
+use basic_types::{Kind, LoopId, ObjectId};
 use connections::{ConnectFault, Connections};
 use meta_model::Meta;
 use object_tree::Tree;
-use signatures::{Kind, LoopId, ObjectId};
 use std::alloc::{AllocError, Global};
 
 /// How many connections are marked, and which one comes first, after one call broke three that join the same; and how many

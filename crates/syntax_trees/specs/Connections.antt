@@ -1,7 +1,7 @@
 -- The signatures at the ends of connections.
 use Rattle.std.specs.Prelude.{◌≤◌, length, List, [], ◌∷◌}
-use Rattle.signatures.specs.Signatures.{most_parameters}
-use Rattle.signatures.specs.declared.sig.Sig.{Sig}
+use Rattle.basic_types.specs.Signatures.{most_parameters}
+use Rattle.basic_types.specs.declared.sig.Sig.{Sig}
 use Rattle.syntax_trees.specs.declared.connection.Endpoints.{Endpoints}
 
 -- a signature may have at most 8 types (docs/language.md, "Limits")

@@ -1,7 +1,7 @@
 -- The values of literals (docs/language.md, "Literals").
 use Rattle.std.specs.Prelude.{None}
-use Rattle.signatures.specs.declared.value.Value.{Value}
-use Rattle.signatures.specs.declared.value.Value.TheVariants as value
+use Rattle.basic_types.specs.declared.value.Value.{Value}
+use Rattle.basic_types.specs.declared.value.Value.TheVariants as value
 use Rattle.syntax_trees.specs.declared.syntax.Literal.{Literal}
 use Rattle.syntax_trees.specs.declared.syntax.Literal.TheVariants as literal
 

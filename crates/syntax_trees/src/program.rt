@@ -4,7 +4,7 @@ ghost use Rattle.std.specs.Prelude.{◌≡◌, []};
 ghost use Rattle.syntax_trees.specs.Trees.{without_members};
 
 use crate::syntax::{Body, Expr, Literal, Path};
-use signatures::{Kind, Name, QType, Sig};
+use basic_types::{Kind, Name, QType, Sig};
 use sqlite_items::Items;
 use std::alloc::Global;
 

@@ -4,7 +4,7 @@ ghost use Rattle.std.specs.Prelude.{◌≡◌, IfOk};
 ghost use Rattle.syntax_trees.specs.Literals.{literal_value};
 
 use crate::connection::{ConnectionType, Endpoints};
-use signatures::{Name, Text, Value};
+use basic_types::{Name, Text, Value};
 use sqlite_items::{Boxed, Items};
 use std::alloc::AllocError;
 

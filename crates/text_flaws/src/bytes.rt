@@ -1,7 +1,7 @@
 //! Bytes that begin no token, and what to write instead.
 
+use basic_types::is_text_byte;
 use diagnostics::{Flaw, Printed};
-use signatures::is_text_byte;
 use std::alloc::{AllocError, Global};
 use std::fmt;
 

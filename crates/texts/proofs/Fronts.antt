@@ -9,15 +9,15 @@ use Rattle.texts.specs.declared.bytes.Run.TheVariants as run
 use Rattle.texts.specs.declared.symbol.Symbol.{Symbol}
 use Rattle.texts.specs.declared.symbol.Symbol.TheVariants as s
 use Rattle.texts.specs.declared.token.Token.TheVariants as token
-use Rattle.signatures.specs.Tokens.{is_blank}
+use Rattle.basic_types.specs.Tokens.{is_blank}
 use Rattle.texts.specs.code.Bytes.{class_by, class_of}
 use Rattle.texts.specs.Bytes.{belongs, IsRun}
-use Rattle.signatures.specs.Name.{is_letter, is_digit, is_name_byte, IsName}
+use Rattle.basic_types.specs.Name.{is_letter, is_digit, is_name_byte, IsName}
 use Rattle.texts.specs.declared.token.Token.{Token}
-use Rattle.signatures.specs.declared.word.Word.{Word}
-use Rattle.signatures.specs.declared.word.Word.TheVariants as w
+use Rattle.basic_types.specs.declared.word.Word.{Word}
+use Rattle.basic_types.specs.declared.word.Word.TheVariants as w
 use Rattle.std.proofs.lemmas.List.Elements.{All-from_recursion}
-use Rattle.signatures.specs.Words.{word_spelling}
+use Rattle.basic_types.specs.Words.{word_spelling}
 use Rattle.texts.specs.Symbols.{spelling, IsSymbolAt, Begins}
 use Rattle.texts.specs.Pieces.{Piece, blank, comment, name, reserved, number, text, symbol, IsFront, IsComment, StartsWithLetter, IsNotEmpty}
 use Rattle.texts.specs.code.Splitting.{IsWordOrName, Cuts}

@@ -5,8 +5,8 @@ use Rattle.texts.specs.declared.symbol.Symbol.{Symbol}
 use Rattle.texts.specs.declared.symbol.Symbol.TheVariants as s
 use Rattle.texts.proofs.Table.{doubles, singles}
 use Rattle.texts.specs.Symbols.{spelling}
-use Rattle.signatures.specs.Words.{word_spelling}
-use Rattle.signatures.proofs.Words.{one_word}
+use Rattle.basic_types.specs.Words.{word_spelling}
+use Rattle.basic_types.proofs.Words.{one_word}
 use Rattle.texts.specs.Pieces.{Piece, blank, comment, name, reserved, number, text, symbol, IsFront, IsCut}
 use Rattle.texts.proofs.Runs.{one_run}
 use Rattle.texts.proofs.Fronts.{class_at_front, no_front_at_end}

@@ -1,7 +1,7 @@
 -- Runs of bytes.
 use Rattle.std.proofs.Common.{◌≡◌, ℕ, true, List, [], ◌∷◌, ◌++◌, refl}
 use Rattle.std.specs.List.{AllByRecursion}
-use Rattle.signatures.specs.Tokens.{StopsBy}
+use Rattle.basic_types.specs.Tokens.{StopsBy}
 use Rattle.texts.specs.Bytes.{belongs, IsRun}
 use Rattle.texts.specs.declared.bytes.Run.{Run}
 

@@ -1,7 +1,7 @@
 -- Runs of bytes (docs/language.md, "Tokens").
 use Rattle.std.specs.Prelude.{ℕ, Bool, not, ◌&&◌, nat_le, nat_eq, List}
-use Rattle.signatures.specs.Name.{is_digit, is_name_byte}
-use Rattle.signatures.specs.Tokens.{IsRunBy}
+use Rattle.basic_types.specs.Name.{is_digit, is_name_byte}
+use Rattle.basic_types.specs.Tokens.{IsRunBy}
 use Rattle.texts.specs.declared.bytes.Run.{Run}
 use Rattle.texts.specs.declared.bytes.Run.TheVariants.{Name, Number, Text, Line}
 

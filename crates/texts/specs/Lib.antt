@@ -6,4 +6,4 @@ pub mod Nesting
 pub mod Lines
 pub mod Numerals
 pub mod code
-pub use Rattle.signatures.specs.Name
+pub use Rattle.basic_types.specs.Name

@@ -1,6 +1,6 @@
 -- Numbers by their digits (docs/language.md, "Tokens").
 use Rattle.std.specs.Prelude.{ℕ, ◌≡◌, ◌≢◌, ◌+◌, ◌-◌, ◌*◌, ◌≤◌, true, All, List, [], ◌∷◌}
-use Rattle.signatures.specs.Name.{is_digit}
+use Rattle.basic_types.specs.Name.{is_digit}
 use Rattle.texts.specs.declared.token.Token.{Token}
 use Rattle.texts.specs.declared.token.Token.TheVariants as token
 

@@ -5,11 +5,11 @@ use Rattle.texts.specs.declared.bytes.Run.TheVariants as run
 use Rattle.texts.specs.declared.symbol.Symbol.{Symbol}
 use Rattle.texts.specs.declared.token.Token.{Token}
 use Rattle.texts.specs.declared.token.Token.TheVariants as token
-use Rattle.signatures.specs.declared.word.Word.{Word}
-use Rattle.signatures.specs.Name.{is_letter}
-use Rattle.signatures.specs.Tokens.{is_blank}
+use Rattle.basic_types.specs.declared.word.Word.{Word}
+use Rattle.basic_types.specs.Name.{is_letter}
+use Rattle.basic_types.specs.Tokens.{is_blank}
 use Rattle.texts.specs.Bytes.{IsRun}
-use Rattle.signatures.specs.Words.{word_spelling, IsFree}
+use Rattle.basic_types.specs.Words.{word_spelling, IsFree}
 use Rattle.texts.specs.Symbols.{IsSymbolAt}
 
 pub data Piece : Type 0 where

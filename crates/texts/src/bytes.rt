@@ -4,7 +4,7 @@ ghost use Rattle.std.specs.Prelude.{◌≡◌, ◌≤◌, ◌+◌, length};
 ghost use Rattle.texts.specs.code.Bytes.{class_of};
 ghost use Rattle.texts.specs.Bytes.{belongs, IsRun};
 
-use signatures::{is_blank, is_digit, is_letter, is_name_byte};
+use basic_types::{is_blank, is_digit, is_letter, is_name_byte};
 
 /// What a token that begins with a byte is.
 #[derive(Clone, Copy, Debug, PartialEq, Eq)]

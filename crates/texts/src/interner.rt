@@ -2,7 +2,7 @@
 
 ghost use Rattle.std.specs.Prelude.{◌≡◌, IfOk, IfSome};
 
-use signatures::SharedBytes;
+use basic_types::SharedBytes;
 use sqlite_items::Items;
 use std::alloc::{AllocError, Global};
 

@@ -4,14 +4,14 @@ ghost use Rattle.std.specs.Prelude.{◌≡◌, ◌++◌, [], ◌∷◌, ◌<◌,
 ghost use Rattle.texts.specs.code.Splitting.{IsWordOrName};
 ghost use Rattle.texts.specs.Pieces.{AreTokens, IsUncut, OneCut};
 ghost use Rattle.texts.specs.code.Splitting.{SplitsPiece, SplitsComment, SplitsText};
-ghost use Rattle.signatures.specs.Name.{IsName};
+ghost use Rattle.basic_types.specs.Name.{IsName};
 ghost use Rattle.texts.specs.declared.lexer.LexFault.TheVariants.{BadByte};
 
 use crate::bytes::{Class, Run, class_of, split_run};
 use crate::interner::Interner;
 use crate::symbol::split_symbol;
 use crate::token::Token;
-use signatures::{Name, Word};
+use basic_types::{Name, Word};
 use sqlite_items::Items;
 use std::alloc::{AllocError, Global};
 use std::marker::Model;

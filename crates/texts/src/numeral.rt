@@ -2,7 +2,7 @@
 
 ghost use Rattle.texts.specs.code.Numerals.{FindsNumeral, ValueUpTo};
 
-use signatures::is_digit;
+use basic_types::is_digit;
 
 /// The number that the word writes in decimal digits, if it is at most `most`; leading zeros are allowed, a sign isn't.
 ///

@@ -1,7 +1,7 @@
 //! Tokens.
 
 use crate::symbol::Symbol;
-use signatures::{Name, SharedBytes, Word};
+use basic_types::{Name, SharedBytes, Word};
 
 /// A token of a text.
 #[derive(Drop)]

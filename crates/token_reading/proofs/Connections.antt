@@ -1,9 +1,9 @@
 -- The ends of connections, and their types.
 use Rattle.std.proofs.Common.{◌≡◌, ◌∙◌, Bool, true, false, List, ◌∷◌, Option, Some, None, refl, sym, ap}
-use Rattle.signatures.specs.declared.kind.Kind.{Kind}
-use Rattle.signatures.specs.declared.sig.Sig.{Sig}
-use Rattle.signatures.specs.declared.word.Word.{Word}
-use Rattle.signatures.specs.declared.word.Word.TheVariants.{Unique, Single}
+use Rattle.basic_types.specs.declared.kind.Kind.{Kind}
+use Rattle.basic_types.specs.declared.sig.Sig.{Sig}
+use Rattle.basic_types.specs.declared.word.Word.{Word}
+use Rattle.basic_types.specs.declared.word.Word.TheVariants.{Unique, Single}
 use Rattle.token_reading.specs.Connections.{spell_separator, spell_end, tree_of_end, spell_ends, tree_of_ends, endpoints_of, spell_flag, spell_connection_type}
 use Rattle.token_reading.specs.code.Connections.{EndsAtSig, EndsConnectionType, NotAtFlag}
 use Rattle.token_reading.specs.code.Reading.{EndsAnywhere, Found}

@@ -1,7 +1,7 @@
 -- Lists of parts with commas between them, in parentheses or behind a word.
 use Rattle.std.proofs.Common.{◌≡◌, List, [], ◌∷◌, ◌++◌, refl, sym, ◌∙◌, ap, append_assoc, map, Result, Ok, Err}
 use Rattle.std.proofs.lemmas.List.{append-nil}
-use Rattle.signatures.specs.declared.word.Word.{Word}
+use Rattle.basic_types.specs.declared.word.Word.{Word}
 use Rattle.token_reading.specs.code.Cursor.{NotAt, NotAtWord}
 use Rattle.token_reading.specs.code.Reading.{EndsAnywhere, Found}
 use Rattle.token_reading.specs.declared.fault.ParseFault.{ParseFault}

@@ -1,10 +1,10 @@
 -- Numbers and literals.
 use Rattle.std.proofs.Common.{◌≡◌, ◌<◌, ◌≤◌, ◌∙◌, ℕ, List, [], ◌∷◌, true, false, pos, ◌-ℤ◌, refl, sym, ap, arith}
-use Rattle.signatures.specs.Text.{IsText}
+use Rattle.basic_types.specs.Text.{IsText}
 use Rattle.syntax_trees.specs.declared.syntax.Literal.{Literal}
 use Rattle.syntax_trees.specs.declared.syntax.Literal.TheVariants as literal
-use Rattle.signatures.specs.declared.word.Word.{Word}
-use Rattle.signatures.specs.declared.word.Word.TheVariants as word
+use Rattle.basic_types.specs.declared.word.Word.{Word}
+use Rattle.basic_types.specs.declared.word.Word.TheVariants as word
 use Rattle.token_reading.specs.code.Cursor.{NotAt}
 use Rattle.token_reading.specs.Literals.{greatest, deepest, UnsignedReading, plain, truth, quoted, null, token_of_unsigned, LiteralReading, unsigned, negative, spell_literal, tree_of_literal}
 use Rattle.token_reading.specs.code.Literals.{IsUnsigned}

@@ -1,10 +1,10 @@
 -- No two readings with the same tokens stand for different trees: lists, types, signatures, kinds and literals.
 use Rattle.std.proofs.Common.{◌≡◌, ℕ, List, [], ◌∷◌, true, false, Some, None, pos, ◌-ℤ◌, map, refl, sym, ap}
-use Rattle.signatures.specs.declared.kind.Kind.TheVariants.{Auto, Direct, Queued}
-use Rattle.signatures.specs.declared.normal.ConstPlace.{ConstPlace}
-use Rattle.signatures.specs.declared.normal.ConstPlace.TheVariants.{Nowhere, Before, After}
-use Rattle.signatures.specs.declared.normal.TypeEnding.{TypeEnding}
-use Rattle.signatures.specs.declared.normal.TypeEnding.TheVariants.{Bare, Reference, Pointer}
+use Rattle.basic_types.specs.declared.kind.Kind.TheVariants.{Auto, Direct, Queued}
+use Rattle.basic_types.specs.declared.normal.ConstPlace.{ConstPlace}
+use Rattle.basic_types.specs.declared.normal.ConstPlace.TheVariants.{Nowhere, Before, After}
+use Rattle.basic_types.specs.declared.normal.TypeEnding.{TypeEnding}
+use Rattle.basic_types.specs.declared.normal.TypeEnding.TheVariants.{Bare, Reference, Pointer}
 use Rattle.syntax_trees.specs.declared.syntax.Literal.TheVariants as literal
 use Rattle.token_reading.specs.code.Lists.{IsPart, EndsAtComma, EndsParts, EndsAfter}
 use Rattle.token_reading.specs.Lists.{spell_further, spell_parts, trees_of_parts, spell_after, spell_others, spell_listed}
@@ -16,7 +16,7 @@ use Rattle.token_reading.specs.code.Reading.{EndsAnywhere}
 use Rattle.token_reading.specs.Signatures.{spelled_type, spell_ending, spell_type, tree_of_type, sig, spell_sig, tree_of_sig, spell_kind}
 use Rattle.token_reading.specs.code.Signatures.{Named, spell_place, EndsNamed, EndsType}
 use Rattle.texts.specs.declared.symbol.Symbol.TheVariants.{Close, Minus}
-use Rattle.signatures.specs.declared.word.Word.{Word}
+use Rattle.basic_types.specs.declared.word.Word.{Word}
 use Rattle.texts.specs.declared.token.Token.{Token}
 use Rattle.texts.specs.declared.token.Token.TheVariants as token
 use Rattle.token_reading.proofs.Listed.{ends_further, ends_at_close}

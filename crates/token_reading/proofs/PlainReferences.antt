@@ -1,6 +1,6 @@
 -- References that aren't const, from a place among the tokens on.
 use Rattle.std.proofs.Common.{◌≡◌, ◌≢◌, ◌∙◌, ℕ, List, [], ◌∷◌, ◌++◌, Bool, true, false, IsTrue, ◌↔◌, refl, ap}
-use Rattle.signatures.specs.declared.word.Word.TheVariants as word
+use Rattle.basic_types.specs.declared.word.Word.TheVariants as word
 use Rattle.token_reading.specs.Signatures.{HasPlainReference}
 use Rattle.texts.specs.declared.symbol.Symbol.TheVariants.{Ampersand}
 use Rattle.texts.specs.declared.token.Token.{Token}

@@ -4,20 +4,20 @@ use Rattle.std.proofs.lemmas.Bool.{eqb-true}
 use Rattle.std.proofs.lemmas.List.{length-append}
 use Rattle.std.specs.List.{AllByRecursion, AllZip}
 use Rattle.std.specs.Prelude.{◌≢◌}
-use Rattle.signatures.specs.Name.{is_name_byte}
-use Rattle.signatures.specs.Signatures.{IsFreeName, IsTypeOf, Normal}
-use Rattle.signatures.specs.Signatures as scanned
-use Rattle.signatures.specs.Tokens.{is_blank, mark_of}
-use Rattle.signatures.specs.Tokens as scanner
-use Rattle.signatures.specs.Words.{word_spelling}
-use Rattle.signatures.specs.declared.normal.ConstPlace.{ConstPlace}
-use Rattle.signatures.specs.declared.normal.ConstPlace.TheVariants.{Nowhere, Before, After}
-use Rattle.signatures.specs.declared.normal.TypeEnding.{TypeEnding}
-use Rattle.signatures.specs.declared.normal.TypeEnding.TheVariants.{Bare, Reference, Pointer}
-use Rattle.signatures.specs.declared.qtype.QType.{QType}
-use Rattle.signatures.specs.declared.scanner.Mark.{Mark}
-use Rattle.signatures.specs.declared.scanner.Mark.TheVariants as mark
-use Rattle.signatures.specs.declared.word.Word.TheVariants as reserved_word
+use Rattle.basic_types.specs.Name.{is_name_byte}
+use Rattle.basic_types.specs.Signatures.{IsFreeName, IsTypeOf, Normal}
+use Rattle.basic_types.specs.Signatures as scanned
+use Rattle.basic_types.specs.Tokens.{is_blank, mark_of}
+use Rattle.basic_types.specs.Tokens as scanner
+use Rattle.basic_types.specs.Words.{word_spelling}
+use Rattle.basic_types.specs.declared.normal.ConstPlace.{ConstPlace}
+use Rattle.basic_types.specs.declared.normal.ConstPlace.TheVariants.{Nowhere, Before, After}
+use Rattle.basic_types.specs.declared.normal.TypeEnding.{TypeEnding}
+use Rattle.basic_types.specs.declared.normal.TypeEnding.TheVariants.{Bare, Reference, Pointer}
+use Rattle.basic_types.specs.declared.qtype.QType.{QType}
+use Rattle.basic_types.specs.declared.mark.Mark.{Mark}
+use Rattle.basic_types.specs.declared.mark.Mark.TheVariants as mark
+use Rattle.basic_types.specs.declared.word.Word.TheVariants as reserved_word
 use Rattle.texts.specs.Bytes.{IsRun}
 use Rattle.token_reading.specs.code.Cursor.{NotAt}
 use Rattle.token_reading.specs.Lists.{spell_others, spell_listed}

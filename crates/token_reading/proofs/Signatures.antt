@@ -1,13 +1,13 @@
 -- Types, signatures and kinds from their parts.
 use Rattle.std.proofs.Common.{◌≡◌, ◌∙◌, ℕ, List, ◌∷◌, map, refl, sym}
-use Rattle.signatures.specs.declared.kind.Kind.{Kind}
-use Rattle.signatures.specs.declared.kind.Kind.TheVariants.{Auto, Direct, Queued}
-use Rattle.signatures.specs.declared.normal.ConstPlace.{ConstPlace}
-use Rattle.signatures.specs.declared.normal.ConstPlace.TheVariants.{Nowhere, Before, After}
-use Rattle.signatures.specs.declared.normal.TypeEnding.{TypeEnding}
-use Rattle.signatures.specs.declared.normal.TypeEnding.TheVariants.{Bare, Reference, Pointer}
-use Rattle.signatures.specs.declared.qtype.QType.{QType}
-use Rattle.signatures.specs.declared.word.Word.TheVariants as word
+use Rattle.basic_types.specs.declared.kind.Kind.{Kind}
+use Rattle.basic_types.specs.declared.kind.Kind.TheVariants.{Auto, Direct, Queued}
+use Rattle.basic_types.specs.declared.normal.ConstPlace.{ConstPlace}
+use Rattle.basic_types.specs.declared.normal.ConstPlace.TheVariants.{Nowhere, Before, After}
+use Rattle.basic_types.specs.declared.normal.TypeEnding.{TypeEnding}
+use Rattle.basic_types.specs.declared.normal.TypeEnding.TheVariants.{Bare, Reference, Pointer}
+use Rattle.basic_types.specs.declared.qtype.QType.{QType}
+use Rattle.basic_types.specs.declared.word.Word.TheVariants as word
 use Rattle.token_reading.specs.code.Cursor.{NotAtWord}
 use Rattle.token_reading.specs.code.Lists.{IsPart}
 use Rattle.token_reading.specs.Lists.{spell_listed}

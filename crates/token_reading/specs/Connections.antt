@@ -8,9 +8,9 @@
 -- In a body an object is a path, and the separator a comma. In a script it is a name, and there is no separator. `spell`
 -- gives the tokens of an object's reading, and what follows them; `tree` the tree that it stands for.
 use Rattle.std.specs.Prelude.{Bool, true, false, List, ◌∷◌, Option, Some, None}
-use Rattle.signatures.specs.declared.sig.Sig.{Sig}
-use Rattle.signatures.specs.declared.word.Word.{Word}
-use Rattle.signatures.specs.declared.word.Word.TheVariants.{Unique, Single}
+use Rattle.basic_types.specs.declared.sig.Sig.{Sig}
+use Rattle.basic_types.specs.declared.word.Word.{Word}
+use Rattle.basic_types.specs.declared.word.Word.TheVariants.{Unique, Single}
 use Rattle.token_reading.specs.Signatures.{SigReading, spell_sig, tree_of_sig, spell_kind}
 use Rattle.syntax_trees.specs.declared.connection.ConnectionType.{ConnectionType}
 use Rattle.syntax_trees.specs.declared.connection.Endpoints.{Endpoints}

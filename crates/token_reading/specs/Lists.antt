@@ -1,6 +1,6 @@
 -- Lists of parts in a grammar. `spell` gives the tokens of a part's reading, and what follows them.
 use Rattle.std.specs.Prelude.{List, [], ◌∷◌, map}
-use Rattle.signatures.specs.declared.word.Word.{Word}
+use Rattle.basic_types.specs.declared.word.Word.{Word}
 use Rattle.texts.specs.declared.symbol.Symbol.TheVariants.{Open, Close, Comma}
 use Rattle.texts.specs.declared.token.Token.{Token}
 use Rattle.texts.specs.declared.token.Token.TheVariants as token

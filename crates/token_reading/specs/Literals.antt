@@ -5,8 +5,8 @@
 --
 -- A number lies between -2147483648 and 2147483647, and a text has at most 255 bytes.
 use Rattle.std.specs.Prelude.{ℕ, Bool, true, false, List, ◌∷◌, pos, ◌-ℤ◌}
-use Rattle.signatures.specs.Text.{IsText}
-use Rattle.signatures.specs.declared.word.Word.TheVariants as word
+use Rattle.basic_types.specs.Text.{IsText}
+use Rattle.basic_types.specs.declared.word.Word.TheVariants as word
 use Rattle.texts.specs.Numerals.{Numeral, spell_numeral, value_of}
 use Rattle.texts.specs.declared.symbol.Symbol.TheVariants.{Minus}
 use Rattle.syntax_trees.specs.declared.syntax.Literal.{Literal}

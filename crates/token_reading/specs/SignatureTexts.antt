@@ -2,13 +2,13 @@
 -- (docs/language.md, "Signatures").
 use Rattle.std.specs.Prelude.{ℕ, ◌≡◌, ◌≢◌, ◌⊎◌, true, List, [], Some}
 use Rattle.std.specs.List.{AllByRecursion, AllZip}
-use Rattle.signatures.specs.Name.{is_name_byte}
-use Rattle.signatures.specs.Normal.{normal_of}
-use Rattle.signatures.specs.Signatures.{Normal}
-use Rattle.signatures.specs.Tokens.{is_blank, mark_of}
-use Rattle.signatures.specs.declared.qtype.QType.{QType}
-use Rattle.signatures.specs.declared.scanner.Mark.TheVariants.{Other}
-use Rattle.signatures.specs.declared.sig.Sig.{Sig}
+use Rattle.basic_types.specs.Name.{is_name_byte}
+use Rattle.basic_types.specs.Normal.{normal_of}
+use Rattle.basic_types.specs.Signatures.{Normal}
+use Rattle.basic_types.specs.Tokens.{is_blank, mark_of}
+use Rattle.basic_types.specs.declared.qtype.QType.{QType}
+use Rattle.basic_types.specs.declared.mark.Mark.TheVariants.{Other}
+use Rattle.basic_types.specs.declared.sig.Sig.{Sig}
 use Rattle.texts.specs.Pieces.{AreTokens}
 use Rattle.token_reading.specs.Signatures.{TypeReading, spelled_type, sig, spell_sig}
 use Rattle.syntax_trees.specs.Connections.{HasFewTypes}

@@ -6,8 +6,8 @@ ghost use Rattle.token_reading.specs.code.Connections.{EndsAtSig, TakesSeparator
 use crate::cursor::Cursor;
 use crate::fault::ParseFault;
 use crate::lists::Part;
+use basic_types::{Sig, Word};
 use shared_values::Shared;
-use signatures::{Sig, Word};
 use syntax_trees::{ConnectionType, Endpoints};
 use texts::Symbol;
 

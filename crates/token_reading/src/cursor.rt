@@ -11,7 +11,7 @@ ghost use Rattle.texts.specs.declared.token.Token.TheVariants as token;
 use crate::fault::ParseFault;
 use crate::trail::{Landmark, Trail, begin, want, want_each};
 use crate::wanted::Wanted;
-use signatures::{Name, Word};
+use basic_types::{Name, Word};
 use std::alloc::Global;
 use std::marker::Model;
 use texts::{Symbol, Token};

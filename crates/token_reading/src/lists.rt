@@ -7,7 +7,7 @@ ghost use Rattle.texts.specs.declared.token.Token.{Token};
 
 use crate::cursor::Cursor;
 use crate::fault::ParseFault;
-use signatures::Word;
+use basic_types::Word;
 use sqlite_items::Items;
 use texts::Symbol;
 

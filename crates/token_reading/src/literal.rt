@@ -10,7 +10,7 @@ ghost use Rattle.token_reading.specs.code.Reading.{Reads, EndsAnywhere};
 use crate::cursor::Cursor;
 use crate::fault::ParseFault;
 use crate::wanted::{LITERAL, Wanted};
-use signatures::{Text, Word};
+use basic_types::{Text, Word};
 use syntax_trees::Literal;
 use texts::{Symbol, Token, value_of};
 

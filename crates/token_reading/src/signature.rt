@@ -5,14 +5,14 @@ ghost use Rattle.token_reading.specs.code.Reading.{Reads, EndsAnywhere};
 ghost use Rattle.token_reading.specs.Signatures.{TypeReading, spelled_type, spell_type, tree_of_type, spell_sig, tree_of_sig, spell_kind, HasPlainReference, TypesAreNormal, OthersAreRefused};
 ghost use Rattle.token_reading.specs.code.Signatures.{spell_place, EndsNamed, IsEnding, EndsType, BeginsWithAmpersand, BeginsWithReference};
 ghost use Rattle.token_reading.specs.SignatureTexts.{TokensGiveNormalForms, NormalFormsAreInTokens};
-ghost use Rattle.signatures.specs.declared.word.Word.TheVariants as word;
+ghost use Rattle.basic_types.specs.declared.word.Word.TheVariants as word;
 ghost use Rattle.texts.specs.declared.token.Token.{Token};
 ghost use Rattle.texts.specs.declared.token.Token.TheVariants as token;
 
 use crate::cursor::Cursor;
 use crate::fault::ParseFault;
 use crate::lists::{Part, list};
-use signatures::{ConstPlace, Kind, Name, QType, Sig, TypeEnding, Word};
+use basic_types::{ConstPlace, Kind, Name, QType, Sig, TypeEnding, Word};
 use texts::{Symbol, Token};
 
 impl<'a> Cursor<'a> {

@@ -1,6 +1,6 @@
 //! What a reader looks for.
 
-use signatures::Word;
+use basic_types::Word;
 use texts::Symbol;
 
 /// A token that a reader would take, or the end of the tokens.

@@ -5,7 +5,7 @@ ghost use Rattle.trace_entries.specs.Lists.{LosesLast};
 ghost use Rattle.trace_entries.specs.declared.entry.Entry.TheVariants.{Accepted};
 
 use crate::shown_values::ShownValues;
-use signatures::{Name, Text};
+use basic_types::{Name, Text};
 use sqlite_items::Items;
 use std::alloc::{AllocError, Global};
 use std::marker::Model;

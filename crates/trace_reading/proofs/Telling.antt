@@ -3,7 +3,7 @@ use Rattle.std.proofs.Common.{◌≡◌, ◌≢◌, ◌∙◌, sym, ap, refl, su
 use Rattle.std.proofs.lemmas.Bool.Decides.{nat_tests}
 use Rattle.std.proofs.lemmas.List.Elements.{recursion_from_All}
 use Rattle.std.specs.List.{AllByRecursion}
-use Rattle.signatures.specs.Name.{is_digit}
+use Rattle.basic_types.specs.Name.{is_digit}
 use Rattle.texts.specs.Numerals.{IsNumeral}
 use Rattle.trace_reading.specs.Words.{CutsWord, IsFollowed}
 use Rattle.trace_reading.specs.Lines.{BeginsAsKind, IsTraceLine, EndsEvent, IsPlain, IsWide, IsLine, EndsLine, IsEntry, TellsLine, TellsEnd, TellsEntry, TellsPlain, TellsReason, TellsNumber, kind_word}

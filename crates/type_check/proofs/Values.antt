@@ -3,12 +3,12 @@ use Rattle.std.proofs.Common.{◌≡◌, ℕ, suc, ◌-◌, arith, Bool, List, [
 use Rattle.std.specs.List.{AllZip}
 use Rattle.std.specs.Option.{option_and_then, option_map}
 use Rattle.std.proofs.lemmas.Option.{none-some, same_Some}
-use Rattle.signatures.specs.declared.value.Value.{Value}
-use Rattle.signatures.specs.declared.value.Value.TheVariants as value
-use Rattle.signatures.specs.declared.qtype.QType.{QType}
-use Rattle.signatures.specs.Normal.{pointer_type}
-use Rattle.signatures.specs.Types.{value_type}
-use Rattle.signatures.specs.Values.{Has as AnyHas, number_has, truth_has, text_has, null_has, object_has}
+use Rattle.basic_types.specs.declared.value.Value.{Value}
+use Rattle.basic_types.specs.declared.value.Value.TheVariants as value
+use Rattle.basic_types.specs.declared.qtype.QType.{QType}
+use Rattle.basic_types.specs.Normal.{pointer_type}
+use Rattle.basic_types.specs.Types.{value_type}
+use Rattle.basic_types.specs.Values.{Has as AnyHas, number_has, truth_has, text_has, null_has, object_has}
 use Rattle.syntax_trees.specs.declared.syntax.Expr.{Expr}
 use Rattle.syntax_trees.specs.declared.syntax.Expr.TheVariants as whole
 use Rattle.syntax_trees.specs.declared.syntax.Expr.TheOpen as expr

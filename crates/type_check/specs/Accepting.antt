@@ -1,7 +1,7 @@
 -- What may be given an expression (docs/language.md, "Types"; docs/certificate.md, "Typing").
 use Rattle.std.specs.Prelude.{◌≡◌, Option, Some}
 use Rattle.std.specs.Option.{option_and_then}
-use Rattle.signatures.specs.declared.qtype.QType.{QType}
+use Rattle.basic_types.specs.declared.qtype.QType.{QType}
 use Rattle.syntax_trees.specs.declared.syntax.Expr.{Expr}
 use Rattle.expressions.specs.declared.typing.ExprType.{ExprType}
 use Rattle.expressions.specs.Typing.{type_of, Accepts}

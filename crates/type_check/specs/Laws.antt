@@ -1,7 +1,7 @@
 -- What typed parts of a program have in every state (docs/certificate.md, "Typing").
 use Rattle.std.specs.Prelude.{◌≡◌, ℕ, List, Option, Some}
 use Rattle.std.specs.List.{AllZip}
-use Rattle.signatures.specs.declared.value.Value.{Value}
+use Rattle.basic_types.specs.declared.value.Value.{Value}
 use Rattle.syntax_trees.specs.declared.syntax.Expr.{Expr}
 use Rattle.expressions.specs.Evaluation.{value, values}
 use Rattle.meta_model.specs.declared.object.ValueType.{ValueType}

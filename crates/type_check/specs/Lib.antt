@@ -6,8 +6,8 @@ pub mod Accepting
 pub mod Bodies
 pub mod Typed
 pub mod Laws
-pub use Rattle.signatures.specs.Name
-pub use Rattle.signatures.specs.Types
+pub use Rattle.basic_types.specs.Name
+pub use Rattle.basic_types.specs.Types
 pub use Rattle.expressions.specs.Typing
 pub use Rattle.meta_model.specs.LookUps
 pub use Rattle.meta_model.specs.Members

@@ -1,9 +1,9 @@
 -- The types of a loaded program by their names (docs/language.md, "Types").
 use Rattle.std.specs.Prelude.{◌≡◌, ℕ, List, Option, Some, slice_get, codes}
 use Rattle.std.specs.Option.{option_map}
-use Rattle.signatures.specs.declared.qtype.QType.{QType}
-use Rattle.signatures.specs.Normal.{pointer_type}
-use Rattle.signatures.specs.Types.{value_type}
+use Rattle.basic_types.specs.declared.qtype.QType.{QType}
+use Rattle.basic_types.specs.Normal.{pointer_type}
+use Rattle.basic_types.specs.Types.{value_type}
 use Rattle.meta_model.specs.declared.object.MetaObject.{MetaObject}
 use Rattle.meta_model.specs.declared.object.ValueType.{ValueType}
 use Rattle.meta_model.specs.declared.object.ValueType.TheVariants as type

@@ -1,5 +1,5 @@
 -- Wires whose methods take what their signals give (Qt 6, "Signals & Slots"; docs/certificate.md, "Typing").
-use Rattle.signatures.specs.Types.{Fits}
+use Rattle.basic_types.specs.Types.{Fits}
 use Rattle.meta_model.specs.declared.object.MetaMethod.{MetaMethod}
 use Rattle.meta_model.specs.declared.object.MetaWire.{MetaWire}
 use Rattle.meta_model.specs.Loaded.{Loaded}

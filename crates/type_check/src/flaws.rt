@@ -1,8 +1,8 @@
 //! Why something isn't typed.
 
+use basic_types::{QType, Value};
 use expressions::{ExprType, Names, type_of};
 use meta_model::{Meta, ValueType};
-use signatures::{QType, Value};
 use std::alloc::{AllocError, Global};
 use syntax_trees::{Binary, Expr, Unary};
 

@@ -1,13 +1,13 @@
 //! The types of a program, by their names.
 
 ghost use Rattle.std.specs.Prelude.{◌≡◌, IfOk, Some};
-ghost use Rattle.signatures.specs.Name.{IsName};
-ghost use Rattle.signatures.specs.Types.{value_type};
+ghost use Rattle.basic_types.specs.Name.{IsName};
+ghost use Rattle.basic_types.specs.Types.{value_type};
 ghost use Rattle.type_check.specs.Naming.{spelled};
 
+use basic_types::{Name, QType};
 use expressions::Classes;
 use meta_model::{Meta, ValueType};
-use signatures::{Name, QType};
 use std::alloc::{AllocError, Global};
 
 /// The classes of a program, by their names.

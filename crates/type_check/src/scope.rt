@@ -10,9 +10,9 @@ ghost use Rattle.type_check.specs.Bodies.{IsTypedSet, IsTypedCall, IsTypedDeleti
 use crate::accepting::is_given;
 use crate::flaws::{Fault, fault_in};
 use crate::naming::spelled;
+use basic_types::QType;
 use expressions::Names;
 use meta_model::{Meta, MetaPath, MetaRoot, Statement, ValueType};
-use signatures::QType;
 use std::alloc::{AllocError, Global};
 use syntax_trees::Expr;
 

@@ -7,9 +7,9 @@ ghost use Rattle.type_check.specs.Typed.{kind_in, IsTypedSite};
 use crate::accepting::is_given;
 use crate::flaws::{Fault, Flaw, fault_in};
 use crate::naming::spelled;
+use basic_types::QType;
 use expressions::Names;
 use meta_model::{Meta, MetaSite, SourceProperty, ValueType};
-use signatures::QType;
 use std::alloc::{AllocError, Global};
 
 /// The formal sources of a binding site, by their classes.

@@ -4,8 +4,8 @@ ghost use Rattle.std.specs.Prelude.{◌↔◌, IsTrue};
 ghost use Rattle.type_check.specs.Firsts.{FindsWithout};
 ghost use Rattle.type_check.specs.Wires.{IsFitWire};
 
+use basic_types::fits;
 use meta_model::{Meta, MetaWire};
-use signatures::fits;
 
 /// The place, from 0, of the first wire whose method's parameter types aren't the first ones of its signal; `None` where
 /// each wire's are.

@@ -3,8 +3,8 @@
 use crate::advice::advice;
 use crate::source::Source;
 use crate::wanted::{is_among, push_wanted};
+use basic_types::LONGEST_TEXT;
 use diagnostics::Flaw;
-use signatures::LONGEST_TEXT;
 use std::alloc::{AllocError, Global};
 use texts::{Symbol, Token, Word};
 use token_reading::{Trail, Wanted};

@@ -2,12 +2,12 @@
 
 use crate::located::Located;
 use crate::sentences::Told;
+use basic_types::fits;
 use diagnostics::TextPlace;
 use effect_scan::Node;
 use findings::{Finding, Rule, TextKind, Verdict};
 use meta_model::{Meta, MetaWire};
 use program_flaws::{flaw_text, unfit_text};
-use signatures::fits;
 use std::alloc::AllocError;
 use type_check::{Spot, flaw_at};
 

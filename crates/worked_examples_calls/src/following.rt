@@ -6,10 +6,10 @@ ghost use Rattle.prop_bindings.specs.Fits.{Agree};
 
 use crate::loading::loaded;
 use anyhow::{Result, anyhow};
+use basic_types::{LoopId, Name, ObjectId, Value};
 use meta_model::Meta;
 use object_tree::Tree;
 use prop_bindings::{Assignment, Bindings, Place};
-use signatures::{LoopId, Name, ObjectId, Value};
 use std::alloc::{AllocError, Global};
 
 /// Two follow a property, one follows both; and one that has nothing to do with them.

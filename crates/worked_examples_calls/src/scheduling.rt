@@ -3,8 +3,8 @@
 use crate::following::{FOLLOWERS, stocked};
 use crate::loading::loaded;
 use anyhow::Result;
+use basic_types::{LoopId, ObjectId};
 use delete_later::Store;
-use signatures::{LoopId, ObjectId};
 use std::alloc::AllocError;
 
 /// The number from which on nothing is posted here.

@@ -6,9 +6,9 @@ ghost use Rattle.worked_examples_calls.specs.Thermostat.{thermostat_effects};
 
 use crate::thermostat::{DeclaredNative, declared, judged};
 use anyhow::Result;
+use basic_types::Value;
 use built_in_native::{class, twice};
 use native_slots::{Action, NativeSlot, Natives};
-use signatures::Value;
 use std::alloc::{AllocError, Global};
 
 /// What is done once with natives.

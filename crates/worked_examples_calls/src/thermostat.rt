@@ -4,8 +4,8 @@ ghost use Rattle.std.specs.Prelude.{◌≡◌, IsTrue, IfOk};
 ghost use Rattle.native_slots.specs.Effects.{are_within};
 ghost use Rattle.worked_examples_calls.specs.Thermostat.{thermostat_effects};
 
+use basic_types::{Arguments, Name, QType, Sig, Value};
 use native_slots::{Action, Effects, PlainProperty, PlainSignal, PlainType};
-use signatures::{Arguments, Name, QType, Sig, Value};
 use sqlite_items::Items;
 use std::alloc::{AllocError, Global};
 

@@ -1,7 +1,7 @@
 -- Orders of evaluation, in which sources come before their readers: how the crate computes settled values. Of what public
 -- calls say, only `MayInstall` speaks of one: a planned bind brings what it moves, in such an order.
 use Rattle.std.specs.Prelude.{◌≡◌, ◌⊎◌, List, [], ◌∷◌, cond, Option, None, Some}
-use Rattle.signatures.specs.declared.value.Value.{Value}
+use Rattle.basic_types.specs.declared.value.Value.{Value}
 use Rattle.binding_graph.specs.declared.place.Place.{Place}
 use Rattle.binding_graph.specs.declared.binding.Binding.{Binding}
 use Rattle.binding_graph.specs.Places.{same_place, In, Distinct}

@@ -1,7 +1,7 @@
 -- Changes of properties that are planned, and not carried out yet.
 use Rattle.std.specs.Prelude.{◌≡◌, ℕ, cond, false, List, [], ◌∷◌, ◌++◌, Option}
 use Rattle.std.specs.List.{AllByRecursion, AllZip}
-use Rattle.signatures.specs.declared.value.Value.{Value}
+use Rattle.basic_types.specs.declared.value.Value.{Value}
 use Rattle.meta_model.specs.Loaded.{Loaded}
 use Rattle.object_tree.specs.declared.object.Object.{Object}
 use Rattle.binding_plans.specs.declared.assignment.Assignment.{Assignment}

@@ -8,14 +8,14 @@ use Rattle.texts.specs.declared.token.Token.{Token}
 use Rattle.token_reading.specs.code.Optional.{EndsWithoutName}
 use Rattle.syntax_trees.specs.declared.program.Parameter.{Parameter}
 use Rattle.class_lang.specs.Parameters.{spell_signal_parameter, tree_of_signal_parameter, spell_slot_parameter, tree_of_slot_parameter}
-use Rattle.signatures.specs.declared.word.Word.TheVariants as word
+use Rattle.basic_types.specs.declared.word.Word.TheVariants as word
 use Rattle.syntax_trees.specs.declared.program.EffectNames.{EffectNames}
 use Rattle.syntax_trees.specs.declared.program.Slot.{Slot}
 use Rattle.class_lang.specs.Natives.{spell_effects, tree_of_effects, spell_native, tree_of_native}
 use Rattle.token_reading.specs.code.Cursor.{NotAt, NotAtWord}
 use Rattle.token_reading.specs.Literals.{tree_of_literal}
 use Rattle.texts.specs.declared.symbol.Symbol.TheVariants.{Assign}
-use Rattle.signatures.specs.declared.sig.Sig.{Sig}
+use Rattle.basic_types.specs.declared.sig.Sig.{Sig}
 use Rattle.syntax_trees.specs.declared.syntax.Literal.{Literal}
 use Rattle.class_lang.specs.declared.members.Member.{Member}
 use Rattle.syntax_trees.specs.declared.program.Property.{Property}

@@ -1,6 +1,6 @@
 -- What a declared type is read as while names are resolved.
 use Rattle.std.specs.Prelude.{◌≡◌, ◌⊎◌, List}
-use Rattle.signatures.specs.declared.qtype.QType.{QType}
+use Rattle.basic_types.specs.declared.qtype.QType.{QType}
 use Rattle.meta_model.specs.declared.object.ValueType.{ValueType}
 use Rattle.meta_model.specs.declared.object.ValueType.TheVariants.{Int}
 use Rattle.class_outlines.specs.declared.outline.Outline.{Outline}

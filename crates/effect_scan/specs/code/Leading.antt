@@ -1,6 +1,6 @@
 -- Edges by the numbers of nodes, as they are read off declarations and bodies.
 use Rattle.std.specs.Prelude.{◌≡◌, ◌≢◌, ℕ, List, Some}
-use Rattle.signatures.specs.declared.kind.Kind.TheVariants.{Queued}
+use Rattle.basic_types.specs.declared.kind.Kind.TheVariants.{Queued}
 use Rattle.meta_model.specs.declared.qobject.TheConstants.{DESTROYED}
 use Rattle.meta_model.specs.declared.object.MetaObject.{MetaObject}
 use Rattle.meta_model.specs.declared.object.MetaMethod.{MetaMethod}

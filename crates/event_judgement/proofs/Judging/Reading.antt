@@ -1,6 +1,6 @@
 -- Values that a script writes.
 use Rattle.std.proofs.Common.{List, [], ◌∷◌, ◌++◌, Ok}
-use Rattle.signatures.specs.declared.value.Value.{Value}
+use Rattle.basic_types.specs.declared.value.Value.{Value}
 use Rattle.script_lang.specs.declared.event.Input.{Input}
 use Rattle.object_tree.specs.declared.object.Object.{Object}
 use Rattle.event_judgement.specs.declared.not_accepted.NotAccepted.{NotAccepted}

@@ -1,6 +1,6 @@
 -- What the code finds of an event that is accepted (docs/machine.md, "Events").
 use Rattle.std.specs.Prelude.{◌≡◌, ℕ, List, [], length, Ok}
-use Rattle.signatures.specs.declared.value.Value.{Value}
+use Rattle.basic_types.specs.declared.value.Value.{Value}
 use Rattle.meta_model.specs.declared.site.MetaSite.{MetaSite}
 use Rattle.meta_model.specs.Loaded.{Loaded}
 use Rattle.object_tree.specs.declared.life.Life.{Life}

@@ -4,10 +4,10 @@ ghost use Rattle.std.specs.Prelude.{◌≡◌, ◌<◌, None};
 ghost use Rattle.script_lang.specs.declared.event.Event.TheVariants.{Loop};
 ghost use Rattle.machine_events.specs.code.Taking.{WorldInvariant, TookBy};
 
+use basic_types::Name;
 use machine_state::World;
 use native_slots::Answering;
 use rule_interpreter::Interpreter;
-use signatures::Name;
 use trace_entries::{Answer, Fault, Refusal};
 
 /// Adds an event loop.

@@ -6,12 +6,12 @@ ghost use Rattle.machine_events.specs.code.Taking.{WorldInvariant, TookBy};
 ghost use Rattle.machine_events.specs.code.Taking.{adoption_reason};
 
 use crate::refusing::refuse;
+use basic_types::{Name, ObjectId};
 use event_judgement::find_living;
 use machine_state::World;
 use native_slots::Answering;
 use object_tree::AdoptFault;
 use rule_interpreter::Interpreter;
-use signatures::{Name, ObjectId};
 use trace_entries::{Answer, Fault, Refusal};
 
 /// Makes one object the parent of another.

@@ -9,13 +9,13 @@ ghost use Rattle.machine_events.specs.code.Taking.{WorldInvariant, TookBy};
 ghost use Rattle.script_lang.specs.declared.event.Event.{Event as AnEvent};
 
 use crate::refusing::refuse;
+use basic_types::{Name, Value};
 use event_judgement::judge_write;
 use machine_state::World;
 use native_slots::Answering;
 use prop_bindings::{Assignment, Place};
 use rule_interpreter::{Active, Interpreter};
 use script_lang::Input;
-use signatures::{Name, Value};
 use trace_entries::{Answer, Fault};
 
 /// Writes a property, and runs what it notifies.

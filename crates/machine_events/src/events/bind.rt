@@ -7,12 +7,12 @@ ghost use Rattle.event_judgement.specs.code.Accepted.{AsksToBind};
 ghost use Rattle.machine_events.specs.code.Taking.{WorldInvariant, TookBy, binding_reason};
 
 use crate::refusing::refuse;
+use basic_types::Name;
 use event_judgement::{Asked, judge_bind};
 use machine_state::World;
 use native_slots::Answering;
 use prop_bindings::BindFault;
 use rule_interpreter::{Active, Interpreter};
-use signatures::Name;
 use trace_entries::{Answer, Fault, Refusal};
 
 /// Binds a property, and runs what is notified.

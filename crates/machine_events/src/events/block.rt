@@ -4,11 +4,11 @@ ghost use Rattle.std.specs.Prelude.{◌<◌, ◌≡◌, None};
 ghost use Rattle.machine_events.specs.code.Taking.{WorldInvariant, TookBy, blocking};
 
 use crate::refusing::refuse;
+use basic_types::{Name, ObjectId};
 use event_judgement::find_living;
 use machine_state::World;
 use native_slots::Answering;
 use rule_interpreter::Interpreter;
-use signatures::{Name, ObjectId};
 use trace_entries::{Answer, Fault};
 
 /// Blocks an object, or lets it emit again.

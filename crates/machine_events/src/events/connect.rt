@@ -5,11 +5,11 @@ ghost use Rattle.script_lang.specs.declared.event.Event.TheVariants.{Connect};
 ghost use Rattle.machine_events.specs.code.Taking.{WorldInvariant, TookBy};
 
 use crate::refusing::refuse;
+use basic_types::Name;
 use event_judgement::judge_connect;
 use machine_state::World;
 use native_slots::Answering;
 use rule_interpreter::Interpreter;
-use signatures::Name;
 use syntax_trees::{self, ConnectionType};
 use trace_entries::{Answer, Fault};
 

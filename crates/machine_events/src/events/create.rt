@@ -8,11 +8,11 @@ ghost use Rattle.machine_rules.specs.Judgement.{NothingIs};
 ghost use Rattle.machine_events.specs.code.Taking.{creation_reason};
 ghost use Rattle.event_judgement.specs.Events.{create, IsHome};
 
+use basic_types::{LoopId, Name};
 use machine_state::{MAIN, World};
 use native_slots::Answering;
 use object_tree::CreateFault;
 use rule_interpreter::Interpreter;
-use signatures::{LoopId, Name};
 use trace_entries::{Answer, Fault, Refusal};
 
 /// Creates an object in the event loop of a name, or in `main` where none is named.

@@ -6,11 +6,11 @@ ghost use Rattle.machine_rules.specs.Natives.{KeepPromises};
 ghost use Rattle.machine_events.specs.code.Taking.{WorldInvariant, TookBy};
 
 use crate::refusing::refuse;
+use basic_types::{Name, ObjectId};
 use event_judgement::find_living;
 use machine_state::World;
 use native_slots::Answering;
 use rule_interpreter::{Active, Interpreter};
-use signatures::{Name, ObjectId};
 use trace_entries::{Answer, Fault};
 
 /// Begins the deletion of an object, and carries it out.

@@ -5,11 +5,11 @@ ghost use Rattle.script_lang.specs.declared.event.Event.TheVariants.{Disconnect}
 ghost use Rattle.machine_events.specs.code.Taking.{WorldInvariant, TookBy};
 
 use crate::refusing::refuse;
+use basic_types::Name;
 use event_judgement::judge_disconnect;
 use machine_state::World;
 use native_slots::Answering;
 use rule_interpreter::Interpreter;
-use signatures::Name;
 use syntax_trees;
 use trace_entries::{Answer, Fault};
 

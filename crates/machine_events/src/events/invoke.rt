@@ -8,13 +8,13 @@ ghost use Rattle.machine_events.specs.code.Taking.{WorldInvariant, TookBy};
 ghost use Rattle.script_lang.specs.declared.event.Event.{Event as AnEvent};
 
 use crate::refusing::refuse;
+use basic_types::Name;
 use event_judgement::{Invocation, Invoked, judge_invocation};
 use machine_state::World;
 use native_slots::Answering;
 use rule_interpreter::{Active, Interpreter};
 use run_context::MethodCall;
 use script_lang::Input;
-use signatures::Name;
 use trace_entries::{Answer, Fault};
 
 /// Emits a signal or calls a slot, and runs it.

@@ -5,11 +5,11 @@ ghost use Rattle.script_lang.specs.declared.event.Event.TheVariants.{Later};
 ghost use Rattle.machine_events.specs.code.Taking.{WorldInvariant, TookBy};
 
 use crate::refusing::refuse;
+use basic_types::{Name, ObjectId};
 use event_judgement::find_living;
 use machine_state::World;
 use native_slots::Answering;
 use rule_interpreter::Interpreter;
-use signatures::{Name, ObjectId};
 use trace_entries::{Answer, Entry, EntryKind, Fault};
 
 /// Schedules an object for deletion, unless it is scheduled already.

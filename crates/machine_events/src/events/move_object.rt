@@ -6,12 +6,12 @@ ghost use Rattle.machine_events.specs.code.Taking.{WorldInvariant, TookBy};
 ghost use Rattle.machine_events.specs.code.Taking.{moving_reason};
 
 use crate::refusing::refuse;
+use basic_types::{Name, ObjectId};
 use delete_later::MoveFault;
 use event_judgement::find_living;
 use machine_state::World;
 use native_slots::Answering;
 use rule_interpreter::Interpreter;
-use signatures::{Name, ObjectId};
 use trace_entries::{Answer, Fault, Refusal};
 
 /// Moves an object and all that is below it to another event loop, with what waits for them.

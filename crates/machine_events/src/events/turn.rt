@@ -5,10 +5,10 @@ ghost use Rattle.script_lang.specs.declared.event.Event.TheVariants.{Turn};
 ghost use Rattle.machine_rules.specs.Natives.{KeepPromises};
 ghost use Rattle.machine_events.specs.code.Taking.{WorldInvariant, TookBy};
 
+use basic_types::Name;
 use machine_state::World;
 use native_slots::Answering;
 use rule_interpreter::Interpreter;
-use signatures::Name;
 use trace_entries::{Answer, Fault, Refusal};
 
 /// Begins a turn of an event loop, and carries it to its end.

@@ -20,7 +20,7 @@ use Rattle.object_tree.specs.Objects.{Lives, home_of}
 use Rattle.object_tree.specs.Typed.{ReadAs}
 use Rattle.binding_graph.specs.declared.binding.Binding.{Binding}
 use Rattle.prop_bindings.specs.Fits.{Agree}
-use Rattle.signatures.specs.declared.value.Value.{Value}
+use Rattle.basic_types.specs.declared.value.Value.{Value}
 use Rattle.machine_rules.specs.There.{IsMember, IsDead}
 use Rattle.machine_rules.specs.Good.{destroyed_kinds}
 

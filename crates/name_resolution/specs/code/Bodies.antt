@@ -2,9 +2,9 @@
 -- (docs/language.md, "Names").
 use Rattle.std.specs.Prelude.{◌≡◌, ◌≢◌, ℕ, ◌<◌, true, false, List, [], ◌∷◌, length, Some}
 use Rattle.std.specs.List.{AllZip}
-use Rattle.signatures.specs.declared.qtype.QType.{QType}
-use Rattle.signatures.specs.Normal.{pointer_type}
-use Rattle.signatures.specs.declared.value.Value.{Value}
+use Rattle.basic_types.specs.declared.qtype.QType.{QType}
+use Rattle.basic_types.specs.Normal.{pointer_type}
+use Rattle.basic_types.specs.declared.value.Value.{Value}
 use Rattle.syntax_trees.specs.declared.syntax.Unary.{Unary}
 use Rattle.syntax_trees.specs.declared.syntax.Binary.{Binary}
 use Rattle.syntax_trees.specs.declared.syntax.Expr.{Expr}

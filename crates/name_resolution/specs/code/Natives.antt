@@ -1,7 +1,7 @@
 -- How the names of a native's effects are looked up, in the outlines of classes (docs/language.md, "Names").
 use Rattle.std.specs.Prelude.{ℕ, ◌<◌, List}
 use Rattle.std.specs.List.{AllZip}
-use Rattle.signatures.specs.declared.sig.Sig.{Sig}
+use Rattle.basic_types.specs.declared.sig.Sig.{Sig}
 use Rattle.syntax_trees.specs.declared.program.EffectNames.{EffectNames}
 use Rattle.syntax_trees.specs.declared.program.Property.{Property}
 use Rattle.meta_model.specs.declared.effects.MetaEffects.{MetaEffects}

@@ -1,7 +1,7 @@
 -- How the names in a binding site are looked up, in the outlines of classes (docs/language.md, "Names").
 use Rattle.std.specs.Prelude.{◌≡◌, ℕ, List}
 use Rattle.std.specs.List.{AllZip}
-use Rattle.signatures.specs.declared.value.Value.{Value}
+use Rattle.basic_types.specs.declared.value.Value.{Value}
 use Rattle.syntax_trees.specs.declared.syntax.Unary.{Unary}
 use Rattle.syntax_trees.specs.declared.syntax.Binary.{Binary}
 use Rattle.syntax_trees.specs.declared.syntax.Expr.{Expr}

@@ -9,9 +9,9 @@ ghost use Rattle.name_resolution.specs.code.Resolving.{scope, Resolves};
 use crate::body_resolution::path::Target;
 use crate::body_resolution::scope::Scope;
 use crate::missing::{no_call, undeclared};
+use basic_types::Name;
 use class_outlines::{Missing, PartFault, Sought};
 use meta_model::{OBJECT_NAME_CHANGED, Statement};
-use signatures::Name;
 use sqlite_items::Items;
 use syntax_trees::{Expr, Path, Stmt};
 

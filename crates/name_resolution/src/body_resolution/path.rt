@@ -9,9 +9,9 @@ ghost use Rattle.name_resolution.specs.code.Resolving.{FindsClass, FindsMember};
 
 use crate::body_resolution::scope::Scope;
 use crate::missing::undeclared;
+use basic_types::{Name, QType};
 use class_outlines::{IndexedOutline, Missing, PartFault, find, read_kind, reference_to};
 use meta_model::{MetaPath, MetaRoot, Step};
-use signatures::{Name, QType};
 use sqlite_items::Items;
 use syntax_trees::{Path, Property, Root};
 

@@ -1,7 +1,7 @@
 //! Where slot bodies stand.
 
+use basic_types::Name;
 use class_outlines::ClassTable;
-use signatures::Name;
 use std::alloc::Global;
 use syntax_trees::Parameter;
 

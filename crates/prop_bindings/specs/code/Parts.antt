@@ -1,7 +1,7 @@
 -- The parts of a write and a bind.
 use Rattle.std.specs.Prelude.{◌≡◌, ℕ, List, [], ◌∷◌, ◌++◌, All, Option, Some, Result, Ok, Err}
 use Rattle.std.specs.Option.{is_some, option_map, unwrap_or}
-use Rattle.signatures.specs.declared.value.Value.{Value}
+use Rattle.basic_types.specs.declared.value.Value.{Value}
 use Rattle.indexmap.specs.IndexMap.{IndexMap, get}
 use Rattle.meta_model.specs.Loaded.{Loaded}
 use Rattle.object_tree.specs.declared.object.Object.{Object}

@@ -1,7 +1,7 @@
 -- What calls of the machine's functions do in the interpreter of a run, over what is active below (docs/machine.md, "Runs").
 -- Each call comes to what it says, or stops on the way.
 use Rattle.std.specs.Prelude.{◌≡◌, ℕ, List, [], ◌∷◌, ◌++◌, map, Option, Some, Result}
-use Rattle.signatures.specs.declared.value.Value.{Value}
+use Rattle.basic_types.specs.declared.value.Value.{Value}
 use Rattle.meta_model.specs.declared.object.Statement.{Statement}
 use Rattle.meta_model.specs.declared.object.Statement.TheOpen as layer
 use Rattle.meta_model.specs.declared.object.Statement.TheViews.{out-Statement}

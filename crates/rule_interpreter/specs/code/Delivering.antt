@@ -1,7 +1,7 @@
 -- What a turn of an event loop delivers (docs/machine.md, "Event loops").
 use Rattle.std.specs.Prelude.{◌≡◌, ℕ, List, [], ◌∷◌, Result, Ok, Err, Option, Some, true}
 use Rattle.std.specs.List.{find}
-use Rattle.signatures.specs.declared.value.Value.{Value}
+use Rattle.basic_types.specs.declared.value.Value.{Value}
 use Rattle.event_loops.specs.declared.item.Item.{Item}
 use Rattle.event_loops.specs.declared.item.Item.TheVariants as item
 use Rattle.event_loops.specs.declared.item.Posted.{Posted}

@@ -1,6 +1,6 @@
 -- What the code does to post a call (docs/machine.md, "Rules").
 use Rattle.std.specs.Prelude.{◌≡◌, ℕ, List, [], ◌∷◌, Option, Some, Result}
-use Rattle.signatures.specs.declared.value.Value.{Value}
+use Rattle.basic_types.specs.declared.value.Value.{Value}
 use Rattle.meta_model.specs.declared.object.MetaMethod.{MetaMethod}
 use Rattle.meta_model.specs.Loaded.{Loaded}
 use Rattle.object_tree.specs.declared.object.Object.{Object}

@@ -2,7 +2,7 @@
 -- and rank and destroy set fall from each to the one above it; connections are covered by wires, bindings by sites, adoptions by `owns`.
 use Rattle.std.specs.Prelude.{◌≡◌, ◌≢◌, ℕ, ◌<◌, ◌≤◌, List, [], ◌∷◌, length, Option, None, Some, slice_get}
 use Rattle.std.specs.List.{AllByRecursion, AllZip}
-use Rattle.signatures.specs.declared.value.Value.{Value}
+use Rattle.basic_types.specs.declared.value.Value.{Value}
 use Rattle.meta_model.specs.declared.effects.MetaEffects.{MetaEffects}
 use Rattle.meta_model.specs.declared.object.MetaMethod.{MetaMethod}
 use Rattle.meta_model.specs.declared.object.MetaWire.{MetaWire}

@@ -3,9 +3,9 @@ use Rattle.std.proofs.Common.{◌≡◌, ◌≢◌, ◌⊎◌, inl, inr, ℕ, su
 use Rattle.std.specs.List.{AllByRecursion, find}
 use Rattle.std.proofs.lemmas.Bool.{cases_eq, eqb-true, cases_Bool}
 use Rattle.std.proofs.lemmas.Option.{same_Some, none-some}
-use Rattle.signatures.specs.declared.kind.Kind.{Kind}
-use Rattle.signatures.specs.declared.kind.Kind.TheVariants.{Auto, Direct, Queued}
-use Rattle.signatures.specs.declared.value.Value.{Value}
+use Rattle.basic_types.specs.declared.kind.Kind.{Kind}
+use Rattle.basic_types.specs.declared.kind.Kind.TheVariants.{Auto, Direct, Queued}
+use Rattle.basic_types.specs.declared.value.Value.{Value}
 use Rattle.syntax_trees.specs.declared.connection.ConnectionType.{ConnectionType}
 use Rattle.meta_model.specs.declared.effects.MetaEffects.{MetaEffects}
 use Rattle.meta_model.specs.declared.object.MetaMethod.{MetaMethod}

@@ -1,14 +1,14 @@
 -- What each reader of a signature's tokens does. `before` are the tokens in front of it, and `after` those that it leaves.
 use Rattle.std.specs.Borrow.{Bor}
 use Rattle.std.specs.Prelude.{ℕ, Bool, true, false, ◌≡◌, List, ◌∷◌, codes, Option, Some, None, Result, Ok, Err}
-use Rattle.signatures.specs.Signatures.{spell_ending, spell_named, spell_type, TypeReading, IsFreeName, IsTypeOf, AreTypes}
-use Rattle.signatures.specs.Tokens.{Token, word, mark}
+use Rattle.basic_types.specs.Signatures.{spell_ending, spell_named, spell_type, TypeReading, IsFreeName, IsTypeOf, AreTypes}
+use Rattle.basic_types.specs.Tokens.{Token, word, mark}
 use Rattle.signatures.specs.declared.fault.SigFault.{SigFault}
 use Rattle.signatures.specs.declared.fault.SigFault.TheVariants.{BadName, BadType, TooMany, Memory}
-use Rattle.signatures.specs.declared.normal.ConstPlace.{ConstPlace}
-use Rattle.signatures.specs.declared.normal.TypeEnding.{TypeEnding}
-use Rattle.signatures.specs.declared.qtype.QType.{QType}
-use Rattle.signatures.specs.declared.scanner.Mark.TheVariants.{Close, Comma}
+use Rattle.basic_types.specs.declared.normal.ConstPlace.{ConstPlace}
+use Rattle.basic_types.specs.declared.normal.TypeEnding.{TypeEnding}
+use Rattle.basic_types.specs.declared.qtype.QType.{QType}
+use Rattle.basic_types.specs.declared.mark.Mark.TheVariants.{Close, Comma}
 
 -- the token isn't the first of these
 abbrev pub NotAt : Token → List Token → Type 0

@@ -1,10 +1,9 @@
 -- What the scanner of a signature's text takes.
 use Rattle.std.specs.Prelude.{ℕ, ◌≡◌, List, [], ◌∷◌, Option, Some, None}
-use Rattle.signatures.specs.Name.{is_name_byte}
-use Rattle.signatures.specs.declared.scanner.Mark.{Mark}
+use Rattle.basic_types.specs.declared.mark.Mark.{Mark}
 use Rattle.signatures.specs.declared.scanner.Scanned.{Scanned}
 use Rattle.signatures.specs.declared.scanner.Scanned.TheVariants as scanned
-use Rattle.signatures.specs.Tokens.{Token, StopsBy, word, mark}
+use Rattle.basic_types.specs.Tokens.{Token, word, mark}
 
 -- what was scanned, as a token
 abbrev pub token_of : Scanned → Token
@@ -15,7 +14,3 @@ token_of (scanned.Mark m) = mark m
 abbrev pub TakesNext : List Token → Option Scanned → List Token → Type 0
 TakesNext before None after = (before ≡ []) × (after ≡ [])
 TakesNext before (Some next) after = before ≡ token_of next ∷ after
-
--- no word goes on there
-abbrev pub EndsWord : List ℕ → Type 0
-EndsWord rest = StopsBy is_name_byte rest

@@ -1,6 +1,6 @@
 -- What the readers of statements do, and where a statement may end.
 use Rattle.std.specs.Prelude.{List, map, Result}
-use Rattle.signatures.specs.declared.word.Word.TheVariants as word
+use Rattle.basic_types.specs.declared.word.Word.TheVariants as word
 use Rattle.token_reading.specs.code.Cursor.{NotAtWord}
 use Rattle.slot_lang.specs.Expressions.{Expression, tree_of_expression}
 use Rattle.token_reading.specs.code.Reading.{Reads, EndsAnywhere}

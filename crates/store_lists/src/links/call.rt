@@ -1,8 +1,8 @@
 //! Calls of the connections, drawn at random.
 
 use crate::random::Random;
+use basic_types::{Kind, ObjectId};
 use connections::Connection;
-use signatures::{Kind, ObjectId};
 
 /// How many objects the calls speak of.
 pub const OBJECTS: usize = 4;

@@ -1,8 +1,8 @@
 //! The connections as a plain list.
 
 use crate::links::call::{Link, Wanted};
+use basic_types::ObjectId;
 use connections::{ConnectFault, Connection, DisconnectFault};
-use signatures::ObjectId;
 use std::alloc::Global;
 
 /// The connections that were made and not removed, in the order in which they were made; the last number given; and how

@@ -1,8 +1,8 @@
 //! Calls of the event loops, drawn at random.
 
 use crate::random::Random;
+use basic_types::{Arguments, LoopId, Name, ObjectId, Value};
 use event_loops::{Item, Posted};
-use signatures::{Arguments, LoopId, Name, ObjectId, Value};
 use std::alloc::{AllocError, Global};
 
 /// How many objects the calls speak of.

@@ -1,8 +1,8 @@
 //! The event loops as plain lists.
 
 use crate::queues::call::{Delivery, Label, Waiting};
+use basic_types::{LoopId, ObjectId};
 use event_loops::{AddFault, PostFault};
-use signatures::{LoopId, ObjectId};
 use std::alloc::{AllocError, Global};
 
 /// A loop, and what waits in it, in the order in which it was posted.

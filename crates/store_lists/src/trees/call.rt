@@ -2,10 +2,10 @@
 
 use crate::fault::Fault;
 use crate::random::Random;
+use basic_types::{LoopId, Name, ObjectId, Value};
 use class_lang::read_program;
 use meta_model::Meta;
 use meta_objects::FromProgram;
-use signatures::{LoopId, Name, ObjectId, Value};
 use std::alloc::{AllocError, Global};
 
 /// Nodes, which own others and leaves; each has a size and a friend.

@@ -1,8 +1,8 @@
 //! The objects as a plain list, and the adoptions as another one.
 
 use crate::trees::call::{Class, Wanted, Written};
+use basic_types::{LoopId, ObjectId};
 use object_tree::{AdoptFault, CreateFault};
-use signatures::{LoopId, ObjectId};
 use std::alloc::Global;
 
 /// An object that was created.

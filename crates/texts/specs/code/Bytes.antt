@@ -1,7 +1,7 @@
 -- What a piece of text that begins with a byte may be.
 use Rattle.std.specs.Prelude.{ℕ, Bool, true, false, nat_eq}
-use Rattle.signatures.specs.Name.{is_letter, is_digit}
-use Rattle.signatures.specs.Tokens.{is_blank}
+use Rattle.basic_types.specs.Name.{is_letter, is_digit}
+use Rattle.basic_types.specs.Tokens.{is_blank}
 use Rattle.texts.specs.declared.bytes.Class.{Class}
 use Rattle.texts.specs.declared.bytes.Class.TheVariants.{Blank, Slash, Letter, Digit, Quote, Other}
 

@@ -9,8 +9,8 @@ use Rattle.texts.specs.declared.lexer.LexFault.TheVariants.{BadByte}
 use Rattle.texts.specs.declared.symbol.Symbol.{Symbol}
 use Rattle.texts.specs.declared.token.Token.{Token}
 use Rattle.texts.specs.declared.token.Token.TheVariants as token
-use Rattle.signatures.specs.declared.word.Word.{Word}
-use Rattle.signatures.specs.Words.{word_spelling, IsFree}
+use Rattle.basic_types.specs.declared.word.Word.{Word}
+use Rattle.basic_types.specs.Words.{word_spelling, IsFree}
 
 -- a line, or none where no text is left
 abbrev pub SplitsLine : List ℕ → Option (Bor (List ℕ) × Bor (List ℕ)) → Type 0

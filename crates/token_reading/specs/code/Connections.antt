@@ -1,8 +1,8 @@
 -- What the readers of connections do, and where such a part may end.
 use Rattle.std.specs.Prelude.{◌≡◌, Bool, true, false, List, Option, Result, Ok, Err}
-use Rattle.signatures.specs.declared.sig.Sig.{Sig}
-use Rattle.signatures.specs.declared.word.Word.{Word}
-use Rattle.signatures.specs.declared.word.Word.TheVariants.{Unique, Single}
+use Rattle.basic_types.specs.declared.sig.Sig.{Sig}
+use Rattle.basic_types.specs.declared.word.Word.{Word}
+use Rattle.basic_types.specs.declared.word.Word.TheVariants.{Unique, Single}
 use Rattle.token_reading.specs.code.Reading.{Reads, EndsAnywhere}
 use Rattle.token_reading.specs.Signatures.{SigReading, spell_sig}
 use Rattle.syntax_trees.specs.declared.connection.ConnectionType.{ConnectionType}

@@ -4,7 +4,7 @@ use Rattle.std.specs.Prelude.{◌≡◌, Bool, true, false, List, [], ◌∷◌,
 use Rattle.token_reading.specs.declared.fault.ParseFault.{ParseFault}
 use Rattle.token_reading.specs.declared.fault.ParseFault.TheVariants.{Syntax}
 use Rattle.texts.specs.declared.symbol.Symbol.{Symbol}
-use Rattle.signatures.specs.declared.word.Word.{Word}
+use Rattle.basic_types.specs.declared.word.Word.{Word}
 use Rattle.texts.specs.declared.token.Token.{Token}
 use Rattle.texts.specs.declared.token.Token.TheVariants as token
 

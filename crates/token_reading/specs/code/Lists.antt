@@ -1,6 +1,6 @@
 -- What the readers of lists do, and where the parts of a list may end.
 use Rattle.std.specs.Prelude.{◌≡◌, List, ◌∷◌, map, Result}
-use Rattle.signatures.specs.declared.word.Word.{Word}
+use Rattle.basic_types.specs.declared.word.Word.{Word}
 use Rattle.token_reading.specs.code.Cursor.{NotAt, NotAtWord}
 use Rattle.token_reading.specs.code.Reading.{Reads, EndsAnywhere}
 use Rattle.token_reading.specs.declared.fault.ParseFault.{ParseFault}

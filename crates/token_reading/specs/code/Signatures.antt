@@ -1,9 +1,9 @@
 -- What the readers of types do, and where a type may end.
 use Rattle.std.specs.Prelude.{ℕ, ◌≡◌, List, ◌∷◌}
-use Rattle.signatures.specs.declared.normal.ConstPlace.{ConstPlace}
-use Rattle.signatures.specs.declared.normal.TypeEnding.{TypeEnding}
-use Rattle.signatures.specs.declared.normal.TypeEnding.TheVariants.{Bare}
-use Rattle.signatures.specs.declared.word.Word.TheVariants as word
+use Rattle.basic_types.specs.declared.normal.ConstPlace.{ConstPlace}
+use Rattle.basic_types.specs.declared.normal.TypeEnding.{TypeEnding}
+use Rattle.basic_types.specs.declared.normal.TypeEnding.TheVariants.{Bare}
+use Rattle.basic_types.specs.declared.word.Word.TheVariants as word
 use Rattle.token_reading.specs.code.Cursor.{NotAt, NotAtWord}
 use Rattle.texts.specs.declared.symbol.Symbol.TheVariants.{Ampersand, Star}
 use Rattle.texts.specs.declared.token.Token.{Token}

@@ -1,6 +1,6 @@
 //! The types and values of expressions.
 
-use signatures::{Name, QType, Value};
+use basic_types::{Name, QType, Value};
 use slot_lang::{EvalFault, Expr, ExprType, Names, Path, World, eval, parse_expr, tokens, type_of};
 use std::alloc::{AllocError, Global};
 use std::str;
@@ -25,7 +25,7 @@ impl Names<Path> for Sevens {
 
 impl World<Path> for Sevens {
     ghost use Rattle.std.specs.Prelude.{Some, pos};
-    ghost use Rattle.signatures.specs.declared.value.Value.TheVariants.{Int};
+    ghost use Rattle.basic_types.specs.declared.value.Value.TheVariants.{Int};
 
     ghost read = { λ sevens path. Some (Int (pos 7)) };
 

@@ -1,7 +1,7 @@
 use Rattle.std.proofs.Common.{◌≡◌, [], ◌∷◌, ◌++◌, ◌+◌, Ok, List, take, drop, sym, ap, ◌∙◌, subst, take-append-drop}
 use Rattle.std.proofs.lemmas.List.{take_more, drop_more}
 use Rattle.script_lang.specs.declared.event.Input.{Input}
-use Rattle.signatures.specs.declared.value.Value.{Value}
+use Rattle.basic_types.specs.declared.value.Value.{Value}
 use Rattle.machine_rules.specs.Judgement.{gives}
 use Rattle.event_judgement.specs.code.Judgement.{IsNotAccepted}
 use Rattle.event_judgement.specs.Events.{values}

@@ -1,6 +1,6 @@
 use Rattle.std.proofs.Common.{◌≡◌, ◌++◌, take, sym, subst, arith}
 use Rattle.std.proofs.lemmas.Grind.{common_steps}
-use Rattle.signatures.specs.Text.{longest_text, IsText}
+use Rattle.basic_types.specs.Text.{longest_text, IsText}
 use Rattle.expressions.proofs.Joining.{joined_text}
 use Rattle.expressions.proofs.operators.join.Goals as goal
 

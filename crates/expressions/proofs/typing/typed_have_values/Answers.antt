@@ -1,4 +1,4 @@
-use Rattle.signatures.specs.Values.{object_has}
+use Rattle.basic_types.specs.Values.{object_has}
 use Rattle.expressions.proofs.Typed.{typed_has_value}
 use Rattle.expressions.proofs.typing.typed_have_values.Goals as goal
 

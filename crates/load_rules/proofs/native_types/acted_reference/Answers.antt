@@ -1,5 +1,5 @@
 use Rattle.std.specs.Prelude.{Any}
-use Rattle.signatures.specs.declared.sig.Sig.{Sig}
+use Rattle.basic_types.specs.declared.sig.Sig.{Sig}
 use Rattle.class_outlines.specs.Natives.{IsPointer}
 use Rattle.class_outlines.specs.DeclaredSites.{IsReferenceIn}
 use Rattle.std.proofs.Common.{inl}

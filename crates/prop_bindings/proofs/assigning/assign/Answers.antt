@@ -1,5 +1,5 @@
 use Rattle.std.proofs.Common.{◌∙◌, ℕ, List, ap, sym}
-use Rattle.signatures.specs.declared.value.Value.{Value}
+use Rattle.basic_types.specs.declared.value.Value.{Value}
 use Rattle.object_tree.specs.Objects.{change_life, written}
 use Rattle.binding_plans.specs.Plans.{assigned}
 use Rattle.binding_plans.proofs.AssignedValues.{assigned-last}

@@ -2,7 +2,7 @@ use Rattle.std.proofs.Common.{◌≡◌, ◌∙◌, ◌++◌, ◌∷◌, ◌+◌
 use Rattle.std.specs.Option.{is_some}
 use Rattle.std.proofs.lemmas.List.{take_more}
 use Rattle.indexmap.specs.IndexMap.{get}
-use Rattle.signatures.specs.declared.value.Value.{Value}
+use Rattle.basic_types.specs.declared.value.Value.{Value}
 use Rattle.binding_graph.specs.declared.place.Place.{Place}
 use Rattle.binding_plans.specs.declared.assignment.Assignment.{Assignment}
 use Rattle.binding_graph.specs.code.Keys.{key_of, same_key}

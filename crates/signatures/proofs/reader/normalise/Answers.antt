@@ -1,6 +1,6 @@
 use Rattle.std.proofs.Common.{◌≡◌, ◌∷◌, refl, sym, ◌∙◌, ap, arith}
 use Rattle.std.proofs.lemmas.Result.{err_from_is_err_and}
-use Rattle.signatures.specs.Tokens.{word, tokens_of}
+use Rattle.basic_types.specs.Tokens.{word, tokens_of}
 use Rattle.signatures.proofs.Reading.{typed_text, refused_types}
 use Rattle.signatures.proofs.reader.normalise.Goals as goal
 

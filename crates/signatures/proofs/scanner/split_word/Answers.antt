@@ -1,6 +1,6 @@
 use Rattle.std.proofs.Common.{length, ◌≡◌, ◌<◌, get_or, false, arith, sym, ◌∙◌}
-use Rattle.signatures.specs.Name.{is_name_byte}
-use Rattle.signatures.proofs.Tokens.{run_of_length}
+use Rattle.basic_types.specs.Name.{is_name_byte}
+use Rattle.basic_types.proofs.Tokens.{run_of_length}
 use Rattle.signatures.proofs.scanner.split_word.Goals as goal
 use Rattle.signatures.proofs.scanner.split_word.Goals.{then-loop-len-test+else-is_name_byte, else-loop-len-test}
 

@@ -1,5 +1,5 @@
 use Rattle.std.proofs.Common.{length, ◌-◌, ◌≡◌, ◌≤◌, ℕ, ◌<◌, get_or, true}
-use Rattle.signatures.specs.Name.{is_name_byte}
+use Rattle.basic_types.specs.Name.{is_name_byte}
 use Rattle.signatures.proofs.scanner.split_word.Given as goal
 
 abbrev pub invariant-loop-len : goal.invariant-loop-len

@@ -1,5 +1,5 @@
 use Rattle.std.proofs.Common.{Option, sym, ap, ◌∙◌}
-use Rattle.signatures.specs.declared.value.Value.{Value}
+use Rattle.basic_types.specs.declared.value.Value.{Value}
 use Rattle.object_tree.specs.Objects.{change_life, written}
 use Rattle.prop_bindings.specs.Assignment.{Assignment}
 use Rattle.prop_bindings.specs.Plans.{assigned}

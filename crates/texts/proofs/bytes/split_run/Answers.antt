@@ -1,5 +1,5 @@
 use Rattle.std.proofs.Common.{length, ◌≡◌, ◌<◌, get_or, false, arith, sym, ◌∙◌}
-use Rattle.signatures.proofs.Tokens.{run_of_length}
+use Rattle.basic_types.proofs.Tokens.{run_of_length}
 use Rattle.texts.specs.Bytes.{belongs}
 use Rattle.texts.proofs.bytes.split_run.Goals as goal
 use Rattle.texts.proofs.bytes.split_run.Goals.{then-loop-len-test+else-belongs, else-loop-len-test}

@@ -1,6 +1,6 @@
 use Rattle.std.proofs.Common.{Option, ap, sym, ◌∙◌}
 use Rattle.std.specs.Option.{option_map, unwrap_or}
-use Rattle.signatures.specs.declared.value.Value.{Value}
+use Rattle.basic_types.specs.declared.value.Value.{Value}
 use Rattle.binding_plans.specs.Values.{values_in}
 use Rattle.binding_plans.proofs.AssignedValues.{assigned-values}
 use Rattle.binding_plans.proofs.planned.Planned.value.Goals as goal

@@ -1,5 +1,5 @@
 use Rattle.std.proofs.Common.{length}
-use Rattle.signatures.specs.Spelling.{text_of_others}
+use Rattle.basic_types.specs.Spelling.{text_of_others}
 use Rattle.command_output.proofs.Sending.{SentSoFar}
 use Rattle.command_output.proofs.meta_line.Output+W.other_kinds.Given as goal
 

@@ -1,6 +1,6 @@
 use Rattle.std.proofs.Common.{map, ◌≡◌, ◌∙◌, ℕ, false, List, [], ◌∷◌, length, refl, sym, ap, subst, arith, Option, Some, Ok, inl, inr}
 use Rattle.std.proofs.lemmas.Grind.{common_steps}
-use Rattle.signatures.specs.declared.value.Value.{Value}
+use Rattle.basic_types.specs.declared.value.Value.{Value}
 use Rattle.machine_state.specs.declared.world.World.{World}
 use Rattle.rule_laws.proofs.Reaching.{not-idle, reaches-same, reaches-then, stops-after, stops-as, ends-after, ends-lifted, ends-left, ends-undue, ends-short, ends-unchanged, ends-faulted, ends-ticked, stops-ticked, ok-err, ok-map}
 use Rattle.machine_state.specs.Connections.{is_living}

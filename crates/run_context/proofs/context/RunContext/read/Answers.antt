@@ -1,6 +1,6 @@
 use Rattle.std.proofs.Common.{◌≡◌, Some, take, get_or, sym, ap, ◌∙◌}
 use Rattle.std.proofs.lemmas.List.{take_more}
-use Rattle.signatures.specs.declared.value.Value.{Value}
+use Rattle.basic_types.specs.declared.value.Value.{Value}
 use Rattle.object_tree.specs.Objects.{stored}
 use Rattle.machine_rules.proofs.Answering.{zip-snoc}
 use Rattle.run_context.proofs.context.RunContext.read.Goals as goal

@@ -1,5 +1,5 @@
 use Rattle.std.proofs.Common.{refl}
-use Rattle.signatures.specs.Signatures.{IsPart}
+use Rattle.basic_types.specs.Signatures.{IsPart}
 use Rattle.signatures.specs.code.Scanning.{token_of}
 use Rattle.signatures.proofs.Closed.{closed_part, closed_end, closed_last}
 use Rattle.signatures.proofs.scanner.Scanner.is_closed.Goals as goal

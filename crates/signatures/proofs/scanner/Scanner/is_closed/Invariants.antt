@@ -1,5 +1,5 @@
 use Rattle.std.proofs.Common.{◌↔◌, length}
-use Rattle.signatures.specs.Signatures.{IsClosed}
+use Rattle.basic_types.specs.Signatures.{IsClosed}
 use Rattle.signatures.proofs.scanner.Scanner.is_closed.Given as goal
 
 -- what is left decides

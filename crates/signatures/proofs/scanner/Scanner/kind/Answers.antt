@@ -1,6 +1,6 @@
 use Rattle.std.proofs.Common.{sym, ◌∙◌, ap}
-use Rattle.signatures.specs.Normal.{normal_of}
-use Rattle.signatures.specs.Signatures.{spell_named, spell_ending}
+use Rattle.basic_types.specs.Normal.{normal_of}
+use Rattle.basic_types.specs.Signatures.{spell_named, spell_ending}
 use Rattle.signatures.proofs.scanner.Scanner.kind.Goals as goal
 
 pub returns-in-Some-normal-clause-read : goal.returns-in-Some-normal-clause-read

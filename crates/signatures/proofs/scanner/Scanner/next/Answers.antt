@@ -1,5 +1,5 @@
 use Rattle.std.proofs.Common.{sym, ◌∙◌}
-use Rattle.signatures.proofs.Tokens.{word_next}
+use Rattle.basic_types.proofs.Tokens.{word_next}
 use Rattle.signatures.proofs.scanner.Scanner.next.Goals as goal
 
 pub returns-then-is_name_byte : goal.returns-then-is_name_byte

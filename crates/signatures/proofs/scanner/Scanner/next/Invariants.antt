@@ -1,5 +1,5 @@
 use Rattle.std.proofs.Common.{◌≡◌, length}
-use Rattle.signatures.specs.Tokens.{tokens_of}
+use Rattle.basic_types.specs.Tokens.{tokens_of}
 use Rattle.signatures.proofs.scanner.Scanner.next.Given as goal
 
 abbrev pub invariant-loop-first : goal.invariant-loop-first

@@ -3,7 +3,7 @@ use Rattle.std.proofs.Common.{ℕ, List, Option, Some}
 use Rattle.meta_model.specs.declared.object.Step.{Step}
 use Rattle.object_tree.specs.declared.object.Object.{Object}
 use Rattle.std.proofs.lemmas.List.{drop_more}
-use Rattle.signatures.specs.declared.value.Value.{Value}
+use Rattle.basic_types.specs.declared.value.Value.{Value}
 use Rattle.machine_rules.specs.Paths.{steps_value}
 use Rattle.statement_meaning.proofs.Reading.{evaluates-left, path-none}
 use Rattle.statement_meaning.proofs.paths.Scope.along.Goals as goal

@@ -1,6 +1,6 @@
 use Rattle.statement_meaning.specs.code.Scope.{objects_in}
 use Rattle.std.proofs.Common.{Option}
-use Rattle.signatures.specs.declared.value.Value.{Value}
+use Rattle.basic_types.specs.declared.value.Value.{Value}
 use Rattle.machine_rules.specs.Paths.{root_value, path_value}
 use Rattle.statement_meaning.proofs.Reading.{steps-none, evaluates-left}
 use Rattle.statement_meaning.proofs.paths.ScopeWorldMetaPath.value.Goals as goal

@@ -1,5 +1,5 @@
 use Rattle.std.proofs.Common.{List, ◌++◌, drop}
-use Rattle.signatures.specs.declared.qtype.QType.{QType}
+use Rattle.basic_types.specs.declared.qtype.QType.{QType}
 use Rattle.meta_model.specs.declared.object.Step.{Step}
 use Rattle.name_resolution.specs.code.Bodies.{AreSteps}
 use Rattle.name_resolution.proofs.body_resolution.scope.Scope.resolve_from.Given as goal

@@ -1,5 +1,5 @@
 use Rattle.std.proofs.Common.{inr, refl}
-use Rattle.signatures.specs.declared.qtype.QType.{QType}
+use Rattle.basic_types.specs.declared.qtype.QType.{QType}
 use Rattle.meta_model.specs.declared.object.MetaPath.{MetaPath}
 use Rattle.class_outlines.specs.declared.outline.Outline.{Outline}
 use Rattle.class_outlines.specs.declared.fault.MetaFault.TheVariants as fault

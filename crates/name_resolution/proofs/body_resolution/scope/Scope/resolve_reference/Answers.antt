@@ -1,6 +1,6 @@
 use Rattle.std.proofs.Common.{inr, refl}
 use Rattle.std.proofs.lemmas.Bool.{not-true, not-false}
-use Rattle.signatures.specs.declared.qtype.QType.{QType}
+use Rattle.basic_types.specs.declared.qtype.QType.{QType}
 use Rattle.meta_model.specs.declared.object.MetaPath.{MetaPath}
 use Rattle.class_outlines.specs.declared.fault.MetaFault.TheVariants as fault
 use Rattle.name_resolution.specs.declared.body_resolution.path.Led.{Led}

@@ -1,0 +1,11 @@
+pub mod Name
+pub mod Words
+pub mod Text
+pub mod Types
+pub mod Values
+pub mod Normal
+pub mod Tokens
+pub mod Signatures
+pub mod Spelling
+pub mod Laws
+pub mod code
