@@ -6,7 +6,7 @@ use Rattle.binding_graph.specs.declared.place.Place.{Place}
 use Rattle.binding_graph.specs.declared.binding.Binding.{Binding}
 use Rattle.binding_graph.specs.declared.graph.Graph.{Graph}
 use Rattle.binding_graph.specs.declared.installed.Installed.{Installed}
-use Rattle.indexmap.specs.IndexSet.{contains}
+use Rattle.std.specs.HashSet.{contains}
 use Rattle.binding_graph.specs.Places.{In, same_place}
 use Rattle.binding_graph.specs.Bindings.{binding_at, AreApart, Reads, read_by, touches, without, replaced}
 use Rattle.binding_graph.specs.code.Graph.{AreKeyed, AreNamed, AreTouched, IsGraph, KeepReaders, KeepTouched, RankOfReader, bindings_in, bindings_of, position_of, readers_at}

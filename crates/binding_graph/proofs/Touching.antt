@@ -2,10 +2,10 @@
 use Rattle.std.proofs.Common.{◌≡◌, ℕ, zero, suc, ◌+◌, ◌<◌, ◌≤◌, ◌||◌, ◌⊎◌, Bool, true, false, eqb, List, [], ◌∷◌, ◌++◌, length, take, get_or, inl, inr, refl, ap, sym, ◌∙◌, subst, arith}
 use Rattle.std.proofs.lemmas.Bool.{cases_Bool, eqb-true, false≢true}
 use Rattle.std.proofs.lemmas.List.{take_more}
-use Rattle.indexmap.specs.IndexSet.{IndexSet, Updates, contains}
+use Rattle.std.specs.HashSet.{HashSet, Updates, contains}
 use Rattle.meta_model.specs.Among.{is_among}
 
-module _ {S : Type 0} (m n : IndexSet ℕ S) (k : ℕ) (u : Updates eqb m n k true) where
+module _ {S : Type 0} (m n : HashSet ℕ S) (k : ℕ) (u : Updates eqb m n k true) where
   pub set-kept : (o : ℕ) → contains eqb m o ≡ true → contains eqb n o ≡ true
   set-kept o is = elim (cases_Bool (eqb k o)) [
     | inl t ↦ subst (λ (x : ℕ). contains eqb n x ≡ true) (eqb-true k o t) u.1

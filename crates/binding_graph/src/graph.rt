@@ -2,7 +2,7 @@
 
 ghost use Rattle.std.specs.Prelude.{◌≡◌, ◌<◌, ◌^◌, [], length, eqb, IsTrue, OnOk};
 ghost use Rattle.std.specs.List.{list_any};
-ghost use Rattle.indexmap.specs.IndexSet.{contains};
+ghost use Rattle.std.specs.HashSet.{contains};
 ghost use Rattle.binding_graph.specs.Bindings.{binding_at, dropped, lead_out, replaced, without, without_all};
 ghost use Rattle.binding_graph.specs.code.Graph.{AreKeyed, AreNamed, AreTouched, HasRoom, IsGraph, KeepTouched, LosesReader, RankOfReader, Unread, bindings_of};
 ghost use Rattle.binding_graph.specs.code.Orders.{IsLater};
@@ -14,8 +14,8 @@ use crate::place::{Place, contains};
 use crate::ranks::Ranks;
 use crate::readers::Readers;
 use basic_types::ObjectId;
-use indexmap::IndexSet;
 use std::alloc::{AllocError, Global};
+use std::collections::HashSet;
 
 /// The installed bindings, each property's readers, the numbers of the bound properties, in whose order they are evaluated,
 /// and the objects that bindings have as targets' or as sources.
@@ -24,7 +24,7 @@ pub struct Graph {
     pub installed: Installed,
     pub readers: Readers,
     pub ranks: Ranks,
-    pub touched: IndexSet<usize>,
+    pub touched: HashSet<usize>,
 }
 
 impl Graph {
@@ -36,7 +36,7 @@ impl Graph {
         let installed = Installed::new(alloc);
         let readers = Readers::new(alloc);
         let ranks = Ranks::new(alloc);
-        let touched = IndexSet::new(alloc);
+        let touched = HashSet::new(alloc);
         Graph {
             installed,
             readers,
@@ -166,7 +166,7 @@ impl Graph {
             return;
         }
         self.drop_touching(object);
-        self.touched.swap_remove(&object.number());
+        self.touched.remove(&object.number());
     }
 
     /// Removes them one by one.
@@ -203,7 +203,7 @@ fn unlist(installed: &Installed, readers: &mut Readers, place: &Place, kept: &[P
 }
 
 /// Whether bindings may touch one of these objects.
-fn touches_any(touched: &IndexSet<usize>, objects: &[ObjectId]) -> bool
+fn touches_any(touched: &HashSet<usize>, objects: &[ObjectId]) -> bool
     ensures { result ≡ list_any (contains eqb touched.now) objects.now }
 {
     for object in objects {
@@ -215,7 +215,7 @@ fn touches_any(touched: &IndexSet<usize>, objects: &[ObjectId]) -> bool
 }
 
 /// Adds the objects of a binding to those that bindings touch. Its error is that memory was refused; then some are added.
-fn touch(touched: &mut IndexSet<usize>, binding: &Binding) -> Result<(), AllocError>
+fn touch(touched: &mut HashSet<usize>, binding: &Binding) -> Result<(), AllocError>
     ensures kept { KeepTouched touched.old touched.new }
     ensures touched { OnOk result (AreTouched touched.new binding.now) }
 {

@@ -2,13 +2,13 @@ ghost use Rattle.std.specs.Prelude.{◌≡◌, [], OnOk, OnErr};
 ghost use Rattle.name_indexes.specs.NamePlaces.{place_in, Adds};
 
 use basic_types::Name;
-use indexmap::IndexMap;
 use std::alloc::{AllocError, Global};
+use std::collections::HashMap;
 use std::marker::Model;
 
 /// Names, each with the first place that it was given. A name is found in time that doesn't grow with their number.
 pub struct NameIndex {
-    places: IndexMap<Name, usize>,
+    places: HashMap<Name, usize>,
 }
 
 impl Drop for NameIndex {
@@ -31,7 +31,7 @@ impl NameIndex {
         ensures { result ≡ [] }
     {
         NameIndex {
-            places: IndexMap::new(alloc),
+            places: HashMap::new(alloc),
         }
     }
 

@@ -1,6 +1,6 @@
 -- How the crate keeps the installed bindings: by target, with the readers and the number of each property.
 use Rattle.std.specs.Prelude.{◌≡◌, ℕ, ◌<◌, ◌⊎◌, List, [], map, Option, None, Some, position, eqb, true}
-use Rattle.indexmap.specs.IndexSet.{IndexSet, contains}
+use Rattle.std.specs.HashSet.{HashSet, contains}
 use Rattle.indexmap.specs.IndexMap.{keys, values, spare}
 use Rattle.binding_graph.specs.declared.place.Place.{Place}
 use Rattle.binding_graph.specs.declared.binding.Binding.{Binding}
@@ -74,8 +74,8 @@ RankOfReader g q source (Some i) =
     (b : Binding) × (binding_at (bindings_of g) q ≡ Some b) × Reads b source × (rank_of g.ranks q ≡ Some i)
 
 -- the objects of a binding are among those that bindings touch
-abbrev pub AreTouched : {S : Type 0} → IndexSet ℕ S → Binding → Type 0
+abbrev pub AreTouched : {S : Type 0} → HashSet ℕ S → Binding → Type 0
 AreTouched touched b = (o : ℕ) → touches o b ≡ true → contains eqb touched o ≡ true
 
-abbrev pub KeepTouched : {S : Type 0} → IndexSet ℕ S → IndexSet ℕ S → Type 0
+abbrev pub KeepTouched : {S : Type 0} → HashSet ℕ S → HashSet ℕ S → Type 0
 KeepTouched old new = (o : ℕ) → contains eqb old o ≡ true → contains eqb new o ≡ true

@@ -1,6 +1,6 @@
 use Rattle.std.proofs.Common.{◌≡◌, ◌∙◌, ◌||◌, ℕ, Bool, true, eqb, inl, inr, ap, sym, subst}
 use Rattle.std.proofs.lemmas.Bool.{cases_Bool, eqb-true}
-use Rattle.indexmap.specs.IndexSet.{contains}
+use Rattle.std.specs.HashSet.{contains}
 use Rattle.meta_model.specs.Among.{is_among}
 use Rattle.binding_graph.proofs.Touching.{among-all, among-next, set-has, set-kept}
 use Rattle.binding_graph.proofs.graph.touch.Goals as goal

@@ -1,5 +1,5 @@
 use Rattle.std.proofs.Common.{◌≡◌, ℕ, true, take, eqb}
-use Rattle.indexmap.specs.IndexSet.{contains}
+use Rattle.std.specs.HashSet.{contains}
 use Rattle.meta_model.specs.Among.{is_among}
 use Rattle.binding_graph.specs.code.Graph.{KeepTouched}
 use Rattle.binding_graph.proofs.graph.touch.Given as goal

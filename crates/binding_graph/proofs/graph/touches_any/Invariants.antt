@@ -1,6 +1,6 @@
 use Rattle.std.proofs.Common.{◌≡◌, drop, eqb}
 use Rattle.std.specs.List.{list_any}
-use Rattle.indexmap.specs.IndexSet.{contains}
+use Rattle.std.specs.HashSet.{contains}
 use Rattle.binding_graph.proofs.graph.touches_any.Given as goal
 
 -- of those that are left bindings may touch one exactly where they may touch one of all

@@ -1,5 +1,5 @@
 use Rattle.std.proofs.Common.{◌≡◌, ◌∙◌, ℕ, false, eqb, List, ap, refl, sym}
-use Rattle.indexmap.specs.IndexSet.{contains}
+use Rattle.std.specs.HashSet.{contains}
 use Rattle.binding_graph.specs.declared.binding.Binding.{Binding}
 use Rattle.binding_graph.specs.Bindings.{binding_at}
 use Rattle.binding_graph.specs.code.Graph.{bindings_of}
@@ -14,5 +14,5 @@ returns-then-not-contains-clause-left c =
 
 pub returns-clause-graph : goal.returns-clause-graph
 returns-clause-graph c = untouched-graph c.drop_touching.new.self _ c.args.object c.drop_touching.ensures.graph refl refl refl
-    (λ k apart. c.swap_remove.ensures.updates.2 k (ap (λ (o : ℕ). eqb o k) c.number-2.ensures ∙ apart))
+    (λ k apart. c.remove.ensures.updates.2 k (ap (λ (o : ℕ). eqb o k) c.number-2.ensures ∙ apart))
     (λ q b some. left-untouched c.args.object (bindings_of c.args.self.now) q b (ap (λ (xs : List Binding). binding_at xs q) (sym c.drop_touching.ensures.left) ∙ some))

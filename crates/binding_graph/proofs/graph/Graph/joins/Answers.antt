@@ -1,6 +1,6 @@
 use Rattle.std.proofs.Common.{◌≡◌, ◌∙◌, false, eqb, sym}
 use Rattle.std.specs.List.{list_any}
-use Rattle.indexmap.specs.IndexSet.{contains}
+use Rattle.std.specs.HashSet.{contains}
 use Rattle.binding_graph.specs.code.Graph.{bindings_of}
 use Rattle.binding_graph.proofs.Joining.{none-joined}
 use Rattle.binding_graph.proofs.graph.Graph.joins.Goals as goal
