@@ -2,9 +2,9 @@
 
 use crate::usage::push_usage;
 use check_flaws::broken_condition;
-use command_outcomes::{Fault, Outcome, ProgramOutcome, Refusal, ScriptFault, Why};
 use declaration_flaws::{declaration_flaw, native_flaw};
 use diagnostics::{Flaw, Severity, Span, TextKind, meaning, push_flaw, text_spans};
+use machine_commands::{Fault, Outcome, ProgramOutcome, Refusal, ScriptFault, Why};
 use meta_model::Meta;
 use program_flaws::missing_certificate;
 use rank_check::Denied;

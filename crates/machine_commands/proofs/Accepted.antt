@@ -17,8 +17,8 @@ use Rattle.program_commands.specs.declared.refusal.Refusal.{Refusal}
 use Rattle.program_commands.specs.declared.refusal.Refusal.TheVariants as refusal
 use Rattle.program_commands.specs.Refusals.{refusal_number, script_number}
 use Rattle.program_commands.proofs.Once.{OneOf, one_first, one_is, goes_with, loads_once, certified_once, check_once, check_short, never_denied, IsShortCheck, IsShortResult, never_short, same_short, short_refusal}
-use Rattle.command_outcomes.specs.declared.outcome.Outcome.{Outcome}
-use Rattle.command_outcomes.specs.Outcomes.{IsShort}
+use Rattle.machine_commands.specs.declared.outcome.Outcome.{Outcome}
+use Rattle.machine_commands.specs.Outcomes.{IsShort}
 use Rattle.machine_commands.specs.Commands.{Accepting, Accepts, AcceptedComesTo, MayRun, RunComesTo, refused}
 use Rattle.object_machine.specs.Seen.{Seen}
 

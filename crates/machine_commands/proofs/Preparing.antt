@@ -15,10 +15,10 @@ use Rattle.program_commands.specs.Refusals.{fault_line}
 use Rattle.command_output.specs.Lines.{entry_line, trace_text}
 use Rattle.command_output.specs.Sent.{TakesWith}
 use Rattle.command_output.specs.declared.output.Output.{Output}
-use Rattle.command_outcomes.specs.Outcomes.{Writes, outcome_text, outcome_status, run_text, run_status, seen_outcome}
-use Rattle.command_outcomes.specs.declared.outcome.Outcome.{Outcome}
-use Rattle.command_outcomes.specs.declared.outcome.Outcome.TheVariants.{Usage, NoInput, Program, Ran as OfRun, Memory}
-use Rattle.command_outcomes.specs.declared.outcome.Ran.{Ran}
+use Rattle.machine_commands.specs.Outcomes.{Writes, outcome_text, outcome_status, run_text, run_status, seen_outcome}
+use Rattle.machine_commands.specs.declared.outcome.Outcome.{Outcome}
+use Rattle.machine_commands.specs.declared.outcome.Outcome.TheVariants.{Usage, NoInput, Program, Ran as OfRun, Memory}
+use Rattle.machine_commands.specs.declared.outcome.Ran.{Ran}
 use Rattle.machine_commands.specs.Commands.{Runs, RunsFaultless, ran, ran_faultless}
 use Rattle.machine_commands.specs.Prepared.{RunsSo, Prepares, ComesOf, ComesOfRun, CarriesOut, seen_prepared, with_gone}
 use Rattle.machine_commands.specs.code.Streaming.{Streams}

@@ -28,10 +28,10 @@ use Rattle.command_lines.specs.declared.usage.UsageFault.{UsageFault}
 use Rattle.command_lines.specs.declared.usage.UsageFault.TheVariants.{Words, TooLarge, Texts}
 use Rattle.command_lines.specs.declared.words.Command.{Command}
 use Rattle.command_lines.specs.declared.words.Command.TheVariants.{Meta, Certify, Check, Run, RunUnchecked}
-use Rattle.command_outcomes.specs.Outcomes.{IsShort, Writes}
-use Rattle.command_outcomes.specs.declared.outcome.Outcome.{Outcome}
-use Rattle.command_outcomes.specs.declared.outcome.Outcome.TheVariants.{Usage, NoInput, Program, Ran as OfRun, Memory}
-use Rattle.command_outcomes.specs.declared.outcome.Ran.{Ran}
+use Rattle.machine_commands.specs.Outcomes.{IsShort, Writes}
+use Rattle.machine_commands.specs.declared.outcome.Outcome.{Outcome}
+use Rattle.machine_commands.specs.declared.outcome.Outcome.TheVariants.{Usage, NoInput, Program, Ran as OfRun, Memory}
+use Rattle.machine_commands.specs.declared.outcome.Ran.{Ran}
 
 -- a program is refused, and doesn't run
 abbrev pub refused : {M : Type 0} → Refusal → Outcome M

@@ -8,10 +8,10 @@ use Rattle.machine_rules.specs.Natives.{NativeAnswers}
 use Rattle.object_machine.specs.Checked.{IsChecked, Claims, StopsAtLimit}
 use Rattle.object_machine.specs.Seen.{Seen, AreKept, RunsAll, with_front}
 use Rattle.command_output.specs.Sent.{TakesWith}
-use Rattle.command_outcomes.specs.Outcomes.{outcome_text, outcome_status, seen_outcome}
-use Rattle.command_outcomes.specs.declared.outcome.Outcome.{Outcome}
-use Rattle.command_outcomes.specs.declared.outcome.Outcome.TheVariants.{Ran as OfRun}
-use Rattle.command_outcomes.specs.declared.outcome.Ran.{Ran}
+use Rattle.machine_commands.specs.Outcomes.{outcome_text, outcome_status, seen_outcome}
+use Rattle.machine_commands.specs.declared.outcome.Outcome.{Outcome}
+use Rattle.machine_commands.specs.declared.outcome.Outcome.TheVariants.{Ran as OfRun}
+use Rattle.machine_commands.specs.declared.outcome.Ran.{Ran}
 use Rattle.machine_commands.specs.declared.prepared.Prepared.{Prepared}
 use Rattle.machine_commands.specs.declared.prepared.Prepared.TheVariants.{Done, Ready as OfReady}
 

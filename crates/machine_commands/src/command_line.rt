@@ -4,19 +4,19 @@ ghost use Rattle.std.specs.Prelude.{◌≡◌, map};
 ghost use Rattle.command_lines.specs.declared.usage.UsageFault.TheVariants.{Words};
 ghost use Rattle.command_lines.specs.Words.{IsCommand, IsWithinLimits};
 ghost use Rattle.command_lines.specs.declared.words.Command.{Command as ACommand};
-ghost use Rattle.command_outcomes.specs.Outcomes.{seen_outcome};
-ghost use Rattle.command_outcomes.specs.declared.outcome.Outcome.TheVariants.{Program, Usage};
+ghost use Rattle.machine_commands.specs.Outcomes.{seen_outcome};
+ghost use Rattle.machine_commands.specs.declared.outcome.Outcome.TheVariants.{Program, Usage};
 ghost use Rattle.machine_commands.specs.Commands.{CommandComesTo, ReadsAndComesTo, InputComesTo, read_of};
 ghost use Rattle.machine_commands.specs.Prepared.{CarriesOut, Prepares, seen_prepared};
 ghost use Rattle.machine_commands.specs.declared.prepared.Prepared.TheVariants.{Done};
 
 use crate::natives::FittingNatives;
+use crate::outcome::Outcome;
 use crate::prepared::{Carried, Prepared};
 use crate::runs::{prepare_run, prepare_unchecked_run};
 use command_lines::{
     Command, InputFault, LARGEST_INPUT, UsageFault, one_text, read_input, three_texts, two_texts,
 };
-use command_outcomes::Outcome;
 use object_machine::ObjectMachine;
 use program_commands::{Outcome as ProgramOutcome, certify_outcome, check_outcome, meta_outcome};
 use std::alloc::Global;

@@ -1,18 +1,21 @@
-//! The program's commands on any object machine: what a command line is about to do, and how that is done and written.
+//! The program's commands on any object machine: what a command line is about to do, how that is done and written, and what
+//! it comes to: as a value, with the bytes that are written and the exit status.
 #![tactic(auto)]
 
 mod command_line;
 mod natives;
+mod outcome;
 mod prepared;
 mod runs;
 
 pub use command_line::{Answered, answer, prepare_for};
 pub use command_lines::{InputFault, LARGEST_INPUT, UsageFault};
-pub use command_outcomes::{Outcome, Ran};
 pub use command_output::WriteFault;
 pub use natives::FittingNatives;
 pub use object_machine::ObjectMachine;
+pub use outcome::{Outcome, Ran};
 pub use prepared::{Carried, Prepared, Ready, written};
 pub use program_commands::{Outcome as ProgramOutcome, Refusal, Why};
 pub use runs::{prepare_run, prepare_unchecked_run};
+pub use script_lang::ScriptFault;
 pub use trace_entries::{Entry, Fault};

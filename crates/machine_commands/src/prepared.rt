@@ -3,11 +3,11 @@
 ghost use Rattle.std.specs.Prelude.{◌≡◌, IfErr};
 ghost use Rattle.object_machine.specs.Checked.{IsChecked, Claims, StopsAtLimit};
 ghost use Rattle.object_machine.specs.Seen.{AreKept};
-ghost use Rattle.command_outcomes.specs.Outcomes.{seen_outcome, seen_run};
+ghost use Rattle.machine_commands.specs.Outcomes.{seen_outcome, seen_run};
 ghost use Rattle.machine_commands.specs.Prepared.{ComesOf, ComesOfRun, CarriesOut, MayBeDone, RunsSo, seen_prepared};
 ghost use Rattle.machine_commands.specs.code.Streaming.{Streams};
 
-use command_outcomes::{Outcome, Ran};
+use crate::outcome::{Outcome, Ran};
 use command_output::{Output, WriteFault};
 use object_machine::ObjectMachine;
 use script_lang::Event;

@@ -8,8 +8,8 @@ ghost use Rattle.machine_commands.specs.Prepared.{Prepares, seen_prepared};
 ghost use Rattle.machine_commands.specs.declared.prepared.Prepared.TheVariants.{Done};
 
 use crate::natives::FittingNatives;
+use crate::outcome::Outcome;
 use crate::prepared::{Prepared, Ready};
-use command_outcomes::Outcome;
 use meta_model::Meta;
 use object_machine::ObjectMachine;
 use program_commands::{Outcome as ProgramOutcome, Refusal, load_certified, load_program};

@@ -1,3 +1,8 @@
 pub mod Checking
 pub mod Fronts
 mod Halting
+mod Taken
+mod Pushed
+mod Judging
+mod Keeping
+mod Stopping

@@ -1,7 +1,10 @@
 //! The object machine: a run of a program, event by event, and all that is known of its runs.
 #![tactic(auto)]
 
+mod events;
 mod machine;
+mod refusing;
+mod taking;
 
 pub use class_outlines::MetaFault;
 pub use machine::Machine;

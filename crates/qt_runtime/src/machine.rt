@@ -1,11 +1,12 @@
 //! The machine, by its code.
 
-use machine_events::{Interpreter, take_event};
+use crate::taking::take_event;
 use machine_state::World;
 use meta_model::Meta;
 use native_slots::Answering;
 use object_machine::ObjectMachine;
 use rank_check::Checked;
+use rule_interpreter::Interpreter;
 use script_lang::Event;
 use std::alloc::{AllocError, Global};
 use std::marker::Model;

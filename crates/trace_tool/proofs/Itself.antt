@@ -3,9 +3,9 @@ use Rattle.std.proofs.Common.{◌≡◌, refl, subst}
 use Rattle.native_slots.specs.Promises.{Takes}
 use Rattle.machine_rules.specs.Natives.{NativeAnswers}
 use Rattle.object_machine.specs.Seen.{Seen}
-use Rattle.command_outcomes.specs.Outcomes.{seen_outcome}
-use Rattle.command_outcomes.specs.declared.outcome.Outcome.{Outcome}
-use Rattle.command_outcomes.specs.declared.outcome.Outcome.TheVariants.{Usage, NoInput, Program, Ran, Memory}
+use Rattle.machine_commands.specs.Outcomes.{seen_outcome}
+use Rattle.machine_commands.specs.declared.outcome.Outcome.{Outcome}
+use Rattle.machine_commands.specs.declared.outcome.Outcome.TheVariants.{Usage, NoInput, Program, Ran, Memory}
 use Rattle.machine_commands.specs.Prepared.{ComesOf, Prepares}
 use Rattle.machine_commands.specs.declared.prepared.Prepared.{Prepared}
 

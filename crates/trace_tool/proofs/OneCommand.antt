@@ -15,9 +15,9 @@ use Rattle.command_lines.specs.declared.usage.UsageFault.TheVariants.{Words, Too
 use Rattle.command_lines.specs.declared.words.Command.{Command}
 use Rattle.command_lines.specs.declared.words.Command.TheVariants.{Meta, Certify, Check, Run, RunUnchecked}
 use Rattle.command_lines.proofs.Partings.{texts_once}
-use Rattle.command_outcomes.specs.Outcomes.{IsShort}
-use Rattle.command_outcomes.specs.declared.outcome.Outcome.{Outcome}
-use Rattle.command_outcomes.specs.declared.outcome.Outcome.TheVariants.{Program}
+use Rattle.machine_commands.specs.Outcomes.{IsShort}
+use Rattle.machine_commands.specs.declared.outcome.Outcome.{Outcome}
+use Rattle.machine_commands.specs.declared.outcome.Outcome.TheVariants.{Program}
 use Rattle.machine_commands.specs.Commands.{Says, Cuts, Does, IsOfProgram}
 use Rattle.trace_tool.specs.Laws.{IsSameOutcome, OneCommandOutcome}
 use Rattle.trace_tool.proofs.OneRun.{OneAs, same_first, one_run_outcome, one_unchecked_outcome}

@@ -18,10 +18,10 @@ use Rattle.qt_runtime.specs.Seen.{Seen, Halts, begun}
 use Rattle.program_commands.specs.Commands.{IsSameOutcome as IsSameOfProgram}
 use Rattle.program_commands.specs.Refusals.{usage_line, memory_line}
 use Rattle.command_lines.specs.declared.input.InputFault.{InputFault}
-use Rattle.command_outcomes.specs.declared.outcome.Outcome.{Outcome}
-use Rattle.command_outcomes.specs.declared.outcome.Outcome.TheVariants.{Program, Ran as OfRun}
-use Rattle.command_outcomes.specs.declared.outcome.Ran.{Ran}
-use Rattle.command_outcomes.specs.Outcomes.{outcome_text, outcome_status, IsShort}
+use Rattle.machine_commands.specs.declared.outcome.Outcome.{Outcome}
+use Rattle.machine_commands.specs.declared.outcome.Outcome.TheVariants.{Program, Ran as OfRun}
+use Rattle.machine_commands.specs.declared.outcome.Ran.{Ran}
+use Rattle.machine_commands.specs.Outcomes.{outcome_text, outcome_status, IsShort}
 use Rattle.machine_commands.specs.Commands.{RunComesTo, UncheckedRunComesTo, CommandComesTo}
 
 -- Where nothing was done nothing comes before `usage` or `memory`, nor after it; after a read that failed nothing is

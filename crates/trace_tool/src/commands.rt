@@ -3,7 +3,7 @@
 ghost use Rattle.std.specs.Prelude.{◌≡◌, map};
 ghost use Rattle.command_lines.specs.Words.{IsCommand};
 ghost use Rattle.command_lines.specs.declared.words.Command.{Command as ACommand};
-ghost use Rattle.command_outcomes.specs.Outcomes.{Writes};
+ghost use Rattle.machine_commands.specs.Outcomes.{Writes};
 ghost use Rattle.machine_commands.specs.Commands.{CommandComesTo, WritesCommand, read_of};
 
 use machine_commands::{Answered, InputFault, WriteFault, answer, prepare_for, written};

@@ -5,7 +5,7 @@ ghost use Rattle.meta_model.specs.Loaded.{Loaded};
 ghost use Rattle.certificate_lang.specs.declared.certificate.Certificate.{Certificate};
 ghost use Rattle.texts.specs.Limits.{most_depth};
 ghost use Rattle.script_lang.specs.declared.event.Event.{Event as AnEvent};
-ghost use Rattle.command_outcomes.specs.Outcomes.{Writes};
+ghost use Rattle.machine_commands.specs.Outcomes.{Writes};
 ghost use Rattle.machine_commands.specs.Commands.{Accepts, AcceptedComesTo, RunComesTo, UncheckedRunComesTo};
 
 use machine_commands::{Outcome, WriteFault, prepare_run, prepare_unchecked_run, written};

@@ -4,7 +4,7 @@ use Rattle.object_machine.specs.Checked.{IsChecked, StopsAtLimit}
 use Rattle.qt_runtime.proofs.Checking.{applied-checked, claims-hold, sound-of}
 use Rattle.object_machine.specs.Seen.{Seen, AreKept, Completes, RefusesExactly, Halts, Stays}
 use Rattle.qt_runtime.proofs.Halting.{seen, applied-taken, applied-refused, applied-stopped, applied-spent}
-use Rattle.machine_events.proofs.Keeping.{keeps-took, settled-took, idle-took}
+use Rattle.qt_runtime.proofs.Keeping.{keeps-took, settled-took, idle-took}
 use Rattle.qt_runtime.proofs.machine.MachineObjectMachine.apply.Goals as goal
 
 pub invariant_of-self : goal.invariant_of-self

@@ -1,5 +1,5 @@
 use Rattle.std.proofs.Common.{refl, arith}
-use Rattle.machine_events.proofs.Keeping.{untouched-sound}
+use Rattle.qt_runtime.proofs.Keeping.{untouched-sound}
 use Rattle.qt_runtime.proofs.machine.MachineObjectMachine.unchecked.Goals as goal
 
 pub invariant_of-result : goal.invariant_of-result

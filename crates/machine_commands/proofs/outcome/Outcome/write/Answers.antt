@@ -1,0 +1,6 @@
+use Rattle.std.proofs.Common.{rules}
+use Rattle.command_output.proofs.Sending.{finished}
+use Rattle.machine_commands.proofs.outcome.Outcome.write.Goals as goal
+
+pub returns : goal.returns
+returns g c = finished c.new-output.ensures.begun c.put.ensures (rw c.status.ensures at c.finish.ensures) (search rules)

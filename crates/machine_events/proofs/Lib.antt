@@ -1,5 +1,0 @@
-mod Taken
-mod Pushed
-pub mod Judging
-pub mod Keeping
-mod Stopping

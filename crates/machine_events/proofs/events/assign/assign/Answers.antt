@@ -1,5 +1,0 @@
-use Rattle.machine_events.proofs.Taken.{took-not-accepted, ready}
-use Rattle.machine_events.proofs.events.assign.assign.Goals as goal
-
-pub returns-in-Err : goal.returns-in-Err
-returns-in-Err g c = took-not-accepted _ c.refuse.result c.requires.keeps.sound.is.agree c.in-Err.ensures.refused (ready c.requires.left c.requires.idle) c.refuse.ensures

@@ -1,5 +1,0 @@
-use Rattle.machine_events.proofs.Taken.{halted-spent}
-use Rattle.machine_events.proofs.taking.run_event.Goals as goal
-
-pub returns-then-world-eq0 : goal.returns-then-world-eq0
-returns-then-world-eq0 g c = record { cases = halted-spent _ c.if-world-eq0.true c.requires.idle }

@@ -1,2 +1,0 @@
-pub mod code
-pub use Rattle.machine_rules.specs.Natives

@@ -1,0 +1,57 @@
+//! `adopt`: an object gets a parent.
+
+ghost use Rattle.std.specs.Prelude.{◌≡◌, ◌<◌, [], IfOk, IfErr, None};
+ghost use Rattle.script_lang.specs.declared.event.Event.TheVariants.{Adopt};
+ghost use Rattle.qt_runtime.specs.code.Taking.{WorldInvariant, TookBy};
+ghost use Rattle.qt_runtime.specs.code.Taking.{adoption_reason};
+
+use crate::refusing::refuse;
+use basic_types::{Name, ObjectId};
+use event_judgement::find_living;
+use machine_state::World;
+use native_slots::Answering;
+use object_tree::AdoptFault;
+use rule_interpreter::Interpreter;
+use trace_entries::{Answer, Fault, Refusal};
+
+/// Makes one object the parent of another.
+pub fn adopt<N: Answering>(
+    interpreter: &Interpreter<N>,
+    world: &mut World,
+    parent: &Name,
+    child: &Name,
+) -> Result<Answer, Fault>
+    requires left { 0 < world.old.left }
+    requires idle { world.old.turn ≡ None }
+    requires keeps { WorldInvariant interpreter.now.context.meta world.old }
+    ensures { TookBy N.gives interpreter.now (Adopt parent.now child.now)
+        world.old world.new result }
+{
+    let parent = match find_living(world, parent) {
+        Ok((number, _)) => ObjectId::new(number),
+        Err(reason) => return refuse(world, reason),
+    };
+    let child = match find_living(world, child) {
+        Ok((number, _)) => ObjectId::new(number),
+        Err(reason) => return refuse(world, reason),
+    };
+    match world.adopt(&interpreter.context.meta, parent, child) {
+        Ok(()) => Ok(Answer::Done),
+        Err(fault) => {
+            let refusal = reason(fault)?;
+            world.refuse(refusal)
+        }
+    }
+}
+
+/// Why the event is refused, or the run stops, where an object isn't adopted.
+fn reason(fault: AdoptFault) -> Result<Refusal, Fault>
+    ensures { result ≡ adoption_reason fault }
+{
+    match fault {
+        AdoptFault::NotOwned => Ok(Refusal::NotOwned),
+        AdoptFault::Cycle => Ok(Refusal::Cycle),
+        AdoptFault::OtherLoop => Ok(Refusal::OtherLoop),
+        AdoptFault::Memory => Err(Fault::Memory),
+    }
+}

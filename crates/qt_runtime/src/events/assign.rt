@@ -1,0 +1,65 @@
+//! `set`: a property is written.
+
+ghost use Rattle.std.specs.Prelude.{◌≡◌, ◌<◌, None};
+ghost use Rattle.script_lang.specs.declared.event.Event.TheVariants.{Set};
+ghost use Rattle.prop_bindings.specs.Fits.{FitsAt};
+ghost use Rattle.machine_rules.specs.Natives.{KeepPromises};
+ghost use Rattle.event_judgement.specs.code.Accepted.{WritesTo};
+ghost use Rattle.qt_runtime.specs.code.Taking.{WorldInvariant, TookBy};
+ghost use Rattle.script_lang.specs.declared.event.Event.{Event as AnEvent};
+
+use crate::refusing::refuse;
+use basic_types::{Name, Value};
+use event_judgement::judge_write;
+use machine_state::World;
+use native_slots::Answering;
+use prop_bindings::{Assignment, Place};
+use rule_interpreter::{Active, Interpreter};
+use script_lang::Input;
+use trace_entries::{Answer, Fault};
+
+/// Writes a property, and runs what it notifies.
+pub fn assign<N: Answering>(
+    interpreter: &Interpreter<N>,
+    world: &mut World,
+    name: &Name,
+    property: &Name,
+    input: &Input,
+) -> Result<Answer, Fault>
+    requires depth { 0 < interpreter.now.context.depth }
+    requires promises { KeepPromises N.takes N.gives
+        interpreter.now.context.meta interpreter.now.natives }
+    requires left { 0 < world.old.left }
+    requires idle { world.old.turn ≡ None }
+    requires keeps { WorldInvariant interpreter.now.context.meta world.old }
+    ensures { TookBy N.gives interpreter.now (Set name.now property.now input.now)
+        world.old world.new result }
+{
+    match judge_write(&interpreter.context, world, name, property, input) {
+        Err(reason) => refuse(world, reason),
+        Ok(Assignment { place, value }) => write(interpreter, world, &place, value),
+    }
+}
+
+/// Writes a property for an event that is accepted, and runs what it notifies.
+fn write<N: Answering>(
+    interpreter: &Interpreter<N>,
+    world: &mut World,
+    place: &Place,
+    value: Value,
+) -> Result<Answer, Fault>
+    requires depth { 0 < interpreter.now.context.depth }
+    requires promises { KeepPromises N.takes N.gives
+        interpreter.now.context.meta interpreter.now.natives }
+    requires left { 0 < world.old.left }
+    requires idle { world.old.turn ≡ None }
+    requires keeps { WorldInvariant interpreter.now.context.meta world.old }
+    requires fits { FitsAt interpreter.now.context.meta world.old.store.tree place.now value }
+    ensures { (e : AnEvent) →
+        WritesTo interpreter.now.context.meta world.old place.now value e →
+        TookBy N.gives interpreter.now e world.old world.new result }
+{
+    let changed = world.accept_write(&interpreter.context.meta, place, value)?;
+    interpreter.run_update(world, &Active::nothing(), changed.as_slice())?;
+    Ok(Answer::Done)
+}

@@ -1,0 +1,82 @@
+//! `bind`: a property is bound to others.
+
+ghost use Rattle.std.specs.Prelude.{◌≡◌, ℕ, ◌<◌, List, None};
+ghost use Rattle.script_lang.specs.declared.event.Event.TheVariants.{Bind};
+ghost use Rattle.machine_rules.specs.Natives.{KeepPromises};
+ghost use Rattle.event_judgement.specs.code.Accepted.{AsksToBind};
+ghost use Rattle.qt_runtime.specs.code.Taking.{WorldInvariant, TookBy, binding_reason};
+
+use crate::refusing::refuse;
+use basic_types::Name;
+use event_judgement::{Asked, judge_bind};
+use machine_state::World;
+use native_slots::Answering;
+use prop_bindings::BindFault;
+use rule_interpreter::{Active, Interpreter};
+use trace_entries::{Answer, Fault, Refusal};
+
+/// Binds a property, and runs what is notified.
+pub fn bind<N: Answering>(
+    interpreter: &Interpreter<N>,
+    world: &mut World,
+    site: &Name,
+    target: &Name,
+    sources: &[Name],
+) -> Result<Answer, Fault>
+    requires depth { 0 < interpreter.now.context.depth }
+    requires promises { KeepPromises N.takes N.gives
+        interpreter.now.context.meta interpreter.now.natives }
+    requires left { 0 < world.old.left }
+    requires idle { world.old.turn ≡ None }
+    requires keeps { WorldInvariant interpreter.now.context.meta world.old }
+    ensures { TookBy N.gives interpreter.now (Bind site.now target.now sources.now)
+        world.old world.new result }
+{
+    match judge_bind(&interpreter.context, world, site, target, sources) {
+        Err(reason) => refuse(world, reason),
+        Ok(asked) => install(interpreter, world, &asked),
+    }
+}
+
+/// Installs the binding, and runs what is notified; or refuses the event.
+fn install<N: Answering>(
+    interpreter: &Interpreter<N>,
+    world: &mut World,
+    asked: &Asked,
+) -> Result<Answer, Fault>
+    requires depth { 0 < interpreter.now.context.depth }
+    requires promises { KeepPromises N.takes N.gives
+        interpreter.now.context.meta interpreter.now.natives }
+    requires left { 0 < world.old.left }
+    requires idle { world.old.turn ≡ None }
+    requires keeps { WorldInvariant interpreter.now.context.meta world.old }
+    ensures { (site target : List ℕ) (sources : List (List ℕ)) →
+        AsksToBind interpreter.now.context.meta world.old site target sources
+        asked.now.site asked.now.target asked.now.sources →
+        TookBy N.gives interpreter.now (Bind site target sources) world.old world.new result }
+{
+    let sources = asked.sources.as_slice();
+    match world.accept_bind(&interpreter.context.meta, asked.site, asked.target, sources) {
+        Ok(changed) => {
+            interpreter.run_update(world, &Active::nothing(), changed.as_slice())?;
+            Ok(Answer::Done)
+        }
+        Err(fault) => {
+            let refusal = reason(fault)?;
+            world.refuse(refusal)
+        }
+    }
+}
+
+/// Why the event is refused, or the run stops, where no binding is installed.
+fn reason(fault: BindFault) -> Result<Refusal, Fault>
+    ensures { result ≡ binding_reason fault }
+{
+    match fault {
+        BindFault::BadSource => Ok(Refusal::BadSource),
+        BindFault::OtherLoop => Ok(Refusal::OtherLoop),
+        BindFault::BadType => Err(Fault::BadType),
+        BindFault::BindingLoop => Err(Fault::BindingLoop),
+        BindFault::Memory => Err(Fault::Memory),
+    }
+}

@@ -1,0 +1,38 @@
+//! `delete`: an object is destroyed, and all its children.
+
+ghost use Rattle.std.specs.Prelude.{◌<◌, ◌≡◌, None};
+ghost use Rattle.script_lang.specs.declared.event.Event.TheVariants.{Delete};
+ghost use Rattle.machine_rules.specs.Natives.{KeepPromises};
+ghost use Rattle.qt_runtime.specs.code.Taking.{WorldInvariant, TookBy};
+
+use crate::refusing::refuse;
+use basic_types::{Name, ObjectId};
+use event_judgement::find_living;
+use machine_state::World;
+use native_slots::Answering;
+use rule_interpreter::{Active, Interpreter};
+use trace_entries::{Answer, Fault};
+
+/// Begins the deletion of an object, and carries it out.
+pub fn delete<N: Answering>(
+    interpreter: &Interpreter<N>,
+    world: &mut World,
+    name: &Name,
+) -> Result<Answer, Fault>
+    requires depth { 0 < interpreter.now.context.depth }
+    requires promises { KeepPromises N.takes N.gives
+        interpreter.now.context.meta interpreter.now.natives }
+    requires left { 0 < world.old.left }
+    requires idle { world.old.turn ≡ None }
+    requires keeps { WorldInvariant interpreter.now.context.meta world.old }
+    ensures { TookBy N.gives interpreter.now (Delete name.now) world.old world.new result }
+{
+    let object = match find_living(world, name) {
+        Ok((number, _)) => ObjectId::new(number),
+        Err(reason) => return refuse(world, reason),
+    };
+    world.accept()?;
+    let below = Active::nothing();
+    interpreter.run_deletion(world, &below, object)?;
+    Ok(Answer::Done)
+}

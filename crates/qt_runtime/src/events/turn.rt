@@ -1,0 +1,34 @@
+//! `turn`: an event loop delivers what waits in it.
+
+ghost use Rattle.std.specs.Prelude.{◌≡◌, ◌<◌, None};
+ghost use Rattle.script_lang.specs.declared.event.Event.TheVariants.{Turn};
+ghost use Rattle.machine_rules.specs.Natives.{KeepPromises};
+ghost use Rattle.qt_runtime.specs.code.Taking.{WorldInvariant, TookBy};
+
+use basic_types::Name;
+use machine_state::World;
+use native_slots::Answering;
+use rule_interpreter::Interpreter;
+use trace_entries::{Answer, Fault, Refusal};
+
+/// Begins a turn of an event loop, and carries it to its end.
+pub fn turn<N: Answering>(
+    interpreter: &Interpreter<N>,
+    world: &mut World,
+    name: &Name,
+) -> Result<Answer, Fault>
+    requires depth { 0 < interpreter.now.context.depth }
+    requires promises { KeepPromises N.takes N.gives
+        interpreter.now.context.meta interpreter.now.natives }
+    requires left { 0 < world.old.left }
+    requires idle { world.old.turn ≡ None }
+    requires keeps { WorldInvariant interpreter.now.context.meta world.old }
+    ensures { TookBy N.gives interpreter.now (Turn name.now) world.old world.new result }
+{
+    let Some(home) = world.store.loops.find(name) else {
+        return world.refuse(Refusal::NoLoop);
+    };
+    world.accept_turn(home)?;
+    interpreter.run_turn(world)?;
+    Ok(Answer::Done)
+}
