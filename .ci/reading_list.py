@@ -13,9 +13,9 @@ specs/code, which a reader needn't know."""
 import os, re, sys
 
 BESIDE = ['IsChecked', 'AreKept', 'StopsFor']
-PARTS = [('the claims, and runs', r'object_machine/specs/(?!Causes)|machine_rules/specs/Good'),
+PARTS = [('the claims, and runs', r'object_machine/specs/(?!Causes|Events|Takes)|machine_rules/specs/Good'),
          ('why a run stops', r'object_machine/specs/Causes|machine_rules/specs/Faults'),
-         ('events', r'event_judgement'), ('rules', r'machine_rules|statement_meaning'), ('the state', r'machine_state|change_lines|trace_entries'),
+         ('events', r'object_machine/specs/(Events|Takes)'), ('rules', r'machine_rules|statement_meaning'), ('the state', r'machine_state|change_lines|trace_entries'),
          ('objects, connections, event loops, bindings', r'object_tree|connections|event_loops|binding_graph|binding_plans|prop_bindings|delete_later'),
          ('values, expressions, classes', r'')]
 WORD = re.compile(r'[^\s(){},;.\[\]]+')

@@ -1,3 +1,9 @@
+pub mod Lines
+pub mod MetaLines
+pub mod NodeLines
+pub mod Sent
+pub use Rattle.basic_types.specs.Spelling
+pub use Rattle.certificate_texts.specs.Texts as CertificateTexts
 pub mod Cut
 pub mod Inputs
 pub mod Words

@@ -4,8 +4,8 @@ ghost use Rattle.std.specs.Prelude.{◌≡◌, ◌↔◌, map, false, IsTrue};
 ghost use Rattle.explained_commands.specs.Judged.{IsUnjudged};
 ghost use Rattle.machine_commands.specs.Commands.{WritesCommand};
 
+use crate::explain::explanation;
 use crate::remarks::{is_judged, remarks_on};
-use explanations::explanation;
 use machine_commands::{
     Answered, Entry, FittingNatives, InputFault, ObjectMachine, Outcome, Ran, WriteFault, answer,
 };

@@ -2,6 +2,7 @@
 #![tactic(auto)]
 
 mod ends;
+mod explain;
 mod remarks;
 
 pub use ends::{explained_command, tell_fault};

@@ -1,51 +1,35 @@
 //! Explanations: what an answer of the program means, and where in the input its reason lies.
 
-use crate::usage::push_usage;
-use check_flaws::broken_condition;
 use declaration_flaws::{declaration_flaw, native_flaw};
 use diagnostics::{Flaw, Severity, Span, TextKind, meaning, push_flaw, text_spans};
-use machine_commands::{Fault, Outcome, ProgramOutcome, Refusal, ScriptFault, Why};
 use meta_model::Meta;
-use program_flaws::missing_certificate;
+use program_commands::{Outcome, Refusal, Why};
+use program_flaws::{broken_condition, missing_certificate};
 use rank_check::Denied;
+use script_lang::ScriptFault;
 use std::alloc::{AllocError, Global};
 use text_flaws::{certificate_flaw, program_flaw, script_flaw, size_flaw, wire_flaw};
+use trace_entries::Fault;
 
-/// Explains what the words come to on this input: what it means, in one sentence; and where the input is at fault, what is
-/// wrong there, its line and column in the input and in its text, that line with a caret below the place, and what to write
-/// instead, where that is known. Where the input isn't known no place is reported. `None` where there is nothing to
-/// explain: a command did what it was asked, memory was wanting, or there is no input.
-pub fn explanation<M: Drop>(
+/// Adds what a command that runs nothing comes to on this input, or why a program doesn't run, for a person: what it means, in
+/// one sentence; and where the input is at fault, what is wrong there, its line and column in the input and in its text,
+/// that line with a caret below the place, and what to write instead, where that is known. Where the input isn't known no
+/// place is reported. Nothing is added where the command did what it was asked, or memory was wanting.
+pub fn push_outcome(
+    text: &mut String,
     alloc: Global,
-    words: &[&str],
     input: Option<&[u8]>,
-    outcome: &Outcome<M>,
-) -> Result<Option<String>, AllocError> {
-    let mut text = String::new(alloc);
+    outcome: &Outcome,
+) -> Result<(), AllocError> {
     match outcome {
-        Outcome::Usage(fault) => push_usage(&mut text, alloc, words, input, *fault)?,
-        Outcome::Program(ProgramOutcome::Refused(refusal)) => {
-            push_refusal(&mut text, alloc, input, refusal)?
-        }
-        Outcome::Program(ProgramOutcome::Uncertified(meta, why)) => {
-            push_missing(&mut text, alloc, input, meta, why)?
-        }
-        Outcome::Ran(ran) => {
-            if let Err(fault) = ran.ended {
-                push_fault(&mut text, fault)?;
-            }
-        }
-        Outcome::Program(_) | Outcome::NoInput(_) | Outcome::Memory => {}
-    }
-    if text.is_empty() {
-        Ok(None)
-    } else {
-        Ok(Some(text))
+        Outcome::Refused(refusal) => push_refusal(text, alloc, input, refusal),
+        Outcome::Uncertified(meta, why) => push_missing(text, alloc, input, meta, why),
+        _ => Ok(()),
     }
 }
 
-/// Adds what a fault means.
-fn push_fault(text: &mut String, fault: Fault) -> Result<(), AllocError> {
+/// Adds what a fault means that stopped a run.
+pub fn push_fault(text: &mut String, fault: Fault) -> Result<(), AllocError> {
     let number = fault.number();
     let about = meaning(number).unwrap_or("");
     writeln!(text, "fault {number}: {about}")

@@ -1,8 +1,8 @@
-//! What a command line comes to, for a person: a sentence, and the place in the input.
+//! What an answer of the program means, for a person: a sentence, and the place in the input.
 #![tactic(auto)]
 
 mod explain;
 mod usage;
 
-pub use diagnostics::{TextPlace, meaning};
-pub use explain::explanation;
+pub use explain::{push_fault, push_outcome};
+pub use usage::push_usage;

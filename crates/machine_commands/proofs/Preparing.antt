@@ -12,9 +12,9 @@ use Rattle.machine_rules.specs.Natives.{NativeAnswers}
 use Rattle.object_machine.specs.Checked.{IsChecked, Claims, StopsAtLimit}
 use Rattle.object_machine.specs.Seen.{Seen, AreKept, RunsAll, begun, with_front}
 use Rattle.program_commands.specs.Refusals.{fault_line}
-use Rattle.command_output.specs.Lines.{entry_line, trace_text}
-use Rattle.command_output.specs.Sent.{TakesWith}
-use Rattle.command_output.specs.declared.output.Output.{Output}
+use Rattle.command_lines.specs.Lines.{entry_line, trace_text}
+use Rattle.command_lines.specs.Sent.{TakesWith}
+use Rattle.command_lines.specs.declared.output.Output.{Output}
 use Rattle.machine_commands.specs.Outcomes.{Writes, outcome_text, outcome_status, run_text, run_status, seen_outcome}
 use Rattle.machine_commands.specs.declared.outcome.Outcome.{Outcome}
 use Rattle.machine_commands.specs.declared.outcome.Outcome.TheVariants.{Usage, NoInput, Program, Ran as OfRun, Memory}

@@ -12,10 +12,10 @@ use Rattle.object_machine.specs.Seen.{Seen, Completes, Halts, Stays, cleared, wi
 use Rattle.object_machine.proofs.Applying.{completes-none, completes-then, run-stops}
 use Rattle.object_machine.proofs.Applying.{limit-behind}
 use Rattle.object_machine.proofs.SeenFronts.{completes-front, stop-front}
-use Rattle.command_output.specs.Lines.{entry_line, trace_text}
-use Rattle.command_output.specs.Sent.{Puts}
-use Rattle.command_output.specs.declared.output.Output.{Output}
-use Rattle.command_output.proofs.Sending.{sent, as_text, none_sent}
+use Rattle.command_lines.specs.Lines.{entry_line, trace_text}
+use Rattle.command_lines.specs.Sent.{Puts}
+use Rattle.command_lines.specs.declared.output.Output.{Output}
+use Rattle.command_lines.proofs.Sending.{sent, as_text, none_sent}
 use Rattle.machine_commands.specs.code.Streaming.{Streams}
 
 -- these events were taken, and what they wrote down was handed over, and put into the output

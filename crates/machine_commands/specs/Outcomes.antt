@@ -5,7 +5,7 @@ use Rattle.trace_entries.specs.declared.entry.Entry.{Entry}
 use Rattle.trace_entries.specs.declared.fault.Fault.{Fault}
 use Rattle.program_commands.specs.Outcomes.{outcome_text as program_text, outcome_status as program_status, WritesAs, IsShortAs}
 use Rattle.program_commands.specs.Refusals.{memory_line, usage_line, fault_line}
-use Rattle.command_output.specs.Lines.{trace_text}
+use Rattle.command_lines.specs.Lines.{trace_text}
 use Rattle.command_lines.specs.declared.input.InputFault.{InputFault}
 use Rattle.command_lines.specs.declared.input.InputFault.TheVariants as input
 use Rattle.machine_commands.specs.declared.outcome.Outcome.{Outcome}

@@ -9,8 +9,7 @@ mod prepared;
 mod runs;
 
 pub use command_line::{Answered, answer, prepare_for};
-pub use command_lines::{InputFault, LARGEST_INPUT, UsageFault};
-pub use command_output::WriteFault;
+pub use command_lines::{InputFault, LARGEST_INPUT, UsageFault, WriteFault};
 pub use natives::FittingNatives;
 pub use object_machine::ObjectMachine;
 pub use outcome::{Outcome, Ran};

@@ -1,11 +1,10 @@
 //! What a command line comes to, and how it is written.
 
 ghost use Rattle.std.specs.Prelude.{◌≡◌};
-ghost use Rattle.command_output.specs.Sent.{Puts, TakesWith};
+ghost use Rattle.command_lines.specs.Sent.{Puts, TakesWith};
 ghost use Rattle.machine_commands.specs.Outcomes.{outcome_text, outcome_status, run_text, run_status, seen_outcome};
 
-use command_lines::{InputFault, UsageFault};
-use command_output::{Output, WriteFault};
+use command_lines::{InputFault, Output, UsageFault, WriteFault};
 use object_machine::ObjectMachine;
 use program_commands::Outcome as ProgramOutcome;
 use std::alloc::Global;

@@ -8,7 +8,7 @@ ghost use Rattle.machine_commands.specs.Prepared.{ComesOf, ComesOfRun, CarriesOu
 ghost use Rattle.machine_commands.specs.code.Streaming.{Streams};
 
 use crate::outcome::{Outcome, Ran};
-use command_output::{Output, WriteFault};
+use command_lines::{Output, WriteFault};
 use object_machine::ObjectMachine;
 use script_lang::Event;
 use sqlite_items::Items;

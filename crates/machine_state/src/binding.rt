@@ -1,8 +1,8 @@
-//! Writes and binds, and what changes with them. A change is planned, the lines that tell of it are made, and the trace takes
+//! Writes, and what changes with them. A change is planned, the lines that tell of it are made, and the trace takes
 //! them, before anything else changes: where memory is refused for one of these, the world is as it was. A write of a property
 //! that no binding reads, as most are, needs no plan.
 
-ghost use Rattle.std.specs.Prelude.{◌≡◌, [], ◌∷◌, ◌<◌, ◌^◌, IfOk, IfErr};
+ghost use Rattle.std.specs.Prelude.{◌≡◌, [], ◌∷◌, ◌<◌, IfOk, IfErr};
 ghost use Rattle.object_tree.specs.Objects.{change_life, written};
 ghost use Rattle.binding_graph.specs.Bindings.{binding_at, without, without_all};
 ghost use Rattle.binding_graph.specs.code.Graph.{Unread};
@@ -12,18 +12,17 @@ ghost use Rattle.prop_bindings.specs.Fits.{Agree, FitsAt};
 ghost use Rattle.prop_bindings.specs.Plans.{after};
 ghost use Rattle.trace_entries.specs.declared.fault.Fault.TheVariants.{Memory};
 ghost use Rattle.machine_state.specs.code.Trying.{fault_of, IsUnplanned, TriesWrite};
-ghost use Rattle.change_lines.specs.Telling.{Alone, AreTold, Grouped, IsGroupTold, writes_of};
-ghost use Rattle.machine_state.specs.Worlds.{noted, accepting_entries, with_bound, WritesIn, BindsIn};
+ghost use Rattle.change_lines.specs.Telling.{Grouped, IsGroupTold, writes_of};
+ghost use Rattle.machine_state.specs.Worlds.{noted, with_bound, WritesIn};
 ghost use Rattle.change_lines.specs.code.Planned.{CanBeTold, WillWrite, WillWriteOne, WillWriteAll};
 
 use crate::world::World;
-use basic_types::{ObjectId, Value};
+use basic_types::Value;
 use change_lines::{Cause, Telling, line_of};
 use delete_later::Store;
 use meta_model::Meta;
 use prop_bindings::{
-    Assignment, BindFault, ChangedPlaces, Place, Planned, PlannedGroup, PlannedWrite, WriteFault,
-    fits,
+    Assignment, ChangedPlaces, Place, PlannedGroup, PlannedWrite, WriteFault, fits,
 };
 use std::alloc::{AllocError, Global};
 use trace_entries::{Entry, Fault};
@@ -126,115 +125,15 @@ impl World {
         Ok(self.carry_out_group(planned))
     }
 
-    /// Writes a property of a living object for an accepted event, as `write` does, over the empty stack.
-    pub fn accept_write(
-        &mut self,
-        meta: &Meta,
-        place: &Place,
-        value: Value,
-    ) -> Result<ChangedPlaces, Fault>
-        requires left { 0 < self.old.left }
-        requires few { self.old.events < 2 ^ 63 }
-        requires agree { Agree meta.now self.old.store.tree self.old.store.bindings }
-        requires fits { FitsAt meta.now self.old.store.tree place.now value }
-        ensures value { WritesIn meta.now 1 (Alone place.now value) self.old
-            (accepting_entries self.old) result self.new }
-        ensures agree { Agree meta.now self.new.store.tree self.new.store.bindings }
-    {
-        if self.store.bindings.is_unread(place) {
-            return self.accept_unread(meta, place, value);
-        }
-        self.accept_followed(meta, place, value)
-    }
-
-    /// Writes a property that no binding reads for an accepted event, as `accept_write` does: nothing follows from it.
-    fn accept_unread(
-        &mut self,
-        meta: &Meta,
-        place: &Place,
-        value: Value,
-    ) -> Result<ChangedPlaces, Fault>
-        requires left { 0 < self.old.left }
-        requires few { self.old.events < 2 ^ 63 }
-        requires agree { Agree meta.now self.old.store.tree self.old.store.bindings }
-        requires fits { FitsAt meta.now self.old.store.tree place.now value }
-        requires unread { Unread (binding_at self.old.store.bindings) place.now }
-        ensures value { WritesIn meta.now 1 (Alone place.now value) self.old
-            (accepting_entries self.old) result self.new }
-        ensures agree { Agree meta.now self.new.store.tree self.new.store.bindings }
-    {
-        let line = line_of(meta, &self.store.tree, 1, Cause::Write, place, &value)?;
-        self.trace.accept(self.events + 1, [line])?;
-        self.count_event();
-        Ok(self.write_alone(place, value))
-    }
-
-    /// Writes a property that bindings may read for an accepted event, as `accept_write` does: others may follow.
-    #[inline(never)]
-    fn accept_followed(
-        &mut self,
-        meta: &Meta,
-        place: &Place,
-        value: Value,
-    ) -> Result<ChangedPlaces, Fault>
-        requires left { 0 < self.old.left }
-        requires few { self.old.events < 2 ^ 63 }
-        requires agree { Agree meta.now self.old.store.tree self.old.store.bindings }
-        requires fits { FitsAt meta.now self.old.store.tree place.now value }
-        ensures value { WritesIn meta.now 1 (Alone place.now value) self.old
-            (accepting_entries self.old) result self.new }
-        ensures agree { Agree meta.now self.new.store.tree self.new.store.bindings }
-    {
-        let planned = self.plan_write(meta, place, value)?;
-        let lines = self.lines(meta, 1, Cause::Write, place, &planned.planned)?;
-        self.trace.accept_all(self.events + 1, lines)?;
-        self.count_event();
-        Ok(self.carry_out(planned))
-    }
-
-    /// Installs the binding of a site for living objects for an accepted event, in place of the target's old one; what
-    /// follows from it changes with it, and all this is written down. It answers the properties that no longer read as
-    /// they did: the target, if it changed, then the others in the order in which their bindings were installed. Refused,
-    /// where the first of these holds, with `BadSource`, `OtherLoop`, `BadType` and `BindingLoop`, and without memory with
-    /// `Memory`; then nothing changes.
-    pub fn accept_bind(
-        &mut self,
-        meta: &Meta,
-        site: usize,
-        target: ObjectId,
-        sources: &[ObjectId],
-    ) -> Result<ChangedPlaces, BindFault>
-        requires left { 0 < self.old.left }
-        requires few { self.old.events < 2 ^ 63 }
-        requires agree { Agree meta.now self.old.store.tree self.old.store.bindings }
-        ensures value { BindsIn meta.now site target sources.now self.old
-            (accepting_entries self.old) result self.new }
-        ensures agree { Agree meta.now self.new.store.tree self.new.store.bindings }
-    {
-        let store = &self.store;
-        let planned = store
-            .bindings
-            .plan_bind(meta, &store.tree, site, target, sources)?;
-        let lines = self.lines(meta, 1, Cause::Bind, &planned.target(), planned.planned())?;
-        let (told, event) = (self.trace.len(), self.events + 1);
-        self.trace.accept_all(event, lines)?;
-        let Store { tree, bindings, .. } = &mut self.store;
-        match bindings.carry_out_bind(tree, planned) {
-            Ok(changed) => {
-                self.count_event();
-                Ok(changed)
-            }
-            Err(_) => {
-                self.trace.keep_first(told);
-                Err(BindFault::Memory)
-            }
-        }
-    }
-
     /// Plans a write of a property of a living object; `BadType` where no such object lives, it has no such property, or the
     /// value isn't of its type, and `Memory` only where a growth was refused.
     #[inline(always)]
-    fn plan_write(&self, meta: &Meta, place: &Place, value: Value) -> Result<PlannedWrite, Fault>
+    pub fn plan_write(
+        &self,
+        meta: &Meta,
+        place: &Place,
+        value: Value,
+    ) -> Result<PlannedWrite, Fault>
         requires agree { Agree meta.now self.now.store.tree self.now.store.bindings }
         ensures fits { IfOk result (λ plan. FitsAt meta.now self.now.store.tree place.now value) }
         ensures ok { IfOk result (WillWriteOne meta.now self.now.store.tree self.now.store.bindings
@@ -265,28 +164,6 @@ impl World {
         }
     }
 
-    /// What is to be written down of a change that is planned, of this property first.
-    fn lines(
-        &self,
-        meta: &Meta,
-        depth: usize,
-        cause: Cause,
-        first: &Place,
-        planned: &Planned,
-    ) -> Result<Vec<Entry>, AllocError>
-        requires can { CanBeTold meta.now self.now.store.tree (first.now ∷ []) planned.now }
-        ensures { IfOk result (λ lines. AreTold meta.now (after planned.now self.now.store.tree)
-            depth cause first.now planned.now.changed lines.items) }
-    {
-        let telling = Telling {
-            meta,
-            tree: &self.store.tree,
-            planned,
-            depth,
-        };
-        telling.change(self.trace.allocator(), cause, first)
-    }
-
     /// What is to be written down of a group that is planned.
     fn group_lines(
         &self,
@@ -314,7 +191,7 @@ impl World {
     /// Gives a property that no binding reads a value of its type, and ends its own binding, which takes no memory. It
     /// answers the property, if it no longer reads as it did.
     #[inline(always)]
-    fn write_alone(&mut self, place: &Place, value: Value) -> ChangedPlaces
+    pub fn write_alone(&mut self, place: &Place, value: Value) -> ChangedPlaces
         ensures changed { AreChanged self.old.store.tree
             (change_life place.now.object (written place.now.property value) self.old.store.tree)
             (place.now ∷ []) result }
@@ -327,7 +204,7 @@ impl World {
     }
 
     /// Carries out a planned write, which takes no memory, and answers the properties that no longer read as they did.
-    fn carry_out(&mut self, planned: PlannedWrite) -> ChangedPlaces
+    pub fn carry_out(&mut self, planned: PlannedWrite) -> ChangedPlaces
         ensures changed { result ≡ planned.planned.changed }
         ensures world { self.new ≡ with_bound self.old (after planned.planned self.old.store.tree)
             (without planned.target self.old.store.bindings) }

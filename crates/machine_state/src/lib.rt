@@ -1,7 +1,6 @@
 //! The machine's state but the stack: objects, connections, event loops, bindings and the trace.
 #![tactic(auto)]
 
-mod accepting;
 mod binding;
 mod connecting;
 mod deleting;
@@ -10,6 +9,7 @@ mod turn;
 mod world;
 
 pub use change_lines::{Cause, show, show_all};
+pub use connecting::{join, part};
 pub use endpoints::Endpoints;
 pub use turn::{MAIN, Turn, reaches_at_once};
 pub use world::{World, is_silent};

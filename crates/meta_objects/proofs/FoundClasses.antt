@@ -49,7 +49,7 @@ use Rattle.class_outlines.proofs.Zips.{zip_right, zip_append, zip_also, zip_both
 use Rattle.meta_objects.proofs.Soundness.{map_at}
 use Rattle.name_resolution.proofs.Unique.{same_loaded}
 use Rattle.class_outlines.proofs.Firsts.{first_in_front}
-use Rattle.load_rules.proofs.OwnMembers.{name_changed_first}
+use Rattle.meta_objects.proofs.OwnMembers.{name_changed_first}
 use Rattle.meta_objects.proofs.Whole.{sound}
 use Rattle.meta_objects.proofs.FoundBodies.{stands_first, first_signal, signal_sort, statements_found}
 use Rattle.meta_objects.proofs.FoundParts.{effects_found, wire_found, owns_found, site_found}

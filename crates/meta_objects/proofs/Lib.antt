@@ -1,3 +1,5 @@
+pub mod OwnMembers
+pub mod Repeats
 pub mod Soundness
 pub mod SoundBodies
 pub mod Deciding

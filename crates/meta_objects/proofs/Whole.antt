@@ -60,7 +60,7 @@ use Rattle.class_outlines.proofs.Zips.{zip_left, zip_right, zip_split, zip_also,
 use Rattle.meta_model.proofs.InLists.{place_in}
 use Rattle.class_outlines.proofs.Once.{once, none_at}
 use Rattle.class_outlines.proofs.Firsts.{first_in_front}
-use Rattle.load_rules.proofs.OwnMembers.{name_changed_first}
+use Rattle.meta_objects.proofs.OwnMembers.{name_changed_first}
 use Rattle.class_outlines.proofs.ReadTypes.{same_read}
 use Rattle.meta_objects.proofs.Deciding.{carries}
 use Rattle.name_resolution.proofs.OneSite.{same_zip}

@@ -5,9 +5,11 @@ ghost use Rattle.syntax_trees.specs.declared.program.Program.{Program};
 ghost use Rattle.class_outlines.specs.declared.fault.MetaFault.{MetaFault};
 ghost use Rattle.meta_objects.specs.Builds.{Builds, LoadsProgram};
 
+use crate::clashes::{duplicate_class, repeated_name};
 use crate::member_indexes::index_members;
+use crate::notify::bad_notifier;
+use crate::unfit_types::unfit_type;
 use class_outlines::{ClassTable, LoadFault, MetaFault, index_outlines, outline_classes};
-use load_rules::{bad_notifier, duplicate_class, repeated_name, unfit_type};
 use meta_model::Meta;
 use name_resolution::{Uses, resolve_objects, resolve_uses};
 use std::alloc::Global;

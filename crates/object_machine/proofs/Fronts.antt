@@ -30,10 +30,10 @@ use Rattle.machine_rules.specs.Operations.{Operation}
 use Rattle.machine_rules.specs.Rules.{Begins}
 use Rattle.machine_rules.specs.Settling.{Writes, Installs}
 use Rattle.object_machine.specs.Causes.{BindsNext, Brings, StopsFor, spent, short, brings, lacks_value, writes_ill, binds_ill, goes_ill, goes_fatal, binds_loop, writes_deep, goes_deep}
-use Rattle.event_judgement.specs.Events.{Adopts, MovesTo}
+use Rattle.object_machine.specs.Events.{Adopts, MovesTo}
 use Rattle.object_machine.specs.Laws.{in_front, RunReadsNoTrace}
 use Rattle.object_machine.specs.Runs.{Run, done, goes, takes, Each, GoodRun, Follows, by_rule, by_event, IsDue, goes_on as is_under_way, is_next}
-use Rattle.event_judgement.specs.Takes.{judged, Takes, accepts, refuses}
+use Rattle.object_machine.specs.Takes.{judged, Takes, accepts, refuses}
 use Rattle.object_machine.proofs.RuleFronts.{reads-no-trace, begins-front, writes-front, installs-front, schedules-front}
 
 module _ (front : List Entry) where

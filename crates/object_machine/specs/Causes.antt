@@ -16,7 +16,7 @@ use Rattle.machine_rules.specs.Natives.{NativeAnswers}
 use Rattle.machine_rules.specs.Faults.{LacksValue, WritesDeep, GoesIll, GoesFatal, GoesDeep}
 use Rattle.machine_rules.specs.Next.{WritesIll}
 use Rattle.object_machine.specs.Runs.{RunsWhole, RunsFront, Follows, IsDue}
-use Rattle.event_judgement.specs.Events.{may_bind}
+use Rattle.object_machine.specs.Events.{may_bind}
 
 -- the next event asks that this binding be installed, which its judgement lets
 pub record BindsNext (p : Loaded) (s : State) (events : List Event) (b : Binding) : Type 0 where

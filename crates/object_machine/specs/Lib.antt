@@ -1,11 +1,14 @@
+pub use Rattle.object_machine.specs.Claims
+pub use Rattle.object_machine.specs.Laws
+pub mod Events
+pub mod Takes
+pub mod code
 pub mod Runs
 pub mod Causes
 pub mod Laws
 pub mod Seen
 pub mod Claims
 pub mod Checked
-pub use Rattle.event_judgement.specs.Events
-pub use Rattle.event_judgement.specs.Takes
 pub use Rattle.native_slots.specs.Promises
 pub use Rattle.machine_rules.specs.Good
 pub use Rattle.machine_rules.specs.Natives

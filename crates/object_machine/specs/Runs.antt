@@ -7,7 +7,7 @@ use Rattle.machine_state.specs.State.{State, IsIdle}
 use Rattle.machine_rules.specs.Natives.{NativeAnswers}
 use Rattle.machine_rules.specs.Rules.{Rule}
 use Rattle.machine_rules.specs.Good.{IsGood}
-use Rattle.event_judgement.specs.Takes.{Takes}
+use Rattle.object_machine.specs.Takes.{Takes}
 
 -- A run from s, with so many rules left, to t, with so many left. Each state follows the one before it by one rule, or by
 -- the taking of the next of these events with the next of these answers, which counts as one rule. Nothing is forbidden.

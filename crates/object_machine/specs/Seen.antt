@@ -15,7 +15,7 @@ use Rattle.native_slots.specs.Promises.{Takes}
 use Rattle.machine_rules.specs.Good.{AreSettled}
 use Rattle.machine_rules.specs.Natives.{NativeAnswers, KeepPromises}
 use Rattle.object_machine.specs.Causes as run
-use Rattle.event_judgement.specs.Takes.{judged, IsRefusedAs}
+use Rattle.object_machine.specs.Takes.{judged, IsRefusedAs}
 
 pub record Seen (N : Type 0) : Type 0 where
   pub program : Loaded

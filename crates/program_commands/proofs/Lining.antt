@@ -5,9 +5,9 @@ use Rattle.std.proofs.lemmas.List.Concat.{flat_map-append}
 use Rattle.std.proofs.lemmas.Option.{none-some}
 use Rattle.certificate_lang.specs.declared.certificate.Line.{Line}
 use Rattle.certificate_texts.specs.Texts.{node_line}
-use Rattle.command_output.proofs.Sending.{sent, as_text, none_sent}
-use Rattle.command_output.specs.Sent.{Puts}
-use Rattle.command_output.specs.declared.output.Output.{Output}
+use Rattle.command_lines.proofs.Sending.{sent, as_text, none_sent}
+use Rattle.command_lines.specs.Sent.{Puts}
+use Rattle.command_lines.specs.declared.output.Output.{Output}
 use Rattle.effect_scan.specs.declared.node.Node.{Node}
 use Rattle.effect_scan.specs.Nodes.{nodes_of}
 use Rattle.meta_model.specs.Loaded.{Loaded}

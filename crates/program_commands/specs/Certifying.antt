@@ -4,8 +4,8 @@ use Rattle.std.specs.List.{flat_map}
 use Rattle.certificate_lang.specs.declared.certificate.Line.{Line}
 use Rattle.certificate_lang.specs.declared.certificate.Certificate.{Certificate}
 use Rattle.certificate_texts.specs.Texts.{certificate_text, node_line}
-use Rattle.command_output.specs.declared.output.Output.{Output}
-use Rattle.command_output.specs.Sent.{Puts, TakesWith}
+use Rattle.command_lines.specs.declared.output.Output.{Output}
+use Rattle.command_lines.specs.Sent.{Puts, TakesWith}
 use Rattle.meta_model.specs.Loaded.{Loaded}
 use Rattle.rank_graph.specs.Solutions.{rank_of, leads_of}
 use Rattle.rank_graph.specs.declared.solution.Solution.{Solution}

@@ -14,5 +14,5 @@ pub use Rattle.certificate_lang.specs.Reads as CertificateLangReads
 pub use Rattle.rank_check.specs.Checks
 pub use Rattle.rank_make.specs.Ranked
 pub use Rattle.certificate_texts.specs.Texts as CertificateTexts
-pub use Rattle.command_output.specs.MetaLines
-pub use Rattle.command_output.specs.Sent
+pub use Rattle.command_lines.specs.MetaLines
+pub use Rattle.command_lines.specs.Sent

@@ -1,7 +1,7 @@
 -- What commands write of what they come to, and their exit status (docs/commands.md, "Exit status").
 use Rattle.std.specs.Prelude.{◌≡◌, ℕ, List, Option, Result}
-use Rattle.command_output.specs.MetaLines.{meta_text}
-use Rattle.command_output.specs.Sent.{TakesWith}
+use Rattle.command_lines.specs.MetaLines.{meta_text}
+use Rattle.command_lines.specs.Sent.{TakesWith}
 use Rattle.program_commands.specs.declared.outcome.Outcome.{Outcome}
 use Rattle.program_commands.specs.declared.outcome.Outcome.TheVariants.{Refused, Classes, Certificate, Uncertified, Valid}
 use Rattle.program_commands.specs.Reasons.{reason_line, reason_status}

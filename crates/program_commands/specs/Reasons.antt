@@ -7,8 +7,8 @@ use Rattle.type_check.specs.declared.spot.Spot.{Spot}
 use Rattle.type_check.specs.declared.spot.Spot.TheVariants as spot
 use Rattle.rank_make.specs.declared.why.Why.{Why}
 use Rattle.rank_make.specs.declared.why.Why.TheVariants.{Wire, BodyType, Cycle, DestroyPath, TooHigh, Memory}
-use Rattle.command_output.specs.Lines.{newline}
-use Rattle.command_output.specs.NodeLines.{text_of_node, text_of_nodes}
+use Rattle.command_lines.specs.Lines.{newline}
+use Rattle.command_lines.specs.NodeLines.{text_of_node, text_of_nodes}
 use Rattle.program_commands.specs.Refusals.{memory_line}
 
 -- what isn't there has no text

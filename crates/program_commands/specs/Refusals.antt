@@ -10,7 +10,7 @@ use Rattle.script_lang.specs.declared.fault.ScriptFault.{ScriptFault}
 use Rattle.script_lang.specs.declared.fault.ScriptFault.TheVariants.{TooLarge, BadLine, Memory}
 use Rattle.program_commands.specs.declared.refusal.Refusal.{Refusal}
 use Rattle.program_commands.specs.declared.refusal.Refusal.TheVariants.{Text, Loading, Certificate, Script, Check, Natives}
-use Rattle.command_output.specs.Lines.{newline}
+use Rattle.command_lines.specs.Lines.{newline}
 
 -- the number of a refused script; running out of memory has none
 abbrev pub script_number : ScriptFault → Option ℕ

@@ -8,7 +8,7 @@ ghost use Rattle.rank_graph.specs.Solutions.{rank_of};
 ghost use Rattle.rank_make.specs.Ranked.{IsBoundOf};
 ghost use Rattle.rank_make.specs.Solved.{AreLow};
 
-use command_output::{Output, WriteFault};
+use command_lines::{Output, WriteFault};
 use effect_scan::Scan;
 use meta_model::Meta;
 use rank_make::{Ranks, Solution, line_of};

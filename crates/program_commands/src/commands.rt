@@ -8,7 +8,7 @@ use crate::certified::Certified;
 use crate::certifying::least_text;
 use crate::loading::{load_program, load_valid};
 use crate::outcome::Outcome;
-use command_output::WriteFault;
+use command_lines::WriteFault;
 use meta_model::Meta;
 use rank_make::{Ranks, Why, make_bound};
 use std::alloc::Global;

@@ -12,7 +12,7 @@ mod reasons;
 mod refusal;
 
 pub use certified::Certified;
-pub use command_output::WriteFault;
+pub use command_lines::WriteFault;
 pub use commands::{certify, certify_outcome, check, check_outcome, meta, meta_outcome};
 pub use laws::{certified_is_agreed, one_outcome};
 pub use loading::{load_certified, load_program, load_valid};

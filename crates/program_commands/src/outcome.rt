@@ -1,13 +1,13 @@
 //! What the commands that run nothing come to, and how it is written.
 
 ghost use Rattle.std.specs.Prelude.{◌≡◌};
-ghost use Rattle.command_output.specs.Sent.{Puts, TakesWith};
+ghost use Rattle.command_lines.specs.Sent.{Puts, TakesWith};
 ghost use Rattle.program_commands.specs.Outcomes.{outcome_text, outcome_status};
 
 use crate::certified::Certified;
 use crate::reasons::{put_reason, status_of_reason};
 use crate::refusal::Refusal;
-use command_output::{Output, WriteFault};
+use command_lines::{Output, WriteFault};
 use meta_model::Meta;
 use rank_check::Checked;
 use rank_make::Why;

@@ -1,12 +1,12 @@
 //! Why a program has no certificate, in a line.
 
 ghost use Rattle.std.specs.Prelude.{◌≡◌, ◌++◌, codes};
-ghost use Rattle.command_output.specs.Sent.{Puts};
+ghost use Rattle.command_lines.specs.Sent.{Puts};
 ghost use Rattle.type_check.specs.declared.spot.Spot.TheVariants.{Binding};
 ghost use Rattle.program_commands.specs.Reasons.{spot_text, shown_by, reason_line, reason_status};
 
 use crate::refusal::{DENIED, UNDONE};
-use command_output::Output;
+use command_lines::Output;
 use effect_scan::Node;
 use meta_model::Meta;
 use rank_check::Spot;

@@ -1,12 +1,12 @@
 //! Why a program isn't checked or run.
 
 ghost use Rattle.std.specs.Prelude.{◌≡◌};
-ghost use Rattle.command_output.specs.Sent.{Puts};
+ghost use Rattle.command_lines.specs.Sent.{Puts};
 ghost use Rattle.program_commands.specs.Refusals.{refusal_line, refusal_number, refusal_status, line_of, script_line, script_number, status_of};
 
 use certificate_lang::CertificateFault;
 use class_lang::TextFault;
-use command_output::Output;
+use command_lines::Output;
 use meta_objects::MetaFault;
 use native_slots::Misfit;
 use rank_check::Denied;

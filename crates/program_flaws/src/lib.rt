@@ -1,19 +1,26 @@
 //! What is wrong with a program for which no certificate is valid, for a person: the wire, the member or the binding by
-//! name; what leads from one member to the next; and what to write instead.
+//! name; what leads from one member to the next; and what to write instead. And what breaks the condition of a check's no.
 #![tactic(auto)]
 
+mod compared;
 mod edge;
+mod explain;
 mod ill_typed;
 mod names;
+mod node_name;
 mod numbers;
 mod reasons;
+mod rows;
 mod source;
 mod statement;
 mod wire;
 
+pub use compared::cause_text;
 pub use edge::push_edge;
+pub use explain::broken_condition;
 pub use ill_typed::{flaw_text, untyped_text};
 pub use names::{class_text, node_text, property_text, sig_text, text_of};
 pub use reasons::{breaking, missing_certificate};
+pub use rows::cause_place;
 pub use source::{Source, declarations_of, declaring_class, meta_of};
 pub use wire::{unfit_text, wire_text};

@@ -21,7 +21,7 @@ use Rattle.object_machine.specs.Runs.{Run, done}
 use Rattle.object_machine.proofs.Fronts.{run-front, each-behind, lacks-front, stops-front}
 use Rattle.object_machine.proofs.Running.{run-trans, each-weaker}
 use Rattle.object_machine.specs.Claims.{IsTypedStep, IsFaultless, IsLimit, IsReached}
-use Rattle.run_laws.proofs.CheckedRuns.Claims.{only_limits, each_run_is_faultless}
+use Rattle.object_machine.proofs.CheckedRuns.Claims.{only_limits, each_run_is_faultless}
 use Rattle.object_machine.specs.Checked.{HasCome, IsChecked, InEachRun, Claims, StopsAtLimit}
 use Rattle.object_machine.specs.Seen.{Seen, AreKept, Completes, Halts, Stays, begun, cleared}
 use Rattle.qt_runtime.proofs.Halting.{seen}

@@ -14,9 +14,10 @@ use Rattle.machine_state.specs.State.{Activation}
 use Rattle.machine_state.specs.Worlds.{at, untouched}
 use Rattle.machine_rules.specs.Natives.{NativeAnswers}
 use Rattle.object_machine.specs.Runs.{done, GoodRun}
-use Rattle.qt_runtime.specs.code.Taking.{WorldInvariant, Took}
-use Rattle.run_laws.proofs.Preservation.{runs-invariant}
-use Rattle.run_laws.proofs.Keeping.{runs-pay, invariant-at, agree-none}
+use Rattle.quiet_events.specs.code.Quiet.{WorldInvariant}
+use Rattle.qt_runtime.specs.code.Taking.{Took}
+use Rattle.object_machine.proofs.Preservation.{runs-invariant}
+use Rattle.object_machine.proofs.Keeping.{runs-pay, invariant-at, agree-none}
 
 -- what a run keeps
 keeps-run : {p : Loaded} {natives : NativeAnswers} {d : ℕ} {w v : World} {stack : List Activation} {es : List Event} {xs : List Answer} → IsSound p → WorldInvariant p w → GoodRun p natives d (at w []) w.left es xs (at v stack) v.left → WorldInvariant p v

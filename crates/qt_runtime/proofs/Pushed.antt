@@ -18,7 +18,7 @@ use Rattle.machine_state.specs.Objects.{all_shown}
 use Rattle.machine_state.specs.State.{Activation, Update}
 use Rattle.machine_state.specs.Accepting.{accepted}
 use Rattle.machine_state.specs.Worlds.{at, accepting_entries, accepting_turn, with_bound, HasWritten, HasBound}
-use Rattle.event_judgement.specs.Takes.{judged, accepts}
+use Rattle.object_machine.specs.Takes.{judged, accepts}
 use Rattle.machine_rules.specs.Natives.{NativeAnswers}
 use Rattle.run_context.specs.code.Activating.{IsActivated, IsBarred}
 use Rattle.rule_laws.specs.Reaches.{RunsTo}
@@ -33,9 +33,9 @@ use Rattle.machine_rules.specs.Settling.{Installs, notified}
 use Rattle.rule_interpreter.proofs.Beginning.{top-fits}
 use Rattle.rule_laws.proofs.Soundness.{sound-settled}
 use Rattle.machine_rules.specs.code.Sound.{IsSoundWorld}
-use Rattle.event_judgement.specs.code.Accepted.{AsksFor, WritesTo}
+use Rattle.object_machine.specs.code.Accepted.{AsksFor, WritesTo}
 use Rattle.qt_runtime.specs.code.Taking.{Took}
-use Rattle.event_judgement.proofs.Judging.Assigning.{field-of}
+use Rattle.object_machine.proofs.Judging.Assigning.{field-of}
 use Rattle.qt_runtime.proofs.Taken.{idle, Ready, good-pushed, took-unchanged}
 use Rattle.object_machine.specs.Causes.{Halts}
 use Rattle.qt_runtime.proofs.Stopping.{took-run}

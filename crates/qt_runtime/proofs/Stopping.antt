@@ -14,11 +14,11 @@ use Rattle.rule_laws.specs.Reaches.{RunsTo}
 use Rattle.machine_rules.specs.code.Sound.{IsSoundWorld}
 use Rattle.rule_laws.proofs.Keeps.{rules-kept}
 use Rattle.object_machine.specs.Causes.{Halts}
-use Rattle.event_judgement.specs.Takes.{Takes}
+use Rattle.object_machine.specs.Takes.{Takes}
 use Rattle.qt_runtime.specs.code.Taking.{Took}
-use Rattle.run_laws.proofs.Keeping.{invariant-at}
-use Rattle.run_laws.proofs.Preservation.{runs-invariant}
-use Rattle.run_laws.proofs.Progress.{cause-of}
+use Rattle.object_machine.proofs.Keeping.{invariant-at}
+use Rattle.object_machine.proofs.Preservation.{runs-invariant}
+use Rattle.object_machine.proofs.Progress.{cause-of}
 use Rattle.qt_runtime.proofs.Taken.{idle, runs-taken}
 
 -- the event was taken, and rules stopped on the way

@@ -1,5 +1,5 @@
 -- What the taking of an event comes to.
-use Rattle.std.proofs.Common.{◌≡◌, ℕ, suc, ◌-◌, ◌<◌, ◌≤◌, [], ◌∷◌, None, Result, Ok, Err, refl, sym, ◌∙◌, subst, arith}
+use Rattle.std.proofs.Common.{◌≡◌, ℕ, suc, ◌-◌, ◌<◌, ◌≤◌, [], ◌∷◌, None, Result, Ok, Err, refl, sym, ap, ◌∙◌, subst, arith}
 use Rattle.std.specs.Result.{IsErrAnd}
 use Rattle.script_lang.specs.declared.event.Event.{Event}
 use Rattle.meta_model.specs.Loaded.{Loaded}
@@ -19,14 +19,16 @@ use Rattle.machine_rules.specs.Good.{IsGood, TopFits}
 use Rattle.machine_rules.specs.Next.{WritesIll}
 use Rattle.machine_rules.specs.code.Going.{GoodRules}
 use Rattle.machine_rules.specs.code.Going as of_rules
-use Rattle.event_judgement.specs.declared.not_accepted.NotAccepted.{NotAccepted}
-use Rattle.event_judgement.specs.code.Judgement.{IsNotAccepted}
-use Rattle.event_judgement.specs.code.Judgement as not_accepted
-use Rattle.object_machine.specs.Runs.{GoodRun, RunsWhole, done, takes, is_next}
-use Rattle.event_judgement.specs.Takes.{judged, Takes, accepts, refuses}
-use Rattle.qt_runtime.specs.code.Taking.{SaysWhy, Took, IsRefused}
+use Rattle.object_machine.specs.declared.not_accepted.NotAccepted.{NotAccepted}
+use Rattle.object_machine.specs.code.Judgement.{IsNotAccepted}
+use Rattle.object_machine.specs.code.Judgement as not_accepted
+use Rattle.object_machine.specs.Runs.{GoodRun, RunsWhole, done, takes, is_next, by_event}
+use Rattle.object_machine.specs.Takes.{judged, Takes, accepts, refuses}
+use Rattle.quiet_events.specs.code.Quiet.{IsRefused, Stops, TookQuietly}
+use Rattle.quiet_events.specs.code.Quiet as before
+use Rattle.qt_runtime.specs.code.Taking.{SaysWhy, Took}
 use Rattle.object_machine.proofs.Running.{rules-run}
-use Rattle.object_machine.specs.Causes.{Halts, short, spent}
+use Rattle.object_machine.specs.Causes.{Halts, short, spent, brings, goes_ill}
 
 -- an event is taken, and rules follow
 pub runs-taken : {p : Loaded} {natives : NativeAnswers} {d : ℕ} {a : Answer} {s m t : State} {n j k : ℕ} (e : Event) → Takes p e a s m → IsGood p d s m → 0 < n → j ≡ n - 1 → GoodRules p natives d m j t k → GoodRun p natives d s n (e ∷ []) (a ∷ []) t k
@@ -128,3 +130,22 @@ took-quiet {p} {natives} {d} {w} {v} t e judged empty agree some no_turn is =
     let quiet : World = after w t in
     let taken : RunsWhole p natives d (at w []) w.left (e ∷ []) (answer.Done ∷ []) (at quiet []) quiet.left = record { ends = idle quiet no_turn; runs = runs-taken e (subst Leads (sym empty) (accepts (idle w some.no_turn) judged)) (good-quiet w (after w t) agree) some.some (omega arith) of_rules.done } in
     record { cases = (subst Family (sym is) taken, tt) }
+
+-- ---- what is taken quietly is taken, whatever natives answer and however deep calls may nest
+
+stops-halted : {p : Loaded} {natives : NativeAnswers} {d : ℕ} {w : World} {f : Fault} (e : Event) → Ready w → Stops p w e f → Halts p natives d w (e ∷ []) f w
+stops-halted e some before.short = halted-short e some
+stops-halted {w = w} e some (before.ill {t = t} judged not_well) = record {
+  stack = [];
+  front = record { taken = []; rest = e ∷ []; split = refl; answers = []; runs = none-yet };
+  cause = brings some.some (goes_ill (record { t = t; follows = by_event (accepts (idle w some.no_turn) judged); ill = not_well }));
+}
+
+pub took-quietly : {p : Loaded} {natives : NativeAnswers} {d : ℕ} {w v : World} (e : Event) (r : Result Answer Fault) → Agree p w.store.tree w.store.bindings → Ready w → TookQuietly p w e v r → Took p natives d w e v r
+took-quietly e (Ok answer.Done) agree some took =
+    let is = took.cases in
+    took-quiet is.state e is.accepted is.empty is.agree some is.no_turn is.gives
+took-quietly e (Ok (answer.Refused n)) agree some took =
+    let is = took.cases in
+    took-refused is.refusal e (Ok (answer.Refused n)) agree is.why some (ap answer.Refused is.numbered, is.line)
+took-quietly e (Err f) agree some took = took-halted e (Err f) (stops-halted e some took.cases.0) took.cases.1 refl

@@ -2,24 +2,18 @@
 
 ghost use Rattle.std.specs.Prelude.{◌<◌, ◌≡◌, None};
 ghost use Rattle.machine_rules.specs.Natives.{KeepPromises};
-ghost use Rattle.qt_runtime.specs.code.Taking.{WorldInvariant, TookBy};
+ghost use Rattle.quiet_events.specs.code.Quiet.{WorldInvariant};
+ghost use Rattle.qt_runtime.specs.code.Taking.{TookBy};
 
-use crate::events::add_loop::add_loop;
-use crate::events::adopt::adopt;
 use crate::events::assign::assign;
 use crate::events::bind::bind;
-use crate::events::block::block;
-use crate::events::connect::connect;
-use crate::events::create::create;
 use crate::events::delete::delete;
-use crate::events::disconnect::disconnect;
 use crate::events::invoke::invoke;
-use crate::events::later::later;
-use crate::events::move_object::move_object;
 use crate::events::turn::turn;
-use event_judgement::Invocation;
 use machine_state::World;
 use native_slots::Answering;
+use object_machine::Invocation;
+use quiet_events::{add_loop, adopt, block, connect, create, disconnect, later, move_object};
 use rule_interpreter::Interpreter;
 use script_lang::Event;
 use trace_entries::{Answer, Fault};
@@ -60,13 +54,13 @@ fn run_event<N: Answering>(
         return Err(Fault::Steps);
     }
     match event {
-        Event::Loop(name) => add_loop(interpreter, world, name),
+        Event::Loop(name) => add_loop(&interpreter.context, world, name),
         Event::Turn(name) => turn(interpreter, world, name),
-        Event::New(name, class, home) => create(interpreter, world, name, class, home),
-        Event::Adopt(parent, child) => adopt(interpreter, world, parent, child),
-        Event::Move(name, home) => move_object(interpreter, world, name, home),
-        Event::Connect(named, how) => connect(interpreter, world, named, *how),
-        Event::Disconnect(named) => disconnect(interpreter, world, named),
+        Event::New(name, class, home) => create(&interpreter.context, world, name, class, home),
+        Event::Adopt(parent, child) => adopt(&interpreter.context, world, parent, child),
+        Event::Move(name, home) => move_object(&interpreter.context, world, name, home),
+        Event::Connect(named, how) => connect(&interpreter.context, world, named, *how),
+        Event::Disconnect(named) => disconnect(&interpreter.context, world, named),
         Event::Set(name, property, input) => assign(interpreter, world, name, property, input),
         Event::Emit(name, signal, inputs) => {
             let inputs = inputs.as_slice();
@@ -79,9 +73,9 @@ fn run_event<N: Answering>(
         Event::Bind(site, target, sources) => {
             bind(interpreter, world, site, target, sources.as_slice())
         }
-        Event::Block(name) => block(interpreter, world, name, true),
-        Event::Unblock(name) => block(interpreter, world, name, false),
+        Event::Block(name) => block(&interpreter.context, world, name, true),
+        Event::Unblock(name) => block(&interpreter.context, world, name, false),
         Event::Delete(name) => delete(interpreter, world, name),
-        Event::Later(name) => later(interpreter, world, name),
+        Event::Later(name) => later(&interpreter.context, world, name),
     }
 }

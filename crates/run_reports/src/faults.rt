@@ -4,7 +4,7 @@ use crate::active::active;
 use crate::events::nature_in;
 use crate::script::Script;
 use crate::suspects::{Nature, Suspects};
-use command_output::Output;
+use command_lines::Output;
 use std::alloc::{AllocError, Global};
 use std::str;
 use trace_entries::{Entry, Fault};

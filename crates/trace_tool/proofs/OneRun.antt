@@ -15,8 +15,8 @@ use Rattle.qt_runtime.specs.Natives.{NativeAnswers, AnswersOnce}
 use Rattle.qt_runtime.specs.Keeps.{Grows}
 use Rattle.qt_runtime.specs.Causes.{Brings, StopsFor, spent, short as of_memory, brings, lacks_value, writes_ill, binds_ill, goes_ill, goes_fatal, binds_loop, writes_deep, goes_deep}
 use Rattle.qt_runtime.specs.Runs.{Run, done, goes, takes, RunsWhole, RunsFront, IsDue, goes_on as is_under_way, is_next}
-use Rattle.run_laws.proofs.OneRun.{no-rule, one_run, one_front, one_front_of_answers}
-use Rattle.run_laws.proofs.CheckedRuns.Kept.{start-invariant}
+use Rattle.object_machine.proofs.OneRun.{no-rule, one_run, one_front, one_front_of_answers}
+use Rattle.object_machine.proofs.CheckedRuns.Kept.{start-invariant}
 use Rattle.qt_runtime.specs.Seen.{Seen, RunsAll, Halts, begun}
 use Rattle.program_commands.specs.Loading.{LoadsCertified}
 use Rattle.program_commands.specs.Steps.{First, fails, goes_on}

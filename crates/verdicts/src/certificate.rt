@@ -4,10 +4,10 @@ use crate::located::Located;
 use crate::refusal::refusal_finding;
 use crate::sentences::Told;
 use certificate_lang::{Certificate, read_certificate};
-use check_flaws::{cause_place, cause_text};
 use effect_scan::Numbering;
 use findings::{Finding, Rule, TextKind, Verdict};
 use program_commands::Refusal;
+use program_flaws::{cause_place, cause_text};
 use rank_check::{Cause, Mistake, judge};
 use std::alloc::AllocError;
 

@@ -5,9 +5,9 @@ use Rattle.trace_entries.specs.declared.entry.Entry.{Entry}
 use Rattle.trace_entries.specs.declared.fault.Fault.{Fault}
 use Rattle.machine_rules.specs.Natives.{NativeAnswers}
 use Rattle.object_machine.specs.Seen.{Seen, RunsAll, with_front}
-use Rattle.command_output.specs.Lines.{trace_text}
-use Rattle.command_output.specs.Sent.{Puts}
-use Rattle.command_output.specs.declared.output.Output.{Output}
+use Rattle.command_lines.specs.Lines.{trace_text}
+use Rattle.command_lines.specs.Sent.{Puts}
+use Rattle.command_lines.specs.declared.output.Output.{Output}
 
 -- the machine ran on these events, and the lines that it handed over were put into the output
 pub record Streams {N W : Type 0} (gives : N → NativeAnswers) (contents : W → Option (List ℕ)) (m : Seen N) (events : List Event)

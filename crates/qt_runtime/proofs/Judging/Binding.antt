@@ -20,11 +20,11 @@ use Rattle.machine_rules.specs.Judgement.{numbered, Check, Gives, ◌>>=◌, fou
 use Rattle.machine_rules.specs.Settling.{Installs}
 use Rattle.object_machine.specs.Causes.{BindsNext, Halts, StopsFor, short, brings, binds_ill, binds_loop}
 use Rattle.object_machine.specs.Runs.{is_next}
-use Rattle.event_judgement.specs.Takes.{judged}
-use Rattle.event_judgement.specs.code.Accepted.{AsksToBind}
+use Rattle.object_machine.specs.Takes.{judged}
+use Rattle.object_machine.specs.code.Accepted.{AsksToBind}
 use Rattle.qt_runtime.specs.code.Taking.{binding_reason}
-use Rattle.event_judgement.specs.Events.{IsSiteOf, may_bind}
-use Rattle.event_judgement.proofs.Judging.Naming.{living-ok}
+use Rattle.object_machine.specs.Events.{IsSiteOf, may_bind}
+use Rattle.object_machine.proofs.Judging.Naming.{living-ok}
 use Rattle.qt_runtime.proofs.Taken.{idle, no_natives, none-yet, Ready}
 
 module _ {p : Loaded} {w : World} {name target : List ℕ} {sources : List (List ℕ)} {number o : ℕ} {objects : List ℕ}

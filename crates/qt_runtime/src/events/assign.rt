@@ -4,16 +4,17 @@ ghost use Rattle.std.specs.Prelude.{◌≡◌, ◌<◌, None};
 ghost use Rattle.script_lang.specs.declared.event.Event.TheVariants.{Set};
 ghost use Rattle.prop_bindings.specs.Fits.{FitsAt};
 ghost use Rattle.machine_rules.specs.Natives.{KeepPromises};
-ghost use Rattle.event_judgement.specs.code.Accepted.{WritesTo};
-ghost use Rattle.qt_runtime.specs.code.Taking.{WorldInvariant, TookBy};
+ghost use Rattle.object_machine.specs.code.Accepted.{WritesTo};
+ghost use Rattle.quiet_events.specs.code.Quiet.{WorldInvariant};
+ghost use Rattle.qt_runtime.specs.code.Taking.{TookBy};
 ghost use Rattle.script_lang.specs.declared.event.Event.{Event as AnEvent};
 
-use crate::refusing::refuse;
 use basic_types::{Name, Value};
-use event_judgement::judge_write;
 use machine_state::World;
 use native_slots::Answering;
+use object_machine::judge_write;
 use prop_bindings::{Assignment, Place};
+use quiet_events::{accept_write, refuse};
 use rule_interpreter::{Active, Interpreter};
 use script_lang::Input;
 use trace_entries::{Answer, Fault};
@@ -59,7 +60,7 @@ fn write<N: Answering>(
         WritesTo interpreter.now.context.meta world.old place.now value e →
         TookBy N.gives interpreter.now e world.old world.new result }
 {
-    let changed = world.accept_write(&interpreter.context.meta, place, value)?;
+    let changed = accept_write(world, &interpreter.context.meta, place, value)?;
     interpreter.run_update(world, &Active::nothing(), changed.as_slice())?;
     Ok(Answer::Done)
 }

@@ -3,15 +3,16 @@
 ghost use Rattle.std.specs.Prelude.{◌≡◌, ℕ, ◌<◌, List, None};
 ghost use Rattle.script_lang.specs.declared.event.Event.TheVariants.{Bind};
 ghost use Rattle.machine_rules.specs.Natives.{KeepPromises};
-ghost use Rattle.event_judgement.specs.code.Accepted.{AsksToBind};
-ghost use Rattle.qt_runtime.specs.code.Taking.{WorldInvariant, TookBy, binding_reason};
+ghost use Rattle.object_machine.specs.code.Accepted.{AsksToBind};
+ghost use Rattle.quiet_events.specs.code.Quiet.{WorldInvariant};
+ghost use Rattle.qt_runtime.specs.code.Taking.{TookBy, binding_reason};
 
-use crate::refusing::refuse;
 use basic_types::Name;
-use event_judgement::{Asked, judge_bind};
 use machine_state::World;
 use native_slots::Answering;
+use object_machine::{Asked, judge_bind};
 use prop_bindings::BindFault;
+use quiet_events::{accept_bind, refuse, reject};
 use rule_interpreter::{Active, Interpreter};
 use trace_entries::{Answer, Fault, Refusal};
 
@@ -56,14 +57,20 @@ fn install<N: Answering>(
         TookBy N.gives interpreter.now (Bind site target sources) world.old world.new result }
 {
     let sources = asked.sources.as_slice();
-    match world.accept_bind(&interpreter.context.meta, asked.site, asked.target, sources) {
+    match accept_bind(
+        world,
+        &interpreter.context.meta,
+        asked.site,
+        asked.target,
+        sources,
+    ) {
         Ok(changed) => {
             interpreter.run_update(world, &Active::nothing(), changed.as_slice())?;
             Ok(Answer::Done)
         }
         Err(fault) => {
             let refusal = reason(fault)?;
-            world.refuse(refusal)
+            reject(world, refusal)
         }
     }
 }

@@ -3,15 +3,16 @@
 ghost use Rattle.std.specs.Prelude.{◌≡◌, ◌<◌, None};
 ghost use Rattle.run_context.specs.code.Activating.{CallFits};
 ghost use Rattle.machine_rules.specs.Natives.{KeepPromises};
-ghost use Rattle.event_judgement.specs.code.Accepted.{AsksFor, invoking};
-ghost use Rattle.qt_runtime.specs.code.Taking.{WorldInvariant, TookBy};
+ghost use Rattle.object_machine.specs.code.Accepted.{AsksFor, invoking};
+ghost use Rattle.quiet_events.specs.code.Quiet.{WorldInvariant};
+ghost use Rattle.qt_runtime.specs.code.Taking.{TookBy};
 ghost use Rattle.script_lang.specs.declared.event.Event.{Event as AnEvent};
 
-use crate::refusing::refuse;
 use basic_types::Name;
-use event_judgement::{Invocation, Invoked, judge_invocation};
 use machine_state::World;
 use native_slots::Answering;
+use object_machine::{Invocation, Invoked, judge_invocation};
+use quiet_events::{accept_with, refuse};
 use rule_interpreter::{Active, Interpreter};
 use run_context::MethodCall;
 use script_lang::Input;
@@ -80,7 +81,7 @@ fn begin<N: Answering>(
         TookBy N.gives interpreter.now e world.old world.new result }
 {
     let (line, callee) = interpreter.context.activate(world, 0, call)?;
-    world.accept_with(line)?;
+    accept_with(world, line)?;
     interpreter.run_callee(world, &Active::nothing(), call, &callee)?;
     Ok(Answer::Done)
 }

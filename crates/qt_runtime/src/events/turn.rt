@@ -3,11 +3,13 @@
 ghost use Rattle.std.specs.Prelude.{◌≡◌, ◌<◌, None};
 ghost use Rattle.script_lang.specs.declared.event.Event.TheVariants.{Turn};
 ghost use Rattle.machine_rules.specs.Natives.{KeepPromises};
-ghost use Rattle.qt_runtime.specs.code.Taking.{WorldInvariant, TookBy};
+ghost use Rattle.quiet_events.specs.code.Quiet.{WorldInvariant};
+ghost use Rattle.qt_runtime.specs.code.Taking.{TookBy};
 
 use basic_types::Name;
 use machine_state::World;
 use native_slots::Answering;
+use quiet_events::{accept_turn, reject};
 use rule_interpreter::Interpreter;
 use trace_entries::{Answer, Fault, Refusal};
 
@@ -26,9 +28,9 @@ pub fn turn<N: Answering>(
     ensures { TookBy N.gives interpreter.now (Turn name.now) world.old world.new result }
 {
     let Some(home) = world.store.loops.find(name) else {
-        return world.refuse(Refusal::NoLoop);
+        return reject(world, Refusal::NoLoop);
     };
-    world.accept_turn(home)?;
+    accept_turn(world, home)?;
     interpreter.run_turn(world)?;
     Ok(Answer::Done)
 }

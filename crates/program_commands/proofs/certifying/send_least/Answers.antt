@@ -1,5 +1,5 @@
 use Rattle.std.proofs.Common.{rules}
-use Rattle.command_output.proofs.Sending.{sent, finished}
+use Rattle.command_lines.proofs.Sending.{sent, finished}
 use Rattle.program_commands.proofs.certifying.send_least.Goals as goal
 
 pub put_lines-requires-clause-scan : goal.put_lines-requires-clause-scan

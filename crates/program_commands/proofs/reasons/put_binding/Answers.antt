@@ -1,5 +1,5 @@
 use Rattle.std.proofs.Common.{rules}
-use Rattle.command_output.proofs.Sending.{sent, as_text}
+use Rattle.command_lines.proofs.Sending.{sent, as_text}
 use Rattle.program_commands.proofs.reasons.put_binding.Goals as goal
 
 pub returns-in-Some : goal.returns-in-Some

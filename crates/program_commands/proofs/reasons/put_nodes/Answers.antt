@@ -1,4 +1,4 @@
-use Rattle.command_output.proofs.Sending.{sent}
+use Rattle.command_lines.proofs.Sending.{sent}
 use Rattle.program_commands.proofs.reasons.put_nodes.Goals as goal
 
 pub returns : goal.returns

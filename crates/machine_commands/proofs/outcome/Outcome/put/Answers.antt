@@ -1,5 +1,5 @@
 use Rattle.std.proofs.Common.{rules}
-use Rattle.command_output.proofs.Sending.{none_sent, as_text}
+use Rattle.command_lines.proofs.Sending.{none_sent, as_text}
 use Rattle.machine_commands.proofs.outcome.Outcome.put.Goals as goal
 
 -- where a read failed nothing is written

@@ -1,5 +1,5 @@
 use Rattle.std.proofs.Common.{rules}
-use Rattle.command_output.proofs.Sending.{finished}
+use Rattle.command_lines.proofs.Sending.{finished}
 use Rattle.machine_commands.proofs.outcome.Outcome.write.Goals as goal
 
 pub returns : goal.returns

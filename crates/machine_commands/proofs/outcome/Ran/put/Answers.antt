@@ -1,4 +1,4 @@
-use Rattle.command_output.proofs.Sending.{sent}
+use Rattle.command_lines.proofs.Sending.{sent}
 use Rattle.machine_commands.proofs.outcome.Ran.put.Goals as goal
 
 pub returns-in-Ok : goal.returns-in-Ok

@@ -1,5 +1,5 @@
 use Rattle.std.proofs.Common.{rules}
-use Rattle.command_output.proofs.Sending.{sent, finished}
+use Rattle.command_lines.proofs.Sending.{sent, finished}
 use Rattle.machine_commands.proofs.Preparing.{carried-run}
 use Rattle.machine_commands.proofs.prepared.Ready.stream.Goals as goal
 

@@ -1,4 +1,4 @@
-use Rattle.event_judgement.proofs.Judging.Binding.{not-bindable}
+use Rattle.object_machine.proofs.Judging.Binding.{not-bindable}
 use Rattle.qt_runtime.proofs.Taken.{took-not-accepted, ready}
 use Rattle.qt_runtime.proofs.events.bind.bind.Goals as goal
 

@@ -32,4 +32,4 @@ pub returns-in_ok-refusal-in-Err : goal.returns-in_ok-refusal-in-Err
 returns-in_ok-refusal-in-Err g c = λ site target sources asks.
     let un = rw c.as_slice-sources.ensures at c.in-Err.ensures.value in
     let judged = binding-refuses asks (ready c.requires.left c.requires.idle) un.0 c.in_ok-refusal-in-Err.ensures in
-    took-refused-from c.in_ok-refusal-in-Err.refusal _ c.refuse.result c.requires.keeps.sound.is.agree judged (ready c.requires.left c.requires.idle) un.1 c.refuse.ensures
+    took-refused-from c.in_ok-refusal-in-Err.refusal _ c.reject.result c.requires.keeps.sound.is.agree judged (ready c.requires.left c.requires.idle) un.1 c.reject.ensures

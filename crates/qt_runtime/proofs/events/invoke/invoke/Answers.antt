@@ -1,6 +1,6 @@
 use Rattle.std.proofs.Common.{[]}
 use Rattle.machine_state.specs.Worlds.{at}
-use Rattle.event_judgement.proofs.Judging.Invoking.{not-invoking}
+use Rattle.object_machine.proofs.Judging.Invoking.{not-invoking}
 use Rattle.qt_runtime.proofs.Taken.{took-not-accepted, ready}
 use Rattle.qt_runtime.proofs.events.invoke.invoke.Goals as goal
 

@@ -1,13 +1,13 @@
 use Rattle.std.proofs.Common.{Ok, Err}
 use Rattle.trace_entries.specs.declared.refusal.Refusal.TheVariants.{NoLoop}
-use Rattle.qt_runtime.proofs.Judging.Looping.{no-loop, turned}
+use Rattle.qt_runtime.proofs.Judging.Turning.{no-loop, turned}
 use Rattle.qt_runtime.proofs.Pushed.{sound-turn}
 use Rattle.qt_runtime.proofs.Taken.{ready, took-refused, took-unchanged, took-stopped}
 use Rattle.qt_runtime.proofs.events.turn.turn.Goals as goal
 
 pub returns-in_default : goal.returns-in_default
 returns-in_default g c =
-    took-refused NoLoop _ c.refuse.result c.requires.keeps.sound.is.agree (no-loop c.args.interpreter.now.context.meta c.args.world.now c.args.name.now c.in_default.ensures.value) (ready c.requires.left c.requires.idle) c.refuse.ensures
+    took-refused NoLoop _ c.reject.result c.requires.keeps.sound.is.agree (no-loop c.args.interpreter.now.context.meta c.args.world.now c.args.name.now c.in_default.ensures.value) (ready c.requires.left c.requires.idle) c.reject.ensures
 
 pub returns-in_err-accept_turn : goal.returns-in_err-accept_turn
 returns-in_err-accept_turn g c = took-unchanged _ _ (ready c.requires.left c.requires.idle) c.in_err-accept_turn.ensures c.from_residual.ensures.1

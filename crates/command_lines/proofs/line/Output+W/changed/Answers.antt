@@ -1,0 +1,5 @@
+use Rattle.command_lines.proofs.Sending.{sent}
+use Rattle.command_lines.proofs.line.Output+W.changed.Goals as goal
+
+pub returns : goal.returns
+returns g c = sent (sent (sent c.put_word.ensures c.member.ensures) c.put_byte.ensures) c.value.ensures

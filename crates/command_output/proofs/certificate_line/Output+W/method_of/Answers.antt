@@ -1,5 +1,0 @@
-use Rattle.command_output.proofs.Sending.{sent}
-use Rattle.command_output.proofs.certificate_line.Output+W.method_of.Goals as goal
-
-pub returns : goal.returns
-returns g c = sent (sent c.name.ensures c.put_byte.ensures) c.sig.ensures

@@ -1,5 +1,0 @@
-use Rattle.command_output.proofs.Sending.{sent}
-use Rattle.command_output.proofs.connection_line.Output+W.end.Goals as goal
-
-pub returns : goal.returns
-returns g c = sent c.name.ensures (sent c.put_byte.ensures c.sig.ensures)

@@ -1,5 +1,0 @@
-use Rattle.command_output.proofs.Sending.{sent}
-use Rattle.command_output.proofs.line.Output+W.answered.Goals as goal
-
-pub returns : goal.returns
-returns g c = sent c.put_word.ensures c.actions.ensures

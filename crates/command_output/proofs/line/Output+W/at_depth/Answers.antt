@@ -1,5 +1,0 @@
-use Rattle.command_output.proofs.Sending.{sent}
-use Rattle.command_output.proofs.line.Output+W.at_depth.Goals as goal
-
-pub returns : goal.returns
-returns g c = sent (sent (sent c.depth.ensures c.put_byte.ensures) c.entry_kind.ensures) c.put_byte-2.ensures

@@ -1,5 +1,0 @@
-use Rattle.command_output.proofs.Sending.{sent}
-use Rattle.command_output.proofs.line.Output+W.numbered.Goals as goal
-
-pub returns : goal.returns
-returns g c = sent (sent c.put.ensures c.number.ensures) c.put_byte.ensures

@@ -1,5 +1,0 @@
-use Rattle.command_output.proofs.Sending.{sent}
-use Rattle.command_output.proofs.line.Output+W.posted.Goals as goal
-
-pub returns : goal.returns
-returns g c = sent c.post.ensures c.call.ensures

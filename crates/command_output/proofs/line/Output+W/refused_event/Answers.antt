@@ -1,5 +1,0 @@
-use Rattle.command_output.proofs.Sending.{sent}
-use Rattle.command_output.proofs.line.Output+W.refused_event.Goals as goal
-
-pub returns : goal.returns
-returns g c = sent (sent c.put_word.ensures c.number.ensures) c.numbered.ensures

@@ -1,5 +1,0 @@
-use Rattle.command_output.proofs.Sending.{sent}
-use Rattle.command_output.proofs.line.Output+W.set_action.Goals as goal
-
-pub returns : goal.returns
-returns g c = sent (sent (sent c.put_word.ensures c.name.ensures) c.put_byte.ensures) c.value.ensures

@@ -1,6 +1,0 @@
-pub mod Lines
-pub mod MetaLines
-pub mod NodeLines
-pub mod Sent
-pub use Rattle.basic_types.specs.Spelling
-pub use Rattle.certificate_texts.specs.Texts as CertificateTexts

@@ -1,7 +1,0 @@
-use Rattle.std.proofs.Common.{Ok, take}
-use Rattle.event_judgement.specs.Events.{all_living}
-use Rattle.event_judgement.proofs.named.find_all_living.Given as goal
-
--- the objects of the names so far
-abbrev pub invariant-loop-name : goal.invariant-loop-name
-invariant-loop-name l = all_living l.world.store.tree (take l.name-index l.names) (Ok l.objects)

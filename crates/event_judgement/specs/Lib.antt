@@ -1,3 +1,0 @@
-pub mod Events
-pub mod Takes
-pub mod code

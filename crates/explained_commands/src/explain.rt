@@ -1,0 +1,31 @@
+//! What is said to a person of what a command line comes to.
+
+use explanations::{push_fault, push_outcome, push_usage};
+use machine_commands::Outcome;
+use std::alloc::{AllocError, Global};
+
+/// Explains what the words come to on this input, or where it isn't known, without a place. `None` where there is nothing to
+/// explain: a command did what it was asked, memory was wanting, or there is no input.
+pub fn explanation<M: Drop>(
+    alloc: Global,
+    words: &[&str],
+    input: Option<&[u8]>,
+    outcome: &Outcome<M>,
+) -> Result<Option<String>, AllocError> {
+    let mut text = String::new(alloc);
+    match outcome {
+        Outcome::Usage(fault) => push_usage(&mut text, alloc, words, input, *fault)?,
+        Outcome::Program(outcome) => push_outcome(&mut text, alloc, input, outcome)?,
+        Outcome::Ran(ran) => {
+            if let Err(fault) = ran.ended {
+                push_fault(&mut text, fault)?;
+            }
+        }
+        Outcome::NoInput(_) | Outcome::Memory => {}
+    }
+    if text.is_empty() {
+        Ok(None)
+    } else {
+        Ok(Some(text))
+    }
+}

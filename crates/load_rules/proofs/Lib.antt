@@ -1,2 +1,0 @@
-pub mod OwnMembers
-pub mod Repeats

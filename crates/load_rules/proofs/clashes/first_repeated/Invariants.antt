@@ -1,5 +1,0 @@
-use Rattle.load_rules.proofs.Repeats.{NoneRepeats}
-use Rattle.load_rules.proofs.clashes.first_repeated.Given as goal
-
-abbrev pub invariant-loop-place : goal.invariant-loop-place
-invariant-loop-place g l = NoneRepeats g.T.Alike.alike l.items l.place

@@ -1,8 +1,0 @@
-use Rattle.std.proofs.Common.{ℕ, ◌<◌}
-use Rattle.syntax_trees.specs.declared.program.Signal.{Signal}
-use Rattle.class_outlines.specs.Conditions.{RepeatsName}
-use Rattle.class_outlines.specs.Places.{StandsAt}
-use Rattle.load_rules.proofs.clashes.repeated_in_signals.Given as goal
-
-abbrev pub invariant-loop-place : goal.invariant-loop-place
-invariant-loop-place l = (k : ℕ) → k < l.place → ¬ StandsAt (λ (signal : Signal). RepeatsName signal.parameters) l.class.signals k

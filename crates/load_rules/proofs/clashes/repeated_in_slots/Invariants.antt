@@ -1,7 +1,0 @@
-use Rattle.std.proofs.Common.{ℕ, ◌<◌}
-use Rattle.class_outlines.specs.Conditions.{RepeatsInSlot}
-use Rattle.class_outlines.specs.Places.{StandsAt}
-use Rattle.load_rules.proofs.clashes.repeated_in_slots.Given as goal
-
-abbrev pub invariant-loop-place : goal.invariant-loop-place
-invariant-loop-place l = (k : ℕ) → k < l.place → ¬ StandsAt RepeatsInSlot l.class.slots k

@@ -1,7 +1,0 @@
-use Rattle.std.proofs.Common.{ℕ, ◌<◌}
-use Rattle.class_outlines.specs.Natives.{HasReferenceNative}
-use Rattle.class_outlines.specs.Places.{StandsAt}
-use Rattle.load_rules.proofs.native_types.touched_reference.Given as goal
-
-abbrev pub invariant-loop-number : goal.invariant-loop-number
-invariant-loop-number l = (k : ℕ) → k < l.number → ¬ StandsAt (HasReferenceNative l.outlines) l.program.classes k

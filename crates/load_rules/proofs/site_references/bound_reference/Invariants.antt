@@ -1,7 +1,0 @@
-use Rattle.std.proofs.Common.{ℕ, ◌<◌}
-use Rattle.class_outlines.specs.Places.{StandsAt}
-use Rattle.class_outlines.specs.DeclaredSites.{UsesReference}
-use Rattle.load_rules.proofs.site_references.bound_reference.Given as goal
-
-abbrev pub invariant-loop-place : goal.invariant-loop-place
-invariant-loop-place l = (k : ℕ) → k < l.place → ¬ StandsAt (UsesReference l.outlines) l.program.sites k

@@ -1,7 +1,0 @@
-use Rattle.std.proofs.Common.{ℕ, ◌<◌}
-use Rattle.class_outlines.specs.Places.{StandsAt}
-use Rattle.load_rules.specs.code.OwnTypes.{DeclaresUnknown}
-use Rattle.load_rules.proofs.unknown_types.unknown_type.Given as goal
-
-abbrev pub invariant-loop-number : goal.invariant-loop-number
-invariant-loop-number l = (k : ℕ) → k < l.number → ¬ StandsAt (DeclaresUnknown l.outlines) l.program.classes k

@@ -1,0 +1,334 @@
+-- Each event keeps what a run of a checked program keeps; a new object gets its class.
+use Rattle.std.proofs.Common.{◌≡◌, ◌≢◌, inl, inr, ℕ, ◌+◌, ◌<◌, eqb, cond, Bool, true, false, List, [], ◌∷◌, ◌++◌, length, length-append, Ok, Option, Some, None, slice_get, refl, sym, ap, ◌∙◌, subst, arith}
+use Rattle.std.specs.List.{AllByRecursion, AllZip}
+use Rattle.std.specs.Option.{option_map, option_and_then}
+use Rattle.std.proofs.lemmas.Bool.{cases_eq, eq-eqb, ne_eqb}
+use Rattle.std.proofs.lemmas.Option.{none-some, slice_get_within}
+use Rattle.basic_types.specs.declared.sig.Sig.{Sig}
+use Rattle.syntax_trees.specs.declared.connection.ConnectionType.{ConnectionType}
+use Rattle.syntax_trees.specs.declared.connection.Endpoints.{Endpoints as Named}
+use Rattle.script_lang.specs.declared.event.Event.{Event}
+use Rattle.script_lang.specs.declared.event.Event.TheVariants.{Loop, Turn, New, Adopt, Move, Connect, Disconnect, Set, Bind, Emit as EmitEvent, Call as CallEvent, Block, Unblock, Delete as DeleteEvent, Later as LaterEvent}
+use Rattle.script_lang.specs.declared.event.Input.{Input}
+use Rattle.meta_model.specs.Loaded.{Loaded}
+use Rattle.meta_model.specs.Members.{Covers}
+use Rattle.meta_model.specs.Sound.{IsSound}
+use Rattle.connections.specs.declared.connection.Connection.{Connection}
+use Rattle.object_tree.specs.declared.life.Life.{Life}
+use Rattle.object_tree.specs.declared.object.Object.{Object}
+use Rattle.object_tree.specs.Creating.{begun as begun_life, fresh, initial_values}
+use Rattle.object_tree.specs.Family.{children_in, parent_of, leaves, joined_by, put_under, moved}
+use Rattle.object_tree.specs.Moving.{in_loop, all_in_loop}
+use Rattle.object_tree.specs.Objects.{change, change_life, with_life, blocked}
+use Rattle.object_tree.proofs.Changing.{part-change, life-part, length-change, get-change_other}
+use Rattle.object_tree.proofs.TypedObjects.{get-appended, class-same, shape-moved}
+use Rattle.event_loops.specs.Queues.{Queues, rehomed}
+use Rattle.delete_later.specs.declared.store.Store.{Store}
+use Rattle.binding_graph.specs.declared.binding.Binding.{Binding}
+use Rattle.binding_graph.specs.declared.place.Place.{Place}
+use Rattle.binding_graph.specs.Bindings.{binding_at, without, replaced}
+use Rattle.prop_bindings.specs.Calls.{IsOf as IsLivingOf}
+use Rattle.prop_bindings.specs.Fits.{Agree}
+use Rattle.binding_graph.proofs.Replaced.{installed-is}
+use Rattle.binding_graph.proofs.Places.{decide_place}
+use Rattle.binding_graph.proofs.Walks.{bound-other}
+use Rattle.effect_scan.specs.declared.node.Member.TheVariants.{Method, Property, Destruction}
+use Rattle.effect_scan.specs.Nodes.{node, named}
+use Rattle.effect_scan.specs.Destroying.{itself}
+use Rattle.certificate_lang.specs.declared.certificate.Certificate.{Certificate}
+use Rattle.rank_check.specs.Valid.{IsValid}
+use Rattle.machine_state.specs.Accepting.{accepted}
+use Rattle.machine_state.specs.Connections.{joins_these}
+use Rattle.machine_state.specs.State.{State, IsIdle, Activation}
+use Rattle.machine_state.specs.Worlds.{with_store}
+use Rattle.machine_state.proofs.Due.{all-removed}
+use Rattle.machine_state.specs.Telling.{Alone}
+use Rattle.binding_graph.specs.Places.{property_of}
+use Rattle.machine_rules.specs.declared.ends.FoundEnds.{FoundEnds}
+use Rattle.machine_rules.specs.Good.{IsWell}
+use Rattle.machine_rules.specs.Judgement.{Numbered, found as finds, holds as so, becomes, goes_on}
+use Rattle.machine_rules.specs.Settling.{Installs}
+use Rattle.rule_laws.proofs.Keeps.{class-of-lives}
+use Rattle.machine_rules.proofs.Lists.{all-filtered, all-snoc, all-weaken}
+use Rattle.object_machine.specs.declared.invoking.Invocation.{Invocation}
+use Rattle.object_machine.specs.declared.invoking.Invocation.TheVariants.{Emit as EmitIt, Call as CallIt}
+use Rattle.trace_entries.specs.declared.fault.Answer.{Answer}
+use Rattle.object_machine.specs.Takes.{judged, Takes, accepts, refuses}
+use Rattle.object_machine.specs.Events.{may_bind, block, find_ends, invoke}
+use Rattle.object_machine.specs.code.Judgement.{IsLiving}
+use Rattle.object_machine.proofs.CheckedRuns.Invariant.{Stacked, AreClasses, AreOwned, IsOwned, IsWired, IsOf, IsSited, IsCovered, Holds}
+use Rattle.object_machine.proofs.CheckedRuns.Nodes.{named-node, property-node, end-node}
+use Rattle.object_machine.proofs.CheckedRuns.Ladder.{level-at, level-of}
+use Rattle.object_machine.proofs.Changes.{adopted-by, length-moved}
+use Rattle.object_machine.proofs.Judged.{given-is}
+use Rattle.object_machine.proofs.Judging.Naming.{living-is, living-object}
+use Rattle.object_machine.proofs.Moving.{moved-by}
+use Rattle.object_machine.proofs.CheckedRuns.Worlds.{Leaves, classes-left, all-changed, all-left}
+use Rattle.object_machine.proofs.CheckedRuns.Rules.{writes-held, settles-held, alone-low, begun-held, wired-by, deletes-held, schedules-held}
+
+-- ---- objects change
+
+-- the life of one changes, but for its class
+life-leaves : {p : Loaded} {classes : ℕ → Option ℕ} (objects : List Object) (x : ℕ) (f : Life → Life) → ((l : Life) → (f l).class ≡ l.class) → Leaves p classes objects (change_life x f objects)
+life-leaves {p} {classes} objects x f same = record {
+  living = λ o class is. sym (part-change (λ (there : Option Object). option_map (λ (l : Life). l.class) (option_and_then (λ (y : Object). y.life) there)) x o (with_life f) objects
+      (λ y. life-part (option_map (λ (l : Life). l.class)) f (λ l. ap Some (same l)) y.life)) ∙ is;
+  count = length-change x (with_life f) objects;
+  children = λ owned o. subst (λ (l : List ℕ). AllByRecursion (IsOwned p classes o) l) (sym (part-change children_in x o (with_life f) objects (λ y. refl))) (owned o);
+}
+
+-- some move to another event loop
+in-loop-leaves : {p : Loaded} {classes : ℕ → Option ℕ} (home : ℕ) (os : List ℕ) (objects : List Object) → Leaves p classes objects (all_in_loop os home objects)
+in-loop-leaves home [] objects = record { living = λ o class is. is; count = refl; children = λ owned. owned }
+in-loop-leaves home (o ∷ os) objects =
+    let one = life-leaves objects o (in_loop home) (λ l. refl) in
+    let more = in-loop-leaves home os (change_life o (in_loop home) objects) in
+    record { living = λ k class is. one.living k class (more.living k class is); count = more.count ∙ one.count; children = λ owned. more.children (one.children owned) }
+
+-- one moves under a parent that may own it
+moved-leaves : {p : Loaded} {classes : ℕ → Option ℕ} (objects : List Object) (a c : ℕ) → IsOwned p classes a c → Leaves p classes objects (moved a c objects)
+moved-leaves {p} {classes} objects a c owns = record {
+  living = λ o class is. sym (class-same objects (moved a c objects) o (shape-moved a c objects o)) ∙ is;
+  count = length-moved a c objects;
+  children = λ owned k. subst (λ (l : List ℕ). AllByRecursion (IsOwned p classes k) l)
+      (sym (part-change children_in c k (with_life (put_under a)) (leaves (parent_of objects c) c (change a (joined_by c) objects)) (λ y. refl)))
+      (all-left (IsOwned p classes k) (parent_of objects c) c k (change a (joined_by c) objects)
+      (elim (cases_eq k a) [
+        | inl same ↦ all-changed (IsOwned p classes k) a k (joined_by c) objects (λ x h. all-snoc (IsOwned p classes k) x.children c h (subst (λ (j : ℕ). IsOwned p classes j c) (sym same) owns)) (owned k)
+        | inr other ↦ subst (λ (there : Option Object). AllByRecursion (IsOwned p classes k) (children_in there)) (sym (get-change_other a k (joined_by c) objects other)) (owned k)
+      ]));
+}
+
+-- ---- an object is created
+
+-- it has this class from now on
+abbrev pub with-class : ℕ → ℕ → (ℕ → Option ℕ) → ℕ → Option ℕ
+with-class n class classes o = cond (eqb o n) (Some class) (classes o)
+
+with-new : (n class : ℕ) (classes : ℕ → Option ℕ) → with-class n class classes n ≡ Some class
+with-new n class classes = ap (λ (b : Bool). cond b (Some class) (classes n)) (eq-eqb n n refl)
+
+with-old : (n class : ℕ) (classes : ℕ → Option ℕ) (o : ℕ) → o ≢ n → with-class n class classes o ≡ classes o
+with-old n class classes o other = ap (λ (b : Bool). cond b (Some class) (classes o)) (ne_eqb o n other)
+
+module _ {p : Loaded} (classes : ℕ → Option ℕ) (objects : List Object) (known : AreClasses p classes objects) (class : ℕ) where
+  abbrev pub after-all : ℕ → Option ℕ
+  after-all = with-class (length objects) class classes
+
+  still : (o c : ℕ) → classes o ≡ Some c → after-all o ≡ Some c
+  still o c is = with-old (length objects) class classes o (λ same. let low = known.inside o c is in omega (arith, low, same)) ∙ is
+
+  owned-still : (a c : ℕ) → IsOwned p classes a c → IsOwned p after-all a c
+  owned-still a c x = record { above = x.above; is_above = still a x.above x.is_above; below = x.below; is_below = still c x.below x.is_below; owns = x.owns }
+
+  wired-still : (c : Connection) → IsWired p classes c → IsWired p after-all c
+  wired-still c x = record {
+    wire = x.wire;
+    declared = x.declared;
+    sender = x.sender;
+    is_sender = still c.sender x.sender x.is_sender;
+    above_sender = x.above_sender;
+    signal = x.signal;
+    receiver = x.receiver;
+    is_receiver = still c.receiver x.receiver x.is_receiver;
+    above_receiver = x.above_receiver;
+    method = x.method;
+    kind = x.kind;
+  }
+
+  of-still : (o formal : ℕ) → IsOf p classes o formal → IsOf p after-all o formal
+  of-still o formal x = record { class = x.class; is = still o x.class x.is; below = x.below }
+
+  all-of-still : (os formals : List ℕ) → AllZip (IsOf p classes) os formals → AllZip (IsOf p after-all) os formals
+  all-of-still [] [] all = all
+  all-of-still [] (f ∷ fs) all = absurd all
+  all-of-still (o ∷ os) [] all = absurd all
+  all-of-still (o ∷ os) (f ∷ fs) all = (of-still o f all.0, all-of-still os fs all.1)
+
+  sited-still : (b : Binding) → IsSited p classes b → IsSited p after-all b
+  sited-still b x = record { site = x.site; declared = x.declared; formula = x.formula; property = x.property; target = of-still b.target.object (x.site).class x.target; sources = all-of-still b.sources (x.site).formals x.sources }
+
+  module _ (inside : class < length p.classes) (z : Object) (l : Life) (alive : z.life ≡ Some l) (is : l.class ≡ class) (childless : z.children ≡ []) where
+    class-in-new : (there : Option Object) (o c : ℕ) → slice_get (objects ++ z ∷ []) o ≡ there → option_map (λ (m : Life). m.class) (option_and_then (λ (y : Object). y.life) there) ≡ Some c → after-all o ≡ Some c
+    class-in-new None o c at e = absurd (none-some c e)
+    class-in-new (Some x) o c at e = elim (get-appended objects z x o at) [
+      | inl old ↦ still o c (known.lives o c (ap (λ (there : Option Object). option_map (λ (m : Life). m.class) (option_and_then (λ (y : Object). y.life) there)) old ∙ e))
+      | inr last ↦
+          let mine : Some l.class ≡ Some c = sym (ap (option_map (λ (m : Life). m.class)) (ap (λ (y : Object). y.life) (sym last.1) ∙ alive)) ∙ e in
+          ap after-all last.0 ∙ with-new (length objects) class classes ∙ ap Some (sym is) ∙ mine
+    ]
+
+    children-in-new : (there : Option Object) (o : ℕ) → slice_get (objects ++ z ∷ []) o ≡ there → AreOwned p classes objects → AllByRecursion (IsOwned p after-all o) (children_in there)
+    children-in-new None o at owned = tt
+    children-in-new (Some x) o at owned = elim (get-appended objects z x o at) [
+      | inl old ↦ all-weaken (IsOwned p classes o) (IsOwned p after-all o) x.children (λ c h. owned-still o c h) (subst (λ (there : Option Object). AllByRecursion (IsOwned p classes o) (children_in there)) old (owned o))
+      | inr last ↦ subst (λ (ks : List ℕ). AllByRecursion (IsOwned p after-all o) ks) (sym (ap (λ (y : Object). y.children) (sym last.1) ∙ childless)) tt
+    ]
+
+    pub created-covered : (connections : List Connection) (bindings : List Binding) → IsCovered p classes objects connections bindings → IsCovered p after-all (objects ++ z ∷ []) connections bindings
+    created-covered connections bindings covered = record {
+      known = record {
+        lives = λ o c e. class-in-new (slice_get (objects ++ z ∷ []) o) o c refl e;
+        each = λ o low. elim (cases_eq o (length objects)) [
+          | inl same ↦ (class, ap after-all same ∙ with-new (length objects) class classes, inside)
+          | inr other ↦ let count = length-append objects (z ∷ []) in let old = known.each o (omega (arith, low, count, other)) in (old.0, still o old.0 old.1, old.2)
+        ];
+        inside = λ o c e. let count = length-append objects (z ∷ []) in elim (cases_eq o (length objects)) [
+          | inl same ↦ omega (arith, same, count)
+          | inr other ↦ let low = known.inside o c (sym (with-old (length objects) class classes o other) ∙ e) in omega (arith, low, count)
+        ];
+      };
+      owned = λ o. children-in-new (slice_get (objects ++ z ∷ []) o) o refl covered.owned;
+      wired = all-weaken (IsWired p classes) (IsWired p after-all) connections wired-still covered.wired;
+      sited = all-weaken (IsSited p classes) (IsSited p after-all) bindings sited-still covered.sited;
+    }
+
+-- ---- events
+
+module _ {p : Loaded} {certificate : Certificate} (valid : IsValid p certificate) (sound : IsSound p) where
+  -- it is kept, with some classes
+  abbrev pub HoldsSome : State → Type 0
+  HoldsSome s = (classes : ℕ → Option ℕ) × Holds p certificate classes s
+
+  idle-stacked : (classes : ℕ → Option ℕ) (objects : List Object) (stack : List Activation) → stack ≡ [] → Stacked p {certificate = certificate} classes objects stack []
+  idle-stacked classes objects stack e = subst (λ (l : List Activation). Stacked p {certificate = certificate} classes objects l []) (sym e) tt
+
+  module _ (s : State) (idle : IsIdle s) (classes : ℕ → Option ℕ) (covered : IsCovered p classes s.objects s.connected.connections s.bindings) (agree : Agree p s.objects s.bindings) where
+    stands : Stacked p {certificate = certificate} classes s.objects s.stack []
+    stands = idle-stacked classes s.objects s.stack idle.empty
+
+    -- objects change, and no class or child is new; nor does it matter what waits
+    objects-held : (objects : List Object) (queues : Queues) → Leaves p classes s.objects objects → Holds p certificate classes (record (accepted s) { objects = objects; queues = queues })
+    objects-held objects queues left = record {
+      covered = record { known = classes-left left covered.known; owned = left.children covered.owned; wired = covered.wired; sited = covered.sited };
+      levels = [];
+      stacked = idle-stacked classes objects s.stack idle.empty;
+    }
+
+    known-living : {name : List ℕ} (o : Numbered Life) → IsLiving s.objects name o → classes o.number ≡ Some (o.it).class
+    known-living o is = (covered.known).lives o.number (o.it).class (ap (option_map (λ (l : Life). l.class)) is.lives)
+
+    invoked-held : (t : State) (a : Invocation) (name called : List ℕ) (inputs : List Input) → IsWell p s t → invoke p s a name called inputs (Ok t) → Holds p certificate classes t
+    invoked-held t a name called inputs well (goes_on o lives (goes_on m asked (goes_on vs given (goes_on _ fit (becomes b))))) =
+        let life = (b.is).life in
+        let r = level-at valid (node life.class (Method (named m.number))) (named-node sound life.class m.number b.method (b.is).is_method) in
+        begun-held valid sound classes (accepted s) t (length s.stack) s.stack o.number b.object m.number b.method vs (b.method).work [] r.0 covered b.is refl r.1 tt stands (omega arith) well.arguments b.gives
+
+    blocked-held : {t : State} (name : List ℕ) (on : Bool) → block s name on (Ok t) → Holds p certificate classes t
+    blocked-held name on (goes_on o lives given) = let Family : State → Type 0 = λ u. Holds p certificate classes u in subst Family (sym (given-is given)) (objects-held (change_life o.number (blocked on) s.objects) s.queues (life-leaves s.objects o.number (blocked on) (λ l. refl)))
+
+    -- a connection is covered
+    connection-wired : (e : Named (List ℕ)) (how : ConnectionType) (n : ℕ) (f : FoundEnds) → find_ends p s.objects e (Ok f) → Covers p f.from e.signal f.to e.method how.kind →
+        IsWired p classes (record { number = n; sender = f.ends.sender; signal = f.ends.signal; receiver = f.ends.receiver; method = f.ends.method; kind = how.kind; single = how.single })
+    connection-wired e how n f (goes_on a sender (goes_on b receiver (goes_on g (finds signal) (goes_on m (finds method) given)))) covers =
+        let Covered_by : FoundEnds → Type 0 = λ k. Covers p k.from e.signal k.to e.method how.kind in
+        let Wired_as : FoundEnds → Type 0 = λ k. IsWired p classes (record { number = n; sender = k.ends.sender; signal = k.ends.signal; receiver = k.ends.receiver; method = k.ends.method; kind = how.kind; single = how.single }) in
+        let found_covers = subst Covered_by (given-is given) covers in
+        let Signal_sig : Sig → Type 0 = λ z. Covers p (a.it).class z (b.it).class e.method how.kind in
+        let Method_sig : Sig → Type 0 = λ z. Covers p (a.it).class (g.it).sig (b.it).class z how.kind in
+        let spelled = subst Method_sig (sym method.signed) (subst Signal_sig (sym (signal.of).signed) found_covers) in
+        subst Wired_as (sym (given-is given))
+        (wired-by valid sound classes (a.it).class (b.it).class a.number b.number g.number m.number n g.it m.it how.kind how.single (known-living a (living-is sender)) (known-living b (living-is receiver)) (signal.of).is method.is spelled)
+
+    -- a binding is covered
+    sources-of : (os formals : List ℕ) → AllZip (IsLivingOf p s.objects) os formals → AllZip (IsOf p classes) os formals
+    sources-of [] [] all = all
+    sources-of [] (f ∷ fs) all = absurd all
+    sources-of (o ∷ os) [] all = absurd all
+    sources-of (o ∷ os) (f ∷ fs) all = (record { class = (all.0).class; is = (covered.known).lives o (all.0).class (all.0).is; below = (all.0).below }, sources-of os fs all.1)
+
+    pub binding-sited : (site target : List ℕ) (sources : List (List ℕ)) (b : Binding) → may_bind p s site target sources (Ok b) → IsSited p classes b
+    binding-sited site target sources b (goes_on n (finds is) (goes_on _ count (goes_on o lives (goes_on xs all (goes_on _ (so covers) (goes_on _ one given)))))) =
+        let Sited : Binding → Type 0 = λ z. IsSited p classes z in
+        let target_is = covers.of_target in
+        subst Sited (sym (given-is given)) (record {
+          site = n.it;
+          declared = is.is;
+          formula = refl;
+          property = refl;
+          target = record { class = target_is.class; is = (covered.known).lives o.number target_is.class target_is.is; below = target_is.below };
+          sources = sources-of xs (n.it).formals covers.of_sources;
+        })
+
+    bound-held : (t : State) (b : Binding) → IsSited p classes b → Installs p (accepted s) s.stack b t → Holds p certificate classes t
+    bound-held t b sited x =
+        let life = (x.is).life in
+        let class_is : classes b.target.object ≡ Some life.class = (covered.known).lives b.target.object life.class (class-of-lives s.objects b.target.object (x.is).lives) in
+        let r = level-at valid (node life.class (Property b.target.property)) (property-node sound life.class b.target.property x.property (record { class = (x.is).class; is_class = (x.is).is_class; is = (x.is).is_property })) in
+        let all = all-snoc (IsSited p classes) (filter_kept b) b (all-filtered (IsSited p classes) _ s.bindings covered.sited) sited in
+        settles-held valid sound classes {s = accepted s} s.stack [] (level-of valid r.0) (b.target ∷ []) x.objects (replaced s.bindings b) x.changed covered agree stands tt (alone-low valid sound classes b.target life.class r.0 class_is r.1) (x.installed).objects all (x.installed).settled
+        (λ q z other e. same-elsewhere q z (λ same. other (inl same)) e) (λ q other none. (x.installed).kept q none) (x.installed).changes x.settles
+      where
+        filter_kept : Binding → List Binding
+        filter_kept z = without z.target s.bindings
+
+        same-elsewhere : (q : Place) (z : Binding) → ¬ (b.target ≡ q) → binding_at (replaced s.bindings b) q ≡ Some z → binding_at s.bindings q ≡ Some z
+        same-elsewhere q z other e = elim (decide_place b.target q) [
+          | inl same ↦ absurd (other same)
+          | inr apart ↦ sym (bound-other (binding_at s.bindings) b.target b q apart) ∙ ap (λ (F : Place → Option Binding). F q) (sym (installed-is s.bindings b)) ∙ e
+        ]
+
+    event-held : {t : State} (e : Event) → IsWell p s t → judged p s e (Ok t) → HoldsSome t
+    event-held (Loop name) well (goes_on _ free given) = let Family : State → Type 0 = λ u. Holds p certificate classes u in (classes, subst Family (sym (given-is given)) (record { covered = covered; levels = []; stacked = stands }))
+    event-held (Turn name) well (goes_on home is given) = let Family : State → Type 0 = λ u. Holds p certificate classes u in (classes, subst Family (sym (given-is given)) (record { covered = covered; levels = []; stacked = stands }))
+    event-held (New name class loop) well (goes_on _ free (goes_on c (finds is) (goes_on home lives (goes_on _ room given)))) =
+        let z : Object = fresh name c.number home (initial_values c.it) in
+        let l : Life = begun_life c.number home (initial_values c.it) in
+        let Family : State → Type 0 = λ u. Holds p certificate (with-class (length s.objects) c.number classes) u in (
+          with-class (length s.objects) c.number classes,
+          subst Family (sym (given-is given)) (record {
+            covered = created-covered classes s.objects covered.known c.number (slice_get_within p.classes c.number c.it (is.is).is) z l refl refl refl s.connected.connections s.bindings covered;
+            levels = [];
+            stacked = idle-stacked (with-class (length s.objects) c.number classes) (s.objects ++ z ∷ []) s.stack idle.empty;
+          }),
+        )
+    event-held (Adopt parent child) well (goes_on a is_parent (goes_on c is_child (goes_on _ (so owns) (goes_on _ over (goes_on _ home (becomes x)))))) =
+        let owned : IsOwned p classes a.number c.number = record { above = (a.it).class; is_above = known-living a (living-is is_parent); below = (c.it).class; is_below = known-living c (living-is is_child); owns = owns } in
+        let Family : State → Type 0 = λ u. Holds p certificate classes u in
+        (classes, subst Family (sym x.gives) (adopted-by (λ (l : List Object). Holds p certificate classes (record (accepted s) { objects = l })) (record { covered = covered; levels = []; stacked = stands }) (objects-held (moved a.number c.number s.objects) s.queues (moved-leaves s.objects a.number c.number owned)) x.is))
+    event-held (Move name loop) well (goes_on o lives (goes_on home is (goes_on _ root (goes_on _ alone (becomes x))))) =
+        let Family : State → Type 0 = λ u. Holds p certificate classes u in (
+          classes,
+          subst Family (sym x.gives) (moved-by (λ (stores : Store). Holds p certificate classes (with_store (accepted s) stores)) (record { covered = covered; levels = []; stacked = stands })
+              (λ os alone. objects-held (all_in_loop os home s.objects) (rehomed os home s.queues) (in-loop-leaves home os s.objects)) x.is),
+        )
+    event-held (Connect e how) well (goes_on f both (goes_on _ (goes_on _ (so covers) rest) given)) =
+        let Family : State → Type 0 = λ u. Holds p certificate classes u in (
+          classes,
+          subst Family (sym (given-is given)) (record {
+            covered = record { known = covered.known; owned = covered.owned; wired = all-snoc (IsWired p classes) s.connected.connections _ covered.wired (connection-wired e how (s.connected.last + 1) f both covers); sited = covered.sited };
+            levels = [];
+            stacked = stands;
+          }),
+        )
+    event-held (Disconnect e) well (goes_on f both (goes_on _ is given)) =
+        let Family : State → Type 0 = λ u. Holds p certificate classes u in (
+          classes,
+          subst Family (sym (given-is given)) (record {
+            covered = record { known = covered.known; owned = covered.owned; wired = all-removed (IsWired p classes) (joins_these f.ends) s.connected covered.wired; sited = covered.sited };
+            levels = [];
+            stacked = stands;
+          }),
+        )
+    event-held (Set name property i) well (goes_on o lives (goes_on q _ (goes_on v _ (goes_on _ fits (becomes w))))) =
+        let field = (w.there).0 in
+        let life = (field.is).life in
+        let class_is : classes o.number ≡ Some life.class = (covered.known).lives o.number life.class (class-of-lives s.objects o.number (field.is).lives) in
+        let r = level-at valid (node life.class (Property q.number)) (property-node sound life.class q.number field.property (record { class = (field.is).class; is_class = (field.is).is_class; is = (field.is).is_property })) in
+        (classes, writes-held valid sound classes {s = accepted s} s.stack [] (level-of valid r.0) (Alone (property_of o.number q.number) v) covered agree stands tt (alone-low valid sound classes (property_of o.number q.number) life.class r.0 class_is r.1) w)
+    event-held {t} (Bind site target sources) well (goes_on b may (becomes x)) = (classes, bound-held t b (binding-sited site target sources b may) x)
+    event-held {t} (EmitEvent name signal inputs) well x = (classes, invoked-held t EmitIt name signal inputs well x)
+    event-held {t} (CallEvent name slot inputs) well x = (classes, invoked-held t CallIt name slot inputs well x)
+    event-held (Block name) well x = (classes, blocked-held name true x)
+    event-held (Unblock name) well x = (classes, blocked-held name false x)
+    event-held (DeleteEvent name) well (goes_on o lives given) =
+        let it = living-object o (living-is lives) in
+        let class = (agree.typed o.number it.0 o.it it.1).is_class in
+        let r = level-at valid (node (o.it).class Destruction) (end-node sound (o.it).class _ class) in
+        (classes, (deletes-held valid sound classes (accepted s) _ s.stack [] r.0 o.number (o.it).class covered stands tt r.1 (known-living o (living-is lives)) (itself class) (given-is given)).0)
+    event-held {t} (LaterEvent name) well (goes_on o lives (becomes x)) = (classes, (schedules-held valid sound classes (accepted s) t s.stack [] o.number (Some o.it) covered stands x).0)
+
+  -- the taking of an event keeps it
+  pub takes-held : (s t : State) (e : Event) {a : Answer} → HoldsSome s → Agree p s.objects s.bindings → IsWell p s t → Takes p e a s t → HoldsSome t
+  takes-held s t e held agree well (accepts idle x) = event-held s idle held.0 (held.1).covered agree e well x
+  takes-held s t e held agree well (refuses k idle x) = (held.0, record { covered = (held.1).covered; levels = (held.1).levels; stacked = (held.1).stacked })

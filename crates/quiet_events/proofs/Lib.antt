@@ -1,0 +1,3 @@
+pub mod Bound
+pub mod Quiet
+mod Judging

@@ -1,0 +1,11 @@
+pub mod code
+pub use Rattle.object_machine.specs.Takes
+pub use Rattle.machine_rules.specs.Good
+pub use Rattle.machine_state.specs.State
+pub use Rattle.machine_state.specs.Worlds
+pub use Rattle.object_tree.specs.Adopting
+pub use Rattle.object_tree.specs.Creating
+pub use Rattle.prop_bindings.specs.Fits
+pub use Rattle.event_loops.specs.Queues
+pub use Rattle.delete_later.specs.Moving
+pub use Rattle.delete_later.specs.Scheduling

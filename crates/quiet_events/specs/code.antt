@@ -1,0 +1,2 @@
+-- What the code comes to with an event that begins no call.
+pub mod Quiet

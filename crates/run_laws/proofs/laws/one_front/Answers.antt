@@ -1,5 +1,0 @@
-use Rattle.run_laws.proofs.OneRun as law
-use Rattle.run_laws.proofs.laws.one_front.Goals as goal
-
-pub returns : goal.returns
-returns g c = law.one_front (g.N.Answering.gives c.args._natives.now)
