@@ -17,18 +17,6 @@ pub enum Value {
     Ref(Option<ObjectId>),
 }
 
-/// The value 0.
-impl Default for Value {
-    ghost use Rattle.std.specs.Prelude.{◌≡◌, pos};
-    ghost use Rattle.basic_types.specs.declared.value.Value.TheVariants.{Int};
-
-    ghost is_default = { λ v. v ≡ Int (pos 0) };
-
-    fn default() -> Value {
-        Value::Int(0)
-    }
-}
-
 impl Value {
     /// An equal value, which takes no memory: a text is shared.
     pub fn copy(&self) -> Result<Value, AllocError>

@@ -1,3 +1,4 @@
 pub mod Faults
 pub mod Refusals
 pub mod Lists
+pub mod code

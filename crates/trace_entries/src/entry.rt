@@ -1,6 +1,6 @@
 //! What a run writes down.
 
-ghost use Rattle.std.specs.Prelude.{◌≡◌, [], ◌∷◌, ◌++◌, ◌+◌, ◌<◌, ◌≤◌, ◌^◌, OnOk, OnErr, length, take, vec_len, vec_capacity};
+ghost use Rattle.std.specs.Prelude.{◌≡◌, [], ◌∷◌, ◌++◌, ◌+◌, ◌<◌, ◌≤◌, ◌^◌, IfOk, OnOk, OnErr, length, take, vec_len, vec_capacity};
 ghost use Rattle.trace_entries.specs.Lists.{LosesLast};
 ghost use Rattle.trace_entries.specs.declared.entry.Entry.TheVariants.{Accepted};
 
@@ -26,15 +26,19 @@ pub enum Shown {
     Null,
 }
 
-/// Null.
-impl Default for Shown {
-    ghost use Rattle.std.specs.Prelude.{◌≡◌};
-    ghost use Rattle.trace_entries.specs.declared.entry.Shown.TheVariants.{Null};
-
-    ghost is_default = { λ v. v ≡ Null };
-
-    fn default() -> Shown {
-        Shown::Null
+impl Shown {
+    /// The same value, which takes no memory: a text and a name are shared. The error is that there are more copies than
+    /// can be counted.
+    pub fn copy(&self) -> Result<Shown, AllocError>
+        ensures { IfOk result (λ copy. copy ≡ self.now) }
+    {
+        match self {
+            Shown::Int(number) => Ok(Shown::Int(*number)),
+            Shown::Bool(truth) => Ok(Shown::Bool(*truth)),
+            Shown::Text(text) => Ok(Shown::Text(text.copy()?)),
+            Shown::Object(name) => Ok(Shown::Object(name.copy()?)),
+            Shown::Null => Ok(Shown::Null),
+        }
     }
 }
 

@@ -1,30 +1,70 @@
 //! Values as they are written down.
 
 ghost use Rattle.std.specs.Prelude.{◌≡◌, [], ◌∷◌, ◌++◌, OnOk, OnErr};
+ghost use Rattle.trace_entries.specs.code.Holding.{held_shown};
 
 use crate::entry::Shown;
-use smallvec::SmallVec;
+use sqlite_items::Items;
 use std::alloc::{AllocError, Global};
 use std::marker::Model;
 
+/// How values are held.
+#[derive(Drop)]
+pub enum HeldShown {
+    /// There are none.
+    Nothing,
+    /// There is one.
+    One([Shown; 1]),
+    /// There are more.
+    Several(Items<Shown>),
+}
+
+impl HeldShown {
+    /// Adds a value at the end; without memory they stay as they were.
+    fn push(&mut self, alloc: Global, value: Shown) -> Result<(), AllocError>
+        ensures ok { OnOk result (held_shown self.new ≡ held_shown self.old ++ value ∷ []) }
+        ensures err { OnErr result (self.new ≡ self.old) }
+    {
+        let held = match self {
+            HeldShown::Nothing => HeldShown::One([value]),
+            HeldShown::One(one) => {
+                let one = &*one;
+                let first = one[0].copy()?;
+                let mut values = Items::new(alloc);
+                values.push(first)?;
+                values.push(value)?;
+                HeldShown::Several(values)
+            }
+            HeldShown::Several(values) => {
+                values.push(value)?;
+                return Ok(());
+            }
+        };
+        *self = held;
+        Ok(())
+    }
+}
+
 /// Values as they are written down, in their order. A single one needs no allocation.
 pub struct ShownValues {
-    values: SmallVec<Shown, 1>,
+    alloc: Global,
+    held: HeldShown,
 }
 
 impl Drop for ShownValues {
     fn drop(self) {
-        let ShownValues { values: _ } = self;
+        let ShownValues { alloc: _, held: _ } = self;
     }
 }
 
 impl Model for ShownValues {
     ghost use Rattle.std.specs.Prelude.{List};
     ghost use Rattle.trace_entries.specs.declared.entry.Shown.{Shown as AValue};
+    ghost use Rattle.trace_entries.specs.code.Holding.{held_shown};
 
     ghost Value = { List AValue };
 
-    ghost view = { λ shown. shown.values.items };
+    ghost view = { λ shown. held_shown shown.held };
 }
 
 impl ShownValues {
@@ -33,7 +73,8 @@ impl ShownValues {
         ensures { result ≡ [] }
     {
         ShownValues {
-            values: SmallVec::new(alloc),
+            alloc,
+            held: HeldShown::Nothing,
         }
     }
 
@@ -41,7 +82,11 @@ impl ShownValues {
     pub fn as_slice(&self) -> &[Shown]
         ensures { result.now ≡ self.now }
     {
-        self.values.as_slice()
+        match &self.held {
+            HeldShown::Nothing => &[],
+            HeldShown::One(one) => one.as_slice(),
+            HeldShown::Several(values) => values.as_slice(),
+        }
     }
 
     /// Adds a value at the end; without memory they stay as they were.
@@ -49,7 +94,7 @@ impl ShownValues {
         ensures ok { OnOk result (self.new ≡ self.old ++ value ∷ []) }
         ensures err { OnErr result (self.new ≡ self.old) }
     {
-        self.values.push(value)?;
-        Ok(())
+        let alloc = self.alloc;
+        self.held.push(alloc, value)
     }
 }
