@@ -8,17 +8,12 @@ import subprocess
 import sys
 
 ROOT = os.path.dirname(os.path.dirname(os.path.abspath(__file__)))
-DRIVERS = [".ci/edits_fit.py"] + [f"tests/{it}" for it in ("editors/run.py", "tools/run.py", "wrapper/run.py", "pages/run.py", "memory/sweep.py", "hostile/attack.py")]
+sys.dont_write_bytecode = True
+sys.path.insert(0, f"{ROOT}/bin")
+from build import checks_at_once
+
+DRIVERS = [".ci/edits_fit.py"] + [f"tests/{it}" for it in ("build/run.py", "editors/run.py", "tools/run.py", "wrapper/run.py", "pages/run.py", "memory/sweep.py", "hostile/attack.py")]
 NUMBERS = re.compile(r"(\d+) passed, (\d+) failed")
-# So many bytes are enough for a check: the largest crate's was measured to take 3,100 MB.
-ENOUGH = 5_000_000_000
-
-
-def checks_at_once():
-    """How many checks run side by side: one a processor, where there is memory for each. By itself `rt ci` expects checks to
-    take more than they do, and leaves a processor idle for much of the time."""
-    memory = os.sysconf("SC_PAGE_SIZE") * os.sysconf("SC_PHYS_PAGES")
-    return max(1, min(len(os.sched_getaffinity(0)), memory // ENOUGH))
 
 
 def run(words):
@@ -43,7 +38,8 @@ def run(words):
 
 
 def main():
-    os.environ.setdefault("RT_JOBS", str(checks_at_once()))
+    # By itself `rt ci` expects checks to take more memory than they do, and leaves a processor idle for much of the time.
+    os.environ["RT_JOBS"] = str(checks_at_once())
     status, passed, failed = run(["rt", "ci"])
     if not failed:
         for driver in DRIVERS:

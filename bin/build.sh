@@ -1,6 +1,5 @@
-# What ./gammonfig and ./trace_view share, which set `program` to the name of their crate: how a program is built, and so
-# proved. It is built as the gate builds it, in a folder of its own, over statements alone: crates that don't stand on one
-# another side by side, the longest chain of them first. What was proved on this machine is taken from there.
+# What ./gammonfig and ./trace_view share, which set `program` to the name of their crate: whether a program is built from these
+# very sources, and how it is run. bin/build.py builds it, and so proves it.
 root=$(cd "$(dirname "${BASH_SOURCE[0]}")/.." && pwd) || exit 1
 store=${XDG_CACHE_HOME:-$HOME/.cache}/gammonfig
 built=$store/$program
@@ -45,47 +44,18 @@ is_built() {
     [ -x "$built" ] && [ "$(cat "$built.sum" 2> /dev/null)" = "$1" ]
 }
 
-# A copy of the program's crates, without the wrong bodies that the gate tries.
-copy_crates() {
-    mkdir -p "$1/crates" && cp "$root/HANDLES" "$1/" || return
-    crates | while read -r name; do
-        grep "^$name:" "$root/crates.txt"
-        mkdir "$1/crates/$name" && cp -r "$root/crates/$name"/* "$1/crates/$name/" || return
-        rm -rf "$1/crates/$name/out" "$1/crates/$name/must-fail"
-    done > "$1/crates.txt"
-}
-
-# Tells how many crates are left, whenever that has changed, and else every half minute that it goes on.
-tell_progress() {
-    local all=$1 begun=$SECONDS left was= quiet=0
-    while sleep 5 && kill -0 $$ 2> /dev/null; do
-        left=$((all - $(grep -c '^rt: [a-z_]* \(proved\|is kept\)' "$log")))
-        if [ "$left" != "$was" ] || [ $((quiet += 5)) -ge 30 ]; then
-            say "proving: $left of $all crates left, after $(((SECONDS - begun) / 60)) min $(((SECONDS - begun) % 60)) s"
-            was=$left quiet=0
-        fi
-    done
-}
-
 # Builds the program, if it isn't built from these very sources.
 build() {
-    local sum work teller status
+    local sum
     sum=$(sources) || return
     is_built "$sum" && return
     need_toolchain
-    mkdir -p "$store" && exec 9> "$built.lock" && flock 9 || return
-    is_built "$sum" && return
-    say "the program is proved first, crate by crate, which takes up to an hour where nothing is proved yet; $log has the details"
-    work=$(mktemp -d "$store/building.XXXXXX") && : > "$log" && copy_crates "$work" || return
-    tell_progress "$(crates | wc -l)" & teller=$!
-    (cd "$work" && rt ci < /dev/null) >> "$log" 2>&1 9>&-
-    status=$?
-    kill "$teller" && wait "$teller" 2> /dev/null
-    [ "$status" -eq 0 ] && mv "$work/crates/$program/out/$program" "$built" && echo "$sum" > "$built.sum"
-    status=$?
-    rm -rf "$work"
+    mkdir -p "$store" && exec 9> "$store/lock" && flock 9 || return
+    if ! is_built "$sum"; then
+        say "the program is proved first, crate by crate, which takes up to an hour where nothing is proved yet; $log has the details"
+        (cd "$root" && python3 bin/build.py "$program" "$store" 9>&-) > "$log" && echo "$sum" > "$built.sum" || return
+    fi
     exec 9>&-
-    return "$status"
 }
 
 # Runs the program with these words, built first where it has to be.
