@@ -1,7 +1,8 @@
 //! Edges: what may lead from one member to another, at once or later.
 
 use basic_types::Kind;
-use effect_scan::{Member, Node, Reason, Scan, reason_for};
+use edge_reasons::{Reason, reason_for};
+use effect_scan::{Member, Node, Scan};
 use meta_model::{DESTROYED, DESTROYED_ALONE, Meta, MetaWire, Work};
 use std::alloc::{AllocError, Global};
 

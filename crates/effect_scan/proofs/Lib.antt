@@ -1,15 +1,13 @@
 pub mod Adding
+pub mod Containing
 pub mod Joined
 pub mod Listing
 pub mod Numbered
 pub mod Occurring
 pub mod Doing
 pub mod Gathering
-pub mod Drawing
 pub mod Pairing
-pub mod Reading
 pub mod Relating
 pub mod Sources
 pub mod Standing
-pub mod Undrawn
 pub mod Whole

@@ -5,7 +5,6 @@ pub mod Paths
 pub mod Effects
 pub mod Destroying
 pub mod Edges
-pub mod Reasons
 pub mod Scans
 pub mod Laws
 pub mod code

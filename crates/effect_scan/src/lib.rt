@@ -10,16 +10,15 @@ mod lineage;
 mod node;
 mod numbering;
 mod places;
-mod reasons;
 mod rows;
 mod scan;
 mod targets;
 
+pub use edges::named;
 pub use effect::{Effect, Reach, effect_of};
 pub use laws::edges_join_nodes;
 pub use node::{Member, Node};
 pub use numbering::Numbering;
-pub use reasons::{Reason, reason_for};
 pub use rows::{row_at, targets_at};
 pub use scan::Scan;
 pub use targets::Targets;

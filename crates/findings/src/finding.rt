@@ -2,7 +2,7 @@
 
 use crate::rule::Rule;
 use diagnostics::TextPlace;
-use effect_scan::Reason;
+use edge_reasons::Reason;
 
 /// The text that something is in.
 #[derive(Clone, Copy, Debug, PartialEq, Eq)]

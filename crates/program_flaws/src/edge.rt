@@ -1,13 +1,14 @@
 //! An edge, in words.
 
 ghost use Rattle.std.specs.Prelude.{IfOk, IfSome};
-ghost use Rattle.effect_scan.specs.Reasons.{Draws};
+ghost use Rattle.edge_reasons.specs.Reasons.{Draws};
 
 use crate::names::{class_text, node_text, text_of};
 use crate::source::Source;
 use crate::statement::statement_of;
 use crate::wire::wire_at;
-use effect_scan::{Node, Reason, reason_for};
+use edge_reasons::{Reason, reason_for};
+use effect_scan::Node;
 use std::alloc::AllocError;
 
 /// Adds a line that says what draws the edge from one node to the other, and answers it.

@@ -1,11 +1,11 @@
 -- Walks along edges.
 use Rattle.std.proofs.Common.{◌≡◌, ℕ, suc, ◌+◌, ◌*◌, ◌-◌, ◌/◌, ◌%◌, ◌≤◌, ◌<◌, eqb, Bool, true, false, inl, inr, List, [], ◌∷◌, ◌++◌, length, get_or, slice_get, unwrap_or, Option, None, Some, refl, sym, ap, ◌∙◌, subst, arith}
 use Rattle.std.specs.List.{Contains, list_any}
-use Rattle.std.proofs.lemmas.Bool.{eq-eqb, false≢true, cases_lt}
+use Rattle.std.proofs.lemmas.Bool.{false≢true, cases_lt}
 use Rattle.std.proofs.lemmas.List.{get_or_past}
-use Rattle.std.proofs.lemmas.List.Folds.{list_any_at}
 use Rattle.std.proofs.lemmas.Option.{get_or_from_slice_get, unwrap_or-slice_get}
 use Rattle.effect_scan.specs.Rows.{row, Edge}
+use Rattle.effect_scan.proofs.Containing.{any_has}
 use Rattle.rank_graph.specs.declared.bits.TheConstants.{SIZE}
 use Rattle.rank_graph.specs.declared.path.Entry.{Entry}
 use Rattle.rank_graph.specs.declared.solution.Solution.{Solution}
@@ -35,9 +35,6 @@ edge_of rows a b r e h = subst (λ (x : List ℕ). Contains x b) e h
 
 pub row_has : (rows : List (List ℕ)) (a b : ℕ) (r : List ℕ) → r ≡ row rows a → Edge rows a b → Contains r b
 row_has rows a b r e h = subst (λ (x : List ℕ). Contains x b) (sym e) h
-
-pub any_has : (q : ℕ) (xs : List ℕ) → Contains xs q → list_any (λ y. eqb y q) xs ≡ true
-any_has q xs h = list_any_at (λ (y : ℕ). eqb y q) xs h.0 q h.1 (eq-eqb (get_or xs h.0 q) q h.2)
 
 -- ---- walks
 -- one more node of a walk

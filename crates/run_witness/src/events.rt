@@ -1,7 +1,8 @@
 //! The events that join the members of a chain, and those that begin it.
 
 use crate::names::{kind_word, push_name, push_object, push_signature, push_value};
-use effect_scan::{Member, Node, Reason, reason_for};
+use edge_reasons::{Reason, reason_for};
+use effect_scan::{Member, Node};
 use meta_model::{Meta, MetaWire, Work};
 use std::alloc::{AllocError, Global};
 

@@ -2,7 +2,8 @@
 
 use crate::places::Places;
 use diagnostics::TextPlace;
-use effect_scan::{Member, Node, Reason};
+use edge_reasons::Reason;
+use effect_scan::{Member, Node};
 use findings::{Link, Step};
 use program_flaws::{Source, node_text, push_edge};
 use std::alloc::AllocError;

@@ -1,5 +1,5 @@
 use Rattle.std.proofs.Common.{sym}
-use Rattle.effect_scan.proofs.Drawing.{has_any}
+use Rattle.effect_scan.proofs.Containing.{has_any}
 use Rattle.rank_graph.proofs.Walking.{walk_step, rank_falls, not_at_end, walked_once, edge_of}
 use Rattle.rank_graph.proofs.witness.path_to.Goals as goal
 

@@ -1,0 +1,5 @@
+pub mod Reasons
+pub use Rattle.meta_model.specs.Sites
+pub use Rattle.effect_scan.specs.Nodes
+pub use Rattle.effect_scan.specs.Effects
+pub use Rattle.effect_scan.specs.Edges

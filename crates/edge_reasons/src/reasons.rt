@@ -1,0 +1,277 @@
+//! What draws an edge: a statement, a native's declaration, a wire, a notify signal, a binding, or the deletion of objects.
+
+ghost use Rattle.std.specs.Prelude.{◌≡◌, ◌↔◌, [], ◌∷◌, IsTrue, IfSome, IfNone};
+ghost use Rattle.effect_scan.specs.Nodes.{node};
+ghost use Rattle.effect_scan.specs.Edges.{AtOrBelow, Reaches, ByWork, ByWire, ByNotify, BySite, MayLead};
+ghost use Rattle.effect_scan.specs.declared.node.Member.TheVariants.{Method, Property};
+ghost use Rattle.edge_reasons.specs.Reasons.{BodyLeads, DoesTo, NativeLeads, WireJoins, IsSource, Reads, SiteBinds, Draws};
+
+use basic_types::Kind;
+use effect_scan::{Effect, Member, Node, Reach, effect_of, named};
+use meta_model::{
+    DESTROYED, Meta, MetaEffects, MetaSite, MetaWire, SourceProperty, Statement, ValueType, Work,
+};
+use syntax_trees::Expr;
+
+/// What draws an edge.
+#[derive(Clone, Copy, Debug, PartialEq, Eq)]
+pub enum Reason {
+    /// The statement of this number in the body of the slot, counted from 0 in the order of the text, each `if` and each
+    /// group before what is in it.
+    Statement(usize),
+    /// The effects that the native is declared with.
+    Native,
+    /// The wire at this place, from 0.
+    Wire(usize),
+    /// The property's notify signal.
+    Notify,
+    /// The binding at this place, from 0.
+    Binding(usize),
+    /// Objects are deleted with one of the class.
+    Deletion,
+}
+
+/// What draws the edge from one node to the other; where several things do, the first: a body or a native before wires, a
+/// notify signal before bindings, and each of them in the order of the text. `None` where nothing leads from the one to the
+/// other. Time is linear in the body of a slot, in wires or in bindings.
+pub fn reason_for(meta: &Meta, from: Node, to: Node) -> Option<Reason>
+    ensures draws { IfSome result (Draws meta.now from to) }
+    ensures none { IfNone result (¬ MayLead meta.now from to) }
+{
+    match from.member {
+        Member::Method(method) => match work_reason(meta, from, method, to) {
+            Some(reason) => Some(reason),
+            None => wire_reason(meta, from, to),
+        },
+        Member::Property(property) => {
+            if notifies(meta, from.class, property, to) {
+                Some(Reason::Notify)
+            } else {
+                site_reason(meta, from, to)
+            }
+        }
+        Member::Destruction => {
+            if to.member == Member::Method(DESTROYED) {
+                Some(Reason::Deletion)
+            } else {
+                None
+            }
+        }
+    }
+}
+
+/// Whose body is looked through, and for what.
+#[derive(Clone, Copy)]
+struct Search<'m> {
+    meta: &'m Meta,
+    class: usize,
+    kinds: &'m [ValueType],
+    to: Node,
+}
+
+impl<'m> Search<'m> {
+    /// Whether the effect is one on the node.
+    fn reaches(&self, effect: Effect) -> bool
+        ensures { IsTrue result ↔ Reaches self.now.meta.now self.now.class effect self.now.to }
+    {
+        let member = effect.member;
+        match effect.reach {
+            Reach::Own => {
+                let class = self.class;
+                self.to == Node { class, member }
+            }
+            Reach::Below(class) => is_below(self.meta, self.to, class, member),
+        }
+    }
+
+    /// Whether the statement does something to the node by itself.
+    fn is_done_by(&self, statement: &Statement) -> bool
+        ensures { IsTrue result ↔
+            DoesTo self.now.meta.now self.now.class self.now.kinds.now statement.now self.now.to }
+    {
+        match effect_of(self.kinds, statement) {
+            Some(effect) => self.reaches(effect),
+            None => false,
+        }
+    }
+}
+
+/// What in the work of the method leads to the node.
+fn work_reason(meta: &Meta, from: Node, method: usize, to: Node) -> Option<Reason>
+    requires { from.member ≡ Method method }
+    ensures draws { IfSome result (Draws meta.now from to) }
+    ensures none { IfNone result (¬ ByWork meta.now from to) }
+{
+    let Some(found) = meta.method_at(from.class, method) else {
+        return None;
+    };
+    match &found.work {
+        Work::Signal => None,
+        Work::Slot(body) => {
+            let search = Search {
+                meta,
+                class: from.class,
+                kinds: found.kinds.as_slice(),
+                to,
+            };
+            let mut passed = 0;
+            if leads(&search, body.as_slice(), &mut passed) {
+                Some(Reason::Statement(passed))
+            } else {
+                None
+            }
+        }
+        Work::Native(native) => {
+            if native_leads(from.class, native, to) {
+                Some(Reason::Native)
+            } else {
+                None
+            }
+        }
+    }
+}
+
+/// Whether a statement of the body leads to the node, or of a block or a group in it; `passed` counts those before it.
+#[cycle(bodies)]
+fn leads(search: &Search, body: &[Statement], passed: &mut usize) -> bool
+    ensures { IsTrue result ↔
+        BodyLeads search.now.meta.now search.now.class search.now.kinds.now body.now search.now.to }
+{
+    for statement in body {
+        if whole_leads(search, statement, passed) {
+            return true;
+        }
+    }
+    false
+}
+
+/// Whether the statement leads to the node, or one that is in it.
+#[cycle(bodies)]
+fn whole_leads(search: &Search, statement: &Statement, passed: &mut usize) -> bool
+    ensures { IsTrue result ↔
+        BodyLeads search.now.meta.now search.now.class search.now.kinds.now (statement.now ∷ []) search.now.to }
+{
+    if search.is_done_by(statement) {
+        return true;
+    }
+    *passed = passed.saturating_add(1);
+    match statement {
+        Statement::If(_, chosen, other) => {
+            leads(search, chosen.as_slice(), passed) || leads(search, other.as_slice(), passed)
+        }
+        Statement::Group(sets) => leads(search, sets.as_slice(), passed),
+        _ => false,
+    }
+}
+
+/// Whether the native, of this class, may emit or set the node.
+fn native_leads(class: usize, native: &MetaEffects, to: Node) -> bool
+    ensures { IsTrue result ↔ NativeLeads class native.now to }
+{
+    if to.class != class {
+        return false;
+    }
+    match to.member {
+        Member::Method(signal) => native.emits.as_slice().contains(&signal),
+        Member::Property(property) => native.sets.as_slice().contains(&property),
+        Member::Destruction => false,
+    }
+}
+
+/// Whether the node is this member, in the class or one below it.
+fn is_below(meta: &Meta, place: Node, class: usize, member: Member) -> bool
+    ensures { IsTrue result ↔ AtOrBelow meta.now class member place }
+{
+    place.member == member && meta.inherits(place.class, class)
+}
+
+/// The first wire that isn't queued and leads from the one node to the other.
+fn wire_reason(meta: &Meta, from: Node, to: Node) -> Option<Reason>
+    ensures draws { IfSome result (Draws meta.now from to) }
+    ensures none { IfNone result (¬ ByWire meta.now from to) }
+{
+    for (place, wire) in meta.wires().iter().enumerate() {
+        if joins(meta, wire, from, to) {
+            return Some(Reason::Wire(place));
+        }
+    }
+    None
+}
+
+/// Whether the wire leads from the one node to the other at once.
+fn joins(meta: &Meta, wire: &MetaWire, from: Node, to: Node) -> bool
+    ensures { IsTrue result ↔ WireJoins meta.now from to wire.now }
+{
+    wire.kind != Kind::Queued
+        && is_below(meta, from, wire.sender, Member::Method(named(wire.signal)))
+        && is_below(meta, to, wire.receiver, Member::Method(wire.method))
+}
+
+/// Whether the node is the notify signal of the property, in the same class.
+fn notifies(meta: &Meta, class: usize, property: usize, to: Node) -> bool
+    ensures { IsTrue result ↔ ByNotify meta.now (node class (Property property)) to }
+{
+    let Some(object) = meta.object(class) else {
+        return false;
+    };
+    let Some(found) = object.property(property) else {
+        return false;
+    };
+    match found.notify {
+        Some(signal) => to.class == class && to.member == Member::Method(named(signal)),
+        None => false,
+    }
+}
+
+/// The first binding that reads the one node for the other.
+fn site_reason(meta: &Meta, from: Node, to: Node) -> Option<Reason>
+    ensures draws { IfSome result (Draws meta.now from to) }
+    ensures none { IfNone result (¬ BySite meta.now from to) }
+{
+    for (place, site) in meta.sites().iter().enumerate() {
+        if binds(meta, site, from, to) {
+            return Some(Reason::Binding(place));
+        }
+    }
+    None
+}
+
+/// Whether the binding is for the one node and reads the other.
+fn binds(meta: &Meta, site: &MetaSite, from: Node, to: Node) -> bool
+    ensures { IsTrue result ↔ SiteBinds meta.now from to site.now }
+{
+    is_below(meta, to, site.class, Member::Property(site.property))
+        && reads(
+            meta,
+            site.formals.as_slice(),
+            site.formula.expression(),
+            from,
+        )
+}
+
+/// Whether the expression reads the node, where the formal sources are of these classes.
+fn reads(meta: &Meta, formals: &[usize], expression: &Expr<SourceProperty>, from: Node) -> bool
+    ensures { IsTrue result ↔ Reads meta.now formals.now from expression.now }
+{
+    match expression {
+        Expr::Literal(_) => false,
+        Expr::Path(source) => is_source(meta, formals, *source, from),
+        Expr::Unary(_, operand) => reads(meta, formals, operand.get(), from),
+        Expr::Binary(_, left, right) => {
+            if reads(meta, formals, left.get(), from) {
+                return true;
+            }
+            reads(meta, formals, right.get(), from)
+        }
+    }
+}
+
+/// Whether the node is this property of the source.
+fn is_source(meta: &Meta, formals: &[usize], source: SourceProperty, from: Node) -> bool
+    ensures { IsTrue result ↔ IsSource meta.now formals.now from source }
+{
+    match formals.get(source.source) {
+        Some(class) => is_below(meta, from, *class, Member::Property(source.property)),
+        None => false,
+    }
+}
