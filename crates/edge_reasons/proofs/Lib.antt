@@ -1,3 +1,4 @@
 mod Drawing
 mod Reading
 mod Undrawn
+mod Walking

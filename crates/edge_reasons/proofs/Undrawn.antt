@@ -5,14 +5,12 @@ use Rattle.std.proofs.lemmas.List.{take_more, take_all}
 use Rattle.std.proofs.lemmas.Option.{same_Some, none-some}
 use Rattle.syntax_trees.specs.declared.syntax.Expr.{Expr}
 use Rattle.meta_model.specs.declared.qobject.TheConstants.{DESTROYED}
-use Rattle.meta_model.specs.Places.{StandsAt}
-use Rattle.meta_model.proofs.Searches.{none_at_all}
+use Rattle.meta_model.specs.Places.{NoneStands}
 use Rattle.meta_model.specs.declared.object.ValueType.{ValueType}
 use Rattle.meta_model.specs.declared.object.MetaObject.{MetaObject}
 use Rattle.meta_model.specs.declared.object.MetaPath.{MetaPath}
 use Rattle.meta_model.specs.declared.object.MetaMethod.{MetaMethod}
 use Rattle.meta_model.specs.declared.object.MetaProperty.{MetaProperty}
-use Rattle.meta_model.specs.declared.object.MetaWire.{MetaWire}
 use Rattle.meta_model.specs.declared.object.Work.{Work}
 use Rattle.meta_model.specs.declared.object.Work.TheVariants.{Signal, Slot, Native}
 use Rattle.meta_model.specs.declared.effects.MetaEffects.{MetaEffects}
@@ -20,7 +18,6 @@ use Rattle.meta_model.specs.declared.object.Statement.{Statement}
 use Rattle.meta_model.specs.declared.object.Statement.TheOpen as layer
 use Rattle.meta_model.specs.declared.object.Statement.TheViews.{out-Statement}
 use Rattle.meta_model.specs.declared.object.Statement.TheVariants as whole
-use Rattle.meta_model.specs.declared.site.MetaSite.{MetaSite}
 use Rattle.meta_model.specs.Loaded.{Loaded}
 use Rattle.meta_model.specs.Members.{IsMethod, IsProperty}
 use Rattle.meta_model.proofs.InLists.{place_in}
@@ -214,19 +211,18 @@ module _ (p : Loaded) (x y : Node) (m : ℕ) (from : x.member ≡ Method m) wher
         ]
 
 -- ---- wires and bindings
-pub no_wire : (p : Loaded) (x y : Node) (wires : List MetaWire) → wires ≡ p.wires → (i : ℕ) → ((k : ℕ) → k < i → ¬ StandsAt (WireJoins p x y) wires k) → length wires ≤ i → ¬ ByWire p x y
-no_wire p x y wires e i none past w =
+pub no_wire : (p : Loaded) (x y : Node) → NoneStands (WireJoins p x y) p.wires → ¬ ByWire p x y
+no_wire p x y none w =
     let at = place_in p.wires w.wire w.declared in
-    none_at_all (WireJoins p x y) wires i none past at.0
-    (record { item = w.wire; is = subst (λ (l : List MetaWire). slice_get l at.0 ≡ Some w.wire) (sym e) at.1; has = record { at_once = w.at_once; from = w.from; to = w.to } })
+    none at.0 (record { item = w.wire; is = at.1; has = record { at_once = w.at_once; from = w.from; to = w.to } })
 
-pub no_site : (p : Loaded) (x y : Node) (sites : List MetaSite) → sites ≡ p.sites → (i : ℕ) → ((k : ℕ) → k < i → ¬ StandsAt (SiteBinds p x y) sites k) → length sites ≤ i → ¬ BySite p x y
-no_site p x y sites e i none past s =
+pub no_site : (p : Loaded) (x y : Node) → NoneStands (SiteBinds p x y) p.sites → ¬ BySite p x y
+no_site p x y none s =
     let at = place_in p.sites s.site s.declared in
-    none_at_all (SiteBinds p x y) sites i none past at.0
+    none at.0
     (record {
       item = s.site;
-      is = subst (λ (l : List MetaSite). slice_get l at.0 ≡ Some s.site) (sym e) at.1;
+      is = at.1;
       has = record { reads = record { source = s.source; among = s.reads; is = record { class = s.class; formal = s.formal; from = s.from } }; to = s.to };
     })
 

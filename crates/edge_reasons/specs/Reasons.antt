@@ -8,11 +8,15 @@ use Rattle.meta_model.specs.declared.object.ValueType.{ValueType}
 use Rattle.meta_model.specs.declared.object.Statement.{Statement}
 use Rattle.meta_model.specs.declared.object.Statement.TheViews.{out-Statement}
 use Rattle.meta_model.specs.declared.object.MetaWire.{MetaWire}
+use Rattle.meta_model.specs.declared.object.MetaMethod.{MetaMethod}
+use Rattle.meta_model.specs.declared.object.Work.TheVariants.{Slot, Native}
 use Rattle.meta_model.specs.declared.effects.MetaEffects.{MetaEffects}
 use Rattle.meta_model.specs.declared.site.MetaSite.{MetaSite}
 use Rattle.meta_model.specs.declared.site.SourceProperty.{SourceProperty}
 use Rattle.meta_model.specs.Loaded.{Loaded}
+use Rattle.meta_model.specs.Members.{IsMethod}
 use Rattle.meta_model.specs.Sites.{paths_in}
+use Rattle.meta_model.specs.Places.{StandsFirst}
 use Rattle.effect_scan.specs.declared.node.Node.{Node}
 use Rattle.effect_scan.specs.declared.node.Member.{Member}
 use Rattle.effect_scan.specs.declared.node.Member.TheVariants.{Method, Property, Destruction}
@@ -23,6 +27,7 @@ use Rattle.edge_reasons.specs.declared.reasons.Reason.TheVariants as reason
 use Rattle.effect_scan.specs.Nodes.{node, named}
 use Rattle.effect_scan.specs.Effects.{effect_of, Occurs, NativeHas}
 use Rattle.effect_scan.specs.Edges.{AtOrBelow, Reaches, ByWork, ByNotify}
+use Rattle.statement_order.specs.Order.{in_order, capped}
 
 -- a statement of the body of a slot of class c does something to the node at once
 pub record BodyLeads (p : Loaded) (c : ℕ) (kinds : List ValueType) (body : List Statement) (y : Node) : Type 0 where
@@ -38,6 +43,15 @@ pub record DoesTo (p : Loaded) (c : ℕ) (kinds : List ValueType) (t : Statement
   pub is : effect_of kinds (out-Statement t) ≡ Some effect
   pub to : Reaches p c effect y
 
+-- the node is a native
+pub record IsNative (p : Loaded) (x : Node) : Type 0 where
+  pub number : ℕ
+  pub method : MetaMethod
+  pub is : IsMethod p x.class number method
+  pub from : x.member ≡ Method number
+  pub effects : MetaEffects
+  pub native : method.work ≡ Native effects
+
 -- the native of class c may do something to the node, a member of the object itself
 pub record NativeLeads (c : ℕ) (effects : MetaEffects) (y : Node) : Type 0 where
   pub member : Member
@@ -49,12 +63,6 @@ pub record WireJoins (p : Loaded) (x y : Node) (wire : MetaWire) : Type 0 where
   pub at_once : wire.kind ≢ Queued
   pub from : AtOrBelow p wire.sender (Method (named wire.signal)) x
   pub to : AtOrBelow p wire.receiver (Method wire.method) y
-
--- the wire at this place leads from the one node to the other at once
-pub record WireDraws (p : Loaded) (x y : Node) (k : ℕ) : Type 0 where
-  pub wire : MetaWire
-  pub stands : slice_get p.wires k ≡ Some wire
-  pub joins : WireJoins p x y wire
 
 -- the node is a property of a formal source, where these are of these classes
 pub record IsSource (p : Loaded) (formals : List ℕ) (x : Node) (source : SourceProperty) : Type 0 where
@@ -73,22 +81,28 @@ pub record SiteBinds (p : Loaded) (x y : Node) (site : MetaSite) : Type 0 where
   pub reads : Reads p site.formals x site.formula
   pub to : AtOrBelow p site.class (Property site.property) y
 
--- the binding at this place reads the one node for the other
-pub record SiteDraws (p : Loaded) (x y : Node) (k : ℕ) : Type 0 where
-  pub site : MetaSite
-  pub stands : slice_get p.sites k ≡ Some site
-  pub binds : SiteBinds p x y site
+-- a statement of the slot's body does something to the node by itself, and before the one of this number none does
+pub record StatementDraws (p : Loaded) (x y : Node) (number : ℕ) : Type 0 where
+  pub method_number : ℕ
+  pub method : MetaMethod
+  pub is : IsMethod p x.class method_number method
+  pub from : x.member ≡ Method method_number
+  pub body : List Statement
+  pub slot : method.work ≡ Slot body
+  pub place : ℕ
+  pub first : StandsFirst (λ t. DoesTo p x.class method.kinds t y) (in_order body) place
+  pub counted : number ≡ capped place
 
 -- the destruction announces a destruction
 pub record IsAnnounced (x y : Node) : Type 0 where
   pub from : x.member ≡ Destruction
   pub to : y.member ≡ Method DESTROYED
 
--- this draws the edge from the one node to the other
+-- this draws the edge from the one node to the other, and nothing that is asked before it does
 abbrev pub Draws : Loaded → Node → Node → Reason → Type 0
-Draws p x y (reason.Statement k) = ByWork p x y
-Draws p x y reason.Native = ByWork p x y
-Draws p x y (reason.Wire k) = WireDraws p x y k
+Draws p x y (reason.Statement k) = ByWork p x y × StatementDraws p x y k
+Draws p x y reason.Native = ByWork p x y × IsNative p x
+Draws p x y (reason.Wire k) = (¬ ByWork p x y) × StandsFirst (WireJoins p x y) p.wires k
 Draws p x y reason.Notify = ByNotify p x y
-Draws p x y (reason.Binding k) = SiteDraws p x y k
+Draws p x y (reason.Binding k) = (¬ ByNotify p x y) × StandsFirst (SiteBinds p x y) p.sites k
 Draws p x y reason.Deletion = IsAnnounced x y

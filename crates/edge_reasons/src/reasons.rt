@@ -4,20 +4,22 @@ ghost use Rattle.std.specs.Prelude.{◌≡◌, ◌↔◌, [], ◌∷◌, IsTrue,
 ghost use Rattle.effect_scan.specs.Nodes.{node};
 ghost use Rattle.effect_scan.specs.Edges.{AtOrBelow, Reaches, ByWork, ByWire, ByNotify, BySite, MayLead};
 ghost use Rattle.effect_scan.specs.declared.node.Member.TheVariants.{Method, Property};
-ghost use Rattle.edge_reasons.specs.Reasons.{BodyLeads, DoesTo, NativeLeads, WireJoins, IsSource, Reads, SiteBinds, Draws};
+ghost use Rattle.edge_reasons.specs.Reasons.{DoesTo, NativeLeads, WireJoins, IsSource, Reads, SiteBinds, Draws};
+ghost use Rattle.edge_reasons.specs.code.Seeks.{Seeks};
+ghost use Rattle.meta_model.specs.Places.{IsPlace};
 
 use basic_types::Kind;
 use effect_scan::{Effect, Member, Node, Reach, effect_of, named};
 use meta_model::{
     DESTROYED, Meta, MetaEffects, MetaSite, MetaWire, SourceProperty, Statement, ValueType, Work,
 };
+use std::ops::ControlFlow;
 use syntax_trees::Expr;
 
 /// What draws an edge.
 #[derive(Clone, Copy, Debug, PartialEq, Eq)]
 pub enum Reason {
-    /// The statement of this number in the body of the slot, counted from 0 in the order of the text, each `if` and each
-    /// group before what is in it.
+    /// The statement of this number in the body of the slot, as `statement_order::statement_at` counts.
     Statement(usize),
     /// The effects that the native is declared with.
     Native,
@@ -27,11 +29,11 @@ pub enum Reason {
     Notify,
     /// The binding at this place, from 0.
     Binding(usize),
-    /// Objects are deleted with one of the class.
+    /// Objects are deleted with one of the class. With which, isn't looked at.
     Deletion,
 }
 
-/// What draws the edge from one node to the other; where several things do, the first: a body or a native before wires, a
+/// What draws the edge from the one node to the other; where several things do, the first: a body or a native before wires, a
 /// notify signal before bindings, and each of them in the order of the text. `None` where nothing leads from the one to the
 /// other. Time is linear in the body of a slot, in wires or in bindings.
 pub fn reason_for(meta: &Meta, from: Node, to: Node) -> Option<Reason>
@@ -41,13 +43,18 @@ pub fn reason_for(meta: &Meta, from: Node, to: Node) -> Option<Reason>
     match from.member {
         Member::Method(method) => match work_reason(meta, from, method, to) {
             Some(reason) => Some(reason),
-            None => wire_reason(meta, from, to),
+            None => match joining_wire(meta, from, to) {
+                Some(place) => Some(Reason::Wire(place)),
+                None => None,
+            },
         },
         Member::Property(property) => {
             if notifies(meta, from.class, property, to) {
-                Some(Reason::Notify)
-            } else {
-                site_reason(meta, from, to)
+                return Some(Reason::Notify);
+            }
+            match binding_site(meta, from, to) {
+                Some(place) => Some(Reason::Binding(place)),
+                None => None,
             }
         }
         Member::Destruction => {
@@ -94,6 +101,38 @@ impl<'m> Search<'m> {
             None => false,
         }
     }
+
+    /// The number of the first of these statements that does something to the node, with those that are in them, or that of
+    /// what comes behind them all. The first of them has the number `start`.
+    #[cycle(bodies)]
+    fn first_among(&self, body: &[Statement], start: usize) -> ControlFlow<usize, usize>
+        ensures { Seeks self.now.meta.now self.now.class self.now.kinds.now body.now self.now.to start result }
+    {
+        let mut next = start;
+        for statement in body {
+            next = self.first_in(statement, next)?;
+        }
+        ControlFlow::Continue(next)
+    }
+
+    /// The same of one statement, which has the number `start`, and of those that are in it.
+    #[cycle(bodies)]
+    fn first_in(&self, statement: &Statement, start: usize) -> ControlFlow<usize, usize>
+        ensures { Seeks self.now.meta.now self.now.class self.now.kinds.now (statement.now ∷ []) self.now.to start result }
+    {
+        if self.is_done_by(statement) {
+            return ControlFlow::Break(start);
+        }
+        let next = start.saturating_add(1);
+        match statement {
+            Statement::If(_, chosen, other) => {
+                let next = self.first_among(chosen.as_slice(), next)?;
+                self.first_among(other.as_slice(), next)
+            }
+            Statement::Group(sets) => self.first_among(sets.as_slice(), next),
+            _ => ControlFlow::Continue(next),
+        }
+    }
 }
 
 /// What in the work of the method leads to the node.
@@ -114,11 +153,9 @@ fn work_reason(meta: &Meta, from: Node, method: usize, to: Node) -> Option<Reaso
                 kinds: found.kinds.as_slice(),
                 to,
             };
-            let mut passed = 0;
-            if leads(&search, body.as_slice(), &mut passed) {
-                Some(Reason::Statement(passed))
-            } else {
-                None
+            match search.first_among(body.as_slice(), 0) {
+                ControlFlow::Break(number) => Some(Reason::Statement(number)),
+                ControlFlow::Continue(_) => None,
             }
         }
         Work::Native(native) => {
@@ -128,39 +165,6 @@ fn work_reason(meta: &Meta, from: Node, method: usize, to: Node) -> Option<Reaso
                 None
             }
         }
-    }
-}
-
-/// Whether a statement of the body leads to the node, or of a block or a group in it; `passed` counts those before it.
-#[cycle(bodies)]
-fn leads(search: &Search, body: &[Statement], passed: &mut usize) -> bool
-    ensures { IsTrue result ↔
-        BodyLeads search.now.meta.now search.now.class search.now.kinds.now body.now search.now.to }
-{
-    for statement in body {
-        if whole_leads(search, statement, passed) {
-            return true;
-        }
-    }
-    false
-}
-
-/// Whether the statement leads to the node, or one that is in it.
-#[cycle(bodies)]
-fn whole_leads(search: &Search, statement: &Statement, passed: &mut usize) -> bool
-    ensures { IsTrue result ↔
-        BodyLeads search.now.meta.now search.now.class search.now.kinds.now (statement.now ∷ []) search.now.to }
-{
-    if search.is_done_by(statement) {
-        return true;
-    }
-    *passed = passed.saturating_add(1);
-    match statement {
-        Statement::If(_, chosen, other) => {
-            leads(search, chosen.as_slice(), passed) || leads(search, other.as_slice(), passed)
-        }
-        Statement::Group(sets) => leads(search, sets.as_slice(), passed),
-        _ => false,
     }
 }
 
@@ -185,14 +189,13 @@ fn is_below(meta: &Meta, place: Node, class: usize, member: Member) -> bool
     place.member == member && meta.inherits(place.class, class)
 }
 
-/// The first wire that isn't queued and leads from the one node to the other.
-fn wire_reason(meta: &Meta, from: Node, to: Node) -> Option<Reason>
-    ensures draws { IfSome result (Draws meta.now from to) }
-    ensures none { IfNone result (¬ ByWire meta.now from to) }
+/// The place of the first wire that isn't queued and leads from the one node to the other.
+fn joining_wire(meta: &Meta, from: Node, to: Node) -> Option<usize>
+    ensures { IsPlace (WireJoins meta.now from to) meta.now.wires result }
 {
     for (place, wire) in meta.wires().iter().enumerate() {
         if joins(meta, wire, from, to) {
-            return Some(Reason::Wire(place));
+            return Some(place);
         }
     }
     None
@@ -223,14 +226,13 @@ fn notifies(meta: &Meta, class: usize, property: usize, to: Node) -> bool
     }
 }
 
-/// The first binding that reads the one node for the other.
-fn site_reason(meta: &Meta, from: Node, to: Node) -> Option<Reason>
-    ensures draws { IfSome result (Draws meta.now from to) }
-    ensures none { IfNone result (¬ BySite meta.now from to) }
+/// The place of the first binding that reads the one node for the other.
+fn binding_site(meta: &Meta, from: Node, to: Node) -> Option<usize>
+    ensures { IsPlace (SiteBinds meta.now from to) meta.now.sites result }
 {
     for (place, site) in meta.sites().iter().enumerate() {
         if binds(meta, site, from, to) {
-            return Some(Reason::Binding(place));
+            return Some(place);
         }
     }
     None

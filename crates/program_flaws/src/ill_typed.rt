@@ -1,11 +1,11 @@
 //! Literals, bodies and bindings that aren't typed.
 
 use crate::names::{class_text, node_text, property_text, text_of, type_text};
-use crate::numbers::Numbered;
 use crate::source::Source;
 use crate::statement::{Body, statement_of};
 use effect_scan::{Member, Node};
 use meta_model::Statement;
+use statement_order::Numbered;
 use std::alloc::AllocError;
 use type_check::{Flaw, Spot, flaw_at};
 

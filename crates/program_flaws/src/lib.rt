@@ -8,7 +8,6 @@ mod explain;
 mod ill_typed;
 mod names;
 mod node_name;
-mod numbers;
 mod reasons;
 mod rows;
 mod source;

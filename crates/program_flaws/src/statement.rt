@@ -1,10 +1,10 @@
 //! How a statement is written, with `..` in the place of its expressions.
 
 use crate::names::{method_text, property_text, text_of};
-use crate::numbers::{Numbered, statement_at};
 use crate::source::Source;
 use effect_scan::{Member, Node};
 use meta_model::{MetaMethod, MetaPath, MetaRoot, Statement, ValueType, Work};
+use statement_order::{Numbered, statement_at};
 use std::alloc::AllocError;
 use syntax_trees::Slot;
 

@@ -1,5 +1,5 @@
 -- Typed bodies, one statement after another.
-use Rattle.std.proofs.Common.{◌≡◌, ◌≢◌, inl, inr, ℕ, ◌+◌, ◌<◌, ◌≤◌, List, [], ◌∷◌, ◌++◌, length, get_or, take, Option, None, Some, MatchOption, refl, sym, ap, ◌∙◌, subst}
+use Rattle.std.proofs.Common.{◌≡◌, ◌≢◌, inl, inr, ℕ, ◌+◌, ◌<◌, ◌≤◌, List, [], ◌∷◌, ◌++◌, length, get_or, take, refl, sym, ap, ◌∙◌, subst}
 use Rattle.std.proofs.lemmas.List.{take_more, take_all}
 use Rattle.std.proofs.lemmas.Option.{slice_get_read}
 use Rattle.syntax_trees.specs.declared.syntax.Expr.{Expr}
@@ -76,10 +76,10 @@ module _ (p : Loaded) (me : ℕ) (kinds : List ValueType) where
     open_group : out-Statement t ≡ layer.Group sets
     open_group = ap out-Statement is ∙ whole.outs-Group sets
 
-    its_sets : IsTypedBody p me kinds (t ∷ []) → IsTypedBody p me kinds sets
+    pub its_sets : IsTypedBody p me kinds (t ∷ []) → IsTypedBody p me kinds sets
     its_sets typed s o = typed s (grouped open_group o)
 
-    in_group : IsTypedStatement p me kinds (out-Statement t) → IsTypedBody p me kinds sets → IsTypedBody p me kinds (t ∷ [])
+    pub in_group : IsTypedStatement p me kinds (out-Statement t) → IsTypedBody p me kinds sets → IsTypedBody p me kinds (t ∷ [])
     in_group typed inside s here = typed
     in_group typed inside s (after o) = elim o [ ]
     in_group typed inside s (chosen {e = y} {block = b} {other = c} at o) = absurd (no_if y b c (sym open_group ∙ at))
@@ -94,22 +94,3 @@ module _ (p : Loaded) (me : ℕ) (kinds : List ValueType) where
       where
         same : (others : List Statement) → layer.Group sets ≡ layer.Group others → sets ≡ others
         same others e = cc
-
-  -- what the code tells of a group
-  pub group_told : {F : Type 0} (t : Statement) (sets given : List Statement) (r : Option F) → t ≡ whole.Group sets → given ≡ sets → IsTypedStatement p me kinds (out-Statement t)
-      → MatchOption r (IsTypedBody p me kinds given) (λ _. IsTypedBody p me kinds given → ⊥) → MatchOption r (IsTypedBody p me kinds (t ∷ [])) (λ _. IsTypedBody p me kinds (t ∷ []) → ⊥)
-  group_told t sets given None is same typed inside = in_group t sets is typed (subst (λ (b : List Statement). IsTypedBody p me kinds b) same inside)
-  group_told t sets given (Some f) is same typed inside = λ h. inside (subst (λ (b : List Statement). IsTypedBody p me kinds b) (sym same) (its_sets t sets is h))
-
-  -- what the code tells of an `if`
-  pub if_told : {F : Type 0} (t : Statement) (x : Expr MetaPath) (block other left right : List Statement) (r : Option F) → t ≡ whole.If x block other → left ≡ block → right ≡ other
-      → IsTypedStatement p me kinds (out-Statement t) → IsTypedBody p me kinds left → MatchOption r (IsTypedBody p me kinds right) (λ _. IsTypedBody p me kinds right → ⊥)
-      → MatchOption r (IsTypedBody p me kinds (t ∷ [])) (λ _. IsTypedBody p me kinds (t ∷ []) → ⊥)
-  if_told t x block other left right None is l e typed first second =
-      both_blocks t x block other is typed (subst (λ (b : List Statement). IsTypedBody p me kinds b) l first)
-      (subst (λ (b : List Statement). IsTypedBody p me kinds b) e second)
-  if_told t x block other left right (Some f) is l e typed first second = λ h.
-      second (subst (λ (b : List Statement). IsTypedBody p me kinds b) (sym e) (second_block t x block other is h))
-
-  pub if_first : (t : Statement) (x : Expr MetaPath) (block other left : List Statement) → t ≡ whole.If x block other → left ≡ block → IsTypedBody p me kinds (t ∷ []) → IsTypedBody p me kinds left
-  if_first t x block other left is l h = subst (λ (b : List Statement). IsTypedBody p me kinds b) (sym l) (first_block t x block other is h)

@@ -1,5 +1,5 @@
 -- A method is declared by one class, and has one body.
-use Rattle.std.proofs.Common.{◌≡◌, ◌↔◌, ℕ, ◌+◌, ◌<◌, ◌≤◌, List, length, slice_get, Option, None, Some, Result, Ok, Err, IfOk, MatchOption, refl, sym, ap, ◌∙◌, subst, arith}
+use Rattle.std.proofs.Common.{◌≡◌, ◌↔◌, ℕ, ◌+◌, ◌<◌, ◌≤◌, List, length, slice_get, Option, None, Some, refl, sym, ap, ◌∙◌, subst, arith}
 use Rattle.std.specs.Option.{option_and_then}
 use Rattle.std.proofs.lemmas.List.{length-append}
 use Rattle.std.proofs.lemmas.Option.{none-some, same_Some, slice_get_within}
@@ -84,18 +84,17 @@ module _ (p : Loaded) (sound : IsSound p) where
       let once : d ≡ c = declared_once c d m after below declared in
       absurd (none other (subst (λ (k : ℕ). IsMethod p k m other) once at))
 
-  pub body_told : {F E : Type 0} (c m : ℕ) (method : MetaMethod) (body given : List Statement) (kinds : List ValueType) (r : Result (Option F) E) → IsMethod p c m method → method_offset p c ≤ m
-      → method.work ≡ Slot body → given ≡ body → kinds ≡ method.kinds → IfOk r (λ found. MatchOption found (IsTypedBody p c kinds given) (λ _. IsTypedBody p c kinds given → ⊥))
-      → IfOk r (λ found. MatchOption found (IsTypedMemberHere p c (Method m)) (λ _. IsTypedMemberHere p c (Method m) → ⊥))
-  body_told c m method body given kinds (Err e) is after slots at typed told = tt
-  body_told c m method body given kinds (Ok None) is after slots at typed told =
-      (method_here c m method is after).0
-      (subst (λ (w : Work). IsTypedWork p c method.kinds w) (sym slots)
-      (subst (λ (ks : List ValueType). IsTypedBody p c ks body) typed (subst (λ (b : List Statement). IsTypedBody p c kinds b) at told)))
-  body_told c m method body given kinds (Ok (Some f)) is after slots at typed told = λ h.
-      told
-      (subst (λ (b : List Statement). IsTypedBody p c kinds b) (sym at)
-      (subst (λ (ks : List ValueType). IsTypedBody p c ks body) (sym typed) (subst (λ (w : Work). IsTypedWork p c method.kinds w) slots ((method_here c m method is after).1 h))))
+  module _ (c m : ℕ) (method : MetaMethod) (body given : List Statement) (kinds : List ValueType) (is : IsMethod p c m method) (after : method_offset p c ≤ m) (slots : method.work ≡ Slot body) (at : given ≡ body) (same_kinds : kinds ≡ method.kinds) where
+    pub body_typed : IsTypedBody p c kinds given → IsTypedMemberHere p c (Method m)
+    body_typed typed =
+        (method_here c m method is after).0
+        (subst (λ (w : Work). IsTypedWork p c method.kinds w) (sym slots)
+        (subst (λ (ks : List ValueType). IsTypedBody p c ks body) same_kinds (subst (λ (b : List Statement). IsTypedBody p c kinds b) at typed)))
+
+    pub typed_body : IsTypedMemberHere p c (Method m) → IsTypedBody p c kinds given
+    typed_body h =
+        subst (λ (b : List Statement). IsTypedBody p c kinds b) (sym at)
+        (subst (λ (ks : List ValueType). IsTypedBody p c ks body) (sym same_kinds) (subst (λ (w : Work). IsTypedWork p c method.kinds w) slots ((method_here c m method is after).1 h)))
 
 -- what isn't a slot with a body is typed
 pub no_body : (p : Loaded) (c : ℕ) (kinds : List ValueType) (work : Work) → ((body : List Statement) → ¬ (work ≡ Slot body)) → IsTypedWork p c kinds work

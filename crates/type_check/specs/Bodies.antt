@@ -76,6 +76,9 @@ IsTypedStatement p me kinds (layer.Delete path) = IsTypedDeletion me kinds path
 IsTypedStatement p me kinds (layer.Later path) = IsTypedDeletion me kinds path
 IsTypedStatement p me kinds (layer.Group sets) = Unit {0}
 
+abbrev pub IsUntyped : Loaded → ℕ → List ValueType → Statement → Type 0
+IsUntyped p me kinds s = ¬ IsTypedStatement p me kinds (out-Statement s)
+
 -- each statement of the body, in its blocks and groups too
 abbrev pub IsTypedBody : Loaded → ℕ → List ValueType → List Statement → Type 0
 IsTypedBody p me kinds body = (s : Statement) → Occurs s body → IsTypedStatement p me kinds (out-Statement s)

@@ -6,9 +6,11 @@ pub mod Accepting
 pub mod Bodies
 pub mod Typed
 pub mod Laws
+pub mod code
 pub use Rattle.basic_types.specs.Name
 pub use Rattle.basic_types.specs.Types
 pub use Rattle.expressions.specs.Typing
 pub use Rattle.meta_model.specs.LookUps
 pub use Rattle.meta_model.specs.Members
 pub use Rattle.meta_model.specs.Sound
+pub use Rattle.statement_order.specs.Order

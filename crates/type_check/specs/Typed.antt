@@ -2,6 +2,7 @@
 use Rattle.std.specs.Prelude.{◌≡◌, ℕ, List, Option, None, Some, slice_get}
 use Rattle.std.specs.Option.{option_and_then, option_map}
 use Rattle.meta_model.specs.declared.object.ValueType.{ValueType}
+use Rattle.meta_model.specs.declared.object.Statement.{Statement}
 use Rattle.meta_model.specs.declared.object.Work.{Work}
 use Rattle.meta_model.specs.declared.object.Work.TheVariants.{Slot}
 use Rattle.meta_model.specs.declared.object.MetaMethod.{MetaMethod}
@@ -11,15 +12,17 @@ use Rattle.meta_model.specs.declared.site.MetaSite.{MetaSite}
 use Rattle.meta_model.specs.Loaded.{Loaded}
 use Rattle.meta_model.specs.Members.{IsMethod, IsProperty, property_at, Below, Declares}
 use Rattle.meta_model.specs.Values.{Has}
+use Rattle.meta_model.specs.Places.{StandsFirst}
 use Rattle.effect_scan.specs.declared.node.Node.{Node}
 use Rattle.effect_scan.specs.declared.node.Member.{Member}
 use Rattle.effect_scan.specs.declared.node.Member.TheVariants.{Method, Property, Destruction}
 use Rattle.effect_scan.specs.Nodes.{nodes_of}
+use Rattle.statement_order.specs.Order.{in_order, capped}
 use Rattle.type_check.specs.declared.spot.Spot.{Spot}
 use Rattle.type_check.specs.declared.spot.Spot.TheVariants as spot
 use Rattle.type_check.specs.Firsts.{AllHave, LacksFirst, IsFirstWithout}
 use Rattle.type_check.specs.Accepting.{IsGiven}
-use Rattle.type_check.specs.Bodies.{IsTypedBody}
+use Rattle.type_check.specs.Bodies.{IsUntyped, IsTypedBody}
 
 -- ---- members
 -- a slot's body is typed, where class d declares the slot; nothing else of a method needs a type
@@ -104,3 +107,24 @@ IsTypedHere p x = IsTypedMemberHere p x.class x.member
 abbrev pub IsTypedSpot : Loaded → Spot → Type 0
 IsTypedSpot p (spot.Node x) = IsTypedHere p x
 IsTypedSpot p (spot.Binding k) = (site : MetaSite) → slice_get p.sites k ≡ Some site → IsTypedSite p site
+
+-- ---- which statement a flaw is in
+-- the first statement that isn't typed, in the order of the text, of the body of method m of class c
+pub record IsUntypedStatement (p : Loaded) (c m : ℕ) (told : Option ℕ) : Type 0 where
+  pub method : MetaMethod
+  pub is : IsMethod p c m method
+  pub body : List Statement
+  pub slot : method.work ≡ Slot body
+  pub place : ℕ
+  pub first : StandsFirst (IsUntyped p c method.kinds) (in_order body) place
+  pub counted : told ≡ Some (capped place)
+
+-- of what isn't a method, none
+abbrev pub IsInMember : Loaded → ℕ → Member → Option ℕ → Type 0
+IsInMember p c (Method m) told = IsUntypedStatement p c m told
+IsInMember p c (Property q) told = told ≡ None
+IsInMember p c Destruction told = told ≡ None
+
+abbrev pub IsInSpot : Loaded → Spot → Option ℕ → Type 0
+IsInSpot p (spot.Node x) told = IsInMember p x.class x.member told
+IsInSpot p (spot.Binding k) told = told ≡ None

@@ -1,56 +1,55 @@
 //! Typed bodies.
 
-ghost use Rattle.std.specs.Prelude.{[], ◌∷◌, IfOk, MatchOption};
-ghost use Rattle.type_check.specs.Bodies.{IsTypedBody};
+ghost use Rattle.std.specs.Prelude.{[], ◌∷◌, IfOk};
+ghost use Rattle.type_check.specs.code.Judging.{Judges};
 
 use crate::flaws::Flaw;
 use crate::scope::Scope;
 use meta_model::Statement;
 use std::alloc::AllocError;
+use std::ops::ControlFlow;
 
-/// What isn't typed in the first statement of the body that isn't, in its blocks and groups too; `passed` counts the
-/// statements before it. Its error is that memory was refused.
+/// What isn't typed in the first of these statements that isn't, with those in their blocks and groups, or the number of what
+/// comes behind them all. The first of them has the number `start`. Its error is that memory was refused.
 #[cycle(bodies)]
 pub fn body_flaw(
     scope: &Scope,
     body: &[Statement],
-    passed: &mut usize,
-) -> Result<Option<Flaw>, AllocError>
-    ensures { IfOk result (λ found.
-        let Typed = IsTypedBody scope.now.meta.now scope.now.class scope.now.kinds.now body.now in
-        MatchOption found Typed (λ _. Typed → ⊥)) }
+    start: usize,
+) -> Result<ControlFlow<Flaw, usize>, AllocError>
+    ensures { IfOk result (Judges scope.now.meta.now scope.now.class scope.now.kinds.now body.now start) }
 {
+    let mut next = start;
     for statement in body {
-        if let Some(flaw) = whole_flaw(scope, statement, passed)? {
-            return Ok(Some(flaw));
+        match whole_flaw(scope, statement, next)? {
+            ControlFlow::Break(flaw) => return Ok(ControlFlow::Break(flaw)),
+            ControlFlow::Continue(number) => next = number,
         }
     }
-    Ok(None)
+    Ok(ControlFlow::Continue(next))
 }
 
-/// What isn't typed in the statement, or in one that is in it.
+/// The same of one statement, which has the number `start`, and of those that are in it.
 #[cycle(bodies)]
 fn whole_flaw(
     scope: &Scope,
     statement: &Statement,
-    passed: &mut usize,
-) -> Result<Option<Flaw>, AllocError>
-    ensures { IfOk result (λ found.
-        let Typed = IsTypedBody scope.now.meta.now scope.now.class scope.now.kinds.now (statement.now ∷ []) in
-        MatchOption found Typed (λ _. Typed → ⊥)) }
+    start: usize,
+) -> Result<ControlFlow<Flaw, usize>, AllocError>
+    ensures { IfOk result (Judges scope.now.meta.now scope.now.class scope.now.kinds.now (statement.now ∷ []) start) }
 {
     if !scope.is_typed(statement)? {
         let fault = scope.fault(statement)?;
-        let statement = Some(*passed);
-        return Ok(Some(Flaw { statement, fault }));
+        let statement = Some(start);
+        return Ok(ControlFlow::Break(Flaw { statement, fault }));
     }
-    *passed = passed.saturating_add(1);
+    let next = start.saturating_add(1);
     match statement {
-        Statement::If(_, chosen, other) => match body_flaw(scope, chosen.as_slice(), passed)? {
-            Some(flaw) => Ok(Some(flaw)),
-            None => body_flaw(scope, other.as_slice(), passed),
+        Statement::If(_, chosen, other) => match body_flaw(scope, chosen.as_slice(), next)? {
+            ControlFlow::Break(flaw) => Ok(ControlFlow::Break(flaw)),
+            ControlFlow::Continue(number) => body_flaw(scope, other.as_slice(), number),
         },
-        Statement::Group(sets) => body_flaw(scope, sets.as_slice(), passed),
-        _ => Ok(None),
+        Statement::Group(sets) => body_flaw(scope, sets.as_slice(), next),
+        _ => Ok(ControlFlow::Continue(next)),
     }
 }

@@ -1,7 +1,7 @@
 //! The first part of a program that isn't typed.
 
 ghost use Rattle.std.specs.Prelude.{IfOk, MatchOption};
-ghost use Rattle.type_check.specs.Typed.{FindsNode, FindsUntyped, IsTypedSpot};
+ghost use Rattle.type_check.specs.Typed.{FindsNode, FindsUntyped, IsTypedSpot, IsInSpot};
 
 use crate::flaws::Flaw;
 use crate::members::node_flaw;
@@ -29,7 +29,8 @@ pub fn untyped(alloc: Global, meta: &Meta) -> Result<Option<Spot>, AllocError>
 /// isn't there. Its error is that memory was refused.
 pub fn flaw_at(alloc: Global, meta: &Meta, spot: Spot) -> Result<Option<Flaw>, AllocError>
     ensures { IfOk result (λ found.
-        let Typed = IsTypedSpot meta.now spot in MatchOption found Typed (λ _. Typed → ⊥)) }
+        let Typed = IsTypedSpot meta.now spot in
+        MatchOption found Typed (λ flaw. (Typed → ⊥) × IsInSpot meta.now spot flaw.statement)) }
 {
     match spot {
         Spot::Node(node) => {

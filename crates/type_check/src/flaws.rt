@@ -34,8 +34,8 @@ pub enum Fault {
 /// What isn't typed in a part of a program, and why.
 #[derive(Clone, Copy, Debug, PartialEq, Eq)]
 pub struct Flaw {
-    /// The statement of a slot's body, counted from 0 in the order of the text, each `if` and each group before what is in
-    /// it; `None` for a literal and a binding.
+    /// The first statement of a slot's body that isn't typed, as `statement_order::statement_at` counts; `None` for a literal
+    /// and a binding.
     pub statement: Option<usize>,
     /// Why.
     pub fault: Fault,

@@ -1,10 +1,10 @@
 //! Typed members of classes.
 
-ghost use Rattle.std.specs.Prelude.{◌≤◌, IfOk, MatchOption};
+ghost use Rattle.std.specs.Prelude.{◌≡◌, ◌≤◌, IfOk, MatchOption};
 ghost use Rattle.effect_scan.specs.declared.node.Member.TheVariants.{Method};
 ghost use Rattle.meta_model.specs.Members.{method_offset};
 ghost use Rattle.meta_model.specs.Sound.{IsSound};
-ghost use Rattle.type_check.specs.Typed.{IsTypedProperty, IsTypedMemberHere, IsTypedHere};
+ghost use Rattle.type_check.specs.Typed.{IsTypedProperty, IsTypedMemberHere, IsTypedHere, IsUntypedStatement, IsInMember};
 
 use crate::bodies::body_flaw;
 use crate::flaws::{Fault, Flaw, given_by};
@@ -12,6 +12,7 @@ use crate::scope::Scope;
 use effect_scan::{Member, Node};
 use meta_model::{Meta, Work};
 use std::alloc::{AllocError, Global};
+use std::ops::ControlFlow;
 
 /// What isn't typed in the method, where the class of this number doesn't inherit it. Its error is that memory was refused.
 fn method_flaw(
@@ -23,7 +24,8 @@ fn method_flaw(
     requires sound { IsSound meta.now }
     requires own { method_offset meta.now class ≤ method }
     ensures { IfOk result (λ found.
-        let Typed = IsTypedMemberHere meta.now class (Method method) in MatchOption found Typed (λ _. Typed → ⊥)) }
+        let Typed = IsTypedMemberHere meta.now class (Method method) in
+        MatchOption found Typed (λ flaw. (Typed → ⊥) × IsUntypedStatement meta.now class method flaw.statement)) }
 {
     let Some(method) = meta.method_at(class, method) else {
         return Ok(None);
@@ -37,13 +39,16 @@ fn method_flaw(
         class,
         kinds: method.kinds.as_slice(),
     };
-    let mut passed = 0;
-    body_flaw(&scope, body.as_slice(), &mut passed)
+    match body_flaw(&scope, body.as_slice(), 0)? {
+        ControlFlow::Break(flaw) => Ok(Some(flaw)),
+        ControlFlow::Continue(_) => Ok(None),
+    }
 }
 
 /// Why the property's value at first isn't of its type, if it isn't.
 fn property_flaw(meta: &Meta, class: usize, property: usize) -> Option<Flaw>
-    ensures { let Typed = IsTypedProperty meta.now class property in MatchOption result Typed (λ _. Typed → ⊥) }
+    ensures { let Typed = IsTypedProperty meta.now class property in
+        MatchOption result Typed (λ flaw. (Typed → ⊥) × (flaw.statement ≡ None)) }
 {
     let Some(object) = meta.object(class) else {
         return None;
@@ -64,7 +69,8 @@ fn property_flaw(meta: &Meta, class: usize, property: usize) -> Option<Flaw>
 pub fn node_flaw(alloc: Global, meta: &Meta, node: Node) -> Result<Option<Flaw>, AllocError>
     requires { IsSound meta.now }
     ensures { IfOk result (λ found.
-        let Typed = IsTypedHere meta.now node in MatchOption found Typed (λ _. Typed → ⊥)) }
+        let Typed = IsTypedHere meta.now node in
+        MatchOption found Typed (λ flaw. (Typed → ⊥) × IsInMember meta.now node.class node.member flaw.statement)) }
 {
     match node.member {
         Member::Method(method) if method < meta.method_offset(node.class) => Ok(None),

@@ -49,7 +49,8 @@ fn kind_in(meta: &Meta, class: usize, property: usize) -> Option<ValueType>
 /// Why the expression of the site isn't of its target's type, if it isn't. Its error is that memory was refused.
 pub fn site_flaw(alloc: Global, meta: &Meta, site: &MetaSite) -> Result<Option<Flaw>, AllocError>
     ensures { IfOk result (λ found.
-        let Typed = IsTypedSite meta.now site.now in MatchOption found Typed (λ _. Typed → ⊥)) }
+        let Typed = IsTypedSite meta.now site.now in
+        MatchOption found Typed (λ flaw. (Typed → ⊥) × (flaw.statement ≡ None))) }
 {
     let Some(kind) = kind_in(meta, site.class, site.property) else {
         return Ok(Some(flaw(Fault::Unknown(0))));
@@ -68,7 +69,9 @@ pub fn site_flaw(alloc: Global, meta: &Meta, site: &MetaSite) -> Result<Option<F
 }
 
 /// What isn't typed in a binding.
-fn flaw(fault: Fault) -> Flaw {
+fn flaw(fault: Fault) -> Flaw
+    ensures { result.statement ≡ None }
+{
     Flaw {
         statement: None,
         fault,

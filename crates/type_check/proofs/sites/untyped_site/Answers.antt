@@ -8,7 +8,7 @@ use Rattle.type_check.proofs.sites.untyped_site.Goals as goal
 pub returns-in-Some : goal.returns-in-Some
 returns-in-Some c =
     subst (λ (xs : List MetaSite). IsFirstWithout (IsTypedSite c.args.meta.now) xs c.loop-number.number) c.sites-site-items.ensures.value
-    (first_at _ _ _ _ c.loop-number.invariant c.loop-number-test.true c.site-item.is (rw c.in-Some.is at c.in_ok-site_flaw.ensures))
+    (first_at _ _ _ _ c.loop-number.invariant c.loop-number-test.true c.site-item.is (rw c.in-Some.is at c.in_ok-site_flaw.ensures).0)
 
 pub loop-number-preserved : goal.loop-number-preserved
 loop-number-preserved c = have_more _ _ _ _ c.loop-number.invariant c.loop-number-test.true c.site-item.is (rw c.in-None.is at c.in_ok-site_flaw.ensures)

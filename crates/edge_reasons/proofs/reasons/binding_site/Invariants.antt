@@ -1,7 +1,7 @@
 use Rattle.std.proofs.Common.{◌<◌, ℕ}
 use Rattle.meta_model.specs.Places.{StandsAt}
 use Rattle.edge_reasons.specs.Reasons.{SiteBinds}
-use Rattle.edge_reasons.proofs.reasons.site_reason.Given as goal
+use Rattle.edge_reasons.proofs.reasons.binding_site.Given as goal
 
 abbrev pub invariant-loop-place : goal.invariant-loop-place
 invariant-loop-place l = (k : ℕ) → k < l.place → ¬ StandsAt (SiteBinds l.meta l.from l.to) l.site-items k

@@ -1,0 +1,5 @@
+mod Finding
+mod Numbering
+mod Order
+mod Searching
+pub mod Walking

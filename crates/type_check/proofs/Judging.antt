@@ -1,0 +1,101 @@
+-- Bodies that are judged one statement after another.
+use Rattle.std.proofs.Common.{◌≡◌, ℕ, ◌+◌, ◌^◌, ◌<◌, ◌≤◌, List, [], ◌∷◌, length, get_or, take, Option, Some, refl, sym, ap, ◌∙◌, subst, arith}
+use Rattle.std.specs.declared.ops.ControlFlow.{ControlFlow}
+use Rattle.std.specs.declared.ops.ControlFlow.TheVariants.{Continue, Break}
+use Rattle.syntax_trees.specs.declared.syntax.Expr.{Expr}
+use Rattle.meta_model.specs.declared.object.ValueType.{ValueType}
+use Rattle.meta_model.specs.declared.object.MetaPath.{MetaPath}
+use Rattle.meta_model.specs.declared.object.MetaMethod.{MetaMethod}
+use Rattle.meta_model.specs.declared.object.Statement.{Statement}
+use Rattle.meta_model.specs.declared.object.Statement.TheViews.{out-Statement}
+use Rattle.meta_model.specs.declared.object.Statement.TheVariants as whole
+use Rattle.meta_model.specs.declared.object.Work.TheVariants.{Slot}
+use Rattle.meta_model.specs.Loaded.{Loaded}
+use Rattle.meta_model.specs.Members.{IsMethod}
+use Rattle.meta_model.specs.Places.{StandsFirst}
+use Rattle.effect_scan.proofs.Occurring.{IsPlain}
+use Rattle.statement_order.specs.Order.{in_order, capped}
+use Rattle.statement_order.specs.Searches.{FirstFrom}
+use Rattle.statement_order.proofs.Walking.{first_here, none_here, none_in_all, first_itself, none_plain, first_in_group, none_in_group, first_in_chosen, first_in_other, none_in_if}
+use Rattle.type_check.specs.declared.flaws.Flaw.{Flaw}
+use Rattle.type_check.specs.Bodies.{IsTypedStatement, IsUntyped, IsTypedBody}
+use Rattle.type_check.specs.Typed.{IsUntypedStatement}
+use Rattle.type_check.specs.code.Judging.{IsFirstFlaw, Judges}
+use Rattle.type_check.proofs.Blocks.{body_more, body_all, body_at, whole_of, plain, first_block, second_block, both_blocks, its_sets, in_group}
+
+module _ (p : Loaded) (me : ℕ) (kinds : List ValueType) where
+  abbrev Untyped : Statement → Type 0
+  Untyped t = IsUntyped p me kinds t
+
+  moved : (xs ys : List Statement) (start next : ℕ) (told : Option ℕ) → ((n : ℕ) → FirstFrom Untyped (in_order xs) next n → FirstFrom Untyped (in_order ys) start n) → IsFirstFlaw p me kinds xs next told → IsFirstFlaw p me kinds ys start told
+  moved xs ys start next told on h = record { number = h.number; is = h.is; first = on h.number h.first }
+
+  -- ---- one statement after another
+  module _ (body : List Statement) (i : ℕ) (t : Statement) (inside : i < length body) (is : t ≡ get_or body i t) (start next : ℕ) (before : Judges p me kinds (take i body) start (Continue next)) where
+    pub judges_here : (flaw : Flaw) → Judges p me kinds (t ∷ []) next (Break flaw) → Judges p me kinds body start (Break flaw)
+    judges_here flaw h = (
+      λ typed. h.0 (body_at p me kinds body i t inside is typed),
+      moved (t ∷ []) body start next flaw.statement (λ n. first_here Untyped body i t inside is start next n before.1) h.1,
+    )
+
+    pub judges_more : (n : ℕ) → Judges p me kinds (t ∷ []) next (Continue n) → Judges p me kinds (take (i + 1) body) start (Continue n)
+    judges_more n h = (body_more p me kinds body i t inside is before.0 h.0, none_here Untyped body i t inside is start next n before.1 h.1)
+
+  pub judges_past : (body : List Statement) (i start next : ℕ) → length body ≤ i → Judges p me kinds (take i body) start (Continue next) → Judges p me kinds body start (Continue next)
+  judges_past body i start next past before = (body_all p me kinds body i past before.0, none_in_all Untyped body i start next past before.1)
+
+  -- ---- one statement, with what is in it
+  pub judges_itself : (t : Statement) (start : ℕ) → start < 2 ^ 64 → ¬ IsTypedStatement p me kinds (out-Statement t) → (¬ IsTypedBody p me kinds (t ∷ [])) × IsFirstFlaw p me kinds (t ∷ []) start (Some start)
+  judges_itself t start fits not = (λ typed. not (whole_of p me kinds t typed), record { number = start; is = refl; first = first_itself Untyped t start fits not })
+
+  module _ (t : Statement) (start next : ℕ) (typed : IsTypedStatement p me kinds (out-Statement t)) (more : next ≡ capped (start + 1)) where
+    not : ¬ Untyped t
+    not untyped = untyped typed
+
+    pub judges_plain : IsPlain t → Judges p me kinds (t ∷ []) start (Continue next)
+    judges_plain bare = (plain p me kinds t bare typed, none_plain Untyped t start next not more bare)
+
+    module _ (sets given : List Statement) (is : t ≡ whole.Group sets) (at : given ≡ sets) where
+      pub judges_group : (r : ControlFlow Flaw ℕ) → Judges p me kinds given next r → Judges p me kinds (t ∷ []) start r
+      judges_group (Break flaw) h = (
+        λ all. h.0 (subst (λ (b : List Statement). IsTypedBody p me kinds b) (sym at) (its_sets p me kinds t sets is all)),
+        moved given (t ∷ []) start next flaw.statement (λ n. first_in_group Untyped t start next not more sets given is at n) h.1,
+      )
+      judges_group (Continue n) h = (
+        in_group p me kinds t sets is typed (subst (λ (b : List Statement). IsTypedBody p me kinds b) at h.0),
+        none_in_group Untyped t start next not more sets given is at n h.1,
+      )
+
+    module _ (x : Expr MetaPath) (block other left right : List Statement) (is : t ≡ whole.If x block other) (l : left ≡ block) (r : right ≡ other) where
+      pub judges_chosen : (flaw : Flaw) → Judges p me kinds left next (Break flaw) → Judges p me kinds (t ∷ []) start (Break flaw)
+      judges_chosen flaw h = (
+        λ all. h.0 (subst (λ (b : List Statement). IsTypedBody p me kinds b) (sym l) (first_block p me kinds t x block other is all)),
+        moved left (t ∷ []) start next flaw.statement (λ n. first_in_chosen Untyped t start next not more x block other left right is l r n) h.1,
+      )
+
+      pub judges_other : (then : ℕ) (q : ControlFlow Flaw ℕ) → Judges p me kinds left next (Continue then) → Judges p me kinds right then q → Judges p me kinds (t ∷ []) start q
+      judges_other then (Break flaw) chosen h = (
+        λ all. h.0 (subst (λ (b : List Statement). IsTypedBody p me kinds b) (sym r) (second_block p me kinds t x block other is all)),
+        moved right (t ∷ []) start then flaw.statement (λ n. first_in_other Untyped t start next not more x block other left right is l r then n chosen.1) h.1,
+      )
+      judges_other then (Continue n) chosen h = (
+        both_blocks p me kinds t x block other is typed (subst (λ (b : List Statement). IsTypedBody p me kinds b) l chosen.0) (subst (λ (b : List Statement). IsTypedBody p me kinds b) r h.0),
+        none_in_if Untyped t start next not more x block other left right is l r then n chosen.1 h.1,
+      )
+
+-- ---- the body of a slot
+pub untyped_statement : (p : Loaded) (c m : ℕ) (method : MetaMethod) → IsMethod p c m method → (body given : List Statement) (kinds : List ValueType) → method.work ≡ Slot body → given ≡ body → kinds ≡ method.kinds → (told : Option ℕ)
+    → IsFirstFlaw p c kinds given 0 told → IsUntypedStatement p c m told
+untyped_statement p c m method is body given kinds slots at typed told h = record {
+  method = method;
+  is = is;
+  body = body;
+  slot = slots;
+  place = h.first.place;
+  first =
+      subst (λ (ks : List ValueType). StandsFirst (IsUntyped p c ks) (in_order body) h.first.place) typed
+      (subst (λ (b : List Statement). StandsFirst (IsUntyped p c kinds) (in_order b) h.first.place) at h.first.first);
+  counted =
+      let from : capped (0 + h.first.place) ≡ capped h.first.place = ap capped (omega arith) in
+      h.is ∙ ap (λ (n : ℕ). Some n) (h.first.is ∙ from);
+}

@@ -1,0 +1,22 @@
+-- What the code finds in a part of a body, whose first statement has the number `start` in the whole.
+use Rattle.std.specs.Prelude.{◌≡◌, ℕ, List, Option, Some}
+use Rattle.std.specs.declared.ops.ControlFlow.{ControlFlow}
+use Rattle.std.specs.declared.ops.ControlFlow.TheVariants.{Continue, Break}
+use Rattle.meta_model.specs.declared.object.ValueType.{ValueType}
+use Rattle.meta_model.specs.declared.object.Statement.{Statement}
+use Rattle.meta_model.specs.Loaded.{Loaded}
+use Rattle.statement_order.specs.Order.{in_order}
+use Rattle.statement_order.specs.Searches.{FirstFrom, NoneFrom}
+use Rattle.type_check.specs.declared.flaws.Flaw.{Flaw}
+use Rattle.type_check.specs.Bodies.{IsUntyped, IsTypedBody}
+
+-- the flaw is in the first statement that isn't typed
+pub record IsFirstFlaw (p : Loaded) (me : ℕ) (kinds : List ValueType) (body : List Statement) (start : ℕ) (told : Option ℕ) : Type 0 where
+  pub number : ℕ
+  pub is : told ≡ Some number
+  pub first : FirstFrom (IsUntyped p me kinds) (in_order body) start number
+
+-- the flaw of the first statement that isn't typed, or where all are typed the number behind them all
+abbrev pub Judges : Loaded → ℕ → List ValueType → List Statement → ℕ → ControlFlow Flaw ℕ → Type 0
+Judges p me kinds body start (Break flaw) = (¬ IsTypedBody p me kinds body) × IsFirstFlaw p me kinds body start flaw.statement
+Judges p me kinds body start (Continue next) = IsTypedBody p me kinds body × NoneFrom (IsUntyped p me kinds) (in_order body) start next
