@@ -3,9 +3,11 @@
 those of the crate's own must-fail folder. It works on a copy of the repository, into whose crates it puts them, and `rt ci`
 proves these crates and those below, and keeps what passed. The last lines are rt's.
 Usage: run.py [CRATE..]         (default: every crate that has some, which takes as long as the gate)
-       run.py --since COMMIT    those of each crate that has some and was changed since"""
+       run.py --since COMMIT    those of each crate that has some, whose code, definitions, proofs or wrong bodies
+                                are others since, or new"""
 import glob
 import os
+import re
 import shutil
 import subprocess
 import sys
@@ -13,13 +15,21 @@ import tempfile
 
 HERE = os.path.dirname(os.path.abspath(__file__))
 ROOT = os.path.dirname(os.path.dirname(HERE))
+OF_A_CRATE = re.compile(r"(?:crates(?=/[^/]+/(?:src|specs|proofs|must-fail)/)|tests/wrong_bodies)/([^/]+)/")
 
 
-def changed_since(commit):
-    """The crates whose code, definitions or proofs are others than in the commit."""
-    words = ["git", "diff", "--name-only", commit, "--", "crates/*/src", "crates/*/specs", "crates/*/proofs"]
-    files = subprocess.run(words, cwd=ROOT, check=True, capture_output=True, text=True).stdout.splitlines()
-    return {it.split("/")[1] for it in files}
+def crates_of(files):
+    """The crates whose code, definitions, proofs or wrong bodies are among these files of a repository."""
+    return {found[1] for found in map(OF_A_CRATE.match, files) if found}
+
+
+def changed_since(commit, root=ROOT):
+    """The crates of the repository in which something of that is another than in the commit, or new."""
+    listings = (["diff", "--name-only", "--no-renames", commit], ["ls-files", "--others", "--exclude-standard"])
+    files = []
+    for words in listings:
+        files += subprocess.run(["git", *words], cwd=root, check=True, capture_output=True, text=True).stdout.splitlines()
+    return crates_of(files)
 
 
 def main(names):
