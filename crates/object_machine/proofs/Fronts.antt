@@ -187,6 +187,18 @@ module _ (front : List Entry) where
     does = x.does;
   }
 
+  pub writes-ill-front : {p : Loaded} {s : State} → WritesIll p s → WritesIll p (in_front front s)
+  writes-ill-front x = record {
+    what = x.what;
+    next = does-next-front x.next;
+    set = x.set;
+    among = x.among;
+    it = x.it;
+    property = x.property;
+    is = x.is;
+    ill = x.ill;
+  }
+
   module _ {p : Loaded} {s : State} where
     binds-next-front : {es : List Event} {b : Binding} → BindsNext p s es b → BindsNext p (in_front front s) es b
     binds-next-front x = record {
@@ -212,16 +224,7 @@ module _ (front : List Entry) where
 
       brings-front : {d : ℕ} {es : List Event} {f : Fault} → Brings p natives d s es f → Brings p natives d (in_front front s) es f
       brings-front (lacks_value x) = lacks_value (lacks-front x)
-      brings-front (writes_ill x) = writes_ill (record {
-        what = x.what;
-        next = does-next-front x.next;
-        set = x.set;
-        among = x.among;
-        it = x.it;
-        property = x.property;
-        is = x.is;
-        ill = x.ill;
-      })
+      brings-front (writes_ill x) = writes_ill (writes-ill-front x)
       brings-front (binds_ill x) = binds_ill (record { binding = x.binding; next = binds-next-front x.next; ill = x.ill })
       brings-front (goes_ill x) = goes_ill (record { t = in_front front x.t; follows = follows-front x.follows; ill = λ well. x.ill (well-behind well) })
       brings-front (goes_fatal x) = goes_fatal (record { t = in_front front x.t; follows = follows-front x.follows; well = well-front x.well; fatal = x.fatal })

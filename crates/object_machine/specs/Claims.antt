@@ -14,7 +14,7 @@ use Rattle.machine_state.specs.State.{State, IsIdle}
 use Rattle.machine_state.specs.Worlds.{at, untouched}
 use Rattle.machine_rules.specs.Good.{HasArguments, Spares, IsAcyclic, AreSettled}
 use Rattle.machine_rules.specs.Faults.{LacksValue, LacksFirst}
-use Rattle.machine_rules.specs.Next.{DoesNext, WritesNext}
+use Rattle.machine_rules.specs.Next.{DoesNext, WritesNext, WritesIll}
 use Rattle.machine_rules.specs.Natives.{NativeAnswers}
 use Rattle.object_machine.specs.Causes.{StopsFor}
 use Rattle.object_machine.specs.Runs.{Run, Each, GoodRun, Follows}
@@ -25,11 +25,13 @@ use Rattle.meta_model.specs.declared.effects.MetaEffects.{MetaEffects}
 
 -- ---- every step of every run
 
--- where one rule, or the taking of one event, leads from s to t: the statement that is next in s has the values that it needs,
--- and in t every property of a living object has a value of its type
+-- where one rule, or the taking of one event, leads from s to t: in t every property of a living object has a value of its
+-- type, the statement that is next has the values that it needs, and what it writes next are values of their properties'
+-- types, also one that a later write of the same group hides
 pub record IsTypedStep (p : Loaded) (s t : State) : Type 0 where
-  pub has_values : ¬ LacksValue s
   pub values : AreTyped p t.objects
+  pub has_values : ¬ LacksValue t
+  pub fits : ¬ WritesIll p t
 
 -- the claims, of a step of a run that may nest so deep
 pub record IsFaultless (p : Loaded) (depth : ℕ) (s t : State) : Type 0 where

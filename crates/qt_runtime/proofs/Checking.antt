@@ -18,7 +18,7 @@ use Rattle.machine_rules.specs.Natives.{NativeAnswers}
 use Rattle.object_machine.specs.Causes.{StopsFor}
 use Rattle.object_machine.specs.Laws.{in_front}
 use Rattle.object_machine.specs.Runs.{Run, done}
-use Rattle.object_machine.proofs.Fronts.{run-front, each-behind, lacks-front, stops-front}
+use Rattle.object_machine.proofs.Fronts.{run-front, each-behind, lacks-front, writes-ill-front, stops-front}
 use Rattle.object_machine.proofs.Running.{run-trans, each-weaker}
 use Rattle.object_machine.specs.Claims.{IsTypedStep, IsFaultless, IsLimit, IsReached}
 use Rattle.object_machine.proofs.CheckedRuns.Claims.{only_limits, each_run_is_faultless}
@@ -100,7 +100,7 @@ faultless-behind front s t x = record {
   acyclic = x.acyclic;
   spared = x.spared;
   shallow = x.shallow;
-  typed = record { has_values = λ lacking. x.typed.has_values (lacks-front front lacking); values = x.typed.values };
+  typed = record { values = x.typed.values; has_values = λ lacking. x.typed.has_values (lacks-front front lacking); fits = λ ill. x.typed.fits (writes-ill-front front ill) };
   settled = x.settled;
 }
 

@@ -122,7 +122,7 @@ module _ {p : Loaded} {certificate : Certificate} (valid : IsValid p certificate
           acyclic = good.acyclic;
           spared = good.spared;
           shallow = good.shallow;
-          typed = record { has_values = λ lacking. lacks-not valid sound natives (as-kept natives stood) lacking; values = (good.well).values };
+          typed = record { values = (good.well).values; has_values = λ lacking. lacks-not valid sound natives (as-kept natives after) lacking; fits = writes-none after };
           settled = (((after.up).sound).agree).settled;
         }
 
