@@ -92,7 +92,7 @@ module _ {p : Loaded} {s t : State} (agree : Agree p s.objects s.bindings) (well
       })
 
   -- the target of a binding that was installed has its expression's value
-  bound-fits : {below : List Activation} {b : Binding} (x : Installs p s below b t) → AreTyped p x.objects → IsPlain x.property.kind → IsFit p x.objects b
+  pub bound-fits : {below : List Activation} {b : Binding} (x : Installs p s below b t) → AreTyped p x.objects → IsPlain x.property.kind → IsFit p x.objects b
   bound-fits {b = b} x typed plain =
       let on = lives-on s.objects x.objects x.installed.objects b.target.object x.is.life (life-of-lives x.is.lives) in
       let field : IsField p x.objects b.target.object b.target.property on.object x.property = record {

@@ -155,7 +155,7 @@ schedules-one s t u stack x life a b =
 
 -- ---- bodies
 
-does-one : (p : Loaded) (natives : NativeAnswers) → AnswersOnce natives → (s : State) (o m : ℕ) (arguments : List Value) (rest : List Step) (below : List Activation) (d : Operation) (t u : State) → Agree p s.objects s.bindings → Does p natives s o m arguments rest below d t → Does p natives s o m arguments rest below d u → t ≡ u
+pub does-one : (p : Loaded) (natives : NativeAnswers) → AnswersOnce natives → (s : State) (o m : ℕ) (arguments : List Value) (rest : List Step) (below : List Activation) (d : Operation) (t u : State) → Agree p s.objects s.bindings → Does p natives s o m arguments rest below d t → Does p natives s o m arguments rest below d u → t ≡ u
 does-one p natives once s o m arguments rest below (Write what) t u agree a b = writes-one agree a b
 does-one p natives once s o m arguments rest below (Begin x n given) t u agree a b = begins-one a b
 does-one p natives once s o m arguments rest below (Choose block) t u agree a b = a ∙ sym b
@@ -237,7 +237,7 @@ turn-one : (p : Loaded) (s t u : State) (turn : Option Turn) → TurnRule p s t 
 turn-one p s t u None a b = absurd a
 turn-one p s t u (Some turn) a b = serves-one p s t u turn (find (is_before turn.limit) (items_at s.queues.loops turn.home)) a b
 
-stack-one : (p : Loaded) (natives : NativeAnswers) → AnswersOnce natives → (s t u : State) (stack : List Activation) → Agree p s.objects s.bindings → RuleAt p natives s t stack → RuleAt p natives s u stack → t ≡ u
+pub stack-one : (p : Loaded) (natives : NativeAnswers) → AnswersOnce natives → (s t u : State) (stack : List Activation) → Agree p s.objects s.bindings → RuleAt p natives s t stack → RuleAt p natives s u stack → t ≡ u
 stack-one p natives once s t u [] agree a b = turn-one p s t u s.turn a b
 stack-one p natives once s t u (Body o m arguments left ∷ below) agree a b = body-one p natives once s o m arguments below t u left agree a b
 stack-one p natives once s t u (Emit o g arguments used last ∷ below) agree a b = emit-one p s o g arguments last below t u (next_used s.objects s.connected.connections o g used last) a b

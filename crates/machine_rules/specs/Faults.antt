@@ -11,7 +11,7 @@ use Rattle.machine_state.specs.State.{Step, Run, State, Activation, Body}
 use Rattle.machine_state.specs.Telling.{Assigning, writes_of}
 use Rattle.machine_rules.specs.Operations.{operation}
 use Rattle.machine_rules.specs.There.{LacksField}
-use Rattle.machine_rules.specs.Next.{WritesNext}
+use Rattle.machine_rules.specs.Next.{WritesNext, WritesIll}
 use Rattle.machine_rules.specs.Good.{IsWell, Spares, IsAcyclic}
 
 -- ---- what comes next
@@ -50,10 +50,12 @@ pub record LacksValue (s : State) : Type 0 where
 
 -- ---- why a run stops
 
--- what follows gives a property or a call a value that is not of its type
+-- what follows gives a property or a call a value that is not of its type, and closes no chain of bindings: on one that is
+-- closed values may be any
 pub record GoesIll (p : Loaded) (s : State) (Follows : State → Type 0) : Type 0 where
   pub t : State
   pub follows : Follows t
+  pub acyclic : IsAcyclic t
   pub ill : ¬ IsWell p s t
 
 -- what follows lets an object die while a body of it is active, and is well but for that
@@ -63,11 +65,13 @@ pub record GoesFatal (p : Loaded) (s : State) (Follows : State → Type 0) : Typ
   pub well : IsWell p s t
   pub fatal : ¬ Spares s t
 
--- what follows nests too deep, and is well but for that
+-- what follows nests too deep, and is well but for that; a value of a wrong type that a later write of a group hides from it
+-- isn't, either
 pub record GoesDeep (p : Loaded) (depth : ℕ) (s : State) (Follows : State → Type 0) : Type 0 where
   pub t : State
   pub follows : Follows t
   pub well : IsWell p s t
   pub spared : Spares s t
   pub acyclic : IsAcyclic t
+  pub fits : ¬ WritesIll p s
   pub deep : depth < length t.stack

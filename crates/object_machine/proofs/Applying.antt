@@ -64,11 +64,11 @@ brings-more : {p : Loaded} {natives : NativeAnswers} {d : ℕ} {s : State} {es :
 brings-more more (lacks_value x) = lacks_value x
 brings-more more (writes_ill x) = writes_ill x
 brings-more more (binds_ill x) = binds_ill (record { binding = x.binding; next = next-more more x.next; ill = x.ill })
-brings-more more (goes_ill x) = goes_ill (record { t = x.t; follows = follows-more more x.follows; ill = x.ill })
+brings-more more (goes_ill x) = goes_ill (record { t = x.t; follows = follows-more more x.follows; acyclic = x.acyclic; ill = x.ill })
 brings-more more (goes_fatal x) = goes_fatal (record { t = x.t; follows = follows-more more x.follows; well = x.well; fatal = x.fatal })
 brings-more more (binds_loop x) = binds_loop (record { binding = x.binding; next = next-more more x.next; fit = x.fit; closes = x.closes })
 brings-more more (writes_deep x) = writes_deep x
-brings-more more (goes_deep x) = goes_deep (record { t = x.t; follows = follows-more more x.follows; well = x.well; spared = x.spared; acyclic = x.acyclic; deep = x.deep })
+brings-more more (goes_deep x) = goes_deep (record { t = x.t; follows = follows-more more x.follows; well = x.well; spared = x.spared; acyclic = x.acyclic; fits = x.fits; deep = x.deep })
 
 stops-more : {p : Loaded} {natives : NativeAnswers} {d : ℕ} {s : State} {left : ℕ} {es : List Event} {f : Fault} (more : List Event) → StopsFor p natives d s left es f → StopsFor p natives d s left (es ++ more) f
 stops-more more (spent none due) = spent none (due-more more due)

@@ -226,7 +226,7 @@ module _ (front : List Entry) where
       brings-front (lacks_value x) = lacks_value (lacks-front x)
       brings-front (writes_ill x) = writes_ill (writes-ill-front x)
       brings-front (binds_ill x) = binds_ill (record { binding = x.binding; next = binds-next-front x.next; ill = x.ill })
-      brings-front (goes_ill x) = goes_ill (record { t = in_front front x.t; follows = follows-front x.follows; ill = λ well. x.ill (well-behind well) })
+      brings-front (goes_ill x) = goes_ill (record { t = in_front front x.t; follows = follows-front x.follows; acyclic = x.acyclic; ill = λ well. x.ill (well-behind well) })
       brings-front (goes_fatal x) = goes_fatal (record { t = in_front front x.t; follows = follows-front x.follows; well = well-front x.well; fatal = x.fatal })
       brings-front (binds_loop x) = binds_loop (record { binding = x.binding; next = binds-next-front x.next; fit = x.fit; closes = x.closes })
       brings-front (writes_deep x) = writes_deep (record { what = x.what; next = does-next-front x.next; fit = x.fit; deep = x.deep })
@@ -236,6 +236,7 @@ module _ (front : List Entry) where
         well = well-front x.well;
         spared = x.spared;
         acyclic = x.acyclic;
+        fits = λ ill. x.fits (ill-behind s ill);
         deep = x.deep;
       })
 

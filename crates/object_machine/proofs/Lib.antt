@@ -4,6 +4,7 @@ pub mod Settling
 mod OneAnswer
 pub mod OneTaking
 pub mod OneRun
+pub mod OneFault
 pub mod TypedPaths
 pub mod Standing
 pub mod Grouped

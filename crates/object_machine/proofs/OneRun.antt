@@ -29,7 +29,7 @@ no-rule p natives s t idle x =
     subst Next idle.no_turn (subst At idle.empty x)
 
 -- .. and an event is taken only there
-taken-idle : {p : Loaded} {e : Event} {a : Answer} {s t : State} → Takes p e a s t → IsIdle s
+pub taken-idle : {p : Loaded} {e : Event} {a : Answer} {s t : State} → Takes p e a s t → IsIdle s
 taken-idle (accepts idle x) = idle
 taken-idle (refuses r idle x) = idle
 

@@ -118,7 +118,7 @@ one-site {p} sound a b f g =
     let it : Some a.it ≡ Some b.it = sym f.is ∙ ap (λ (n : ℕ). slice_get p.sites n) same ∙ g.is in
     numbered-is same (cc it)
 
-one-may-bind : (p : Loaded) (s : State) (site target : List ℕ) (sources : List (List ℕ)) → IsSound p → HasOneAnswer (may_bind p s site target sources)
+pub one-may-bind : (p : Loaded) (s : State) (site target : List ℕ) (sources : List (List ℕ)) → IsSound p → HasOneAnswer (may_bind p s site target sources)
 one-may-bind p s site target sources sound =
     one-then (one-find (one-site sound)) (λ n. one-then one-check (λ many. one-then (one-living s.objects target) (λ o.
     one-then (one-all-living s.objects sources) (λ xs. one-then one-check (λ covers. one-then one-check (λ home. one-gives _))))))

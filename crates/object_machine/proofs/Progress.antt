@@ -240,13 +240,13 @@ module _ {p : Loaded} {s : State} (sound : IsSound p) (up : Invariant p s) where
         | inl stuck ↦ brings r.0 (lacks_value (stuck-lacks stuck))
         | inr wrong ↦ elim wrong [
           | inl write ↦ brings r.0 (writes_ill write)
-          | inr goes ↦ brings r.0 (goes_ill (record { t = goes.t; follows = by_rule goes.follows; ill = goes.ill }))
+          | inr goes ↦ brings r.0 (goes_ill (record { t = goes.t; follows = by_rule goes.follows; acyclic = goes.acyclic; ill = goes.ill }))
         ]
       ]
   cause-of natives d left es TooDeep r =
       elim r.1 [
         | inl write ↦ brings r.0 (writes_deep write)
-        | inr deep ↦ brings r.0 (goes_deep (record { t = deep.t; follows = by_rule deep.follows; well = deep.well; spared = deep.spared; acyclic = deep.acyclic; deep = deep.deep }))
+        | inr deep ↦ brings r.0 (goes_deep (record { t = deep.t; follows = by_rule deep.follows; well = deep.well; spared = deep.spared; acyclic = deep.acyclic; fits = deep.fits; deep = deep.deep }))
       ]
   cause-of natives d left es InUse r =
       let fatal = r.1 in

@@ -36,7 +36,7 @@ use Rattle.object_machine.proofs.Moving.{stores-agree}
 use Rattle.object_machine.proofs.Changes.{agree-blocked}
 
 -- a binding that may be installed binds a property of a value type
-bound-plain : {p : Loaded} {t : State} {b : Binding} {below : List Activation} (s : State) (site target : List ℕ) (sources : List (List ℕ)) → IsSound p → may_bind p s site target sources (Ok b) → (x : Installs p (accepted s) below b t) → IsPlain x.property.kind
+pub bound-plain : {p : Loaded} {t : State} {b : Binding} {below : List Activation} (s : State) (site target : List ℕ) (sources : List (List ℕ)) → IsSound p → may_bind p s site target sources (Ok b) → (x : Installs p (accepted s) below b t) → IsPlain x.property.kind
 bound-plain {p} {b = b} s site target sources sound (goes_on n (finds is) (goes_on _ many (goes_on o lives (goes_on xs all (goes_on _ (so covers) (goes_on _ one given)))))) x =
     let plain = (sound.sites n.number n.it is.is).target in
     let own = lives-of-class s.objects o.number covers.of_target.class covers.of_target.is in

@@ -6,6 +6,7 @@ pub mod code
 pub mod Runs
 pub mod Causes
 pub mod Laws
+pub mod FaultLaws
 pub mod Seen
 pub mod Claims
 pub mod Checked

@@ -1,5 +1,6 @@
 //! What holds of every program, and of every run.
 
+ghost use Rattle.object_machine.specs.FaultLaws.{OneFault};
 ghost use Rattle.object_machine.specs.Laws.{AlwaysSettled, OneFront, OneFrontOfAnswers, OneJudgement, OneRun, OneRunOfAnswers, OneTaking, RunReadsNoTrace, TakingSettles};
 
 use native_slots::Answering;
@@ -39,6 +40,12 @@ pub fn one_front<N: Answering>(_natives: &N)
 /// or for another fault, is a front of what each longer run with these answers writes.
 pub fn one_front_of_answers<N: Answering>(_natives: &N)
     ensures { OneFrontOfAnswers (N.gives _natives.now) }
+{}
+
+/// Apart from memory, which may be refused whenever a rule is due, a state in which properties and bindings agree stops for
+/// one fault at most, whatever these natives may answer and whatever events come next.
+pub fn one_fault<N: Answering>(_natives: &N)
+    ensures { OneFault (N.gives _natives.now) }
 {}
 
 /// The taking of an event that gives no value of a wrong type and closes no chain of bindings keeps properties and bindings

@@ -24,8 +24,8 @@ pub use checked_laws::{
 pub use connecting::{judge_connect, judge_disconnect};
 pub use invoking::{Invocation, Invoked, judge_invocation};
 pub use laws::{
-    always_settled, one_front, one_front_of_answers, one_judgement, one_run, one_run_of_answers,
-    one_taking, run_reads_no_trace, taking_settles,
+    always_settled, one_fault, one_front, one_front_of_answers, one_judgement, one_run,
+    one_run_of_answers, one_taking, run_reads_no_trace, taking_settles,
 };
 pub use machine::ObjectMachine;
 pub use named::find_living;

@@ -1,5 +1,5 @@
 -- What the taking of an event comes to.
-use Rattle.std.proofs.Common.{◌≡◌, ℕ, suc, ◌-◌, ◌<◌, ◌≤◌, [], ◌∷◌, None, Result, Ok, Err, refl, sym, ap, ◌∙◌, subst, arith}
+use Rattle.std.proofs.Common.{◌≡◌, ℕ, suc, ◌-◌, ◌<◌, ◌≤◌, List, [], ◌∷◌, None, Result, Ok, Err, refl, sym, ap, ◌∙◌, subst, arith}
 use Rattle.std.specs.Result.{IsErrAnd}
 use Rattle.script_lang.specs.declared.event.Event.{Event}
 use Rattle.meta_model.specs.Loaded.{Loaded}
@@ -14,6 +14,8 @@ use Rattle.trace_entries.specs.Refusals.{refusal_number}
 use Rattle.machine_state.specs.State.{State, Activation, IsIdle}
 use Rattle.machine_state.specs.Worlds.{at, after, Rejects}
 use Rattle.machine_rules.specs.Natives.{NativeAnswers}
+use Rattle.binding_graph.specs.declared.binding.Binding.{Binding}
+use Rattle.binding_graph.specs.Bindings.{binding_at, Loop}
 use Rattle.prop_bindings.specs.Fits.{Agree}
 use Rattle.machine_rules.specs.Good.{IsGood, TopFits}
 use Rattle.machine_rules.specs.Next.{WritesIll}
@@ -133,12 +135,12 @@ took-quiet {p} {natives} {d} {w} {v} t e judged empty agree some no_turn is =
 
 -- ---- what is taken quietly is taken, whatever natives answer and however deep calls may nest
 
-stops-halted : {p : Loaded} {natives : NativeAnswers} {d : ℕ} {w : World} {f : Fault} (e : Event) → Ready w → Stops p w e f → Halts p natives d w (e ∷ []) f w
-stops-halted e some before.short = halted-short e some
-stops-halted {w = w} e some (before.ill {t = t} judged not_well) = record {
+stops-halted : {p : Loaded} {natives : NativeAnswers} {d : ℕ} {w : World} {f : Fault} (e : Event) → Agree p w.store.tree w.store.bindings → Ready w → Stops p w e f → Halts p natives d w (e ∷ []) f w
+stops-halted e agree some before.short = halted-short e some
+stops-halted {w = w} e agree some (before.ill {t = t} judged same not_well) = record {
   stack = [];
   front = record { taken = []; rest = e ∷ []; split = refl; answers = []; runs = none-yet };
-  cause = brings some.some (goes_ill (record { t = t; follows = by_event (accepts (idle w some.no_turn) judged); ill = not_well }));
+  cause = brings some.some (goes_ill (record { t = t; follows = by_event (accepts (idle w some.no_turn) judged); acyclic = let NoLoop : List Binding → Type 0 = λ bs. ¬ Loop (binding_at bs) in subst NoLoop (sym same) agree.acyclic; ill = not_well }));
 }
 
 pub took-quietly : {p : Loaded} {natives : NativeAnswers} {d : ℕ} {w v : World} (e : Event) (r : Result Answer Fault) → Agree p w.store.tree w.store.bindings → Ready w → TookQuietly p w e v r → Took p natives d w e v r
@@ -148,4 +150,4 @@ took-quietly e (Ok answer.Done) agree some took =
 took-quietly e (Ok (answer.Refused n)) agree some took =
     let is = took.cases in
     took-refused is.refusal e (Ok (answer.Refused n)) agree is.why some (ap answer.Refused is.numbered, is.line)
-took-quietly e (Err f) agree some took = took-halted e (Err f) (stops-halted e some took.cases.0) took.cases.1 refl
+took-quietly e (Err f) agree some took = took-halted e (Err f) (stops-halted e agree some took.cases.0) took.cases.1 refl

@@ -30,7 +30,7 @@ use Rattle.rule_laws.specs.Reaches.{Reaches, StopsIn, RunsTo, CallsIn, Calls, On
 use Rattle.rule_laws.proofs.Stacks.{high, shows-over}
 use Rattle.machine_rules.specs.There.{IsMember}
 use Rattle.machine_rules.proofs.Dying.{lives-not-dead}
-use Rattle.rule_laws.proofs.Reaching.{none-spared, same-spared, reaches-pushed, ends-after, ends-lifted, not-idle, ends-noted, stops-as, stops-memory, stops-deep, stops-ill, stops-stuck}
+use Rattle.rule_laws.proofs.Reaching.{none-spared, same-spared, reaches-pushed, ends-after, ends-lifted, not-idle, ends-noted, stops-as, stops-memory, stops-deep, stops-ill, stops-stuck, no-update-fits}
 use Rattle.machine_rules.proofs.Fields.{member-method}
 use Rattle.machine_rules.specs.Operations.{Write, Begin, TakeAnswer}
 use Rattle.machine_rules.specs.Natives.{NativeAnswers}
@@ -101,7 +101,7 @@ ends-begun over calls is fit agree some same v_is x = ends-after (reaches-begun 
 -- activations would nest too deep
 stops-begin : {p : Loaded} {natives : NativeAnswers} {d o m : ℕ} {h active : List (Option ℕ)} {w u : World} {from to : List Activation} {arguments : List Value} →
     active ≡ shows to ++ h → CallsIn p natives w u from to o m arguments → ArgumentsFit p u.store.tree o m arguments → AgreeIn p u → 0 < w.left → d ≤ length active → StopsIn p natives d h w from w TooDeep
-stops-begin {o = o} {m = m} {active = active} {w = w} {u = u} {from = from} {to = to} {arguments = arguments} over calls fit agree some deep =
+stops-begin {p} {natives} {o = o} {m = m} {active = active} {w = w} {u = u} {from = from} {to = to} {arguments = arguments} over calls fit agree some deep =
     let target : World = begun_world u (length active + 1) fit.object m fit.method arguments in
     stops-deep some (λ below e. (
       at target (top_of o m arguments u.store.connections.last fit.method.work ∷ to ++ below),
@@ -109,6 +109,7 @@ stops-begin {o = o} {m = m} {active = active} {w = w} {u = u} {from = from} {to 
       record { arguments = λ higher. top-fits u.store.connections.last fit.method.work (to ++ below) fit; values = agree.typed },
       none-spared w.store.tree u.store.tree (from ++ below) (same-spared calls.objects),
       agree,
+      no-update-fits p natives (at w (from ++ below)) _ (top_of o m arguments u.store.connections.last fit.method.work) (to ++ below) (calls.gives below _ (begins-there u arguments (from ++ below) (to ++ below) fit.is (one-more to below over e))) refl (λ places. top-other o m u.store.connections.last arguments places fit.method.work),
       omega (arith, one-more to below over e, deep),
     ))
 
@@ -135,12 +136,13 @@ fit-typed {p} {objects} {o} {m} {x} {method} {arguments} is fit =
 
 -- the arguments aren't of the method's types
 pub stops-ill-typed : {p : Loaded} {natives : NativeAnswers} {d o m : ℕ} {h : List (Option ℕ)} {w : World} {from to : List Activation} {x : Object} {method : MetaMethod} {arguments : List Value} →
-    Calls p natives w from to o m arguments → IsMember p w.store.tree o m x method → (¬ ReadAs p w.store.tree arguments method.kinds) → 0 < w.left → StopsIn p natives d h w from w BadType
-stops-ill-typed {p} {natives} {o = o} {m = m} {w = w} {from = from} {to = to} {x = x} {method = method} {arguments = arguments} calls is ill some =
+    Calls p natives w from to o m arguments → IsMember p w.store.tree o m x method → (¬ ReadAs p w.store.tree arguments method.kinds) → AgreeIn p w → 0 < w.left → StopsIn p natives d h w from w BadType
+stops-ill-typed {p} {natives} {o = o} {m = m} {w = w} {from = from} {to = to} {x = x} {method = method} {arguments = arguments} calls is ill agree some =
     stops-ill some (λ below.
     let t : State = at (begun_world w (suc (length (to ++ below))) x m method arguments) (top_of o m arguments w.store.connections.last method.work ∷ to ++ below) in (
       t,
       calls.gives below t (begins-there w arguments (from ++ below) (to ++ below) is refl),
+      agree.acyclic,
       λ (well : IsWell p (at w (from ++ below)) t). ill (fit-typed is (fits-top w.store.connections.last method.work (to ++ below) is (well.arguments (omega (arith, calls.no_lower, length-append from below, length-append to below))))),
     ))
 

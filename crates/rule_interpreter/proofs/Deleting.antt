@@ -41,7 +41,7 @@ use Rattle.machine_rules.proofs.Declared.{emission-sends}
 use Rattle.machine_rules.specs.code.Sound.{SendsThese}
 use Rattle.meta_model.specs.Sound.{IsSound}
 use Rattle.rule_laws.proofs.Stacks.{high}
-use Rattle.rule_laws.proofs.Reaching.{none-spared, reaches-low, reaches-pushed, stops-as, stops-memory, stops-steps, stops-deep, stops-fatal, ends-after, ends-lifted, not-idle}
+use Rattle.rule_laws.proofs.Reaching.{none-spared, reaches-low, reaches-pushed, stops-as, stops-memory, stops-steps, stops-deep, stops-fatal, no-update-fits, ends-after, ends-lifted, not-idle}
 use Rattle.machine_rules.specs.Natives.{NativeAnswers}
 
 -- ---- a deletion begins
@@ -63,6 +63,7 @@ stops-deleting {p} {natives} {d} {x} {h} {active} {w} {from} {to} over deletes a
       record { arguments = λ higher. tt; values = agree.typed },
       none-spared w.store.tree w.store.tree (from ++ below) (λ o gone. gone),
       agree,
+      no-update-fits p natives (at w (from ++ below)) _ (Destroy (Some x) []) (to ++ below) (deletes.gives below) refl (λ places is. cc is),
       omega (arith, one-more to below over e, deep),
     ))
 
@@ -135,7 +136,7 @@ module _ {p : Loaded} {natives : NativeAnswers} {d : ℕ} {active : List (Option
       let s : State = at w (Destroy next before ∷ below) in
       let t : State = at (died_world w (suc (length below)) x name) (announced w x ∷ Destroy (Some x) torn ∷ below) in
       let well : IsWell p s t = record { arguments = λ higher. death-fits p w.store.tree x named; values = (left_agree p w.store.bindings w.store.tree x agree).typed } in
-      (t, died-next below kills named refl, well, unbodied-spared w.store.tree x (Destroy next before ∷ below) (bodiless x below e none), left_agree p w.store.bindings w.store.tree x agree, omega (arith, high below e, deep)))
+      (t, died-next below kills named refl, well, unbodied-spared w.store.tree x (Destroy next before ∷ below) (bodiless x below e none), left_agree p w.store.bindings w.store.tree x agree, no-update-fits p natives s t (announced w x) (Destroy (Some x) torn ∷ below) (died-next below kills named refl) refl (λ places is. cc is), omega (arith, high below e, deep)))
 
 -- what lives has a name
 pub living-name : (objects : List Object) (o : ℕ) → is_living objects o ≡ true → (name : List ℕ) × (name_of objects o ≡ Some name)

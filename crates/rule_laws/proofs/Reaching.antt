@@ -19,7 +19,7 @@ use Rattle.binding_graph.specs.declared.place.Place.{Place}
 use Rattle.object_tree.specs.declared.object.Object.{Object}
 use Rattle.machine_rules.specs.There.{IsDead, NoneDied}
 use Rattle.machine_rules.specs.code.Sound.{AgreeIn}
-use Rattle.machine_rules.specs.Good.{has_body, IsWell, Spares, IsGood, TopFits, shows}
+use Rattle.machine_rules.specs.Good.{has_body, IsWell, Spares, IsAcyclic, IsGood, TopFits, shows}
 use Rattle.machine_rules.specs.Faults.{WritesDeep, GoesIll, GoesFatal, GoesDeep, LacksFirst}
 use Rattle.machine_rules.specs.Next.{DoesNext, WritesNext, WritesIll}
 use Rattle.machine_rules.specs.code.Going.{GoodRules, done, then, IsStuck}
@@ -60,15 +60,20 @@ none-spared old new stack none o body gone = none o gone
 pub same-spared : {old new : List Object} → new ≡ old → NoneDied old new
 same-spared e o gone = subst (λ (objects : List Object). IsDead objects o) e gone
 
--- where the next rule writes, it pushes an update
-pub writes-push : (p : Loaded) (natives : NativeAnswers) (s t : State) {what : Assigning} → (next : WritesNext s what) → Rule p natives s t → (places : List Place) × (t.stack ≡ Update places ∷ Body next.object next.method next.arguments next.rest ∷ next.below)
-writes-push p natives s t {what} next rule =
+-- where the next step writes, the next rule does
+pub next-writes : (p : Loaded) (natives : NativeAnswers) (s t : State) {what : Assigning} → (next : WritesNext s what) → Rule p natives s t → Writes p s (Body next.object next.method next.arguments next.rest ∷ next.below) what t
+next-writes p natives s t {what} next rule =
     let At : List Activation → Type 0 = λ stack. RuleAt p natives s t stack in
     let step : StepRule p natives s next.object next.method next.arguments next.step next.rest next.below t = subst At next.is_next rule in
     let both : Some step.what ≡ Some (Write what) = sym step.is ∙ next.does in
     let same : step.what ≡ Write what = cc both in
     let Done : Operation → Type 0 = λ e. Does p natives s next.object next.method next.arguments next.rest next.below e t in
-    let writes : Writes p s (Body next.object next.method next.arguments next.rest ∷ next.below) what t = subst Done same step.does in
+    subst Done same step.does
+
+-- .. and pushes an update
+pub writes-push : (p : Loaded) (natives : NativeAnswers) (s t : State) {what : Assigning} → (next : WritesNext s what) → Rule p natives s t → (places : List Place) × (t.stack ≡ Update places ∷ Body next.object next.method next.arguments next.rest ∷ next.below)
+writes-push p natives s t next rule =
+    let writes = next-writes p natives s t next rule in
     (notified p writes.objects writes.changed, ap (λ (u : State). u.stack) writes.settles.gives)
 
 -- .. so one that leaves the stack no higher writes nothing
@@ -81,7 +86,7 @@ no-higher-fits p natives s t rule low ill =
     absurd (omega (arith, after, before, low))
 
 -- .. nor does one that pushes something else
-no-update-fits : (p : Loaded) (natives : NativeAnswers) (s t : State) (top : Activation) (below : List Activation) → Rule p natives s t → t.stack ≡ top ∷ below → ((places : List Place) → top ≢ Update places) → ¬ WritesIll p s
+pub no-update-fits : (p : Loaded) (natives : NativeAnswers) (s t : State) (top : Activation) (below : List Activation) → Rule p natives s t → t.stack ≡ top ∷ below → ((places : List Place) → top ≢ Update places) → ¬ WritesIll p s
 no-update-fits p natives s t top below rule is other ill =
     let next = ill.next in
     let pushed = writes-push p natives s t next rule in
@@ -138,11 +143,11 @@ module _ {p : Loaded} {natives : NativeAnswers} {d : ℕ} {h : List (Option ℕ)
   }
 
 -- the next rule gives a value that is not of its type
-pub stops-ill : {p : Loaded} {natives : NativeAnswers} {d : ℕ} {h : List (Option ℕ)} {w : World} {from : List Activation} → 0 < w.left → ((below : List Activation) → (t : State) × Rule p natives (at w (from ++ below)) t × (¬ IsWell p (at w (from ++ below)) t)) → StopsIn p natives d h w from w BadType
+pub stops-ill : {p : Loaded} {natives : NativeAnswers} {d : ℕ} {h : List (Option ℕ)} {w : World} {from : List Activation} → 0 < w.left → ((below : List Activation) → (t : State) × Rule p natives (at w (from ++ below)) t × IsAcyclic t × (¬ IsWell p (at w (from ++ below)) t)) → StopsIn p natives d h w from w BadType
 stops-ill {p} {natives} {w = w} {from = from} some next = record {
   stops = λ below e.
       let q = next below in
-      let is : GoesIll p (at w (from ++ below)) (λ t. Rule p natives (at w (from ++ below)) t) = record { t = q.0; follows = q.1; ill = q.2 } in
+      let is : GoesIll p (at w (from ++ below)) (λ t. Rule p natives (at w (from ++ below)) t) = record { t = q.0; follows = q.1; acyclic = q.2; ill = q.3 } in
       (from ++ below, done, (some, inr (inr is)));
 }
 
@@ -160,11 +165,11 @@ stops-fatal {p} {natives} {w = w} {from = from} some next = record {
 }
 
 -- the next rule nests too deep
-pub stops-deep : {p : Loaded} {natives : NativeAnswers} {d : ℕ} {h : List (Option ℕ)} {w : World} {from : List Activation} → 0 < w.left → ((below : List Activation) → shows below ≡ h → (t : State) × Rule p natives (at w (from ++ below)) t × IsWell p (at w (from ++ below)) t × Spares (at w (from ++ below)) t × Agree p t.objects t.bindings × (d < length t.stack)) → StopsIn p natives d h w from w TooDeep
+pub stops-deep : {p : Loaded} {natives : NativeAnswers} {d : ℕ} {h : List (Option ℕ)} {w : World} {from : List Activation} → 0 < w.left → ((below : List Activation) → shows below ≡ h → (t : State) × Rule p natives (at w (from ++ below)) t × IsWell p (at w (from ++ below)) t × Spares (at w (from ++ below)) t × Agree p t.objects t.bindings × (¬ WritesIll p (at w (from ++ below))) × (d < length t.stack)) → StopsIn p natives d h w from w TooDeep
 stops-deep {p} {natives} {d} {w = w} {from = from} some next = record {
   stops = λ below e.
       let q = next below e in
-      let is : GoesDeep p d (at w (from ++ below)) (λ t. Rule p natives (at w (from ++ below)) t) = record { t = q.0; follows = q.1; well = q.2; spared = q.3; acyclic = q.4.acyclic; deep = q.5 } in
+      let is : GoesDeep p d (at w (from ++ below)) (λ t. Rule p natives (at w (from ++ below)) t) = record { t = q.0; follows = q.1; well = q.2; spared = q.3; acyclic = q.4.acyclic; fits = q.5; deep = q.6 } in
       (from ++ below, done, (some, inr is));
 }
 

@@ -55,7 +55,7 @@ module _ (p : Loaded) (w : World) (name class : List ℕ) (loop : Option (List �
       let after : State = record (accepted (at w [])) { objects = w.store.tree ++ made name home number kind ∷ [] } in
       let not_well : IsWell p (at w []) after → ⊥ = λ well.
       ill (typed-fresh p w.store.tree name number home kind is (well.values (length w.store.tree) (made name home number kind) (begun number home (initial_values kind)) (record { is = get-last w.store.tree (made name home number kind); lives = refl }))) in
-      ill_typed (creates free named is room) not_well
+      ill_typed (creates free named is room) refl not_well
 
   -- no object is created
   pub not-created : {f : CreateFault} → IsNotCreated p w.store.tree name class f → MatchResult (creation_reason f) (λ k. create p (at w []) name class loop (Err k)) (λ g. Stops p w (New name class loop) g)

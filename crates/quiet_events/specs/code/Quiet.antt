@@ -39,10 +39,11 @@ pub record IsDone (p : Loaded) (w : World) (e : Event) (v : World) : Type 0 wher
   pub no_turn : state.turn ≡ None
   pub gives : v ≡ after w state
 
--- why the run stops before the event: memory was refused, or it gives a property a value that is not of its type
+-- why the run stops before the event: memory was refused, or it gives a property a value that is not of its type, and leaves
+-- the bindings as they are
 pub data Stops (p : Loaded) (w : World) (e : Event) : Fault → Type 0 where
   short : Stops p w e Memory
-  ill : {t : State} → judged p (at w []) e (Ok t) → (¬ IsWell p (at w []) t) → Stops p w e BadType
+  ill : {t : State} → judged p (at w []) e (Ok t) → t.bindings ≡ w.store.bindings → (¬ IsWell p (at w []) t) → Stops p w e BadType
 
 -- the event was taken with this answer, and nothing goes on; or the run stops, and nothing has changed
 abbrev pub QuietCases : Loaded → World → Event → World → Result Answer Fault → Type 0

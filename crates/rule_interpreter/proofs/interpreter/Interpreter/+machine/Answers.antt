@@ -137,7 +137,7 @@ pub begin_typed-returns-then-not-have_types : goal.begin_typed-returns-then-not-
 begin_typed-returns-then-not-have_types g t c = record {
   ends = λ from to shown over calls only.
       let typed = rw c.as_slice.ensures at c.have_types.ensures in
-      record { cases = stops-ill-typed calls c.in-Some.ensures (λ h. not-true _ c.if-not-have_types.true (typed.1 h)) c.requires.left };
+      record { cases = stops-ill-typed calls c.in-Some.ensures (λ h. not-true _ c.if-not-have_types.true (typed.1 h)) c.requires.sound.is.agree c.requires.left };
 }
 
 pub begin_typed-returns-in_err-line : goal.begin_typed-returns-in_err-line
