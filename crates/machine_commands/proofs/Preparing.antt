@@ -53,10 +53,10 @@ module _ {N : Type 0} {gives : N → NativeAnswers} {machine : Seen N} {loaded :
       let Goes : Seen N → Type 0 = λ m. RunsAll gives m events end.ended end.machine in
       ran end (subst Goes begins so.ran)
 
-  pub faultless-begun : machine ≡ begun loaded natives depth steps → IsChecked gives machine → (end : Ran (Seen N)) → RunsSo gives machine events end → RunsFaultless gives (begun loaded natives depth steps) events (OfRun end)
-  faultless-begun begins checked end so =
+  pub faultless-begun : machine ≡ begun loaded natives depth steps → IsChecked gives machine → Claims gives machine → (end : Ran (Seen N)) → RunsSo gives machine events end → RunsFaultless gives (begun loaded natives depth steps) events (OfRun end)
+  faultless-begun begins checked claims end so =
       let Goes : Seen N → Type 0 = λ m. RunsAll gives m events end.ended end.machine in
-      ran_faultless end (subst Goes begins so.ran) (ends_at_limit end.ended begins (so.limits checked)) (claims_of begins (so.claims checked))
+      ran_faultless end (subst Goes begins so.ran) (ends_at_limit end.ended begins (so.limits checked)) (claims_of begins claims)
 
 -- ---- what was done
 
@@ -116,14 +116,14 @@ run-text-front gone rest (Err fault) =
     ap (λ (l : List ℕ). l ++ fault_line (fault_number fault)) (flat_map-append entry_line gone rest) ∙ append_assoc (trace_text gone) (trace_text rest) (fault_line (fault_number fault))
 
 pub carried-run : {N W E : Type 0} {gives : N → NativeAnswers} {contents : W → Option (List ℕ)} {m n : Seen N} {events : List Event} {ended : Result (Unit {0}) Fault} {a b : Output W (List ℕ)} {before after : Option (List ℕ)} {written : Result ℕ E} →
-    (streams : Streams gives contents m events ended n a b) → (IsChecked gives m → IfErr ended (StopsAtLimit m)) → (IsChecked gives m → Claims gives m) →
+    (streams : Streams gives contents m events ended n a b) → (IsChecked gives m → IfErr ended (StopsAtLimit m)) →
     TakesWith before after (trace_text streams.gone ++ run_text n.world.trace ended) (run_status ended) written →
     CarriesOut (ComesOfRun gives m events) before after (OfRun (record { machine = n; ended = ended })) written
-carried-run {N} {n = n} {ended = ended} {before = before} {after = after} {written = written} streams limits claims takes =
+carried-run {N} {n = n} {ended = ended} {before = before} {after = after} {written = written} streams limits takes =
     let whole : Ran (Seen N) = record { machine = with_front streams.gone n; ended = ended } in
     let Written : List ℕ → Type 0 = λ text. TakesWith before after text (run_status ended) written in
     record {
       gone = streams.gone;
-      comes = (whole, record { ran = streams.ran; limits = limits; claims = claims }, refl);
+      comes = (whole, record { ran = streams.ran; limits = limits }, refl);
       takes = subst Written (sym (run-text-front streams.gone n.world.trace ended)) takes;
     }

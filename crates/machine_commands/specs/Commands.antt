@@ -2,7 +2,6 @@
 -- that it comes only where a growth of memory was refused is not stated here.
 use Rattle.std.specs.Prelude.{◌≡◌, ℕ, ◌<◌, ◌≤◌, ◌⊎◌, List, [], ◌∷◌, length, take, Option, Result, Ok, Err, IfSome}
 use Rattle.std.specs.Borrow.{Bor}
-use Rattle.object_machine.specs.Claims.{IsLimit}
 use Rattle.certificate_lang.specs.declared.certificate.Certificate.{Certificate}
 use Rattle.meta_model.specs.Loaded.{Loaded}
 use Rattle.native_slots.specs.declared.head.NativeHead.{NativeHead}
@@ -12,7 +11,7 @@ use Rattle.script_lang.specs.Reads.{ReadsScript}
 use Rattle.script_lang.specs.declared.event.Event.{Event}
 use Rattle.machine_rules.specs.Natives.{NativeAnswers}
 use Rattle.trace_entries.specs.declared.fault.Fault.{Fault}
-use Rattle.object_machine.specs.Checked.{Claims}
+use Rattle.object_machine.specs.Checked.{Claims, IsLimit}
 use Rattle.object_machine.specs.Seen.{Seen, RunsAll, begun}
 use Rattle.program_commands.specs.declared.outcome.Outcome.{Outcome as ProgramOutcome}
 use Rattle.program_commands.specs.declared.outcome.Outcome.TheVariants.{Refused}

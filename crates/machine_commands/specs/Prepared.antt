@@ -5,7 +5,7 @@ use Rattle.script_lang.specs.declared.event.Event.{Event}
 use Rattle.native_slots.specs.Promises.{Takes}
 use Rattle.trace_entries.specs.declared.entry.Entry.{Entry}
 use Rattle.machine_rules.specs.Natives.{NativeAnswers}
-use Rattle.object_machine.specs.Checked.{IsChecked, Claims, StopsAtLimit}
+use Rattle.object_machine.specs.Checked.{IsChecked, StopsAtLimit}
 use Rattle.object_machine.specs.Seen.{Seen, AreKept, RunsAll, with_front}
 use Rattle.command_lines.specs.Sent.{TakesWith}
 use Rattle.machine_commands.specs.Outcomes.{outcome_text, outcome_status, seen_outcome}
@@ -22,11 +22,10 @@ seen_prepared seen (OfReady ready) = OfReady (record { machine = seen ready.mach
 
 -- ---- before
 
--- a run of these events from this machine ends so; one of a checked program only for a limit, and the claims hold of it
+-- a run of these events from this machine ends so; one of a checked program only for a limit
 pub record RunsSo {N : Type 0} (gives : N → NativeAnswers) (m : Seen N) (events : List Event) (end : Ran (Seen N)) : Type 0 where
   pub ran : RunsAll gives m events end.ended end.machine
   pub limits : IsChecked gives m → IfErr end.ended (StopsAtLimit m)
-  pub claims : IsChecked gives m → Claims gives m
 
 -- the natives of a machine that is to run keep what its program declares of them
 abbrev pub MayBeDone : {N : Type 0} → (N → Takes) → (N → NativeAnswers) → Prepared (Seen N) → Type 0

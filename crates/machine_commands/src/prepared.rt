@@ -1,7 +1,7 @@
 //! What a command line is about to do, and how it is done: with a run's trace as a value, or written out while the run goes on.
 
 ghost use Rattle.std.specs.Prelude.{◌≡◌, IfErr};
-ghost use Rattle.object_machine.specs.Checked.{IsChecked, Claims, StopsAtLimit};
+ghost use Rattle.object_machine.specs.Checked.{IsChecked, StopsAtLimit};
 ghost use Rattle.object_machine.specs.Seen.{AreKept};
 ghost use Rattle.machine_commands.specs.Outcomes.{seen_outcome, seen_run};
 ghost use Rattle.machine_commands.specs.Prepared.{ComesOf, ComesOfRun, CarriesOut, MayBeDone, RunsSo, seen_prepared};
@@ -163,8 +163,6 @@ fn stream_events<M: ObjectMachine, W: Write>(
         result.ended (M.seen machine.new) output.old output.new }
     ensures limits { IsChecked M.Natives.gives (M.seen machine.old)
         → IfErr result.ended (StopsAtLimit (M.seen machine.old)) }
-    ensures claims { IsChecked M.Natives.gives (M.seen machine.old)
-        → Claims M.Natives.gives (M.seen machine.old) }
 {
     let mut last = Trace::new(alloc);
     let mut refused = Trace::new(alloc);

@@ -1,15 +1,11 @@
 -- What comes next where a run stops, and why it stops (docs/machine.md, "Faults").
-use Rattle.std.specs.Prelude.{◌≡◌, ℕ, ◌<◌, ◌≤◌, List, ◌∷◌, ◌++◌, length, None}
-use Rattle.basic_types.specs.declared.value.Value.{Value}
-use Rattle.meta_model.specs.declared.object.Statement.{Statement}
-use Rattle.meta_model.specs.declared.object.Statement.TheViews.{out-Statement}
+use Rattle.std.specs.Prelude.{◌≡◌, ℕ, ◌<◌, ◌≤◌, List, ◌∷◌, ◌++◌, length}
 use Rattle.meta_model.specs.Loaded.{Loaded}
 use Rattle.object_tree.specs.declared.object.Object.{Object}
 use Rattle.prop_bindings.specs.Assignment.{Assignment}
 use Rattle.prop_bindings.specs.Calls.{AllFit}
-use Rattle.machine_state.specs.State.{Step, Run, State, Activation, Body}
+use Rattle.machine_state.specs.State.{State}
 use Rattle.machine_state.specs.Telling.{Assigning, writes_of}
-use Rattle.machine_rules.specs.Operations.{operation}
 use Rattle.machine_rules.specs.There.{LacksField}
 use Rattle.machine_rules.specs.Next.{WritesNext, WritesIll}
 use Rattle.machine_rules.specs.Good.{IsWell, Spares, IsAcyclic}
@@ -35,18 +31,6 @@ pub record LacksFirst (p : Loaded) (objects : List Object) (writes : List Assign
   pub set : Assignment
   pub after : IsAfterFit p objects writes set
   pub lacks : LacksField p objects set.place.object set.place.property
-
--- What is going on is a body whose next statement lacks a value: an expression has none, a condition is no truth value, or
--- a path leads to no object.
-pub record LacksValue (s : State) : Type 0 where
-  pub object : ℕ
-  pub method : ℕ
-  pub arguments : List Value
-  pub statement : Statement
-  pub rest : List Step
-  pub below : List Activation
-  pub is_next : s.stack ≡ Body object method arguments (Run statement ∷ rest) ∷ below
-  pub lacks : operation s.objects object arguments (out-Statement statement) ≡ None
 
 -- ---- why a run stops
 

@@ -13,7 +13,7 @@ use Rattle.object_tree.specs.Typed.{ReadAs, AreTyped}
 use Rattle.binding_graph.specs.Bindings.{binding_at, Loop, Settled}
 use Rattle.prop_bindings.specs.Values.{values_in}
 use Rattle.machine_rules.specs.There.{IsMember, IsDead}
-use Rattle.machine_rules.specs.Next.{WritesIll}
+use Rattle.machine_rules.specs.Next.{LacksValue, WritesIll}
 use Rattle.machine_state.specs.State.{State, Activation, Body, Emit}
 
 -- ---- arguments
@@ -90,3 +90,10 @@ pub record IsGood (p : Loaded) (depth : ℕ) (s t : State) : Type 0 where
 -- all values are settled: each bound property has the value of its binding's expression
 abbrev pub AreSettled : State → Type 0
 AreSettled t = Settled (binding_at t.bindings) (values_in t.objects)
+
+-- every property of a living object has a value of its type, the statement that is next has the values that it needs, and
+-- what it writes are values of their properties' types, also one that a later write of the same group hides
+pub record IsTyped (p : Loaded) (t : State) : Type 0 where
+  pub values : AreTyped p t.objects
+  pub has_values : ¬ LacksValue t
+  pub fits : ¬ WritesIll p t

@@ -11,8 +11,7 @@ use Rattle.binding_graph.specs.declared.binding.Binding.{Binding}
 use Rattle.trace_entries.specs.declared.fault.Answer.{Answer}
 use Rattle.object_machine.specs.Runs.{done, Follows, by_rule, by_event, IsDue, goes_on, is_next}
 use Rattle.object_machine.specs.Causes.{BindsNext, Brings, StopsFor, spent, short, brings, lacks_value, writes_ill, binds_ill, goes_ill, goes_fatal, binds_loop, writes_deep, goes_deep}
-use Rattle.object_machine.specs.Claims.{IsLimit}
-use Rattle.object_machine.specs.Checked.{StopsAtLimit}
+use Rattle.object_machine.specs.Checked.{IsLimit, StopsAtLimit}
 use Rattle.object_machine.specs.Seen.{Seen, Completes, Halts, Stays, RunsAll}
 use Rattle.object_machine.proofs.Running.{runs-trans}
 

@@ -21,8 +21,7 @@ use Rattle.trace_entries.specs.declared.refusal.Refusal.{Refusal}
 use Rattle.binding_graph.specs.Places.{property_of}
 use Rattle.binding_graph.specs.declared.binding.Binding.{Binding}
 use Rattle.machine_rules.specs.Destroying.{deleting, Schedules}
-use Rattle.machine_rules.specs.Faults.{LacksValue}
-use Rattle.machine_rules.specs.Next.{DoesNext, WritesNext, WritesIll}
+use Rattle.machine_rules.specs.Next.{DoesNext, WritesNext, WritesIll, LacksValue}
 use Rattle.machine_rules.specs.Good.{IsWell, IsGood}
 use Rattle.machine_rules.specs.Judgement.{Numbered, Then, goes_on, ends, Gives, gives, Becomes, becomes}
 use Rattle.machine_rules.specs.Natives.{NativeAnswers}

@@ -19,8 +19,8 @@ use Rattle.machine_state.specs.Accepting.{accepted}
 use Rattle.machine_state.specs.State.{Step, Run, State, Activation, Body, IsIdle}
 use Rattle.machine_state.specs.Telling.{Assigning, writes_of}
 use Rattle.machine_rules.specs.Operations.{Operation, Write, TakeAnswer, operation_of_step}
-use Rattle.machine_rules.specs.Faults.{LacksValue, WritesDeep, GoesIll, GoesFatal, GoesDeep}
-use Rattle.machine_rules.specs.Next.{DoesNext, WritesNext, WritesIll}
+use Rattle.machine_rules.specs.Faults.{WritesDeep, GoesIll, GoesFatal, GoesDeep}
+use Rattle.machine_rules.specs.Next.{DoesNext, WritesNext, WritesIll, LacksValue}
 use Rattle.machine_rules.specs.Good.{IsWell, Spares, IsAcyclic, TopFits, has_body}
 use Rattle.machine_rules.specs.Natives.{NativeAnswers, AnswersOnce}
 use Rattle.machine_rules.specs.Rules.{Rule, RuleAt, StepRule, Does}

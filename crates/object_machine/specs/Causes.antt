@@ -13,8 +13,8 @@ use Rattle.machine_state.specs.declared.world.World.{World}
 use Rattle.machine_state.specs.State.{State, Activation, IsIdle}
 use Rattle.machine_state.specs.Worlds.{at}
 use Rattle.machine_rules.specs.Natives.{NativeAnswers}
-use Rattle.machine_rules.specs.Faults.{LacksValue, WritesDeep, GoesIll, GoesFatal, GoesDeep}
-use Rattle.machine_rules.specs.Next.{WritesIll}
+use Rattle.machine_rules.specs.Faults.{WritesDeep, GoesIll, GoesFatal, GoesDeep}
+use Rattle.machine_rules.specs.Next.{LacksValue, WritesIll}
 use Rattle.object_machine.specs.Runs.{RunsWhole, RunsFront, Follows, IsDue}
 use Rattle.object_machine.specs.Events.{may_bind}
 

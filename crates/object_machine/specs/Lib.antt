@@ -1,4 +1,6 @@
 pub use Rattle.object_machine.specs.Claims
+pub use Rattle.object_machine.specs.CheckedLaws
+pub use Rattle.object_machine.specs.FaultLaws
 pub use Rattle.object_machine.specs.Laws
 pub mod Events
 pub mod Takes
@@ -10,6 +12,7 @@ pub mod FaultLaws
 pub mod Seen
 pub mod Claims
 pub mod Checked
+pub mod CheckedLaws
 pub use Rattle.native_slots.specs.Promises
 pub use Rattle.machine_rules.specs.Good
 pub use Rattle.machine_rules.specs.Natives

@@ -10,11 +10,13 @@ use Rattle.trace_entries.specs.declared.fault.Fault.{Fault}
 use Rattle.trace_entries.specs.declared.fault.Fault.TheVariants as fault
 use Rattle.trace_entries.specs.declared.refusal.Refusal.{Refusal}
 use Rattle.trace_entries.specs.Refusals.{refusal_number}
+use Rattle.machine_state.specs.State.{State}
 use Rattle.machine_state.specs.Worlds.{at, untouched}
 use Rattle.native_slots.specs.Promises.{Takes}
 use Rattle.machine_rules.specs.Good.{AreSettled}
 use Rattle.machine_rules.specs.Natives.{NativeAnswers, KeepPromises}
 use Rattle.object_machine.specs.Causes as run
+use Rattle.object_machine.specs.Runs.{Run, Each}
 use Rattle.object_machine.specs.Takes.{judged, IsRefusedAs}
 
 pub record Seen (N : Type 0) : Type 0 where
@@ -64,6 +66,13 @@ RunsAll gives before events (Err f) after = Stops gives before events f after
 -- each bound property has the value of its binding's expression
 abbrev pub IsSettled : {N : Type 0} → Seen N → Type 0
 IsSettled m = AreSettled (at m.world [])
+
+-- In each run from where the machine stands, each step is so: whatever events come, and whatever natives answer. Of a machine
+-- that has stopped this says nothing.
+abbrev pub InEachRun : {N : Type 0} → (N → NativeAnswers) → Seen N → (State → State → Type 0) → Type 0
+InEachRun gives m Holds =
+    m.stopped ≡ false → (events : List Event) (answers : List Answer) (t : State) (left : ℕ) →
+    (run : Run m.program (gives m.natives) (at m.world []) m.world.left events answers t left) → Each Holds run
 
 -- a machine that has let go what it had written down
 abbrev pub cleared : {N : Type 0} → Seen N → Seen N

@@ -1,7 +1,7 @@
 //! What holds of every program that loads and has a valid certificate, for every list of events.
 
 ghost use Rattle.trace_entries.specs.declared.fault.Fault.TheVariants.{BindingLoop, InUse, TooDeep};
-ghost use Rattle.object_machine.specs.Claims.{EachIsFaultless, EachRunIsFaultless, NeverLacksValue, NeverStops, NeverStuck, StopsAtLimits};
+ghost use Rattle.object_machine.specs.CheckedLaws.{EachIsFaultless, EachRunIsFaultless, NeverLacksValue, NeverStops, NeverStuck, StopsAtLimits};
 
 use native_slots::Answering;
 

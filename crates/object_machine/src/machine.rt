@@ -4,7 +4,8 @@ ghost use Rattle.std.specs.Prelude.{◌≡◌, ◌↔◌, ◌<◌, ◌≤◌, �
 ghost use Rattle.trace_entries.specs.declared.fault.Fault.TheVariants.{Steps};
 ghost use Rattle.texts.specs.Limits.{most_depth};
 ghost use Rattle.machine_rules.specs.Natives.{KeepPromises};
-ghost use Rattle.object_machine.specs.Checked.{Claims, IsChecked, StopsAtLimit};
+ghost use Rattle.object_machine.specs.Checked.{IsChecked, StopsAtLimit};
+ghost use Rattle.object_machine.specs.Claims.{HasItsArguments, IsEverAcyclic, IsEverSettled, IsEverShallow, IsEverTyped, SparesActive};
 ghost use Rattle.object_machine.specs.Seen.{AreKept, Completes, RefusesExactly, IsSettled, Seen, Stops, RunsAll, begun, cleared};
 
 use meta_model::Meta;
@@ -40,7 +41,7 @@ pub trait ObjectMachine: Drop {
 
     /// A machine for a program whose certificate is valid: it nests as many activations as the certificate's bound says.
     /// The rest is as in [`ObjectMachine::unchecked`]. Whatever events it is given, it never stops with `BadType`, `InUse`,
-    /// `BindingLoop` or `TooDeep`.
+    /// `BindingLoop` or `TooDeep`, and of each of its runs it is known what [`ObjectMachine::apply`] says.
     fn checked(
         alloc: Global,
         program: Checked,
@@ -52,7 +53,13 @@ pub trait ObjectMachine: Drop {
             program.program natives }
         ensures begins { IfOk result (λ machine. seen machine
             ≡ begun program.program natives program.certificate.bound steps) }
-        ensures checked { IfOk result (λ machine. IsChecked Self.Natives.gives (seen machine)) };
+        ensures checked { IfOk result (λ machine. IsChecked Self.Natives.gives (seen machine)) }
+        ensures arguments { IfOk result (λ machine. HasItsArguments Self.Natives.gives (seen machine)) }
+        ensures acyclic { IfOk result (λ machine. IsEverAcyclic Self.Natives.gives (seen machine)) }
+        ensures spared { IfOk result (λ machine. SparesActive Self.Natives.gives (seen machine)) }
+        ensures shallow { IfOk result (λ machine. IsEverShallow Self.Natives.gives (seen machine)) }
+        ensures typed { IfOk result (λ machine. IsEverTyped Self.Natives.gives (seen machine)) }
+        ensures settled { IfOk result (λ machine. IsEverSettled Self.Natives.gives (seen machine)) };
 
     /// Applies an event: takes it, and runs until nothing is going on. `Refused` tells the first of the event's
     /// conditions that doesn't hold, exactly where one doesn't; then only its line is written. A fault stops the machine:
@@ -64,9 +71,9 @@ pub trait ObjectMachine: Drop {
     /// nothing changes.
     ///
     /// A machine of a checked program stays one, and stops with `Steps` or `Memory` alone. In each of its runs every call
-    /// that is delivered has the arguments that its method declares (`arguments` of `Claims`), no binding depends on itself
-    /// (`acyclic`), no object dies while a body of its own is active (`spared`), activations nest no deeper than the depth
-    /// (`shallow`), every value is of its type (`typed`), and all values are settled (`settled`).
+    /// that is delivered has the arguments that its method declares (`arguments`), no binding depends on itself (`acyclic`),
+    /// no object dies while a body of its own is active (`spared`), activations nest no deeper than the depth (`shallow`),
+    /// every value is of its type (`typed`), and all values are settled (`settled`).
     fn apply(&mut self, event: &Event) -> Result<Answer, Fault>
         requires { AreKept Self.Natives.takes Self.Natives.gives (seen self.old) }
         ensures taken { IfOk result (λ answer. Completes Self.Natives.gives
@@ -83,11 +90,21 @@ pub trait ObjectMachine: Drop {
         ensures checked { IsChecked Self.Natives.gives (seen self.old)
             → IsChecked Self.Natives.gives (seen self.new)
             × IfErr result (StopsAtLimit (seen self.old)) }
-        ensures claims { IsChecked Self.Natives.gives (seen self.old)
-            → Claims Self.Natives.gives (seen self.old) };
+        ensures arguments { IsChecked Self.Natives.gives (seen self.old)
+            → HasItsArguments Self.Natives.gives (seen self.old) }
+        ensures acyclic { IsChecked Self.Natives.gives (seen self.old)
+            → IsEverAcyclic Self.Natives.gives (seen self.old) }
+        ensures spared { IsChecked Self.Natives.gives (seen self.old)
+            → SparesActive Self.Natives.gives (seen self.old) }
+        ensures shallow { IsChecked Self.Natives.gives (seen self.old)
+            → IsEverShallow Self.Natives.gives (seen self.old) }
+        ensures typed { IsChecked Self.Natives.gives (seen self.old)
+            → IsEverTyped Self.Natives.gives (seen self.old) }
+        ensures settled { IsChecked Self.Natives.gives (seen self.old)
+            → IsEverSettled Self.Natives.gives (seen self.old) };
 
     /// Applies events in their order until a fault comes, as `apply` does each. A machine of a checked program stays one,
-    /// and stops with `Steps` or `Memory` alone; in each of its runs the claims hold as `apply` says them.
+    /// and stops with `Steps` or `Memory` alone; each of its runs is as `apply` says.
     fn run(&mut self, events: &[Event]) -> Result<(), Fault>
         requires { AreKept Self.Natives.takes Self.Natives.gives (seen self.old) }
         ensures ran { RunsAll Self.Natives.gives (seen self.old) events.now result (seen self.new) }
@@ -95,16 +112,23 @@ pub trait ObjectMachine: Drop {
         ensures checked { IsChecked Self.Natives.gives (seen self.old)
             → IsChecked Self.Natives.gives (seen self.new)
             × IfErr result (StopsAtLimit (seen self.old)) }
-        ensures claims { IsChecked Self.Natives.gives (seen self.old)
-            → Claims Self.Natives.gives (seen self.old) };
+        ensures arguments { IsChecked Self.Natives.gives (seen self.old)
+            → HasItsArguments Self.Natives.gives (seen self.old) }
+        ensures acyclic { IsChecked Self.Natives.gives (seen self.old)
+            → IsEverAcyclic Self.Natives.gives (seen self.old) }
+        ensures spared { IsChecked Self.Natives.gives (seen self.old)
+            → SparesActive Self.Natives.gives (seen self.old) }
+        ensures shallow { IsChecked Self.Natives.gives (seen self.old)
+            → IsEverShallow Self.Natives.gives (seen self.old) }
+        ensures typed { IsChecked Self.Natives.gives (seen self.old)
+            → IsEverTyped Self.Natives.gives (seen self.old) }
+        ensures settled { IsChecked Self.Natives.gives (seen self.old)
+            → IsEverSettled Self.Natives.gives (seen self.old) };
 
     /// Whether a fault has stopped the machine. Unless one has, no turn goes on.
     fn is_stopped(&self) -> bool
         ensures value { let now = seen self.now in result ≡ now.stopped }
-        ensures idle { let now = seen self.now in result ≡ false → now.world.turn ≡ None }
-        ensures claims { AreKept Self.Natives.takes Self.Natives.gives (seen self.now)
-            → IsChecked Self.Natives.gives (seen self.now)
-            → Claims Self.Natives.gives (seen self.now) };
+        ensures idle { let now = seen self.now in result ≡ false → now.world.turn ≡ None };
 
     /// Hands over what was written down so far, and goes on with an empty trace, to which this one gives its room: the run is
     /// what it would have been. Whoever writes the trace out event by event keeps a long run from filling the memory by this.

@@ -1,5 +1,5 @@
 -- A machine of a checked program stays one, and stops for a limit alone.
-use Rattle.std.proofs.Common.{◌≡◌, ℕ, ◌≤◌, ◌⊎◌, inl, inr, Bool, true, List, [], ◌∷◌, ◌++◌, length, Result, Ok, Err, sym, subst, append-nil}
+use Rattle.std.proofs.Common.{◌≡◌, ℕ, ◌≤◌, ◌⊎◌, inl, inr, Bool, true, List, [], ◌∷◌, ◌++◌, length, Result, Ok, Err, refl, sym, subst, append-nil}
 use Rattle.std.specs.Prelude.{IfOk, IfErr}
 use Rattle.certificate_lang.specs.declared.certificate.Certificate.{Certificate}
 use Rattle.rank_check.specs.Valid.{IsValid}
@@ -13,17 +13,17 @@ use Rattle.machine_state.specs.declared.world.World.{World}
 use Rattle.machine_state.specs.Worlds.{at, untouched}
 use Rattle.trace_entries.specs.declared.entry.Entry.{Entry}
 use Rattle.machine_state.specs.State.{State}
-use Rattle.machine_rules.specs.Good.{HasArguments, Spares, IsAcyclic, AreSettled}
-use Rattle.machine_rules.specs.Natives.{NativeAnswers}
+use Rattle.machine_rules.specs.Good.{HasArguments, Spares, IsAcyclic, AreSettled, IsTyped}
+use Rattle.machine_rules.specs.Natives.{NativeAnswers, KeepPromises}
 use Rattle.object_machine.specs.Causes.{StopsFor}
 use Rattle.object_machine.specs.Laws.{in_front}
 use Rattle.object_machine.specs.Runs.{Run, done}
 use Rattle.object_machine.proofs.Fronts.{run-front, each-behind, lacks-front, writes-ill-front, stops-front}
 use Rattle.object_machine.proofs.Running.{run-trans, each-weaker}
-use Rattle.object_machine.specs.Claims.{IsTypedStep, IsFaultless, IsLimit, IsReached}
+use Rattle.object_machine.specs.CheckedLaws.{IsFaultless, IsReached}
 use Rattle.object_machine.proofs.CheckedRuns.Claims.{only_limits, each_run_is_faultless}
-use Rattle.object_machine.specs.Checked.{HasCome, IsChecked, InEachRun, Claims, StopsAtLimit}
-use Rattle.object_machine.specs.Seen.{Seen, AreKept, Completes, Halts, Stays, begun, cleared}
+use Rattle.object_machine.specs.Checked.{HasCome, IsChecked, Claims, IsLimit, StopsAtLimit}
+use Rattle.object_machine.specs.Seen.{Seen, AreKept, InEachRun, Completes, Halts, Stays, begun, cleared}
 use Rattle.qt_runtime.proofs.Halting.{seen}
 
 -- the program that is within is the one that is seen
@@ -158,6 +158,13 @@ module _ {N : Type 0} (takes : N → Takes) (gives : N → NativeAnswers) where
         acyclic = λ went events answers t left run. each-weaker Step (λ s u. IsAcyclic u) (λ s u x. x.acyclic) run (all went events answers t left run);
         spared = λ went events answers t left run. each-weaker Step Spares (λ s u x. x.spared) run (all went events answers t left run);
         shallow = λ went events answers t left run. each-weaker Step Shallow (λ s u x. subst (λ (k : ℕ). length u.stack ≤ k) (sym checked.bound) x.shallow) run (all went events answers t left run);
-        typed = λ went events answers t left run. each-weaker Step (IsTypedStep a.program) (λ s u x. x.typed) run (all went events answers t left run);
+        typed = λ went events answers t left run. each-weaker Step (λ s u. IsTyped a.program u) (λ s u x. x.typed) run (all went events answers t left run);
         settled = λ went events answers t left run. each-weaker Step (λ s u. AreSettled u) (λ s u x. x.settled) run (all went events answers t left run);
       }
+
+  -- .. on a machine that has done nothing, of a program and a depth that are those of a certificate
+  pub begun-claims : {m : Seen N} {p q : Loaded} {natives : N} {depth steps : ℕ} {certificate : Certificate} → IsSound p → KeepPromises takes gives p natives → q ≡ p → depth ≡ certificate.bound → IsValid p certificate → m ≡ begun q natives depth steps → Claims gives m
+  begun-claims {p = p} {q = q} {natives = natives} {depth = depth} {steps = steps} sound promises same bound valid is =
+      let Kept : Loaded → Type 0 = λ l. KeepPromises takes gives l natives in
+      let claims : Claims gives (begun q natives depth steps) = claims-hold (subst IsSound (sym same) sound) (subst Kept (sym same) promises) (begun-checked gives same bound valid refl) in
+      subst (λ (n : Seen N). Claims gives n) (sym is) claims

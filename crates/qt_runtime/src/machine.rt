@@ -85,6 +85,8 @@ impl<N: Answering + Drop> ObjectMachine for Machine<N> {
         natives: N,
         steps: u64,
     ) -> Result<Machine<N>, AllocError> {
+        // The contract of `classes` says that the numbers in bodies are those of members.
+        let _ = program.meta().classes();
         let depth = program.bound();
         Machine::unchecked(alloc, program.into_meta(), natives, depth, steps)
     }
@@ -101,6 +103,8 @@ impl<N: Answering + Drop> ObjectMachine for Machine<N> {
     }
 
     fn run(&mut self, events: &[Event]) -> Result<(), Fault> {
+        // The contract of `classes` says that the numbers in bodies are those of members.
+        let _ = self.interpreter.context.meta.classes();
         if self.is_stopped() {
             return Err(Fault::Stopped);
         }
@@ -111,8 +115,6 @@ impl<N: Answering + Drop> ObjectMachine for Machine<N> {
     }
 
     fn is_stopped(&self) -> bool {
-        // The contract of `classes` says that the numbers in bodies are those of members.
-        let _ = self.interpreter.context.meta.classes();
         self.stopped
     }
 

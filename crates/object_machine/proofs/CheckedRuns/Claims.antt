@@ -15,7 +15,8 @@ use Rattle.machine_rules.specs.Next.{WritesIll}
 use Rattle.object_machine.specs.Causes.{Brings, StopsFor, BindsIll, spent, short, brings, lacks_value, writes_ill, binds_ill, goes_ill, goes_fatal, binds_loop, writes_deep, goes_deep}
 use Rattle.object_machine.specs.Runs.{Follows}
 use Rattle.object_machine.proofs.Progress.{stuck-lacks}
-use Rattle.object_machine.specs.Claims.{NeverStops, NeverLacksValue, NeverStuck, IsReached, EachRunIsFaultless, EachIsFaultless, IsLimit, no_rule, no_memory, StopsAtLimits}
+use Rattle.object_machine.specs.Checked.{IsLimit, no_rule, no_memory}
+use Rattle.object_machine.specs.CheckedLaws.{NeverStops, NeverLacksValue, NeverStuck, IsReached, EachRunIsFaultless, EachIsFaultless, StopsAtLimits}
 use Rattle.object_machine.proofs.CheckedRuns.Binding.{binds-fit}
 use Rattle.object_machine.proofs.CheckedRuns.Kept.{Kept, run-kept, writes-low, deep-not, fatal-not, loops-not, lacks-not}
 use Rattle.object_machine.proofs.CheckedRuns.Steps.{Stood, come-stood, as-kept, writes-none, follows-good, follows-faultless, run-faultless}

@@ -18,7 +18,8 @@ use Rattle.machine_rules.specs.Operations.{Write}
 use Rattle.machine_rules.specs.Good.{IsWell, IsGood, Spares, has_body}
 use Rattle.machine_rules.specs.Natives.{NativeAnswers}
 use Rattle.machine_rules.specs.Rules.{Rule}
-use Rattle.machine_rules.specs.Faults.{WritesDeep, GoesDeep, GoesFatal, LacksValue}
+use Rattle.machine_rules.specs.Faults.{WritesDeep, GoesDeep, GoesFatal}
+use Rattle.machine_rules.specs.Next.{LacksValue}
 use Rattle.machine_rules.proofs.Lists.{all-filtered, all-snoc}
 use Rattle.object_machine.specs.Causes.{BindsLoop}
 use Rattle.object_machine.specs.Runs.{Run as ARun, done, goes, takes, Each, GoodRun, Follows, by_rule, by_event}

@@ -21,7 +21,7 @@ use Rattle.object_machine.specs.Runs.{Run, done, goes, takes, Each, Follows, by_
 use Rattle.object_machine.specs.Takes.{Takes as Taking}
 use Rattle.object_machine.proofs.Preservation.{after-rule, after-event}
 use Rattle.object_machine.proofs.Standing.{Invariant}
-use Rattle.object_machine.specs.Claims.{IsFaultless}
+use Rattle.object_machine.specs.CheckedLaws.{IsFaultless}
 use Rattle.object_machine.proofs.CheckedRuns.Invariant.{Level, Stacked, Holds}
 use Rattle.object_machine.proofs.CheckedRuns.Promised.{AllIsPromised}
 use Rattle.object_machine.proofs.CheckedRuns.Arguments.{rule-pushes, takes-pushes}

@@ -34,9 +34,3 @@ returns-in-Err-clause-streams g c =
 
 pub returns-in-Err-clause-limits : goal.returns-in-Err-clause-limits
 returns-in-Err-clause-limits g c checked = streams-limit c.loop-event.invariant.streams (c.in-Err.ensures.checked (c.loop-event.invariant.checked checked)).1
-
-pub returns-in-Err-clause-claims : goal.returns-in-Err-clause-claims
-returns-in-Err-clause-claims g c = c.is_stopped.ensures.claims c.requires
-
-pub returns-clause-claims : goal.returns-clause-claims
-returns-clause-claims g c = c.is_stopped.ensures.claims c.requires

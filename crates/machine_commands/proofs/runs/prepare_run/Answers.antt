@@ -11,9 +11,10 @@ checked-requires-clause-promises g c = c.in-Ok.ensures.promises
 
 pub returns : goal.returns
 returns g c =
-    let begins = c.in-Ok-checked.ensures.begins in
+    let machine = c.in-Ok-checked.ensures in
+    let begins = machine.begins in
     ready-prepares _ _ _ (rw begins c.in-Ok.ensures.promises)
-    (λ end so. goes_on _ _ c.in-Ok.ensures.accepting (faultless-begun begins c.in-Ok-checked.ensures.checked end so))
+    (λ end so. goes_on _ _ c.in-Ok.ensures.accepting (faultless-begun begins machine.checked (record { arguments = machine.arguments; acyclic = machine.acyclic; spared = machine.spared; shallow = machine.shallow; typed = machine.typed; settled = machine.settled }) end so))
 
 pub returns-in_default : goal.returns-in_default
 returns-in_default g c = done-now _ _ _ (goes_on _ _ c.in-Ok.ensures.accepting short_of_memory)

@@ -4,5 +4,4 @@ pub returns : goal.returns
 returns g c = record {
   ran = rw c.as_slice.ensures at c.run-ended.ensures.ran;
   limits = λ checked. (c.run-ended.ensures.checked checked).1;
-  claims = c.run-ended.ensures.claims;
 }

@@ -7,5 +7,5 @@ pub returns : goal.returns
 returns g c =
     let streamed = c.stream_events-streamed.ensures in
     let streams = rw c.as_slice.ensures at streamed.streams in
-    carried-run streams streamed.limits streamed.claims
+    carried-run streams streamed.limits
     (finished c.new-output.ensures.begun (sent streams.puts c.put.ensures) (rw c.status.ensures at c.finish-written.ensures) (search rules))

@@ -59,5 +59,20 @@ returns-clause-checked g c =
     subst From c.self.view_is (applied-checked takes gives c.args.event.now result sound (subst Kept (sym c.self.view_is) c.requires) (applied-taken gives natives result took went is)
     (applied-stopped gives natives result took went is))
 
-pub returns-clause-claims : goal.returns-clause-claims
-returns-clause-claims g c = claims-hold g.N.Answering.takes g.N.Answering.gives (sound-of c.classes.ensures.sound c.self.view_is) c.requires
+pub returns-clause-arguments : goal.returns-clause-arguments
+returns-clause-arguments g c checked = (claims-hold g.N.Answering.takes g.N.Answering.gives (sound-of c.classes.ensures.sound c.self.view_is) c.requires checked).arguments
+
+pub returns-clause-acyclic : goal.returns-clause-acyclic
+returns-clause-acyclic g c checked = (claims-hold g.N.Answering.takes g.N.Answering.gives (sound-of c.classes.ensures.sound c.self.view_is) c.requires checked).acyclic
+
+pub returns-clause-spared : goal.returns-clause-spared
+returns-clause-spared g c checked = (claims-hold g.N.Answering.takes g.N.Answering.gives (sound-of c.classes.ensures.sound c.self.view_is) c.requires checked).spared
+
+pub returns-clause-shallow : goal.returns-clause-shallow
+returns-clause-shallow g c checked = (claims-hold g.N.Answering.takes g.N.Answering.gives (sound-of c.classes.ensures.sound c.self.view_is) c.requires checked).shallow
+
+pub returns-clause-typed : goal.returns-clause-typed
+returns-clause-typed g c checked = (claims-hold g.N.Answering.takes g.N.Answering.gives (sound-of c.classes.ensures.sound c.self.view_is) c.requires checked).typed
+
+pub returns-clause-settled : goal.returns-clause-settled
+returns-clause-settled g c checked = (claims-hold g.N.Answering.takes g.N.Answering.gives (sound-of c.classes.ensures.sound c.self.view_is) c.requires checked).settled

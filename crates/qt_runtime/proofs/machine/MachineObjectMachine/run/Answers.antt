@@ -3,6 +3,7 @@ use Rattle.std.proofs.lemmas.List.{take_more, drop_more}
 use Rattle.script_lang.specs.declared.event.Event.{Event}
 use Rattle.object_machine.specs.Seen.{RunsAll}
 use Rattle.object_machine.proofs.Applying.{completes-none, completes-then, limit-behind, run-stops}
+use Rattle.qt_runtime.proofs.Checking.{claims-hold, sound-of}
 use Rattle.qt_runtime.proofs.machine.MachineObjectMachine.run.Goals as goal
 
 pub loop-event-init : goal.loop-event-init
@@ -29,8 +30,56 @@ returns-in_err-_answer-clause-checked g c checked =
 pub returns-clause-checked : goal.returns-clause-checked
 returns-clause-checked g c checked = (c.loop-event.invariant.checked checked, tt)
 
-pub returns-in_err-_answer-clause-claims : goal.returns-in_err-_answer-clause-claims
-returns-in_err-_answer-clause-claims g c = c.is_stopped.ensures.claims c.requires
+pub returns-then-is_stopped-clause-arguments : goal.returns-then-is_stopped-clause-arguments
+returns-then-is_stopped-clause-arguments g c checked = (claims-hold g.N.Answering.takes g.N.Answering.gives (sound-of c.classes.ensures.sound c.self.view_is) c.requires checked).arguments
 
-pub returns-clause-claims : goal.returns-clause-claims
-returns-clause-claims g c = c.is_stopped.ensures.claims c.requires
+pub returns-then-is_stopped-clause-acyclic : goal.returns-then-is_stopped-clause-acyclic
+returns-then-is_stopped-clause-acyclic g c checked = (claims-hold g.N.Answering.takes g.N.Answering.gives (sound-of c.classes.ensures.sound c.self.view_is) c.requires checked).acyclic
+
+pub returns-then-is_stopped-clause-spared : goal.returns-then-is_stopped-clause-spared
+returns-then-is_stopped-clause-spared g c checked = (claims-hold g.N.Answering.takes g.N.Answering.gives (sound-of c.classes.ensures.sound c.self.view_is) c.requires checked).spared
+
+pub returns-then-is_stopped-clause-shallow : goal.returns-then-is_stopped-clause-shallow
+returns-then-is_stopped-clause-shallow g c checked = (claims-hold g.N.Answering.takes g.N.Answering.gives (sound-of c.classes.ensures.sound c.self.view_is) c.requires checked).shallow
+
+pub returns-then-is_stopped-clause-typed : goal.returns-then-is_stopped-clause-typed
+returns-then-is_stopped-clause-typed g c checked = (claims-hold g.N.Answering.takes g.N.Answering.gives (sound-of c.classes.ensures.sound c.self.view_is) c.requires checked).typed
+
+pub returns-then-is_stopped-clause-settled : goal.returns-then-is_stopped-clause-settled
+returns-then-is_stopped-clause-settled g c checked = (claims-hold g.N.Answering.takes g.N.Answering.gives (sound-of c.classes.ensures.sound c.self.view_is) c.requires checked).settled
+
+pub returns-in_err-_answer-clause-arguments : goal.returns-in_err-_answer-clause-arguments
+returns-in_err-_answer-clause-arguments g c checked = (claims-hold g.N.Answering.takes g.N.Answering.gives (sound-of c.classes.ensures.sound c.self.view_is) c.requires checked).arguments
+
+pub returns-in_err-_answer-clause-acyclic : goal.returns-in_err-_answer-clause-acyclic
+returns-in_err-_answer-clause-acyclic g c checked = (claims-hold g.N.Answering.takes g.N.Answering.gives (sound-of c.classes.ensures.sound c.self.view_is) c.requires checked).acyclic
+
+pub returns-in_err-_answer-clause-spared : goal.returns-in_err-_answer-clause-spared
+returns-in_err-_answer-clause-spared g c checked = (claims-hold g.N.Answering.takes g.N.Answering.gives (sound-of c.classes.ensures.sound c.self.view_is) c.requires checked).spared
+
+pub returns-in_err-_answer-clause-shallow : goal.returns-in_err-_answer-clause-shallow
+returns-in_err-_answer-clause-shallow g c checked = (claims-hold g.N.Answering.takes g.N.Answering.gives (sound-of c.classes.ensures.sound c.self.view_is) c.requires checked).shallow
+
+pub returns-in_err-_answer-clause-typed : goal.returns-in_err-_answer-clause-typed
+returns-in_err-_answer-clause-typed g c checked = (claims-hold g.N.Answering.takes g.N.Answering.gives (sound-of c.classes.ensures.sound c.self.view_is) c.requires checked).typed
+
+pub returns-in_err-_answer-clause-settled : goal.returns-in_err-_answer-clause-settled
+returns-in_err-_answer-clause-settled g c checked = (claims-hold g.N.Answering.takes g.N.Answering.gives (sound-of c.classes.ensures.sound c.self.view_is) c.requires checked).settled
+
+pub returns-clause-arguments : goal.returns-clause-arguments
+returns-clause-arguments g c checked = (claims-hold g.N.Answering.takes g.N.Answering.gives (sound-of c.classes.ensures.sound c.self.view_is) c.requires checked).arguments
+
+pub returns-clause-acyclic : goal.returns-clause-acyclic
+returns-clause-acyclic g c checked = (claims-hold g.N.Answering.takes g.N.Answering.gives (sound-of c.classes.ensures.sound c.self.view_is) c.requires checked).acyclic
+
+pub returns-clause-spared : goal.returns-clause-spared
+returns-clause-spared g c checked = (claims-hold g.N.Answering.takes g.N.Answering.gives (sound-of c.classes.ensures.sound c.self.view_is) c.requires checked).spared
+
+pub returns-clause-shallow : goal.returns-clause-shallow
+returns-clause-shallow g c checked = (claims-hold g.N.Answering.takes g.N.Answering.gives (sound-of c.classes.ensures.sound c.self.view_is) c.requires checked).shallow
+
+pub returns-clause-typed : goal.returns-clause-typed
+returns-clause-typed g c checked = (claims-hold g.N.Answering.takes g.N.Answering.gives (sound-of c.classes.ensures.sound c.self.view_is) c.requires checked).typed
+
+pub returns-clause-settled : goal.returns-clause-settled
+returns-clause-settled g c checked = (claims-hold g.N.Answering.takes g.N.Answering.gives (sound-of c.classes.ensures.sound c.self.view_is) c.requires checked).settled
