@@ -1,12 +1,9 @@
 -- What comes next where a run stops, and why it stops (docs/machine.md, "Faults").
-use Rattle.std.specs.Prelude.{◌≡◌, ℕ, ◌<◌, ◌≤◌, List, ◌∷◌, ◌++◌, length}
+use Rattle.std.specs.Prelude.{ℕ, ◌<◌, ◌≤◌, length}
 use Rattle.meta_model.specs.Loaded.{Loaded}
-use Rattle.object_tree.specs.declared.object.Object.{Object}
-use Rattle.prop_bindings.specs.Assignment.{Assignment}
 use Rattle.prop_bindings.specs.Calls.{AllFit}
 use Rattle.machine_state.specs.State.{State}
 use Rattle.machine_state.specs.Telling.{Assigning, writes_of}
-use Rattle.machine_rules.specs.There.{LacksField}
 use Rattle.machine_rules.specs.Next.{WritesNext, WritesIll}
 use Rattle.machine_rules.specs.Good.{IsWell, Spares, IsAcyclic}
 
@@ -18,19 +15,6 @@ pub record WritesDeep (p : Loaded) (depth : ℕ) (s : State) : Type 0 where
   pub next : WritesNext s what
   pub fit : AllFit p s.objects (writes_of what)
   pub deep : depth ≤ length s.stack
-
--- this one of the writes comes after such as fit
-pub record IsAfterFit (p : Loaded) (objects : List Object) (writes : List Assignment) (set : Assignment) : Type 0 where
-  pub front : List Assignment
-  pub back : List Assignment
-  pub are : writes ≡ front ++ set ∷ back
-  pub fit : AllFit p objects front
-
--- one of the writes comes after such as fit, and its property isn't there
-pub record LacksFirst (p : Loaded) (objects : List Object) (writes : List Assignment) : Type 0 where
-  pub set : Assignment
-  pub after : IsAfterFit p objects writes set
-  pub lacks : LacksField p objects set.place.object set.place.property
 
 -- ---- why a run stops
 

@@ -1,6 +1,6 @@
 -- What natives answer (docs/machine.md, "Natives").
-use Rattle.std.specs.Prelude.{◌≡◌, ℕ, ◌<◌, List, Option, Some, slice_get}
-use Rattle.std.specs.List.{AllByRecursion, AllZip}
+use Rattle.std.specs.Prelude.{◌≡◌, ℕ, ◌<◌, List, Some, slice_get}
+use Rattle.std.specs.List.{AllZip}
 use Rattle.basic_types.specs.declared.sig.Sig.{Sig}
 use Rattle.basic_types.specs.declared.value.Value.{Value}
 use Rattle.meta_model.specs.declared.object.MetaMethod.{MetaMethod}
@@ -14,9 +14,6 @@ use Rattle.meta_model.specs.declared.effects.MetaEffects.{MetaEffects}
 use Rattle.native_slots.specs.declared.action.Action.{Action}
 use Rattle.native_slots.specs.declared.action.Action.TheVariants as action
 use Rattle.native_slots.specs.Promises.{Takes, Promises}
-use Rattle.trace_entries.specs.declared.entry.Entry.{Entry}
-use Rattle.trace_entries.specs.declared.entry.Entry.TheVariants.{At}
-use Rattle.trace_entries.specs.declared.entry.EntryKind.TheVariants.{Answered}
 use Rattle.trace_entries.specs.declared.entry.ShownAction.{ShownAction}
 use Rattle.trace_entries.specs.declared.entry.ShownAction.TheVariants as show
 use Rattle.machine_state.specs.Objects.{shown, all_shown}
@@ -72,30 +69,3 @@ pub data IsShownAs (p : Loaded) (objects : List Object) (o : ℕ) (effects : Met
 -- each of a list of actions is written down so
 abbrev pub AreShownAs : Loaded → List Object → ℕ → MetaEffects → List Action → List ShownAction → Type 0
 AreShownAs p objects o effects actions lines = AllZip (IsShownAs p objects o effects) actions lines
-
--- ---- what the code asks
-
--- the number of the property or of the signal that an action names by its place
-abbrev pub member_of_action : MetaEffects → Action → Option ℕ
-member_of_action effects (action.Set k value) = slice_get effects.sets k
-member_of_action effects (action.Emit k arguments) = slice_get effects.emits k
-
--- the object has a value of the property
-pub record HasStored (objects : List Object) (o q : ℕ) : Type 0 where
-  pub value : Value
-  pub is : stored objects o q ≡ Some value
-
--- an action can be written down
-pub record IsTellable (p : Loaded) (objects : List Object) (o : ℕ) (effects : MetaEffects) (action : Action) : Type 0 where
-  pub line : ShownAction
-  pub is : IsShownAs p objects o effects action line
-
--- each of a list of actions can be written down
-abbrev pub AreTellable : Loaded → List Object → ℕ → MetaEffects → List Action → Type 0
-AreTellable p objects o effects actions = AllByRecursion (IsTellable p objects o effects) actions
-
--- the entry of these actions
-pub record TellsAnswer (p : Loaded) (objects : List Object) (depth o : ℕ) (effects : MetaEffects) (actions : List Action) (entry : Entry) : Type 0 where
-  pub lines : List ShownAction
-  pub are : AreShownAs p objects o effects actions lines
-  pub is : entry ≡ At depth (Answered lines)

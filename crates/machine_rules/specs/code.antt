@@ -2,3 +2,5 @@
 pub mod Sound
 pub mod Keeps
 pub mod Going
+pub mod Answering
+pub mod Lacking

@@ -17,7 +17,7 @@ use Rattle.trace_entries.specs.declared.entry.Entry.{Entry}
 use Rattle.change_lines.specs.declared.telling.Cause.TheVariants.{Write, Follow}
 use Rattle.machine_state.specs.declared.world.World.{World}
 use Rattle.change_lines.specs.Telling.{Alone, AreTold, HasValue, IsTold, others}
-use Rattle.machine_state.specs.Worlds.{with_bound, HasWritten}
+use Rattle.machine_state.specs.code.Changing.{with_bound, HasWritten}
 use Rattle.change_lines.specs.code.Planned.{WillBeTold}
 use Rattle.change_lines.proofs.Changed.{fits-has, still-have}
 use Rattle.change_lines.proofs.Told.{told-now}

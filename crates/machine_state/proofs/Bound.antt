@@ -12,7 +12,7 @@ use Rattle.prop_bindings.specs.Plans.{after}
 use Rattle.trace_entries.specs.declared.entry.Entry.{Entry}
 use Rattle.machine_state.specs.declared.world.World.{World}
 use Rattle.change_lines.specs.Telling.{Assigning, IsAssigningTold, writes_of}
-use Rattle.machine_state.specs.Worlds.{with_bound, noted, HasWritten}
+use Rattle.machine_state.specs.code.Changing.{with_bound, noted, HasWritten}
 use Rattle.change_lines.specs.code.Planned.{WillWrite}
 
 -- ---- properties are written

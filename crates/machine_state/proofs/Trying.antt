@@ -13,7 +13,7 @@ use Rattle.trace_entries.specs.declared.fault.Fault.{Fault}
 use Rattle.trace_entries.specs.declared.fault.Fault.TheVariants.{Memory}
 use Rattle.machine_state.specs.declared.world.World.{World}
 use Rattle.change_lines.specs.Telling.{Assigning}
-use Rattle.machine_state.specs.Worlds.{WritesIn}
+use Rattle.machine_state.specs.code.Changing.{WritesIn}
 use Rattle.machine_state.specs.code.Trying.{fault_of, IsUnplanned, TriesWrite}
 
 -- a write wasn't planned

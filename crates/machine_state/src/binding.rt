@@ -13,7 +13,7 @@ ghost use Rattle.prop_bindings.specs.Plans.{after};
 ghost use Rattle.trace_entries.specs.declared.fault.Fault.TheVariants.{Memory};
 ghost use Rattle.machine_state.specs.code.Trying.{fault_of, IsUnplanned, TriesWrite};
 ghost use Rattle.change_lines.specs.Telling.{Grouped, IsGroupTold, writes_of};
-ghost use Rattle.machine_state.specs.Worlds.{noted, with_bound, WritesIn};
+ghost use Rattle.machine_state.specs.code.Changing.{noted, with_bound, WritesIn};
 ghost use Rattle.change_lines.specs.code.Planned.{CanBeTold, WillWrite, WillWriteOne, WillWriteAll};
 
 use crate::world::World;

@@ -2,7 +2,7 @@
 
 ghost use Rattle.std.specs.Prelude.{◌≡◌, ◌∷◌, [], ◌<◌, ◌^◌, ◌-◌, OnOk, IfErr, IsTrue};
 ghost use Rattle.machine_state.specs.Connections.{are_joined, newly_joined, parted};
-ghost use Rattle.machine_state.specs.Worlds.{connecting, disconnecting, GoesTo};
+ghost use Rattle.machine_state.specs.code.Changing.{connecting, disconnecting, GoesTo};
 ghost use Rattle.trace_entries.specs.declared.fault.Fault.TheVariants.{Memory};
 
 use crate::endpoints::Endpoints;

@@ -2,7 +2,7 @@
 
 ghost use Rattle.std.specs.Prelude.{◌≡◌, ◌∷◌, [], ◌<◌, ◌-◌, ◌^◌};
 ghost use Rattle.delete_later.specs.Scheduling.{IsHoused};
-ghost use Rattle.machine_state.specs.Worlds.{GoesTo, IsUnscheduled, dying, ending, scheduling};
+ghost use Rattle.machine_state.specs.code.Changing.{GoesTo, IsUnscheduled, dying, ending, scheduling};
 
 use crate::world::World;
 use basic_types::ObjectId;

@@ -3,7 +3,7 @@
 ghost use Rattle.std.specs.Prelude.{◌≡◌, ◌<◌, ◌-◌, ◌^◌, ◌∷◌, [], length};
 ghost use Rattle.object_tree.specs.Objects.{home_of};
 ghost use Rattle.machine_state.specs.Turns.{running, reaches_at_once};
-ghost use Rattle.machine_state.specs.Worlds.{GoesTo, TakesFirst, having_used, posting, taking_unwritten, turn_ended};
+ghost use Rattle.machine_state.specs.code.Changing.{GoesTo, TakesFirst, having_used, posting, taking_unwritten, turn_ended};
 
 use crate::world::World;
 use basic_types::{Kind, LoopId, ObjectId};

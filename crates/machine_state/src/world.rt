@@ -5,7 +5,8 @@ ghost use Rattle.std.specs.List.{find};
 ghost use Rattle.std.specs.Option.{option_copied};
 ghost use Rattle.object_tree.specs.Objects.{IsFree, IsNamed, life_of};
 ghost use Rattle.machine_state.specs.Connections.{next_used, can_be_used, silences, is_silent};
-ghost use Rattle.machine_state.specs.Worlds.{untouched, Ticks, IsLeft, GoesTo, noted, using};
+ghost use Rattle.machine_state.specs.Worlds.{untouched};
+ghost use Rattle.machine_state.specs.code.Changing.{Ticks, IsLeft, GoesTo, noted, using};
 
 use crate::turn::Turn;
 use basic_types::{Name, ObjectId};

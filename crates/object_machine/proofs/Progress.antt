@@ -39,7 +39,7 @@ use Rattle.binding_graph.specs.declared.place.Place.{Place}
 use Rattle.machine_state.specs.declared.turn.Turn.{Turn}
 use Rattle.machine_state.specs.Turns.{running, reaches_at_once}
 use Rattle.machine_state.specs.Connections.{is_living, next_used}
-use Rattle.machine_rules.specs.Faults.{LacksFirst}
+use Rattle.machine_rules.specs.code.Lacking.{LacksFirst}
 use Rattle.machine_rules.specs.Next.{DoesNext, LacksValue}
 use Rattle.machine_rules.specs.code.Going.{IsStuck, RulesStop}
 use Rattle.machine_state.specs.Telling.{Assigning, writes_of}

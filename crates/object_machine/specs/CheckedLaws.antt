@@ -12,7 +12,7 @@ use Rattle.trace_entries.specs.declared.fault.Fault.{Fault}
 use Rattle.machine_state.specs.State.{State, IsIdle}
 use Rattle.machine_state.specs.Worlds.{at, untouched}
 use Rattle.machine_rules.specs.Good.{HasArguments, Spares, IsAcyclic, AreSettled, IsTyped}
-use Rattle.machine_rules.specs.Faults.{LacksFirst}
+use Rattle.machine_rules.specs.code.Lacking.{LacksFirst}
 use Rattle.machine_rules.specs.Next.{DoesNext, WritesNext, LacksValue}
 use Rattle.machine_rules.specs.Natives.{NativeAnswers}
 use Rattle.object_machine.specs.Causes.{StopsFor}

@@ -17,7 +17,8 @@ use Rattle.machine_state.specs.declared.world.World.{World}
 use Rattle.machine_state.specs.Objects.{all_shown}
 use Rattle.machine_state.specs.State.{Activation, Update}
 use Rattle.machine_state.specs.Accepting.{accepted}
-use Rattle.machine_state.specs.Worlds.{at, accepting_entries, accepting_turn, with_bound, HasWritten, HasBound}
+use Rattle.machine_state.specs.Worlds.{at}
+use Rattle.machine_state.specs.code.Changing.{accepting_entries, accepting_turn, with_bound, HasWritten, HasBound}
 use Rattle.object_machine.specs.Takes.{judged, accepts}
 use Rattle.machine_rules.specs.Natives.{NativeAnswers}
 use Rattle.run_context.specs.code.Activating.{IsActivated, IsBarred}

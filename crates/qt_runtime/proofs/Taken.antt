@@ -12,7 +12,8 @@ use Rattle.machine_state.specs.declared.world.World.{World}
 use Rattle.machine_state.specs.Accepting.{refused}
 use Rattle.trace_entries.specs.Refusals.{refusal_number}
 use Rattle.machine_state.specs.State.{State, Activation, IsIdle}
-use Rattle.machine_state.specs.Worlds.{at, after, Rejects}
+use Rattle.machine_state.specs.Worlds.{at, after}
+use Rattle.machine_state.specs.code.Changing.{Rejects}
 use Rattle.machine_rules.specs.Natives.{NativeAnswers}
 use Rattle.binding_graph.specs.declared.binding.Binding.{Binding}
 use Rattle.binding_graph.specs.Bindings.{binding_at, Loop}

@@ -15,7 +15,7 @@ use Rattle.trace_entries.specs.declared.entry.Entry.TheVariants.{Accepted}
 use Rattle.change_lines.specs.declared.telling.Cause.TheVariants.{Bind}
 use Rattle.machine_state.specs.declared.world.World.{World}
 use Rattle.change_lines.specs.Telling.{AreTold}
-use Rattle.machine_state.specs.Worlds.{with_bound, counted, accepting_entries, HasBound, BindsIn}
+use Rattle.machine_state.specs.code.Changing.{with_bound, counted, accepting_entries, HasBound, BindsIn}
 
 -- an event is counted, and so they are
 pub counted-over : (w u v : World) (change : List Object → List Object) (target : Place) (lines trace : List Entry) → trace ≡ w.trace ++ Accepted (w.events + 1) ∷ [] ++ lines → u ≡ counted (record w { trace = trace }) → v ≡ with_bound u (change u.store.tree) (without target u.store.bindings) → v ≡ with_bound (accepting_entries w lines) (change w.store.tree) (without target w.store.bindings)

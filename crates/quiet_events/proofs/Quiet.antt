@@ -9,7 +9,8 @@ use Rattle.trace_entries.specs.declared.fault.Fault.TheVariants.{Memory}
 use Rattle.trace_entries.specs.declared.refusal.Refusal.{Refusal}
 use Rattle.machine_state.specs.declared.world.World.{World}
 use Rattle.machine_state.specs.State.{State}
-use Rattle.machine_state.specs.Worlds.{at, after, Rejects}
+use Rattle.machine_state.specs.Worlds.{at, after}
+use Rattle.machine_state.specs.code.Changing.{Rejects}
 use Rattle.prop_bindings.specs.Fits.{Agree}
 use Rattle.object_machine.specs.declared.not_accepted.NotAccepted.{NotAccepted}
 use Rattle.object_machine.specs.code.Judgement.{IsNotAccepted}

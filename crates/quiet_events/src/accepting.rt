@@ -8,7 +8,7 @@ ghost use Rattle.object_tree.specs.Adopting.{AdoptsLiving, MayBeGone};
 ghost use Rattle.object_tree.specs.Creating.{Creates};
 ghost use Rattle.object_tree.specs.Objects.{IsGone, life_of};
 ghost use Rattle.machine_state.specs.Connections.{are_joined};
-ghost use Rattle.machine_state.specs.Worlds.{IsUnscheduled, counted, accepting, accepting_store, accepting_objects, accepting_block, accepting_entries, accepting_connection, accepting_disconnection, accepting_loop, accepting_schedule, accepting_turn, GoesTo, Rejects};
+ghost use Rattle.machine_state.specs.code.Changing.{IsUnscheduled, counted, accepting, accepting_store, accepting_objects, accepting_block, accepting_entries, accepting_connection, accepting_disconnection, accepting_loop, accepting_schedule, accepting_turn, GoesTo, Rejects};
 
 use basic_types::{LoopId, Name, ObjectId};
 use delete_later::MoveFault;

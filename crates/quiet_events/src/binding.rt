@@ -8,7 +8,7 @@ ghost use Rattle.prop_bindings.specs.Fits.{Agree, FitsAt};
 ghost use Rattle.prop_bindings.specs.Plans.{after};
 ghost use Rattle.change_lines.specs.Telling.{Alone, AreTold};
 ghost use Rattle.change_lines.specs.code.Planned.{CanBeTold};
-ghost use Rattle.machine_state.specs.Worlds.{accepting_entries, WritesIn, BindsIn};
+ghost use Rattle.machine_state.specs.code.Changing.{accepting_entries, WritesIn, BindsIn};
 
 use crate::accepting::count_event;
 use basic_types::{ObjectId, Value};

@@ -23,7 +23,8 @@ use Rattle.machine_state.proofs.Due.{last-used}
 use Rattle.object_tree.specs.Typed.{ReadAs}
 use Rattle.machine_rules.specs.Good.{ArgumentsFit, EmissionFits, of_living, of_dead, TopFits, IsWell, shows}
 use Rattle.machine_rules.specs.code.Sound.{AgreeIn}
-use Rattle.machine_state.specs.Worlds.{at, noted, having_used, posting}
+use Rattle.machine_state.specs.Worlds.{at}
+use Rattle.machine_state.specs.code.Changing.{noted, having_used, posting}
 use Rattle.run_context.specs.code.Activating.{IsActivated, IsBarred}
 use Rattle.run_context.specs.code.Posting.{entry_of_post, PostsCall}
 use Rattle.rule_laws.specs.Reaches.{Reaches, StopsIn, RunsTo, CallsIn, Calls, OnlyCalls, DoesWork}

@@ -25,7 +25,8 @@ use Rattle.trace_entries.specs.declared.fault.Fault.TheVariants.{TooDeep, InUse}
 use Rattle.machine_state.specs.declared.world.World.{World}
 use Rattle.machine_state.specs.Connections.{is_living}
 use Rattle.machine_state.specs.State.{State, Activation, Emit, Destroy}
-use Rattle.machine_state.specs.Worlds.{at, ticked, dying, ending, Ticks}
+use Rattle.machine_state.specs.Worlds.{at}
+use Rattle.machine_state.specs.code.Changing.{ticked, dying, ending, Ticks}
 use Rattle.rule_interpreter.specs.code.Active.{shows_body}
 use Rattle.machine_rules.specs.Destroying.{deleting, Dies, NextRule, ChildRule}
 use Rattle.machine_rules.specs.Good.{EmissionFits, of_dead, has_body, IsWell, Spares, shows}

@@ -17,7 +17,8 @@ use Rattle.trace_entries.specs.declared.fault.Fault.TheVariants.{Steps, Memory}
 use Rattle.machine_state.specs.declared.turn.Turn.{Turn}
 use Rattle.machine_state.specs.declared.world.World.{World}
 use Rattle.machine_state.specs.State.{State, Activation, Destroy, IsIdle}
-use Rattle.machine_state.specs.Worlds.{at, with_queues, taking, taking_unwritten, turn_ended}
+use Rattle.machine_state.specs.Worlds.{at}
+use Rattle.machine_state.specs.code.Changing.{with_queues, taking, taking_unwritten, turn_ended}
 use Rattle.machine_rules.specs.Good.{ArgumentsFit, shows}
 use Rattle.run_context.specs.code.Activating.{IsActivated, IsBarred}
 use Rattle.rule_laws.specs.Reaches.{DoesWork, Reaches, StopsIn, RunsTo, Advances}

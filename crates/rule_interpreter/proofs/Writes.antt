@@ -27,11 +27,13 @@ use Rattle.machine_state.specs.declared.world.World.{World}
 use Rattle.machine_state.specs.State.{Step, State, Activation, Body, Update}
 use Rattle.machine_state.specs.Telling.{Assigning, Alone, Grouped, IsAssigningTold, writes_of}
 use Rattle.std.proofs.lemmas.Option.{same_Some}
-use Rattle.machine_state.specs.Worlds.{at, noted, HasWritten}
+use Rattle.machine_state.specs.Worlds.{at}
+use Rattle.machine_state.specs.code.Changing.{noted, HasWritten}
 use Rattle.machine_rules.specs.Operations.{Operation, Write, TakeAnswer, operation_of_step}
 use Rattle.run_context.specs.code.Activating.{MayNest}
 use Rattle.rule_laws.specs.Reaches.{Reaches, StopsIn, RunsTo, Sets}
-use Rattle.machine_rules.specs.Faults.{IsAfterFit, LacksFirst, WritesDeep}
+use Rattle.machine_rules.specs.Faults.{WritesDeep}
+use Rattle.machine_rules.specs.code.Lacking.{IsAfterFit, LacksFirst}
 use Rattle.machine_rules.specs.Next.{DoesNext, WritesIll}
 use Rattle.machine_rules.specs.Settling.{Settles, Writes, notified}
 use Rattle.machine_rules.specs.code.Sound.{AgreeIn}

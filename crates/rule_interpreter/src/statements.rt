@@ -4,7 +4,7 @@ ghost use Rattle.std.specs.Prelude.{◌<◌, [], ◌∷◌, length};
 ghost use Rattle.meta_model.specs.declared.object.Statement.TheOpen.{Emit, Call, Connect, Disconnect, Later};
 ghost use Rattle.machine_rules.specs.Natives.{KeepPromises};
 ghost use Rattle.machine_rules.specs.code.Sound.{IsSoundWorld};
-ghost use Rattle.machine_state.specs.Worlds.{GoesTo, noted};
+ghost use Rattle.machine_state.specs.code.Changing.{GoesTo, noted};
 ghost use Rattle.trace_entries.specs.declared.entry.Entry.TheVariants.{At};
 ghost use Rattle.trace_entries.specs.declared.entry.EntryKind.TheVariants.{OnNull};
 ghost use Rattle.rule_interpreter.specs.code.Calls.{CarriesOutAlone};

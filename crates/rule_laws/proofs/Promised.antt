@@ -32,7 +32,8 @@ use Rattle.trace_entries.specs.declared.entry.ShownAction.TheVariants as show
 use Rattle.machine_state.specs.Objects.{shown, all_shown}
 use Rattle.machine_rules.specs.Good.{ArgumentsFit}
 use Rattle.trace_entries.specs.declared.entry.ShownAction.{ShownAction}
-use Rattle.machine_rules.specs.Natives.{DeclaredBy, own, inherited, IsShownAs, AreRead, HasStored, IsTellable, AreTellable, set_shown, emit_shown, member_of_action}
+use Rattle.machine_rules.specs.Natives.{DeclaredBy, own, inherited, IsShownAs, AreRead, set_shown, emit_shown}
+use Rattle.machine_rules.specs.code.Answering.{HasStored, IsTellable, AreTellable, member_of_action}
 use Rattle.rule_laws.specs.Reaches.{DoesWork}
 use Rattle.machine_rules.specs.There.{IsMember, IsField}
 use Rattle.machine_rules.proofs.Fields.{some-is, class-unique, member-method, old-there, stored-reads}

@@ -20,10 +20,12 @@ use Rattle.object_tree.specs.declared.object.Object.{Object}
 use Rattle.machine_rules.specs.There.{IsDead, NoneDied}
 use Rattle.machine_rules.specs.code.Sound.{AgreeIn}
 use Rattle.machine_rules.specs.Good.{has_body, IsWell, Spares, IsAcyclic, IsGood, TopFits, shows}
-use Rattle.machine_rules.specs.Faults.{WritesDeep, GoesIll, GoesFatal, GoesDeep, LacksFirst}
+use Rattle.machine_rules.specs.Faults.{WritesDeep, GoesIll, GoesFatal, GoesDeep}
+use Rattle.machine_rules.specs.code.Lacking.{LacksFirst}
 use Rattle.machine_rules.specs.Next.{DoesNext, WritesNext, WritesIll}
 use Rattle.machine_rules.specs.code.Going.{GoodRules, done, then, IsStuck}
-use Rattle.machine_state.specs.Worlds.{at, Ticks, GoesTo}
+use Rattle.machine_state.specs.Worlds.{at}
+use Rattle.machine_state.specs.code.Changing.{Ticks, GoesTo}
 use Rattle.rule_laws.specs.Reaches.{Reaches, StopsIn, RunsTo}
 use Rattle.rule_laws.proofs.Stacks.{high, shows-over}
 use Rattle.trace_entries.specs.Faults.{IsFaultOf}

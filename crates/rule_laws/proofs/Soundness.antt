@@ -28,7 +28,7 @@ use Rattle.machine_state.specs.Connections.{is_living, next_used}
 use Rattle.binding_graph.specs.declared.place.Place.{Place}
 use Rattle.machine_state.specs.State.{Step, State, Activation, Body, Emit, Update, Destroy}
 use Rattle.machine_state.specs.Turns.{running, reaches_at_once}
-use Rattle.machine_state.specs.Worlds.{using, noted, HasWritten}
+use Rattle.machine_state.specs.code.Changing.{using, noted, HasWritten}
 use Rattle.machine_state.proofs.Due.{all-used, last-used}
 use Rattle.machine_rules.specs.Operations.{Operation, Write, Begin, Choose, Nothing, Connect, Disconnect, Delete, Schedule, TakeAnswer}
 use Rattle.machine_rules.specs.Good.{ArgumentsFit, TopFits, IsWell}

@@ -19,7 +19,8 @@ use Rattle.machine_rules.specs.Destroying.{deleting, Dies}
 use Rattle.machine_rules.specs.There.{IsMember}
 use Rattle.machine_rules.specs.Next.{DoesNext, WritesNext}
 use Rattle.machine_rules.specs.code.Going.{GoodRules, RulesStop}
-use Rattle.machine_state.specs.Worlds.{at, ending}
+use Rattle.machine_state.specs.Worlds.{at}
+use Rattle.machine_state.specs.code.Changing.{ending}
 
 -- ---- what calls of the machine's functions do
 

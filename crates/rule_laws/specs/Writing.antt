@@ -16,7 +16,7 @@ use Rattle.prop_bindings.specs.Fits.{FitsAt}
 use Rattle.basic_types.specs.declared.value.Value.{Value}
 use Rattle.trace_entries.specs.declared.fault.Fault.{Fault}
 use Rattle.trace_entries.specs.declared.fault.Fault.TheVariants.{BadType, TooDeep}
-use Rattle.machine_rules.specs.Faults.{IsAfterFit}
+use Rattle.machine_rules.specs.code.Lacking.{IsAfterFit}
 use Rattle.machine_rules.specs.There.{IsField, LacksField}
 
 -- ---- properties are written

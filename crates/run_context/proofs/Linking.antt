@@ -31,7 +31,8 @@ use Rattle.trace_entries.specs.declared.refusal.Refusal.TheVariants.{NoConnectio
 use Rattle.machine_state.specs.declared.world.World.{World}
 use Rattle.trace_entries.specs.Refusals.{refusal_number}
 use Rattle.machine_state.specs.State.{State, Activation}
-use Rattle.machine_state.specs.Worlds.{at, noted, connecting, disconnecting, scheduling, GoesTo, ticked, Ticks}
+use Rattle.machine_state.specs.Worlds.{at}
+use Rattle.machine_state.specs.code.Changing.{noted, connecting, disconnecting, scheduling, GoesTo, ticked, Ticks}
 use Rattle.machine_rules.specs.Connecting.{AreThere, kept_ends, may_disconnect}
 use Rattle.run_context.specs.code.Statements.{IsJudged, LacksEnds, NamesEnds, Went, Stalls, ConnectsIn, DisconnectsIn, SchedulesIn}
 use Rattle.machine_rules.specs.Rules.{Connects, Disconnects}

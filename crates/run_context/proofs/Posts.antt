@@ -11,7 +11,7 @@ use Rattle.object_tree.proofs.Changing.{life-of-lives}
 use Rattle.trace_entries.specs.declared.fault.Fault.{Fault}
 use Rattle.trace_entries.specs.declared.fault.Fault.TheVariants.{Memory}
 use Rattle.machine_state.specs.declared.world.World.{World}
-use Rattle.machine_state.specs.Worlds.{GoesTo}
+use Rattle.machine_state.specs.code.Changing.{GoesTo}
 use Rattle.machine_rules.specs.There.{IsMember}
 
 -- memory was refused, behind a `?`

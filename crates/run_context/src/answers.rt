@@ -3,7 +3,8 @@
 ghost use Rattle.std.specs.Prelude.{◌<◌, IfOk};
 ghost use Rattle.std.specs.List.{AllByRecursion};
 ghost use Rattle.meta_model.specs.Members.{method_count};
-ghost use Rattle.machine_rules.specs.Natives.{DeclaredBy, AreRead, HasStored, IsShownAs, IsTellable, AreTellable, TellsAnswer};
+ghost use Rattle.machine_rules.specs.Natives.{DeclaredBy, AreRead, IsShownAs};
+ghost use Rattle.machine_rules.specs.code.Answering.{HasStored, IsTellable, AreTellable, TellsAnswer};
 
 use crate::context::RunContext;
 use basic_types::{ObjectId, Value};

@@ -6,7 +6,8 @@ use Rattle.trace_entries.specs.declared.fault.Fault.{Fault}
 use Rattle.trace_entries.specs.declared.fault.Fault.TheVariants.{BadType, TooDeep, BindingLoop, InUse, Steps, Memory, Stopped}
 use Rattle.machine_state.specs.State.{State, IsIdle}
 use Rattle.machine_rules.specs.Operations.{TakeAnswer}
-use Rattle.machine_rules.specs.Faults.{LacksFirst, WritesDeep, GoesIll, GoesFatal, GoesDeep}
+use Rattle.machine_rules.specs.Faults.{WritesDeep, GoesIll, GoesFatal, GoesDeep}
+use Rattle.machine_rules.specs.code.Lacking.{LacksFirst}
 use Rattle.machine_rules.specs.Next.{DoesNext, WritesNext, WritesIll}
 use Rattle.machine_rules.specs.Good.{IsGood}
 use Rattle.machine_rules.specs.Natives.{NativeAnswers}

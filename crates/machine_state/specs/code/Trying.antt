@@ -11,7 +11,7 @@ use Rattle.trace_entries.specs.declared.fault.Fault.{Fault}
 use Rattle.trace_entries.specs.declared.fault.Fault.TheVariants.{BadType, Memory}
 use Rattle.machine_state.specs.declared.world.World.{World}
 use Rattle.change_lines.specs.Telling.{Alone}
-use Rattle.machine_state.specs.Worlds.{noted, HasWritten}
+use Rattle.machine_state.specs.code.Changing.{noted, HasWritten}
 
 -- the fault of a run for one of a write
 abbrev pub fault_of : WriteFault → Fault

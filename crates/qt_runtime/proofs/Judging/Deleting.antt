@@ -9,7 +9,8 @@ use Rattle.trace_entries.specs.declared.fault.Fault.{Fault}
 use Rattle.machine_state.specs.declared.world.World.{World}
 use Rattle.machine_state.specs.Accepting.{accepted}
 use Rattle.machine_state.specs.State.{Activation, Destroy}
-use Rattle.machine_state.specs.Worlds.{at, accepting}
+use Rattle.machine_state.specs.Worlds.{at}
+use Rattle.machine_state.specs.code.Changing.{accepting}
 use Rattle.machine_rules.specs.Natives.{NativeAnswers}
 use Rattle.machine_rules.specs.Judgement.{Numbered, gives, goes_on}
 use Rattle.rule_laws.specs.Reaches.{RunsTo}

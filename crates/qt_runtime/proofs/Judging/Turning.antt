@@ -9,7 +9,8 @@ use Rattle.trace_entries.specs.declared.refusal.Refusal.TheVariants.{NoLoop}
 use Rattle.machine_state.specs.declared.world.World.{World}
 use Rattle.machine_state.specs.Accepting.{accepted}
 use Rattle.machine_state.specs.State.{State}
-use Rattle.machine_state.specs.Worlds.{at, begun_turn, accepting_turn}
+use Rattle.machine_state.specs.Worlds.{at, begun_turn}
+use Rattle.machine_state.specs.code.Changing.{accepting_turn}
 use Rattle.prop_bindings.specs.Fits.{Agree}
 use Rattle.machine_rules.specs.Natives.{NativeAnswers}
 use Rattle.rule_laws.specs.Reaches.{RunsTo}

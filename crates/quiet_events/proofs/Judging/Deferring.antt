@@ -17,7 +17,8 @@ use Rattle.trace_entries.specs.declared.fault.Answer.TheVariants as answer
 use Rattle.machine_state.specs.declared.world.World.{World}
 use Rattle.machine_state.specs.Accepting.{accepted, with_entries}
 use Rattle.machine_state.specs.State.{State}
-use Rattle.machine_state.specs.Worlds.{at, store_of, with_store, with_scheduled, accepting, accepting_schedule}
+use Rattle.machine_state.specs.Worlds.{at, store_of, with_store}
+use Rattle.machine_state.specs.code.Changing.{with_scheduled, accepting, accepting_schedule}
 use Rattle.machine_state.proofs.Deferring.{scheduled-now}
 use Rattle.machine_rules.specs.Destroying.{scheduled_now}
 use Rattle.machine_rules.specs.Judgement.{Numbered, becomes, gives, goes_on}

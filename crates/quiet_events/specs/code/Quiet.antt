@@ -18,7 +18,8 @@ use Rattle.trace_entries.specs.declared.refusal.Refusal.{Refusal}
 use Rattle.trace_entries.specs.declared.refusal.Refusal.TheVariants.{NameUsed, NoClass, TooManyObjects, NotOwned, Cycle, OtherLoop, NoLoop, HasParent, Bound}
 use Rattle.machine_state.specs.declared.world.World.{World}
 use Rattle.machine_state.specs.State.{State}
-use Rattle.machine_state.specs.Worlds.{at, after, Rejects}
+use Rattle.machine_state.specs.Worlds.{at, after}
+use Rattle.machine_state.specs.code.Changing.{Rejects}
 use Rattle.machine_rules.specs.Good.{IsWell}
 use Rattle.machine_rules.specs.code.Sound.{IsSoundWorld}
 use Rattle.object_machine.specs.declared.not_accepted.NotAccepted.{NotAccepted}

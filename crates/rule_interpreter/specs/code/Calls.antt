@@ -9,7 +9,7 @@ use Rattle.connections.specs.declared.connection.Connection.{Connection}
 use Rattle.trace_entries.specs.declared.fault.Fault.{Fault}
 use Rattle.machine_state.specs.declared.world.World.{World}
 use Rattle.machine_state.specs.Connections.{next_used}
-use Rattle.machine_state.specs.Worlds.{having_used}
+use Rattle.machine_state.specs.code.Changing.{having_used}
 use Rattle.meta_model.specs.declared.effects.MetaEffects.{MetaEffects}
 use Rattle.native_slots.specs.declared.action.Action.{Action}
 use Rattle.machine_state.specs.State.{Step, Run, Act, Activation, Body, Emit, Update, Destroy}

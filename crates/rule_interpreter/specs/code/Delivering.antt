@@ -12,7 +12,7 @@ use Rattle.trace_entries.specs.declared.fault.Fault.TheVariants.{Memory}
 use Rattle.machine_state.specs.declared.turn.Turn.{Turn}
 use Rattle.machine_state.specs.declared.world.World.{World}
 use Rattle.machine_state.specs.Connections.{is_living}
-use Rattle.machine_state.specs.Worlds.{taking}
+use Rattle.machine_state.specs.code.Changing.{taking}
 
 -- the first item that a turn may deliver, if there is one
 abbrev pub first_due : World → Turn → Option Posted

@@ -14,7 +14,7 @@ use Rattle.trace_entries.specs.declared.entry.EntryKind.TheVariants.{Posted}
 use Rattle.trace_entries.specs.declared.fault.Fault.{Fault}
 use Rattle.machine_state.specs.declared.world.World.{World}
 use Rattle.machine_state.specs.Objects.{all_shown}
-use Rattle.machine_state.specs.Worlds.{having_used, posting, GoesTo}
+use Rattle.machine_state.specs.code.Changing.{having_used, posting, GoesTo}
 use Rattle.machine_rules.specs.There.{IsMember}
 
 -- the entry of a call of a method of an object that is posted to the event loop of this name

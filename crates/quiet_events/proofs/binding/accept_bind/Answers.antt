@@ -6,7 +6,7 @@ use Rattle.change_lines.specs.declared.telling.Cause.TheVariants.{Bind}
 use Rattle.prop_bindings.specs.Calls.{IsNotBound}
 use Rattle.trace_entries.specs.declared.entry.Entry.{Entry}
 use Rattle.change_lines.specs.Telling.{AreTold}
-use Rattle.machine_state.specs.Worlds.{accepting_entries}
+use Rattle.machine_state.specs.code.Changing.{accepting_entries}
 use Rattle.change_lines.specs.code.Planned.{CanBeTold}
 use Rattle.quiet_events.proofs.Bound.{has-bound, binds-short, lines-lost}
 use Rattle.change_lines.proofs.Changed.{bound-ahead}

@@ -4,7 +4,7 @@ use Rattle.binding_graph.specs.Bindings.{without}
 use Rattle.prop_bindings.specs.Changes.{one}
 use Rattle.prop_bindings.specs.Plans.{after}
 use Rattle.change_lines.specs.Telling.{Alone}
-use Rattle.machine_state.specs.Worlds.{accepting_entries}
+use Rattle.machine_state.specs.code.Changing.{accepting_entries}
 use Rattle.machine_state.proofs.Bound.{has-written, written-agrees}
 use Rattle.quiet_events.proofs.Bound.{counted-over}
 use Rattle.change_lines.proofs.Changed.{written-ahead}

@@ -3,7 +3,7 @@ use Rattle.object_tree.specs.declared.object.Object.{Object}
 use Rattle.object_tree.specs.Objects.{change_life, written}
 use Rattle.prop_bindings.specs.Changes.{AreChanged}
 use Rattle.machine_state.specs.declared.world.World.{World}
-use Rattle.machine_state.specs.Worlds.{accepting_entries}
+use Rattle.machine_state.specs.code.Changing.{accepting_entries}
 use Rattle.machine_state.proofs.Alone.{alone-agreeing, alone-has-written}
 use Rattle.quiet_events.proofs.Bound.{counted-over}
 use Rattle.change_lines.proofs.Changed.{fits-has}

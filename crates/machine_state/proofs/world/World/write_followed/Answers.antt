@@ -4,7 +4,7 @@ use Rattle.binding_graph.specs.Bindings.{without}
 use Rattle.prop_bindings.specs.Changes.{one}
 use Rattle.prop_bindings.specs.Plans.{after}
 use Rattle.change_lines.specs.Telling.{Alone}
-use Rattle.machine_state.specs.Worlds.{noted}
+use Rattle.machine_state.specs.code.Changing.{noted}
 use Rattle.machine_state.proofs.Bound.{has-written, written-agrees, noted-over}
 use Rattle.trace_entries.specs.declared.entry.Entry.{Entry}
 use Rattle.change_lines.proofs.Changed.{written-ahead}

@@ -4,7 +4,7 @@ use Rattle.object_tree.specs.declared.object.Object.{Object}
 use Rattle.object_tree.specs.Objects.{change_life, written}
 use Rattle.binding_graph.specs.Bindings.{without}
 use Rattle.trace_entries.specs.declared.entry.Entry.{Entry}
-use Rattle.machine_state.specs.Worlds.{noted}
+use Rattle.machine_state.specs.code.Changing.{noted}
 use Rattle.machine_state.proofs.Alone.{alone-agreeing, alone-has-written}
 use Rattle.machine_state.proofs.Bound.{noted-over}
 use Rattle.change_lines.proofs.Changed.{fits-has}

@@ -3,7 +3,7 @@ use Rattle.std.specs.List.{AllByRecursion}
 use Rattle.machine_state.specs.State.{Run, Ask, Act, Body, Emit, Update, Destroy}
 use Rattle.std.specs.Prelude.{IsTrue, is_some}
 use Rattle.native_slots.specs.declared.action.Action.{Action}
-use Rattle.machine_rules.specs.Natives.{member_of_action}
+use Rattle.machine_rules.specs.code.Answering.{member_of_action}
 use Rattle.machine_rules.specs.Settling.{notified}
 use Rattle.rule_laws.specs.Writing.{MayNotify}
 use Rattle.machine_rules.specs.code.Sound.{IsSoundWorld, MayBeHeardIn}

@@ -2,7 +2,8 @@ use Rattle.std.proofs.Common.{List, Result, Ok, Err, sym}
 use Rattle.std.specs.Prelude.{IfOk}
 use Rattle.meta_model.specs.Members.{IsClass}
 use Rattle.native_slots.specs.declared.action.Action.{Action}
-use Rattle.machine_rules.specs.Natives.{MayAnswer, AreTellable}
+use Rattle.machine_rules.specs.Natives.{MayAnswer}
+use Rattle.machine_rules.specs.code.Answering.{AreTellable}
 use Rattle.rule_laws.proofs.Promised.{declared-of, declaring-there, promised, reads-there, answer-told}
 use Rattle.rule_interpreter.proofs.interpreter.Interpreter.answer.Goals as goal
 
