@@ -17,5 +17,5 @@ pub use flaw::Flaw;
 pub use meanings::meaning;
 pub use message::{Severity, TextKind, push_flaw};
 pub use place::TextPlace;
-pub use printed::{Printed, push_printed};
+pub use printed::{Printed, push_printed, push_printed_lines};
 pub use spans::{Span, text_spans};

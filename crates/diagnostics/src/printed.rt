@@ -29,8 +29,8 @@ fn shown(character: char) -> char {
         '\t' => ' ',
         '\0'..='\x1f' | '\x7f'..='\u{9f}' => '?',
         // What turns the direction of writing, or has no width.
-        '\u{200b}'..='\u{200f}' | '\u{2028}'..='\u{202e}' | '\u{2060}'..='\u{2069}' => '?',
-        '\u{feff}' => '?',
+        '\u{61c}' | '\u{200b}'..='\u{200f}' | '\u{2028}'..='\u{202e}' => '?',
+        '\u{2060}'..='\u{2069}' | '\u{feff}' => '?',
         _ => character,
     }
 }
@@ -39,4 +39,18 @@ fn shown(character: char) -> char {
 pub fn push_printed(text: &mut String, bytes: &[u8]) -> Result<(), AllocError> {
     let bytes = Printed(bytes);
     write!(text, "{bytes}")
+}
+
+/// Adds the lines of the bytes, as a person is shown them: their ends stay, without what a return puts before them.
+pub fn push_printed_lines(text: &mut String, bytes: &[u8]) -> Result<(), AllocError> {
+    for line in bytes.split_inclusive(|byte| *byte == b'\n') {
+        match line.strip_suffix(b"\n".as_slice()) {
+            Some(line) => {
+                push_printed(text, line.strip_suffix(b"\r".as_slice()).unwrap_or(line))?;
+                text.push('\n')?;
+            }
+            None => push_printed(text, line)?,
+        }
+    }
+    Ok(())
 }
