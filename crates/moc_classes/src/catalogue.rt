@@ -1,9 +1,11 @@
 //! The classes that are imported, by number: bases stand before the classes that have them.
 
+use crate::class_names::ClassNames;
 use crate::listing::Listing;
 use crate::members::is_free;
-use crate::moc::{MocClass, MocEnum, MocFile};
-use crate::scopes::{full_name, is_around, is_called, nearness};
+use crate::moc::{MocClass, MocFile};
+use crate::scopes::{full_name, is_called, is_in_scope, nearness};
+use indexmap::IndexMap;
 use std::alloc::{AllocError, Global};
 
 /// The class of which all others are.
@@ -32,9 +34,17 @@ pub struct Catalogue<'f> {
     pub classes: Vec<Listed<'f>>,
     /// The names that the classes have here, by number.
     names: Vec<String>,
+    /// The numbers of the classes by these names.
+    named: IndexMap<String, usize>,
     /// Classes of objects that are left out.
     pub left_out: Vec<(&'f MocClass, NoClass)>,
+    /// All classes that are read, which needn't be imported.
     all: Vec<&'f MocClass>,
+    /// The places of these by their names, and the numbers of those that are imported.
+    read: ClassNames<'f>,
+    imported: ClassNames<'f>,
+    /// The places of the classes that have an enum, by the names of enums.
+    with_enum: IndexMap<&'f [u8], Vec<usize>>,
 }
 
 impl<'f> Catalogue<'f> {
@@ -45,21 +55,28 @@ impl<'f> Catalogue<'f> {
         only: &[&str],
     ) -> Result<Catalogue<'f>, AllocError> {
         let mut all: Vec<&'f MocClass> = Vec::new(alloc);
+        let mut read = ClassNames::new(alloc);
         for file in files {
             for class in file.classes.as_slice() {
+                read.add(alloc, class, all.len())?;
                 all.push(class)?;
             }
         }
-        let Listing {
-            classes,
-            names,
-            left_out,
-        } = Listing::of(alloc, all.as_slice(), only)?;
+        let listing = Listing::of(alloc, all.as_slice(), &read, only)?;
+        let mut imported = ClassNames::new(alloc);
+        for (number, listed) in listing.classes.iter().enumerate() {
+            imported.add(alloc, listed.class, number)?;
+        }
+        let with_enum = enums(alloc, all.as_slice())?;
         Ok(Catalogue {
-            classes,
-            names,
-            left_out,
+            classes: listing.classes,
+            names: listing.names,
+            named: listing.named,
+            left_out: listing.left_out,
             all,
+            read,
+            imported,
+            with_enum,
         })
     }
 
@@ -82,30 +99,30 @@ impl<'f> Catalogue<'f> {
 
     /// The number of the class that has this name here, or else of the first one that C++ calls so, with its scope or without.
     pub fn number(&self, name: &str) -> Option<usize> {
-        match self
-            .names
-            .iter()
-            .position(|it: &String| it.as_str() == name)
-        {
-            Some(number) => Some(number),
+        match self.named.get(name) {
+            Some(number) => Some(*number),
             None => self.number_from("", name),
         }
     }
 
     /// Whether a class of objects of this name is read, which needn't be imported.
     pub fn is_read(&self, name: &str) -> bool {
-        self.all
-            .iter()
-            .any(|it: &&MocClass| it.object && is_called(it, name))
+        self.read.near(name).iter().any(|place: &usize| match self.all.get(*place) {
+            Some(it) => it.object && is_called(it, name),
+            None => false,
+        })
     }
 
     /// The number of the class that the name leads to where it is in the class of the full name `from`.
     fn number_from(&self, from: &str, name: &str) -> Option<usize> {
         let mut nearest: Option<(usize, usize)> = None;
-        for (number, it) in self.classes.iter().enumerate() {
+        for number in self.imported.near(name) {
+            let Some(it) = self.classes.get(*number) else {
+                continue;
+            };
             if let Some(near) = nearness(it.class, name, from) {
                 if nearest.is_none_or(|(_, most): (usize, usize)| near > most) {
-                    nearest = Some((number, near));
+                    nearest = Some((*number, near));
                 }
             }
         }
@@ -164,15 +181,17 @@ impl<'f> Catalogue<'f> {
     /// scopes are.
     pub fn has_enum(&self, class: usize, name: &str) -> bool {
         if let Some((scope, own)) = name.rsplit_once("::") {
-            return self.all.iter().any(|it: &&MocClass| is_called(it, scope)
-                && has_own_enum(it, own));
+            return self.any_with_enum(own, |it: &MocClass| is_called(it, scope));
+        }
+        if self.places_with_enum(name).is_empty() {
+            return false;
         }
         let mut at = Some(class);
         for _ in 0..self.classes.len() {
             let Some(listed) = at.and_then(|number: usize| self.classes.get(number)) else {
                 return false;
             };
-            if self.sees_enum(listed.class, name) {
+            if self.any_with_enum(name, |it: &MocClass| is_in_scope(it, listed.class)) {
                 return true;
             }
             at = listed.base;
@@ -180,19 +199,47 @@ impl<'f> Catalogue<'f> {
         false
     }
 
-    /// Whether the class has the enum, or a class or namespace around it.
-    fn sees_enum(&self, class: &MocClass, name: &str) -> bool {
-        has_own_enum(class, name)
-            || self.all.iter().any(|it: &&MocClass| is_around(it, class) && has_own_enum(it, name))
+    /// Whether a class that has the enum passes the test.
+    fn any_with_enum<F: Fn(&MocClass) -> bool>(&self, name: &str, test: F) -> bool
+        requires { F.IsAlwaysCallable test }
+    {
+        for place in self.places_with_enum(name) {
+            if let Some(it) = self.all.get(*place) {
+                if test(it) {
+                    return true;
+                }
+            }
+        }
+        false
     }
+
+    /// The places of the classes that have the enum.
+    fn places_with_enum(&self, name: &str) -> &[usize] {
+        match self.with_enum.get(name.as_bytes()) {
+            Some(places) => places.as_slice(),
+            None => &[],
+        }
+    }
+}
+
+/// The places of the classes that have an enum, by the names of enums and flags.
+fn enums<'f>(
+    alloc: Global,
+    all: &[&'f MocClass],
+) -> Result<IndexMap<&'f [u8], Vec<usize>>, AllocError> {
+    let mut places: IndexMap<&'f [u8], Vec<usize>> = IndexMap::new(alloc);
+    for (place, class) in all.iter().enumerate() {
+        let class: &'f MocClass = *class;
+        for it in class.enums.as_slice() {
+            for name in [it.name.as_bytes(), it.alias.as_bytes()] {
+                places.entry(name)?.or_insert(Vec::new(alloc)).push(place)?;
+            }
+        }
+    }
+    Ok(places)
 }
 
 /// Whether a program may declare a class of this name.
 pub fn may_be_class(name: &str) -> bool {
     is_free(name) && !matches!(name, QOBJECT | "int" | "bool" | "QString")
-}
-
-fn has_own_enum(class: &MocClass, name: &str) -> bool {
-    class.enums.as_slice().iter().any(|it: &MocEnum| it.name.as_str() == name
-        || it.alias.as_str() == name)
 }

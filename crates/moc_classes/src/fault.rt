@@ -13,9 +13,18 @@ pub enum ImportFault {
         line: usize,
         column: usize,
     },
+    /// The texts have more classes than are read.
+    #[error("the texts have more than 8192 classes")]
+    TooManyClasses,
     /// No line `%%` parts off a text of effects, which is asked for.
     #[error("no line `%%` parts the effects from what `moc` writes")]
     NoEffects,
+    /// The text of effects has more bytes than a program may have.
+    #[error("the effects have more than 1048576 bytes")]
+    LongEffects,
+    /// The text of effects has more lines than a program may have slots.
+    #[error("the effects have more than 16384 lines with slots")]
+    TooManyLines,
     /// A class that is asked for isn't among those that are read.
     #[error("a class that is asked for isn't there")]
     NoClass,

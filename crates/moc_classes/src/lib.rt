@@ -2,6 +2,7 @@
 #![tactic(auto)]
 
 mod catalogue;
+mod class_names;
 mod fault;
 mod importing;
 mod kinds;

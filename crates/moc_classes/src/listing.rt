@@ -1,8 +1,10 @@
 //! Which classes are imported, in which order, and under which names.
 
 use crate::catalogue::{Listed, NoClass, QOBJECT, may_be_class};
+use crate::class_names::ClassNames;
 use crate::moc::MocClass;
 use crate::scopes::{full_name, is_called, nearness, own_name};
+use indexmap::IndexMap;
 use std::alloc::{AllocError, Global};
 
 /// The classes that are imported, with their names, and those that are left out.
@@ -10,7 +12,11 @@ use std::alloc::{AllocError, Global};
 pub struct Listing<'f> {
     pub classes: Vec<Listed<'f>>,
     pub names: Vec<String>,
+    /// The numbers of the classes by these names.
+    pub named: IndexMap<String, usize>,
     pub left_out: Vec<(&'f MocClass, NoClass)>,
+    /// The numbers of the classes by their names in C++ with their scopes.
+    by_full_name: IndexMap<&'f [u8], usize>,
 }
 
 /// A class that is read, and what is known of it.
@@ -29,14 +35,17 @@ impl<'f> Listing<'f> {
     pub fn of(
         alloc: Global,
         all: &[&'f MocClass],
+        read: &ClassNames<'f>,
         only: &[&str],
     ) -> Result<Listing<'f>, AllocError> {
         let mut listing = Listing {
             classes: Vec::new(alloc),
             names: Vec::new(alloc),
+            named: IndexMap::new(alloc),
             left_out: Vec::new(alloc),
+            by_full_name: IndexMap::new(alloc),
         };
-        let mut candidates = candidates(alloc, all, only)?;
+        let mut candidates = candidates(alloc, all, read, only)?;
         want_bases(&mut candidates);
         // Each round lists one at least, as long as bases lead to no circle.
         for _ in 0..all.len() {
@@ -77,12 +86,11 @@ impl<'f> Listing<'f> {
                 None => None,
             };
             number = Some(self.classes.len());
-            let name = self.free_name(alloc, candidate.class)?;
-            self.names.push(name)?;
-            self.classes.push(Listed {
+            let listed = Listed {
                 class: candidate.class,
                 base,
-            })?;
+            };
+            self.push(alloc, listed)?;
         }
         if let Some(listed) = candidates.get_mut(place) {
             listed.number = number;
@@ -90,11 +98,21 @@ impl<'f> Listing<'f> {
         Ok(())
     }
 
+    /// Adds a class, with its name.
+    fn push(&mut self, alloc: Global, listed: Listed<'f>) -> Result<(), AllocError> {
+        let number = self.classes.len();
+        let name = self.free_name(alloc, listed.class)?;
+        self.named.insert(name.clone()?, number)?;
+        self.by_full_name
+            .insert(full_name(listed.class).as_bytes(), number)?;
+        self.names.push(name)?;
+        self.classes.push(listed)?;
+        Ok(())
+    }
+
     /// The number of the class of the same name and scope, which another text may have too.
     fn twin(&self, class: &MocClass) -> Option<usize> {
-        self.classes
-            .iter()
-            .position(|it: &Listed<'_>| full_name(it.class) == full_name(class))
+        self.by_full_name.get(full_name(class).as_bytes()).copied()
     }
 
     /// The name that the class gets: its own, or where another class has that, its name with its scope in front.
@@ -118,7 +136,7 @@ impl<'f> Listing<'f> {
     }
 
     fn is_taken(&self, name: &str) -> bool {
-        self.names.iter().any(|it: &String| it.as_str() == name)
+        self.named.get(name).is_some()
     }
 
     /// Notes which classes of objects are left out.
@@ -139,6 +157,7 @@ impl<'f> Listing<'f> {
 fn candidates<'f>(
     alloc: Global,
     all: &[&'f MocClass],
+    read: &ClassNames<'f>,
     only: &[&str],
 ) -> Result<Vec<Candidate<'f>>, AllocError> {
     let mut candidates = Vec::new(alloc);
@@ -146,7 +165,7 @@ fn candidates<'f>(
         let is_named = only.is_empty() || only.iter().any(|name: &&str| is_called(class, name));
         candidates.push(Candidate {
             class: *class,
-            base: base_of(all, class),
+            base: base_of(all, read, class),
             is_wanted: is_named && is_object(class),
             number: None,
         })?;
@@ -155,16 +174,19 @@ fn candidates<'f>(
 }
 
 /// The place of the class's first base.
-fn base_of(all: &[&MocClass], class: &MocClass) -> Option<usize> {
+fn base_of(all: &[&MocClass], read: &ClassNames<'_>, class: &MocClass) -> Option<usize> {
     let name = class.super_classes.first()?.name.as_str();
     let mut nearest: Option<(usize, usize)> = None;
-    for (place, it) in all.iter().enumerate() {
+    for place in read.near(name) {
+        let Some(it) = all.get(*place) else {
+            continue;
+        };
         if !is_object(it) {
             continue;
         }
         if let Some(near) = nearness(it, name, full_name(class)) {
             if nearest.is_none_or(|(_, most): (usize, usize)| near > most) {
-                nearest = Some((place, near));
+                nearest = Some((*place, near));
             }
         }
     }

@@ -1,11 +1,9 @@
 //! Texts of the input in what is written.
 
+use diagnostics::push_printed;
 use std::alloc::AllocError;
 
-/// Adds a text of the input to a comment or a sentence, whose line it doesn't end.
+/// Adds a text of the input to a comment or a sentence, whose line it doesn't end: as a person is shown it.
 pub fn push_plain(text: &mut String, part: &str) -> Result<(), AllocError> {
-    for letter in part.chars() {
-        text.push(if letter.is_control() { ' ' } else { letter })?;
-    }
-    Ok(())
+    push_printed(text, part.as_bytes())
 }

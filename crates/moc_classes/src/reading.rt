@@ -7,11 +7,23 @@ use std::alloc::{AllocError, Global};
 /// What parts two texts.
 pub const BORDER: &str = "\n%%\n";
 
-/// Reads each text: what moc writes of one header, or a list of these. The error names the first one that is no such.
+/// So many classes are read: which of them are bases, and may be listed, is looked for again and again.
+const MOST_CLASSES: usize = 8192;
+
+/// Reads each text: what moc writes of one header, or a list of these. The error names the first one that is no such, or
+/// there are more classes than are read.
 pub fn files(alloc: Global, input: &str) -> Result<Vec<MocFile>, ImportFault> {
     let mut files = Vec::new(alloc);
     for (place, text) in input.split(BORDER).enumerate() {
         push_files(alloc, &mut files, text, place.saturating_add(1))?;
+    }
+    let mut classes = 0usize;
+    for file in files.as_slice() {
+        let file: &MocFile = file;
+        classes = classes.saturating_add(file.classes.len());
+    }
+    if classes > MOST_CLASSES {
+        return Err(ImportFault::TooManyClasses);
     }
     Ok(files)
 }

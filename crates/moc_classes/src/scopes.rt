@@ -4,7 +4,11 @@ use crate::moc::MocClass;
 
 /// The class's name without its scope.
 pub fn own_name(class: &MocClass) -> &str {
-    let name = class.class_name.as_str();
+    last_part(class.class_name.as_str())
+}
+
+/// The name without its scope.
+pub fn last_part(name: &str) -> &str {
     match name.rsplit_once("::") {
         Some((_, own)) => own,
         None => name,
@@ -37,10 +41,10 @@ pub fn nearness(class: &MocClass, name: &str, from: &str) -> Option<usize> {
     }
 }
 
-/// Whether the scope of this full name is one around the class.
-pub fn is_around(scope: &MocClass, class: &MocClass) -> bool {
+/// Whether the class is in the scope that the other one is: that class itself, or one inside it.
+pub fn is_in_scope(scope: &MocClass, class: &MocClass) -> bool {
     match full_name(class).strip_prefix(full_name(scope)) {
-        Some(rest) => rest.starts_with("::"),
+        Some(rest) => rest.is_empty() || rest.starts_with("::"),
         None => false,
     }
 }
