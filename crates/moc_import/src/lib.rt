@@ -12,6 +12,12 @@ use slot_effects::{Effects, Line, added_slots, lines, named_properties};
 use std::alloc::Global;
 pub use summary::Summary;
 
+/// A text of effects has at most so many bytes, as many as a program.
+const MOST_EFFECTS: usize = 1_048_576;
+
+/// A text of effects has at most so many lines with slots, as many as 256 classes of 64 slots have.
+const MOST_LINES: usize = 16384;
+
 /// What is asked for.
 #[derive(Clone, Copy, Debug)]
 pub struct Wanted<'w> {
@@ -41,16 +47,23 @@ pub struct Imported {
 }
 
 /// Class declarations from what moc writes: texts of JSON, parted by lines `%%`, and behind them one of effects, if that is
-/// asked for. Errors: a text isn't what moc writes (`BadJson`); there is no text of effects (`NoEffects`); a class is asked
-/// for that isn't there (`NoClass`); `Memory`.
+/// asked for. Errors: a text isn't what moc writes (`BadJson`), or they have too many classes (`TooManyClasses`); there is no
+/// text of effects (`NoEffects`), or it is too long (`LongEffects`, `TooManyLines`); a class is asked for that isn't there
+/// (`NoClass`); `Memory`.
 pub fn import(alloc: Global, input: &str, wanted: Wanted<'_>) -> Result<Outcome, ImportFault> {
     let (json, effects) = match input.rsplit_once(BORDER) {
         Some(both) if wanted.has_effects => both,
         None if wanted.has_effects => return Err(ImportFault::NoEffects),
         _ => (input, ""),
     };
+    if effects.len() > MOST_EFFECTS {
+        return Err(ImportFault::LongEffects);
+    }
     let files = files(alloc, json)?;
     let lines = lines(alloc, effects)?;
+    if lines.len() > MOST_LINES {
+        return Err(ImportFault::TooManyLines);
+    }
     declarations(alloc, files.as_slice(), lines.as_slice(), wanted)
 }
 

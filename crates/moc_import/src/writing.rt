@@ -24,19 +24,35 @@ pub fn program(
             NoClass::Circle => ": its bases lead in a circle\n",
         })?;
     }
+    let mut told = 0usize;
     for (number, listed) in import.catalogue.classes.iter().enumerate() {
         if number > 0 {
             text.push_str("\n")?;
         }
         push_class(&mut text, alloc, import, effects, number, *listed)?;
-        for (class, member) in import.missing.as_slice() {
-            if *class == number {
-                push_missing(&mut text, alloc, *member)?;
-            }
-        }
+        let missing = import.missing.get(told..).unwrap_or(&[]);
+        told = told.saturating_add(push_all_missing(&mut text, alloc, number, missing)?);
         text.push_str("}\n")?;
     }
     Ok(text)
+}
+
+/// Adds the members of the class that are left out, which stand first among these, and answers how many they are.
+fn push_all_missing(
+    text: &mut String,
+    alloc: Global,
+    number: usize,
+    missing: &[(usize, Missing<'_>)],
+) -> Result<usize, AllocError> {
+    let mut count = 0usize;
+    for (class, member) in missing {
+        if *class != number {
+            break;
+        }
+        push_missing(text, alloc, *member)?;
+        count = count.saturating_add(1);
+    }
+    Ok(count)
 }
 
 /// Adds a class but for its end.

@@ -9,6 +9,9 @@ use crate::statements::statement;
 use moc_classes::{Import, push_plain};
 use std::alloc::{AllocError, Global};
 
+/// So many mistakes are reported: behind the last of these no line is looked at any more.
+const MOST_TOLD: usize = 100;
+
 /// What lines of effects give: bodies of slots, and what is wrong with lines.
 #[derive(Drop)]
 pub struct Effects<'e> {
@@ -50,6 +53,9 @@ impl<'e> Effects<'e> {
         };
         let lookup = Lookup { import };
         for line in lines {
+            if effects.mistakes.len() >= MOST_TOLD {
+                break;
+            }
             match &line.read {
                 Ok(read) => effects.push_line(alloc, lookup, line.number, read)?,
                 Err(fault) => effects.note(alloc, line.number, fault)?,
@@ -63,7 +69,7 @@ impl<'e> Effects<'e> {
         self.mistakes.is_empty()
     }
 
-    /// What is wrong with the lines, in their order.
+    /// What is wrong with the lines, in their order: a hundred mistakes at most.
     pub fn into_mistakes(self) -> Vec<Mistake> {
         let Effects { bodies, mistakes } = self;
         drop(bodies);
@@ -104,6 +110,9 @@ impl<'e> Effects<'e> {
         }
         let mut statements = Vec::new(alloc);
         for effect in line.effects.as_slice() {
+            if self.mistakes.len() >= MOST_TOLD {
+                break;
+            }
             match statement(alloc, lookup, slot, effect) {
                 Ok(statement) => statements.push(statement)?,
                 Err(fault) => self.note(alloc, number, &fault)?,

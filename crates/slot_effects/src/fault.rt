@@ -20,6 +20,8 @@ pub enum LineFault<'e> {
     NoName,
     #[error("`{0}` can't stand here: wanted is a name, or names with a `.` between them")]
     NoPath(&'e str),
+    #[error("a line names at most 4096 things")]
+    TooMuch,
     #[error("there is no class `{0}`{1}")]
     NoClass(&'e str, Near<'e>),
     /// The slot can't be declared.

@@ -10,10 +10,13 @@
 
 use crate::fault::LineFault;
 use crate::line::{Effect, EffectLine, Line, Verb};
-use crate::scanner::Scanner;
+use crate::scanner::{Scanner, first_word};
 use basic_types::is_name;
 use moc_classes::{MocArgument, MocMethod};
 use std::alloc::{AllocError, Global};
+
+/// So many things a line names at most: a class that is declared has fewer members than this.
+const MOST_EFFECTS: usize = 4096;
 
 /// The lines of a text that have more than a comment.
 pub fn lines<'e>(alloc: Global, text: &'e str) -> Result<Vec<Line<'e>>, AllocError> {
@@ -65,11 +68,14 @@ fn push_effects<'e>(
     scanner: &mut Scanner<'e>,
     effects: &mut Vec<Effect<'e>>,
 ) -> Result<(), LineFault<'e>> {
-    let ahead = scanner.ahead();
+    let rest = scanner.rest();
     let Some(verb) = Verb::of(scanner.word()) else {
-        return Err(LineFault::NoVerb(ahead));
+        return Err(LineFault::NoVerb(first_word(rest)));
     };
     for _ in 0..scanner.len().saturating_add(1) {
+        if effects.len() >= MOST_EFFECTS {
+            return Err(LineFault::TooMuch);
+        }
         let path = path(scanner)?;
         let types = if verb.names_method() {
             types(alloc, scanner)?
@@ -86,16 +92,16 @@ fn push_effects<'e>(
 
 /// Takes a path; a `this.` in front is left out of it.
 fn path<'e>(scanner: &mut Scanner<'e>) -> Result<&'e str, LineFault<'e>> {
-    let ahead = scanner.ahead();
-    if ahead.is_empty() {
+    if scanner.is_done() {
         return Err(LineFault::NoName);
     }
+    let rest = scanner.rest();
     let word = scanner.word();
     let path = word.strip_prefix("this.").unwrap_or(word);
     if path.split('.').all(|name: &str| is_name(name.as_bytes())) {
         Ok(path)
     } else {
-        Err(LineFault::NoPath(ahead))
+        Err(LineFault::NoPath(first_word(rest)))
     }
 }
 

@@ -26,17 +26,17 @@ impl<'e> Scanner<'e> {
         self.rest.len()
     }
 
-    /// What stands next, up to a blank.
-    pub fn ahead(&self) -> &'e str {
-        self.rest.split_whitespace().next().unwrap_or("")
+    /// What is left.
+    pub fn rest(&self) -> &'e str {
+        self.rest
     }
 
     /// Takes the next word, up to a blank, a bracket or a comma. It has no letters where one of these stands next.
     pub fn word(&mut self) -> &'e str {
         let text = self.rest.trim_start();
-        let rest = text.trim_start_matches(is_of_word);
-        self.rest = rest;
-        text.strip_suffix(rest).unwrap_or(text)
+        let word = text.split(ends_word).next().unwrap_or("");
+        self.rest = text.strip_prefix(word).unwrap_or("");
+        word
     }
 
     /// Takes this symbol, if it stands next.
@@ -58,6 +58,11 @@ impl<'e> Scanner<'e> {
     }
 }
 
-fn is_of_word(letter: char) -> bool {
-    !letter.is_whitespace() && !matches!(letter, '(' | ')' | ',')
+/// What stands first in a text, up to a blank.
+pub fn first_word(text: &str) -> &str {
+    text.split_whitespace().next().unwrap_or("")
+}
+
+fn ends_word(letter: char) -> bool {
+    letter.is_whitespace() || matches!(letter, '(' | ')' | ',')
 }
