@@ -55,6 +55,9 @@ pub enum ToolFault {
     /// A line of the script expects a line of the trace and stands above all events.
     #[error("{0}")]
     Unexpected(ExpectationFault),
+    /// The input is longer than what is read of one.
+    #[error("the input has more than 67108864 bytes")]
+    TooLong,
     /// The input isn't text.
     #[error("the input isn't text in UTF-8")]
     NoText,
@@ -84,6 +87,7 @@ impl ToolFault {
             | ToolFault::Unjudged
             | ToolFault::Unlisted(_)
             | ToolFault::Mistaken
+            | ToolFault::TooLong
             | ToolFault::NoText => 2,
             ToolFault::LeftOut
             | ToolFault::Invalid(_)

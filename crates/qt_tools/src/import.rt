@@ -6,7 +6,10 @@ use moc_import::{Imported, Mistake, Outcome, Summary, Wanted, import};
 use std::alloc::{AllocError, Global};
 
 /// What is read has at most so many bytes.
-const MOST_BYTES: u64 = 67108864;
+const MOST_BYTES: usize = 67108864;
+
+/// So many bytes are read: one more than there may be, so that a longer input is refused.
+const MOST_READ: u64 = MOST_BYTES as u64 + 1;
 
 /// What the options of `import` ask for.
 #[derive(Drop)]
@@ -55,10 +58,13 @@ pub fn import_classes(rt: &HostRuntime, words: &[&str]) -> Result<(), ToolFault>
     let Some(options) = Options::of(alloc, words)? else {
         return Err(ToolFault::Usage);
     };
-    let bytes = match input(rt, MOST_BYTES) {
+    let bytes = match input(rt, MOST_READ) {
         Ok(bytes) => bytes,
         Err(reason) => return Err(ToolFault::Unread(reason)),
     };
+    if bytes.len() > MOST_BYTES {
+        return Err(ToolFault::TooLong);
+    }
     let Ok(text) = std::str::from_utf8(bytes.as_slice()) else {
         return Err(ToolFault::NoText);
     };
