@@ -6,7 +6,7 @@ use Rattle.program_commands.specs.Loading.{LoadsProgram}
 use Rattle.program_commands.specs.Refusals.{refusal_number}
 use Rattle.program_commands.specs.declared.refusal.Refusal.{Refusal}
 use Rattle.class_graph.specs.declared.fault.GraphFault.{GraphFault}
-use Rattle.class_graph.specs.declared.fault.GraphFault.TheVariants.{Refused, Unknown, Memory}
+use Rattle.class_graph.specs.declared.fault.GraphFault.TheVariants.{Refused, Unknown, TooLarge, Memory}
 
 -- the text is a program that loads
 pub record Loads (text : List ℕ) : Type 0 where
@@ -19,8 +19,9 @@ pub record IsRefused (text : List ℕ) (number : ℕ) : Type 0 where
   pub refused : LoadsProgram text (Err refusal)
   pub numbered : refusal_number refusal ≡ Some number
 
--- why there is no graph: a part that isn't there is asked of a program that loads
+-- why there is no graph: a part that isn't there is asked of a program that loads, and one that loads has too many edges
 abbrev pub Lacks : List ℕ → GraphFault → Type 0
 Lacks text (Refused number) = IsRefused text number
 Lacks text Unknown = Loads text
+Lacks text TooLarge = Loads text
 Lacks text Memory = ⊤

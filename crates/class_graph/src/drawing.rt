@@ -1,9 +1,10 @@
 //! What is drawn: nodes with their ranks, edges, and those on the way of the reason why there is no certificate.
 
-use crate::edge::{Edge, Edges};
+use crate::edge::{Cause, Edge, Edges, MOST_EDGES};
+use crate::family::Family;
 use crate::fault::PartFault;
 use crate::part::{Part, drawn, is_marked};
-use effect_scan::{Node, Scan};
+use effect_scan::{Member, Node, Scan};
 use meta_model::Meta;
 use rank_make::{Why, make};
 use sqlite_items::Items;
@@ -64,7 +65,9 @@ impl<'m> Drawing<'m> {
     /// What is drawn of a program that loads.
     pub fn of(alloc: Global, meta: &'m Meta, part: Part<'_>) -> Result<Drawing<'m>, PartFault> {
         let scan = Scan::of(alloc, meta)?;
-        let edges = Edges::of(alloc, meta, &scan)?;
+        let Some(edges) = Edges::of(alloc, meta, &scan)? else {
+            return Err(PartFault::TooLarge);
+        };
         let is_drawn = drawn(alloc, meta, &scan, &edges, part)?;
         let finding = Finding::of(alloc, meta)?;
         let mut drawing = Drawing {
@@ -74,7 +77,13 @@ impl<'m> Drawing<'m> {
             edges: Vec::new(alloc),
         };
         drawing.push_nodes(&scan, &finding, is_drawn.as_slice())?;
-        drawing.push_edges(&scan, &edges, &finding, is_drawn.as_slice())?;
+        let Some(posted) = posted(alloc, meta, &scan, &edges, is_drawn.as_slice())? else {
+            return Err(PartFault::TooLarge);
+        };
+        for (number, queued) in posted.iter().enumerate() {
+            drawing.push_edges(&scan, edges.from(number), &finding, is_drawn.as_slice())?;
+            drawing.push_edges(&scan, queued.as_slice(), &finding, is_drawn.as_slice())?;
+        }
         Ok(drawing)
     }
 
@@ -98,16 +107,16 @@ impl<'m> Drawing<'m> {
         Ok(())
     }
 
-    /// Adds the edges between nodes that are drawn.
+    /// Adds those of the edges that are between nodes which are drawn.
     fn push_edges(
         &mut self,
         scan: &Scan,
-        edges: &Edges,
+        edges: &[Edge],
         finding: &Finding,
         is_drawn: &[bool],
     ) -> Result<(), AllocError> {
         let nodes = scan.nodes();
-        for edge in edges.all() {
+        for edge in edges {
             if !is_marked(is_drawn, edge.from) || !is_marked(is_drawn, edge.to) {
                 continue;
             }
@@ -120,6 +129,94 @@ impl<'m> Drawing<'m> {
         }
         Ok(())
     }
+}
+
+/// For each node, by number, the edges that queued wires draw from it: between the uppermost of the classes that they may join
+/// and whose members are drawn, since the classes below have them from there. `None` where there are more than are drawn.
+fn posted(
+    alloc: Global,
+    meta: &Meta,
+    scan: &Scan,
+    edges: &Edges,
+    is_drawn: &[bool],
+) -> Result<Option<Vec<Vec<Edge>>>, AllocError> {
+    let mut posted: Vec<Vec<Edge>> = Vec::new(alloc);
+    for _ in scan.nodes() {
+        posted.push(Vec::new(alloc))?;
+    }
+    let mut count = 0usize;
+    for family in edges.families() {
+        let Family {
+            sender,
+            signal,
+            receiver,
+            method,
+            first,
+            count: wires,
+        } = *family;
+        let cause = Cause::Queued(first, wires.saturating_sub(1));
+        let receivers = uppermost(alloc, meta, scan, is_drawn, receiver, method)?;
+        for from in uppermost(alloc, meta, scan, is_drawn, sender, signal)? {
+            count = count.saturating_add(receivers.len());
+            if count > MOST_EDGES {
+                return Ok(None);
+            }
+            push_all(&mut posted, from, receivers.as_slice(), cause)?;
+        }
+    }
+    Ok(Some(posted))
+}
+
+/// Adds edges for this reason from the one node to each of the others.
+fn push_all(
+    posted: &mut Vec<Vec<Edge>>,
+    from: usize,
+    targets: &[usize],
+    cause: Cause,
+) -> Result<(), AllocError> {
+    if let Some(list) = posted.get_mut(from) {
+        for to in targets {
+            list.push(Edge {
+                from,
+                to: *to,
+                cause,
+            })?;
+        }
+    }
+    Ok(())
+}
+
+/// The numbers of the nodes that are the method in the uppermost classes, from this one down, in which it is drawn.
+fn uppermost(
+    alloc: Global,
+    meta: &Meta,
+    scan: &Scan,
+    is_drawn: &[bool],
+    top: usize,
+    method: usize,
+) -> Result<Vec<usize>, AllocError> {
+    let mut found = Vec::new(alloc);
+    // Whether the method is drawn in the class or in one between it and the top one: bases have the lower numbers.
+    let mut is_covered: Vec<bool> = Vec::new(alloc);
+    for (class, object) in meta.classes().iter().enumerate() {
+        let is_below = object
+            .base
+            .is_some_and(|base: usize| is_marked(is_covered.as_slice(), base));
+        let member = Member::Method(method);
+        let number = if is_below || !meta.inherits(class, top) {
+            None
+        } else {
+            scan.number(Node { class, member })
+        };
+        match number {
+            Some(number) if is_marked(is_drawn, number) => {
+                found.push(number)?;
+                is_covered.push(true)?;
+            }
+            _ => is_covered.push(is_below)?,
+        }
+    }
+    Ok(found)
 }
 
 impl Finding {

@@ -1,10 +1,13 @@
 //! Edges: what may lead from one member to another, at once or later.
 
-use basic_types::Kind;
+use crate::family::{Family, families};
 use edge_reasons::{Reason, reason_for};
 use effect_scan::{Member, Node, Scan};
-use meta_model::{DESTROYED, DESTROYED_ALONE, Meta, MetaWire, Work};
+use meta_model::{Meta, Work};
 use std::alloc::{AllocError, Global};
+
+/// So many edges are drawn at most.
+pub const MOST_EDGES: usize = 262_144;
 
 /// What draws an edge.
 #[derive(Clone, Copy, Debug, PartialEq, Eq)]
@@ -21,8 +24,9 @@ pub enum Cause {
     Native,
     /// The wire at this place, from 0, joins a signal with what it calls at once.
     Wire(usize),
-    /// The wire at this place, from 0, posts a call, which comes when the receiver's event loop turns.
-    Queued(usize),
+    /// Queued wires post a call, which comes when the receiver's event loop turns: the one at this place, from 0, and so many
+    /// more.
+    Queued(usize, usize),
     /// The signal tells of a change of the property.
     Notify,
     /// The binding at this place, from 0, reads the property.
@@ -39,30 +43,33 @@ pub struct Edge {
     pub cause: Cause,
 }
 
-/// All edges of a program, those from one node after another.
+/// All edges of a program: those of the scan, from one node after another, and those of queued wires by families.
 #[derive(Drop)]
 pub struct Edges {
     all: Vec<Edge>,
     /// For each node, by number, how many edges lead from those before it.
     before: Vec<usize>,
+    families: Vec<Family>,
 }
 
 impl Edges {
-    /// The edges of a scanned program: those of the scan, and those of queued wires.
-    pub fn of(alloc: Global, meta: &Meta, scan: &Scan) -> Result<Edges, AllocError> {
+    /// The edges of a scanned program; `None` where there are more than are drawn.
+    pub fn of(alloc: Global, meta: &Meta, scan: &Scan) -> Result<Option<Edges>, AllocError> {
         let mut edges = Edges {
             all: Vec::new(alloc),
             before: Vec::new(alloc),
+            families: families(alloc, meta)?,
         };
         for (from, node) in scan.nodes().iter().enumerate() {
             edges.before.push(edges.all.len())?;
-            edges.push_direct(meta, scan, from, *node)?;
-            edges.push_queued(meta, scan, from, *node)?;
+            if !edges.push_direct(meta, scan, from, *node)? {
+                return Ok(None);
+            }
         }
-        Ok(edges)
+        Ok(Some(edges))
     }
 
-    /// The edges from the node of this number.
+    /// The edges from the node of this number, but for those of queued wires.
     pub fn from(&self, node: usize) -> &[Edge] {
         let Some(start) = self.before.get(node) else {
             return &[];
@@ -74,21 +81,29 @@ impl Edges {
         self.all.get(*start..end).unwrap_or(&[])
     }
 
-    /// All edges.
+    /// All edges but for those of queued wires.
     pub fn all(&self) -> &[Edge] {
         self.all.as_slice()
     }
 
-    /// Adds what the node may lead to at once.
+    /// The queued wires.
+    pub fn families(&self) -> &[Family] {
+        self.families.as_slice()
+    }
+
+    /// Adds what the node may lead to at once, and answers whether that isn't more than is drawn.
     fn push_direct(
         &mut self,
         meta: &Meta,
         scan: &Scan,
         from: usize,
         node: Node,
-    ) -> Result<(), AllocError> {
+    ) -> Result<bool, AllocError> {
         for to in scan.targets(from) {
             if let Some(target) = scan.nodes().get(*to) {
+                if self.all.len() >= MOST_EDGES {
+                    return Ok(false);
+                }
                 let cause = cause_of(meta, node, *target);
                 self.all.push(Edge {
                     from,
@@ -97,60 +112,7 @@ impl Edges {
                 })?;
             }
         }
-        Ok(())
-    }
-
-    /// Adds what the node, where it is a signal, posts by queued wires.
-    fn push_queued(
-        &mut self,
-        meta: &Meta,
-        scan: &Scan,
-        from: usize,
-        node: Node,
-    ) -> Result<(), AllocError> {
-        let Member::Method(method) = node.member else {
-            return Ok(());
-        };
-        for (place, wire) in meta.wires().iter().enumerate() {
-            let is_posted = wire.kind == Kind::Queued
-                && signal_of(wire) == method
-                && meta.inherits(node.class, wire.sender);
-            if is_posted {
-                self.push_posted(meta, scan, from, wire, place)?;
-            }
-        }
-        Ok(())
-    }
-
-    /// Adds the calls that a queued wire posts: of the objects of its receiver's class and of those below.
-    fn push_posted(
-        &mut self,
-        meta: &Meta,
-        scan: &Scan,
-        from: usize,
-        wire: &MetaWire,
-        place: usize,
-    ) -> Result<(), AllocError> {
-        for class in 0..meta.classes().len() {
-            if !meta.inherits(class, wire.receiver) {
-                continue;
-            }
-            let member = Member::Method(wire.method);
-            if let Some(to) = scan.number(Node { class, member }) {
-                let cause = Cause::Queued(place);
-                self.all.push(Edge { from, to, cause })?;
-            }
-        }
-        Ok(())
-    }
-}
-
-/// The wire's signal as a node: `destroyed()` is `destroyed(QObject*)`.
-fn signal_of(wire: &MetaWire) -> usize {
-    if wire.signal == DESTROYED_ALONE {
-        DESTROYED
-    } else {
-        wire.signal
+        Ok(true)
     }
 }
 
@@ -181,6 +143,6 @@ fn statement_on(meta: &Meta, node: Node) -> Cause {
 impl Edge {
     /// Whether what it leads to comes later, when an event loop turns.
     pub fn is_queued(&self) -> bool {
-        matches!(self.cause, Cause::Queued(_))
+        matches!(self.cause, Cause::Queued(_, _))
     }
 }

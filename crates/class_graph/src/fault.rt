@@ -17,6 +17,9 @@ pub enum GraphFault {
     /// The part names a class, or a member of a class, that isn't there.
     #[error("the program has no such class or member")]
     Unknown,
+    /// There are more edges than are drawn.
+    #[error("the program has more than 262144 edges")]
+    TooLarge,
     /// A growth of memory was refused.
     #[error("out of memory")]
     Memory,
@@ -39,6 +42,9 @@ pub enum PartFault {
     /// It names a class, or a member of a class, that isn't there.
     #[error("the program has no such class or member")]
     Unknown,
+    /// There are more edges than are drawn.
+    #[error("the program has more than 262144 edges")]
+    TooLarge,
     /// A growth of memory was refused.
     #[error("out of memory")]
     Memory,

@@ -73,9 +73,13 @@ pub fn cause_text(alloc: Global, meta: &Meta, cause: Cause) -> Result<String, Al
             let number = place.saturating_add(1);
             format!(in alloc; "wire {number}")
         }
-        Cause::Queued(place) => {
+        Cause::Queued(place, more) => {
             let number = place.saturating_add(1);
-            format!(in alloc; "queued wire {number}")
+            if more == 0 {
+                format!(in alloc; "queued wire {number}")
+            } else {
+                format!(in alloc; "queued wire {number} and {more} more")
+            }
         }
         Cause::Binding(place) => binding_text(alloc, meta, place),
     }

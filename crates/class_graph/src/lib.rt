@@ -7,6 +7,7 @@ ghost use Rattle.class_graph.specs.Graphs.{Loads, Lacks};
 mod dot;
 mod drawing;
 mod edge;
+mod family;
 mod fault;
 mod json;
 mod label;
@@ -31,7 +32,8 @@ pub enum Form {
 }
 
 /// The graph of a program's text, of which a part is drawn. The text has whole lines. Errors: the text is refused, or the
-/// program that it has (`Refused`); the part names a class or a member that isn't there (`Unknown`); `Memory`.
+/// program that it has (`Refused`); the part names a class or a member that isn't there (`Unknown`); the program has more edges
+/// than are drawn (`TooLarge`); `Memory`.
 pub fn class_graph(
     alloc: Global,
     program: &[u8],
@@ -48,6 +50,7 @@ pub fn class_graph(
     let drawing = match Drawing::of(alloc, &meta, part) {
         Ok(drawing) => drawing,
         Err(PartFault::Unknown) => return Err(GraphFault::Unknown),
+        Err(PartFault::TooLarge) => return Err(GraphFault::TooLarge),
         Err(PartFault::Memory) => return Err(GraphFault::Memory),
     };
     let text = match form {

@@ -91,15 +91,27 @@ fn used(alloc: Global, scan: &Scan, edges: &Edges) -> Result<Vec<bool>, AllocErr
         used.push(!is_common(*node))?;
     }
     for edge in edges.all() {
-        if let (Some(from), Some(to)) = (nodes.get(edge.from), nodes.get(edge.to)) {
-            let is_every_objects = is_common(*from) && is_common(*to) && from.class == to.class;
-            if !is_every_objects {
-                mark(&mut used, edge.from);
-                mark(&mut used, edge.to);
-            }
+        mark_ends(&mut used, nodes, edge.from, edge.to);
+    }
+    for family in edges.families() {
+        if let (Some(from), Some(to)) = family.ends(scan) {
+            mark_ends(&mut used, nodes, from, to);
         }
     }
     Ok(used)
+}
+
+/// Marks both ends of an edge, unless every object has it.
+fn mark_ends(marks: &mut Vec<bool>, nodes: &[Node], from: usize, to: usize) {
+    if let (Some(first), Some(second)) = (nodes.get(from), nodes.get(to)) {
+        let is_every_objects = is_common(*first)
+            && is_common(*second)
+            && first.class == second.class;
+        if !is_every_objects {
+            mark(marks, from);
+            mark(marks, to);
+        }
+    }
 }
 
 /// Marks the number, if it is one of these, and answers whether it wasn't marked.
@@ -133,7 +145,7 @@ fn reached(
     if first.is_empty() {
         return Err(PartFault::Unknown);
     }
-    Ok(reach(alloc, scan.nodes().len(), edges, first)?)
+    Ok(reach(alloc, meta, scan, edges, first)?)
 }
 
 /// The numbers of the nodes of this name.
@@ -147,29 +159,47 @@ fn named(alloc: Global, meta: &Meta, scan: &Scan, name: &str) -> Result<Vec<usiz
     Ok(found)
 }
 
-/// Which of so many nodes are reached from these.
+/// Which nodes are reached from these.
 fn reach(
     alloc: Global,
-    count: usize,
+    meta: &Meta,
+    scan: &Scan,
     edges: &Edges,
     first: Vec<usize>,
 ) -> Result<Vec<bool>, AllocError> {
     let mut marks = Vec::new(alloc);
-    for _ in 0..count {
+    for _ in scan.nodes() {
         marks.push(false)?;
+    }
+    let mut posted = Vec::new(alloc);
+    for _ in edges.families() {
+        posted.push(false)?;
     }
     for number in first.as_slice() {
         mark(&mut marks, *number);
     }
     let mut waiting = first;
     // Each node waits once at most.
-    for _ in 0..count {
+    for _ in 0..scan.nodes().len() {
         let Some(number) = waiting.pop() else {
             break;
         };
         for edge in edges.from(number) {
             if mark(&mut marks, edge.to) {
                 waiting.push(edge.to)?;
+            }
+        }
+        let Some(node) = scan.nodes().get(number) else {
+            continue;
+        };
+        for (place, family) in edges.families().iter().enumerate() {
+            // What the wires lead to is the same for all that they lead from.
+            if family.begins_at(meta, *node) && mark(&mut posted, place) {
+                for target in family.targets(alloc, meta, scan)? {
+                    if mark(&mut marks, target) {
+                        waiting.push(target)?;
+                    }
+                }
             }
         }
     }

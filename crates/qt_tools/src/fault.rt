@@ -22,6 +22,9 @@ pub enum ToolFault {
     /// The words name a class or a member that the program doesn't have.
     #[error("the program has no class or member of this name")]
     Unknown,
+    /// The program has more edges than are drawn.
+    #[error("the program has more than 262144 edges, which are too many for a picture")]
+    TooManyEdges,
     /// What is imported isn't what moc writes, or a class that is asked for isn't there.
     #[error("{0}")]
     Unimported(ImportFault),
@@ -88,6 +91,7 @@ impl ToolFault {
             | ToolFault::Unlisted(_)
             | ToolFault::Mistaken
             | ToolFault::TooLong
+            | ToolFault::TooManyEdges
             | ToolFault::NoText => 2,
             ToolFault::LeftOut
             | ToolFault::Invalid(_)
@@ -120,6 +124,7 @@ impl From<GraphFault> for ToolFault {
         match fault {
             GraphFault::Refused(number) => ToolFault::Refused(number),
             GraphFault::Unknown => ToolFault::Unknown,
+            GraphFault::TooLarge => ToolFault::TooManyEdges,
             GraphFault::Memory => ToolFault::Memory,
         }
     }
