@@ -1,5 +1,7 @@
 //! The search for a script, and what of it is needed.
 
+ghost use Rattle.std.specs.Prelude.{◌<◌, ◌≤◌, ◌^◌};
+
 use crate::choice::{Choice, Part};
 use crate::events::{push_begins, push_joints};
 use crate::stage::push_stage;
@@ -18,6 +20,15 @@ const DEPTH: usize = MOST_DEPTH as usize;
 
 /// How many rules a run uses at most.
 const STEPS: u64 = 1_000_000;
+
+/// How many rules a run uses at most by which it is tried whether events can be left out.
+const TRIAL_STEPS: u64 = 100_000;
+
+/// So many bytes of programs are read at most to try whether events can be left out: each trial reads the program once.
+const TRIED_BYTES: usize = 33_554_432;
+
+/// So many trials are made at most.
+const MOST_TRIALS: usize = 4096;
 
 /// What was found.
 #[derive(Drop)]
@@ -49,7 +60,8 @@ impl From<AllocError> for WitnessFault {
 
 /// A script whose run of this program, unchecked and without natives, ends as the reason warns for which the program has no
 /// certificate: with fault 61, 62 or 63. There is an object of each class, the wires and bindings of the chain that the
-/// reason names are used, and each of its members is begun with; events that aren't needed are left out.
+/// reason names are used, and each of its members is begun with; events that aren't needed are left out, as far as a bounded
+/// number of trials finds them.
 pub fn find_witness(alloc: Global, program: &[u8]) -> Result<Sought, WitnessFault> {
     let meta = match load_program(alloc, program) {
         Ok(meta) => meta,
@@ -83,12 +95,17 @@ fn search(
     push_joints(alloc, meta, nodes, &mut events)?;
     push_begins(alloc, meta, nodes, &mut events)?;
     let mut choice = Choice::of(alloc, events)?;
-    if !ends_so(alloc, program, choice.script(alloc, Part::NONE)?.as_str()) {
+    if !ends_so(
+        alloc,
+        program,
+        choice.script(alloc, Part::NONE)?.as_str(),
+        STEPS,
+    ) {
         return Ok(Sought::NotFound);
     }
     leave_out(alloc, program, &mut choice)?;
     let script = choice.script(alloc, Part::NONE)?;
-    if ends_so(alloc, program, script.as_str()) {
+    if ends_so(alloc, program, script.as_str(), STEPS) {
         Ok(Sought::Found(script))
     } else {
         Ok(Sought::NotFound)
@@ -98,17 +115,22 @@ fn search(
 /// So many events are left out at once where they can be, the largest parts first.
 const PARTS: [usize; 7] = [4096, 1024, 256, 64, 16, 4, 1];
 
-/// Leaves out what isn't needed, in smaller and smaller parts, each time from the last one on.
+/// Leaves out what isn't needed, in smaller and smaller parts, each time from the last one on, until the trials are used up.
 fn leave_out(alloc: Global, program: &[u8], choice: &mut Choice) -> Result<(), AllocError> {
+    let mut trials = (TRIED_BYTES / program.len().max(1)).min(MOST_TRIALS);
     for size in PARTS {
         let count = choice.len().checked_div(size).unwrap_or(0);
         for place in (0..=count).rev() {
             let start = place.saturating_mul(size);
             let end = start.saturating_add(size);
             let part = Part { start, end };
+            if trials == 0 {
+                return Ok(());
+            }
             if choice.has_some(part) {
+                trials = trials.saturating_sub(1);
                 let script = choice.script(alloc, part)?;
-                if ends_so(alloc, program, script.as_str()) {
+                if ends_so(alloc, program, script.as_str(), TRIAL_STEPS) {
                     choice.leave_out(part);
                 }
             }
@@ -117,10 +139,12 @@ fn leave_out(alloc: Global, program: &[u8], choice: &mut Choice) -> Result<(), A
     Ok(())
 }
 
-/// Whether the run of the script ends with fault 61, 62 or 63.
-fn ends_so(alloc: Global, program: &[u8], script: &str) -> bool {
+/// Whether the run of the script, by so many rules at most (1 to 2^63 - 1), ends with fault 61, 62 or 63.
+fn ends_so(alloc: Global, program: &[u8], script: &str, steps: u64) -> bool
+    requires steps { (1 ≤ steps) × (steps < 2 ^ 63) }
+{
     let natives = Natives::of(Vec::new(alloc));
-    let outcome = unchecked_run_outcome(alloc, program, script.as_bytes(), natives, DEPTH, STEPS);
+    let outcome = unchecked_run_outcome(alloc, program, script.as_bytes(), natives, DEPTH, steps);
     match &outcome {
         Outcome::Ran(ran) => matches!(
             ran.ended,
