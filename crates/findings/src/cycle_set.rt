@@ -7,7 +7,7 @@ use thiserror::Error;
 const HEADING: &str = "cycle";
 
 /// The members of cycles: each may lead to each of the others. Two of these are equal where they have the same members.
-#[derive(Debug, Drop, PartialEq, Eq)]
+#[derive(Debug, Drop, PartialEq, Eq, PartialOrd, Ord)]
 pub struct CycleSet {
     /// Their names, in the order of bytes.
     members: Vec<String>,

@@ -2,6 +2,7 @@
 //! standard error.
 #![tactic(auto)]
 
+mod accepted;
 mod fault;
 mod graph;
 mod import;
@@ -10,6 +11,7 @@ mod streams;
 mod verdict;
 mod view;
 mod witness;
+mod words;
 
 use crate::fault::ToolFault;
 use crate::graph::graph;
@@ -18,7 +20,7 @@ use crate::session::session;
 use crate::verdict::tell_verdict;
 use crate::view::view;
 use crate::witness::witness;
-use std::env;
+use crate::words::{shown, words};
 use std::process::ExitCode;
 
 fn main(rt: HostRuntime) -> ExitCode {
@@ -33,8 +35,9 @@ fn main(rt: HostRuntime) -> ExitCode {
 
 /// Takes the process's words, and does what they say.
 fn start(rt: &HostRuntime) -> Result<(), ToolFault> {
-    let words = words(rt)?;
-    let words = words
+    let given = words(rt)?;
+    let shown = shown(rt.alloc(), given.as_slice())?;
+    let words = shown
         .iter()
         .map(String::as_str)
         .collect::<Vec<&str>>(rt.alloc())?;
@@ -42,20 +45,11 @@ fn start(rt: &HostRuntime) -> Result<(), ToolFault> {
         [word, options @ ..] if *word == "graph" => graph(rt, options),
         [word, options @ ..] if *word == "import" => import_classes(rt, options),
         [word, options @ ..] if *word == "session" => session(rt, options),
-        [word, options @ ..] if *word == "verdict" => tell_verdict(rt, options),
+        [word, options @ ..] if *word == "verdict" => {
+            tell_verdict(rt, options, given.get(1..).unwrap_or(&[]))
+        }
         [word, options @ ..] if *word == "view" => view(rt, options),
         [word, options @ ..] if *word == "witness" => witness(rt, options),
         _ => Err(ToolFault::Usage),
-    }
-}
-
-/// The process's words but the first one, which is the program's name. Words that aren't text are no command.
-fn words(rt: &HostRuntime) -> Result<Vec<String>, ToolFault> {
-    let Ok(words) = env::args(rt) else {
-        return Err(ToolFault::Usage);
-    };
-    match words.skip(1).collect::<Vec<String>>(rt.alloc()) {
-        Ok(words) => Ok(words),
-        Err(_) => Err(ToolFault::Memory),
     }
 }

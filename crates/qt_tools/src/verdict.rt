@@ -1,15 +1,20 @@
 //! The word `verdict`: all that is wrong with a program and its certificate.
 
+use crate::accepted::{Judged, judge};
 use crate::fault::ToolFault;
 use crate::streams::{input, write};
+use diagnostics::Printed;
 use findings::{CycleSet, Verdict, cycle_list, read_cycles};
 use std::alloc::{AllocError, Global};
 use texts::split_at_line;
 use verdict_reports::{Names, json_report, sarif_report, text_report};
-use verdicts::{Texts, verdict};
+use verdicts::Texts;
 
 /// What is read has at most so many bytes.
-const MOST_BYTES: u64 = 67108865;
+const MOST_BYTES: usize = 67108864;
+
+/// So many bytes are read: one more than there may be, so that a longer input is refused.
+const MOST_READ: u64 = MOST_BYTES as u64 + 1;
 
 /// The exit status where a text is refused.
 const REFUSED: u8 = 2;
@@ -46,18 +51,18 @@ enum Awaited {
     Certificate,
 }
 
-/// What the words say.
+/// What the words say, with names by their places among the words.
 #[derive(Clone, Copy)]
-struct Said<'w> {
+struct Said {
     form: Form,
     has_list: bool,
-    program: Option<&'w str>,
-    certificate: Option<&'w str>,
+    program: Option<usize>,
+    certificate: Option<usize>,
 }
 
-impl<'w> Said<'w> {
+impl Said {
     /// What the words say; `None` where they are no options.
-    fn of(words: &[&'w str]) -> Option<Said<'w>> {
+    fn of(words: &[&str]) -> Option<Said> {
         let mut said = Said {
             form: Form::Text,
             has_list: false,
@@ -65,14 +70,14 @@ impl<'w> Said<'w> {
             certificate: None,
         };
         let mut awaited: Option<Awaited> = None;
-        for word in words {
+        for (place, word) in words.iter().enumerate() {
             match awaited {
                 Some(Awaited::Program) => {
-                    said.program = Some(*word);
+                    said.program = Some(place);
                     awaited = None;
                 }
                 Some(Awaited::Certificate) => {
-                    said.certificate = Some(*word);
+                    said.certificate = Some(place);
                     awaited = None;
                 }
                 None if *word == "--json" => said.form = Form::Json,
@@ -89,37 +94,48 @@ impl<'w> Said<'w> {
 }
 
 impl<'w> Options<'w> {
-    /// The options that the words are; `None` where they are none.
-    fn of(words: &[&'w str]) -> Option<Options<'w>> {
+    /// The options that the words are, which are given as bytes too; `None` where they are none.
+    fn of(words: &[&str], given: &'w [Vec<u8>]) -> Option<Options<'w>> {
         let said = Said::of(words)?;
         Some(Options {
             form: said.form,
             has_list: said.has_list,
             names: Names {
-                program: said.program.unwrap_or("program"),
-                certificate: said.certificate.unwrap_or("certificate"),
+                program: name(given, said.program, b"program"),
+                certificate: name(given, said.certificate, b"certificate"),
             },
         })
     }
 }
 
+/// The word at this place, or another name where none is given.
+fn name<'w>(given: &'w [Vec<u8>], place: Option<usize>, other: &'static [u8]) -> &'w [u8] {
+    match place.and_then(|place: usize| given.get(place)) {
+        Some(word) => word.as_slice(),
+        None => other,
+    }
+}
+
 /// Writes the verdict on the texts of standard input: a program, its certificate if one is given, and a list of accepted
-/// cycles if the options say so.
-pub fn tell_verdict(rt: &HostRuntime, words: &[&str]) -> Result<(), ToolFault> {
+/// cycles if the options say so. The words are given as bytes too.
+pub fn tell_verdict(rt: &HostRuntime, words: &[&str], given: &[Vec<u8>]) -> Result<(), ToolFault> {
     let alloc = rt.alloc();
-    let Some(options) = Options::of(words) else {
+    let Some(options) = Options::of(words, given) else {
         return Err(ToolFault::Usage);
     };
-    let input = match input(rt, MOST_BYTES) {
+    let input = match input(rt, MOST_READ) {
         Ok(input) => input,
         Err(reason) => return Err(ToolFault::Unread(reason)),
     };
+    if input.len() > MOST_BYTES {
+        return Err(ToolFault::TooLong);
+    }
     let Some(given) = Given::of(input.as_slice(), options.has_list) else {
         return Err(ToolFault::Usage);
     };
-    let accepted = read_cycles(alloc, given.list)?;
-    let found = verdict(alloc, given.texts, accepted.as_slice())?;
-    tell_absent(rt, &found, accepted.as_slice());
+    let listed = read_cycles(alloc, given.list)?;
+    let Judged { found, absent } = judge(alloc, given.texts, listed)?;
+    tell_absent(rt, absent.as_slice());
     if options.form == Form::Cycles {
         return write_cycles(rt, &found);
     }
@@ -208,19 +224,25 @@ fn answer(status: u8) -> Result<(), ToolFault> {
     }
 }
 
+/// So many cycles that aren't there are told of.
+const MOST_TOLD: usize = 100;
+
 /// Tells on standard error which cycles of the list aren't there.
-fn tell_absent(rt: &HostRuntime, found: &Verdict, accepted: &[CycleSet]) {
-    for place in found.absent.as_slice() {
-        if let Some(cycles) = accepted.get(*place) {
-            let members = cycles.members();
-            let first = match members.first() {
-                Some(name) => name.as_str(),
-                None => "no member",
-            };
-            let others = members.len().saturating_sub(1);
-            eprintln!(rt;
-                "note: an accepted cycle isn't there any more: that of `{first}` and {others} other members"
-            ).ok();
-        }
+fn tell_absent(rt: &HostRuntime, absent: &[CycleSet]) {
+    for cycles in absent.iter().take(MOST_TOLD) {
+        let members = cycles.members();
+        let first = match members.first() {
+            Some(name) => name.as_str(),
+            None => "no member",
+        };
+        let first = Printed(first.as_bytes());
+        let others = members.len().saturating_sub(1);
+        eprintln!(rt;
+            "note: an accepted cycle isn't there any more: that of `{first}` and {others} other members"
+        ).ok();
+    }
+    let more = absent.len().saturating_sub(MOST_TOLD);
+    if more > 0 {
+        eprintln!(rt; "note: {more} more accepted cycles aren't there any more").ok();
     }
 }

@@ -2,6 +2,7 @@
 
 use crate::fault::ToolFault;
 use crate::streams::{input, write, write_bytes};
+use diagnostics::push_printed_lines;
 use std::alloc::{AllocError, Global};
 use std::io;
 use texts::split_at_line;
@@ -57,7 +58,8 @@ fn show(rt: &HostRuntime, form: Form, input: &[u8]) -> Result<io::Result<()>, Al
     let (trace, script) = split_at_line(input, BORDER).unwrap_or((input, &[]));
     match form {
         Form::Lines { colours } => {
-            let lines = laid_out_trace(alloc, trace, script, colours)?;
+            let (trace, script) = (printed(alloc, trace)?, printed(alloc, script)?);
+            let lines = laid_out_trace(alloc, trace.as_bytes(), script.as_bytes(), colours)?;
             Ok(write_bytes(rt, lines.as_slice()))
         }
         Form::Diagram => {
@@ -65,8 +67,16 @@ fn show(rt: &HostRuntime, form: Form, input: &[u8]) -> Result<io::Result<()>, Al
             Ok(write(rt, diagram.as_str()))
         }
         Form::Page => {
-            let page = trace_page(alloc, trace, script)?;
+            let (trace, script) = (printed(alloc, trace)?, printed(alloc, script)?);
+            let page = trace_page(alloc, trace.as_bytes(), script.as_bytes())?;
             Ok(write(rt, page.as_str()))
         }
     }
+}
+
+/// The lines of a text, as a person is shown them.
+fn printed(alloc: Global, text: &[u8]) -> Result<String, AllocError> {
+    let mut lines = String::new(alloc);
+    push_printed_lines(&mut lines, text)?;
+    Ok(lines)
 }

@@ -4,8 +4,8 @@ use crate::difference::Difference;
 use crate::expected::ExpectedAnswer;
 use crate::finding::{Finding, find};
 use crate::judging::Test;
+use diagnostics::push_printed;
 use std::alloc::{AllocError, Global};
-use std::str;
 
 /// How it is said.
 #[derive(Clone, Copy, Debug, PartialEq, Eq)]
@@ -53,7 +53,7 @@ pub fn report(
 fn push_plain(text: &mut String, test: &Test<'_>, finding: Finding<'_>) -> Result<(), AllocError> {
     let line = test.expected.line;
     write!(text, "line {line} of the script, `")?;
-    push_bytes(text, test.expected.event)?;
+    push_printed(text, test.expected.event)?;
     text.push_str("`: ")?;
     push_finding(text, test, finding)?;
     text.push_str("\n")
@@ -126,24 +126,16 @@ fn push_line(text: &mut String, line: &[u8]) -> Result<(), AllocError> {
         return text.push_str("none");
     }
     text.push_str("`")?;
-    push_bytes(text, line.strip_suffix(b"\n".as_slice()).unwrap_or(line))?;
+    push_printed(text, line.strip_suffix(b"\n".as_slice()).unwrap_or(line))?;
     text.push_str("`")
 }
 
-/// Adds bytes that are text, or that they are none.
-fn push_bytes(text: &mut String, bytes: &[u8]) -> Result<(), AllocError> {
-    match str::from_utf8(bytes) {
-        Ok(found) => text.push_str(found),
-        Err(_) => text.push_str("(no text)"),
-    }
-}
-
-/// Adds bytes with a backslash before each `#` and each backslash, which mean something in a line of the protocol.
+/// Adds bytes, as a person is shown them, with a backslash before each `#` and each backslash, which mean something in a line of
+/// the protocol.
 fn push_escaped(text: &mut String, bytes: &[u8]) -> Result<(), AllocError> {
-    let Ok(found) = str::from_utf8(bytes) else {
-        return push_bytes(text, bytes);
-    };
-    for letter in found.chars() {
+    let mut printed = String::new(*text.allocator());
+    push_printed(&mut printed, bytes)?;
+    for letter in printed.as_str().chars() {
         if letter == '#' || letter == '\\' {
             text.push('\\')?;
         }

@@ -1,15 +1,14 @@
 //! Text of a page.
 
+use diagnostics::push_printed;
 use std::alloc::AllocError;
-use std::str;
 
-/// Adds bytes as text of a page, or as a value between quotes. What HTML would read as its own is written by its code. Bytes
-/// that are no text are left out.
+/// Adds bytes as text of a page, or as a value between quotes, as a person is shown them. What HTML would read as its own is
+/// written by its code.
 pub fn push_escaped(page: &mut String, bytes: &[u8]) -> Result<(), AllocError> {
-    let Ok(text) = str::from_utf8(bytes) else {
-        return Ok(());
-    };
-    for letter in text.chars() {
+    let mut text = String::new(*page.allocator());
+    push_printed(&mut text, bytes)?;
+    for letter in text.as_str().chars() {
         match code_of(letter) {
             Some(code) => page.push_str(code)?,
             None => page.push(letter)?,

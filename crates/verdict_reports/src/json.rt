@@ -1,6 +1,6 @@
 //! A verdict as JSON (docs/verdict.md).
 
-use crate::names::Names;
+use crate::names::{Labels, Names, name_text};
 use findings::{Finding, Step, TextKind, TextPlace, Verdict};
 use serde::Serialize;
 use serde_json::to_string_pretty;
@@ -50,9 +50,24 @@ pub fn json_report(
     verdict: &Verdict,
     names: Names<'_>,
 ) -> Result<String, AllocError> {
+    let program = name_text(alloc, names.program)?;
+    let certificate = name_text(alloc, names.certificate)?;
+    let labels = Labels {
+        program: program.as_str(),
+        certificate: certificate.as_str(),
+    };
+    report_text(alloc, verdict, labels)
+}
+
+/// The verdict on texts of these names.
+fn report_text<'v>(
+    alloc: Global,
+    verdict: &'v Verdict,
+    labels: Labels<'v>,
+) -> Result<String, AllocError> {
     let mut findings = Vec::new(alloc);
     for finding in verdict.findings.as_slice() {
-        findings.push(entry_of(alloc, finding, names)?)?;
+        findings.push(entry_of(alloc, finding, labels)?)?;
     }
     let report = Report {
         findings,
@@ -68,18 +83,18 @@ pub fn json_report(
 fn entry_of<'v>(
     alloc: Global,
     finding: &'v Finding,
-    names: Names<'v>,
+    labels: Labels<'v>,
 ) -> Result<Entry<'v>, AllocError> {
     let mut chain = Vec::new(alloc);
     for step in finding.chain.as_slice() {
-        chain.push(step_of(step, names))?;
+        chain.push(step_of(step, labels))?;
     }
     Ok(Entry {
         rule: finding.rule.id(),
         number: finding.rule.number(),
         message: finding.message.as_str(),
         help: help_of(finding),
-        file: names.of(finding.text),
+        file: labels.of(finding.text),
         line: line_of(finding.place),
         column: column_of(finding.place),
         chain,
@@ -87,13 +102,13 @@ fn entry_of<'v>(
 }
 
 /// A step.
-fn step_of<'v>(step: &'v Step, names: Names<'v>) -> StepEntry<'v> {
+fn step_of<'v>(step: &'v Step, labels: Labels<'v>) -> StepEntry<'v> {
     StepEntry {
         from: step.from.as_str(),
         to: step.to.as_str(),
         by: step.link.word(),
         message: step.message.as_str(),
-        file: names.of(TextKind::Program),
+        file: labels.of(TextKind::Program),
         line: line_of(step.place),
         column: column_of(step.place),
     }

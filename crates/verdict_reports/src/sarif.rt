@@ -1,7 +1,7 @@
 //! A verdict as SARIF 2.1.0, which code hosts and editors take in: the parts that are written, by the names that they have
 //! there, and how they are made.
 
-use crate::names::Names;
+use crate::names::{Labels, Names};
 use crate::uri::uri_of;
 use findings::{Finding, Rule, Step, TextKind, TextPlace, Verdict};
 use serde::Serialize;
@@ -95,7 +95,7 @@ struct Message {
 struct Location<'v> {
     physical_location: PhysicalLocation<'v>,
     #[serde(skip_serializing_if = "Option::is_none")]
-    message: Option<Words<'v>>,
+    message: Option<Message>,
 }
 
 /// A region of a file.
@@ -148,7 +148,7 @@ pub fn sarif_report(
 ) -> Result<String, AllocError> {
     let program = uri_of(alloc, names.program)?;
     let certificate = uri_of(alloc, names.certificate)?;
-    let uris = Names {
+    let uris = Labels {
         program: program.as_str(),
         certificate: certificate.as_str(),
     };
@@ -159,7 +159,7 @@ pub fn sarif_report(
 fn log_text<'v>(
     alloc: Global,
     verdict: &'v Verdict,
-    uris: Names<'v>,
+    uris: Labels<'v>,
 ) -> Result<String, AllocError> {
     let run = run_of(alloc, verdict, uris)?;
     let mut runs = Vec::new(alloc);
@@ -175,7 +175,11 @@ fn log_text<'v>(
 }
 
 /// The run whose findings these are, with its rules.
-fn run_of<'v>(alloc: Global, verdict: &'v Verdict, uris: Names<'v>) -> Result<Run<'v>, AllocError> {
+fn run_of<'v>(
+    alloc: Global,
+    verdict: &'v Verdict,
+    uris: Labels<'v>,
+) -> Result<Run<'v>, AllocError> {
     let mut rules = Vec::new(alloc);
     for rule in Rule::ALL {
         rules.push(RuleEntry {
@@ -209,7 +213,7 @@ fn run_of<'v>(alloc: Global, verdict: &'v Verdict, uris: Names<'v>) -> Result<Ru
 fn outcome_of<'v>(
     alloc: Global,
     finding: &'v Finding,
-    uris: Names<'v>,
+    uris: Labels<'v>,
 ) -> Result<Outcome<'v>, AllocError> {
     let mut locations = Vec::new(alloc);
     locations.push(location_of(uris.of(finding.text), finding.place, None))?;
@@ -230,28 +234,39 @@ fn outcome_of<'v>(
 
 /// What is wrong, and what to do about it.
 fn message_of(alloc: Global, finding: &Finding) -> Result<String, AllocError> {
-    let mut text = String::from_str(alloc, finding.message.as_str())?;
+    let mut text = String::new(alloc);
+    push_literal(&mut text, finding.message.as_str())?;
     if let Some(help) = &finding.help {
-        let help = help.as_str();
-        write!(text, "\nhelp: {help}")?;
+        text.push_str("\nhelp: ")?;
+        push_literal(&mut text, help.as_str())?;
     }
     Ok(text)
+}
+
+/// Adds a text to a message, in which a single brace begins or ends a placeholder: each of its own is written twice.
+fn push_literal(text: &mut String, literal: &str) -> Result<(), AllocError> {
+    for letter in literal.chars() {
+        if letter == '{' || letter == '}' {
+            text.push(letter)?;
+        }
+        text.push(letter)?;
+    }
+    Ok(())
 }
 
 /// The steps to a finding, as a way.
 fn flow_of<'v>(
     alloc: Global,
     chain: &'v [Step],
-    uris: Names<'v>,
+    uris: Labels<'v>,
 ) -> Result<CodeFlow<'v>, AllocError> {
     let mut locations = Vec::new(alloc);
     for step in chain {
         let uri = uris.of(TextKind::Program);
-        let words = Words {
-            text: step.message.as_str(),
-        };
+        let mut text = String::new(alloc);
+        push_literal(&mut text, step.message.as_str())?;
         locations.push(FlowLocation {
-            location: location_of(uri, step.place, Some(words)),
+            location: location_of(uri, step.place, Some(Message { text })),
         })?;
     }
     let mut thread_flows = Vec::new(alloc);
@@ -263,7 +278,7 @@ fn flow_of<'v>(
 fn location_of<'v>(
     uri: &'v str,
     place: Option<TextPlace>,
-    message: Option<Words<'v>>,
+    message: Option<Message>,
 ) -> Location<'v> {
     Location {
         physical_location: PhysicalLocation {

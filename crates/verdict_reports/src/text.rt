@@ -1,6 +1,7 @@
 //! A verdict as lines, as compilers write them.
 
 use crate::names::Names;
+use diagnostics::Printed;
 use findings::{Finding, Step, TextKind, TextPlace, Verdict};
 use std::alloc::{AllocError, Global};
 
@@ -50,7 +51,8 @@ fn push_step(text: &mut String, step: &Step, names: Names<'_>) -> Result<(), All
 }
 
 /// Adds a place in the text of this name.
-fn push_place(text: &mut String, name: &str, place: Option<TextPlace>) -> Result<(), AllocError> {
+fn push_place(text: &mut String, name: &[u8], place: Option<TextPlace>) -> Result<(), AllocError> {
+    let name = Printed(name);
     match place {
         Some(TextPlace { line, column }) => write!(text, "{name}:{line}:{column}:"),
         None => write!(text, "{name}:"),

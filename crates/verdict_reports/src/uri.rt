@@ -7,7 +7,7 @@ use std::alloc::{AllocError, Global};
 const ESCAPED: AsciiSet = NON_ALPHANUMERIC;
 
 /// The name as a relative reference.
-pub fn uri_of(alloc: Global, name: &str) -> Result<String, AllocError> {
+pub fn uri_of(alloc: Global, name: &[u8]) -> Result<String, AllocError> {
     let set = ESCAPED
         .remove(b'-')
         .remove(b'.')
@@ -15,6 +15,6 @@ pub fn uri_of(alloc: Global, name: &str) -> Result<String, AllocError> {
         .remove(b'~')
         .remove(b'/');
     let mut uri = String::new(alloc);
-    percent_encode(name.as_bytes(), set).append_to(&mut uri)?;
+    percent_encode(name, set).append_to(&mut uri)?;
     Ok(uri)
 }
