@@ -5,7 +5,7 @@
 which it makes bodies that are typed. And `graph` is given changed programs: it draws
 those that `meta` takes, as JSON that can be read, whose edges join nodes that are drawn. So is `verdict`: it finds nothing where
 `gammonfig certify` makes a certificate, and else what its reason says too; what it lists of cycles it accepts; and its SARIF
-has what the schema asks, and its JSON becomes a code quality report.
+has what the schema asks, and its JSON becomes a code quality report. What was dear once keeps to bounds (costs.py).
 
 Usage: tests/tools/run.py. The last line is `N passed, M failed`."""
 import json
@@ -19,6 +19,7 @@ sys.dont_write_bytecode = True
 sys.path.insert(0, os.path.dirname(os.path.dirname(os.path.abspath(__file__))))
 import built
 import case_files
+import costs
 import sarif
 
 FOLDER = os.path.dirname(os.path.abspath(__file__))
@@ -184,6 +185,7 @@ def report(bench, count, program):
         "cycle": (b"class A { slot f() { call this.f(); } slot g() { delete this; } }", ["cycle", "destroy-path"]),
         "types": (b'class A { property int p = "x"; signal s(); slot f(int v) { } }\nwire A s() -> A f(int) auto;', ["wire-types", "ill-typed"]),
         "text": (b"class A {\n  property int p\n  signal s();\n}", ["syntax"]),
+        "brace": (b"class A { property int p }", ["syntax"]),
         "none": (b"class A { }", []),
     }  # fmt: skip
     for name, (text, rules) in faulty.items():
@@ -206,6 +208,17 @@ def report(bench, count, program):
         count.check(holds, lambda: f"{name}: {entries}")
         flows = {it["ruleId"] for it in results if it.get("codeFlows")}
         count.check(flows == {"cycle", "destroy-path"} & set(rules), lambda: f"{name}: {results}")
+
+
+def name_files(bench, count, program):
+    """A file's name may be any bytes: in a line of text what is no text isn't written as it is."""
+    for name, shown, uri in (("\udcff.gf", b"?.gf", "%FF.gf"), ("a\x1b[31m.gf", b"a?[31m.gf", "a%1B%5B31m.gf")):
+        words, text = ["--program", name], b"class A { slot f() { delete this; } }"
+        found = bench.run(program, ["verdict", *words], text)
+        count.check(found.status == 3 and found.output.startswith(shown + b":1:"), lambda: f"{name!r}: {found}")
+        found = bench.run(program, ["verdict", "--sarif", *words], text)
+        at = json.loads(found.output)["runs"][0]["results"][0]["locations"][0]
+        count.check(at["physicalLocation"]["artifactLocation"]["uri"] == uri, lambda: f"{name!r}: {found}")
 
 
 def changed_program(rng, text):
@@ -241,6 +254,8 @@ def main():
         judge(bench, count, program)
         judge_large(bench, count, program)
         report(bench, count, program)
+        name_files(bench, count, program)
+        costs.try_all(bench, count, program)
     count.end()
 
 

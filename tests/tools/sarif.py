@@ -28,7 +28,7 @@ PROPERTIES = {
     "rule": {"id": "text", "shortDescription": "words"},
     "words": {"text": "text"},
     "result": {"ruleId": "text", "level": "level", "message": "message", "locations": ["location"], "codeFlows": ["flow"]},
-    "message": {"text": "text"},
+    "message": {"text": "literal"},
     "location": {"physicalLocation": "physical", "message": "message"},
     "physical": {"artifactLocation": "artifact", "region": "region"},
     "artifact": {"uri": "uri"},
@@ -41,6 +41,8 @@ PROPERTIES = {
 FILLED = {("flow", "threadFlows"), ("thread", "locations")}
 PLAIN = {
     "text": lambda it: isinstance(it, str),
+    # (3.11.5: in a message a single brace begins or ends a placeholder, of which there are none)
+    "literal": lambda it: isinstance(it, str) and re.fullmatch(r"(?:[^{}]|\{\{|\}\})*", it),
     "uri": lambda it: isinstance(it, str) and re.fullmatch(r"(?:[A-Za-z0-9\-._~/:?#@!$&'()*+,;=]|%[0-9A-F]{2})*", it),
     "version": lambda it: it == "2.1.0",
     "level": lambda it: it in ("none", "note", "warning", "error"),

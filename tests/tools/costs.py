@@ -1,0 +1,184 @@
+#!/usr/bin/env python3
+"""Inputs of the program `qt_tools` that are cheap to write and were dear to answer: each ends within bounds of time and memory,
+with what is wanted, or is refused with a reason. Standard library only.
+
+tests/tools/run.py tries them. Usage: tests/tools/costs.py tries them alone, on the build by LLVM, and prints the processor seconds
+that each takes. The last line is `N passed, M failed`."""
+import json
+import os
+import resource
+import sys
+
+sys.dont_write_bytecode = True
+sys.path.insert(0, os.path.dirname(os.path.dirname(os.path.abspath(__file__))))
+import built
+
+SECONDS, MEMORY = 5, 500 << 20
+# The build by Rattle's own compiler does no optimisation worth the name: it gets so many times the seconds.
+OWN_FACTOR = 8
+# What `import` and `verdict` read at most.
+MOST_BYTES = 1 << 26
+QOBJECT = [{"access": "public", "name": "QObject"}]
+
+
+def inherited(signals, slots, subclasses):
+    """A class with so many signals and slots, and so many classes below it."""
+    members = [f"signal s{it}();" for it in range(signals)] + [f"slot f{it}() {{ }}" for it in range(slots)]
+    return [f"class B {{ {' '.join(members)} }}"] + [f"class C{it} : B {{ }}" for it in range(subclasses)]
+
+
+def equal_wires(count, kind):
+    """So many equal wires between members that 250 classes inherit."""
+    return "\n".join(inherited(1, 1, 250) + [f"wire B s0() -> B f0() {kind};"] * count).encode()
+
+
+def different_wires():
+    """A thousand queued wires, each between other members, that 250 classes inherit."""
+    pairs = [(it // 32, it % 32) for it in range(1000)]
+    return "\n".join(inherited(32, 32, 250) + [f"wire B s{s}() -> B f{f}() queued;" for s, f in pairs]).encode()
+
+
+def moc(classes):
+    return json.dumps({"classes": classes}).encode()
+
+
+def moc_class(name, base=None, **members):
+    bases = [{"access": "public", "name": base}] if base else QOBJECT
+    return {"className": name, "qualifiedClassName": name, "object": True, "superClasses": bases, **members}
+
+
+def bases_last(count):
+    """So many classes, each before its base."""
+    return moc([moc_class(f"C{it}", f"C{it + 1}" if it + 1 < count else None) for it in range(count)])
+
+
+def long_line(count):
+    """Effects with a line of so many names."""
+    slot = {"name": "f", "arguments": []}
+    text = moc([moc_class("A", slots=[slot], properties=[{"name": "p", "type": "int"}])])
+    return text + b"\n%%\nA.f() sets " + b",".join([b"p"] * count) + b"\n"
+
+
+def wrong_names(count):
+    """Effects with so many lines, each with a name that isn't there."""
+    slots = [{"name": f"f{it}", "arguments": []} for it in range(60)]
+    text = moc([moc_class("A", slots=slots, properties=[{"name": f"property{it}", "type": "int"} for it in range(30)])])
+    return text + b"\n%%\n" + b"A.g() sets propertyX\n" * count
+
+
+def own_calls(classes):
+    """Classes of 60 slots that call themselves."""
+    slots = " ".join(f"slot f{it}() {{ call this.f{it}(); }}" for it in range(60))
+    return "\n".join(f"class C{it} {{ {slots} }}" for it in range(classes)).encode()
+
+
+def many_cycles(count):
+    """Such classes, and a list of so many cycles that aren't there."""
+    return own_calls(200) + b"\n%%\n" + b"".join(b"cycle\nA.%d\n" % it for it in range(count))
+
+
+def one_cycle(count):
+    """A list with one cycle of so many members, the last ones first."""
+    return b"class A { }\n%%\ncycle\n" + b"".join(b"  A.m%06d()\n" % it for it in reversed(range(count)))
+
+
+def long_with_cycle():
+    """A program of some 800 kB: classes of 32 references and 60 slots, and a slot that calls itself."""
+    properties = " ".join(f"property C0* reference{it};" for it in range(32))
+    slots = " ".join(f"slot write{it}() {{ set this.reference1 = null; }}" for it in range(60))
+    classes = [f"class C{it} {{ {properties} {slots} }}" for it in range(218)]
+    return "\n".join([*classes, "class Last { slot f() { call this.f(); } }"]).encode()
+
+
+class Costs:
+    """Tries the inputs on a program."""
+
+    def __init__(self, bench, count, program):
+        self.bench, self.count, self.program, self.measured = bench, count, program, []
+
+    def run(self, name, words, text):
+        """What a run comes to; whether it keeps to the bounds is counted."""
+        with built.limited({resource.RLIMIT_AS: MEMORY}):
+            found = self.bench.run(self.program, words, text)
+        seconds = SECONDS * (OWN_FACTOR if self.program.endswith(".by-rattle") else 1)
+        within = found.status is not None and found.status >= 0 and found.seconds <= seconds
+        self.measured.append((name, words, found.seconds))
+        self.count.check(within and b"out of memory" not in found.errors, lambda: f"{name}: {found.seconds:.1f} s, {found}")
+        return found
+
+    def graphs(self):
+        for name, text, edges in (
+            ("1,000 equal wires", equal_wires(1000, "queued"), ["queued wire 1 and 999 more"]),
+            ("two equal wires", equal_wires(2, "queued"), ["queued wire 1 and 1 more"]),
+            ("1,000 wires", different_wires(), [f"queued wire {it + 1}" for it in range(1000)]),
+        ):
+            found = self.run(name, ["graph", "--json"], text)
+            drawn = [it["by"] for it in json.loads(found.output)["edges"] if it.get("queued")] if found.status == 0 else None
+            self.count.check(drawn == edges, lambda: f"{name}: {found}")
+            self.run(name, ["graph"], text)
+        part = self.run("a class below", ["graph", "--json", "--from", "C7.s0"], equal_wires(2, "queued"))
+        told = json.loads(part.output) if part.status == 0 else {"nodes": []}
+        classes = {it["class"] for it in told["nodes"] if it["member"] == "f0()"}
+        self.count.check(len(classes) == 251, lambda: f"what a class below may lead to: {part}")
+
+    def imports(self):
+        found = self.run("4,000 classes, bases last", ["import"], bases_last(4000))
+        self.count.check(found.output.startswith(b"class C3999 {\n"), lambda: f"4,000 classes: {found}")
+        found = self.run("9,000 classes", ["import"], bases_last(9000))
+        self.refused("9,000 classes", found, b"the texts have more than 8192 classes")
+        found = self.run("500,000 names", ["import", "--effects"], long_line(500_000))
+        self.refused("500,000 names", found, b"line 1 of the effects: a line names at most 4096 things")
+        found = self.run("4,000 names", ["import", "--effects"], long_line(4000))
+        self.count.check(found.status == 0 and found.output.count(b"set this.p = 0;") == 4000, lambda: f"4,000 names: {found}")
+        found = self.run("10,000 mistakes", ["import", "--effects"], wrong_names(10_000))
+        self.refused("10,000 mistakes", found, b"line 100 of the effects: ")
+        self.count.check(b"line 101 " not in found.errors, lambda: f"10,000 mistakes: {found}")
+        for words in (["import"], ["import", "--strict"]):
+            text = moc([moc_class("A")])
+            found = self.bench.run(self.program, words, text + b" " * (MOST_BYTES - len(text)))
+            self.count.check(found.status == 0, lambda: f"an input of 64 MiB: {found}")
+            found = self.bench.run(self.program, words, text + b" " * (MOST_BYTES + 1 - len(text)))
+            self.refused("an input of more than 64 MiB", found, b"the input has more than 67108864 bytes")
+
+    def witnesses(self):
+        text = long_with_cycle()
+        found = self.run(f"a witness of {len(text)} bytes", ["witness"], text)
+        ended = self.bench.run(built.BUILDS[0], ["run", "--unchecked", "256"], text + b"\n%%\n" + found.output)
+        holds = found.status == 0 and len(found.output) < 4000 and ended.output.endswith(b"fault 61\n")
+        self.count.check(holds, lambda: f"a witness of {len(text)} bytes: {found}, whose run is {ended}")
+
+    def refused(self, name, found, why):
+        self.count.check(found.status == 2 and not found.output and why in found.errors, lambda: f"{name}: {found}")
+
+    def verdicts(self):
+        found = self.run("150,000 cycles that aren't there", ["verdict", "--accept"], many_cycles(150_000))
+        self.count.check(found.output.endswith(b"100 findings, and 11900 more\n"), lambda: f"a long list: {found}")
+        self.count.check(b"note: 149900 more accepted cycles" in found.errors, lambda: f"a long list: {found}")
+        text = own_calls(200)
+        listed = self.run("the list of 12,000 cycles", ["verdict", "--accept-all"], text).output
+        found = self.run("12,000 cycles that are there", ["verdict", "--accept"], text + b"\n%%\n" + listed)
+        self.count.check(found.output == b"no findings, 12000 accepted\n", lambda: f"12,000 cycles: {found}")
+        found = self.run("a cycle of 140,000 members", ["verdict", "--accept"], one_cycle(140_000))
+        self.count.check(found.output == b"no findings\n", lambda: f"a long cycle: {found}")
+
+
+def try_all(bench, count, program):
+    costs = Costs(bench, count, program)
+    costs.graphs()
+    costs.imports()
+    costs.verdicts()
+    costs.witnesses()
+    return costs.measured
+
+
+def main():
+    program, count = f"{built.ROOT}/crates/qt_tools/out/qt_tools", built.Count()
+    if not os.path.isfile(program):
+        sys.exit(f"{program} isn't there: run `rt ci` first")
+    for name, words, seconds in try_all(built.Bench(), count, program):
+        print(f"{seconds:6.2f} s  {words[0]}: {name}")
+    count.end()
+
+
+if __name__ == "__main__":
+    main()
