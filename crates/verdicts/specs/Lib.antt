@@ -1,3 +1,4 @@
+pub mod Accepted
 pub mod Statuses
 pub use Rattle.program_commands.specs.Commands
 pub use Rattle.program_commands.specs.Outcomes

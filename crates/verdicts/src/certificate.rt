@@ -72,7 +72,7 @@ fn cause_finding(
 }
 
 /// The rule whose condition it breaks.
-fn rule_of(cause: Cause) -> Rule {
+pub fn rule_of(cause: Cause) -> Rule {
     match cause {
         Cause::Wire(_) => Rule::WireTypes,
         Cause::BodyType(_) => Rule::IllTyped,

@@ -8,7 +8,7 @@ use findings::{CycleSet, Finding, Link, Rule, Step, TextKind, TextPlace, Verdict
 use program_flaws::breaking;
 use std::alloc::AllocError;
 
-/// Adds one cycle of each knot that isn't on the list, and counts those that are.
+/// Adds one cycle of each knot that isn't on the list.
 pub fn gather_cycles(
     search: Search<'_>,
     accepted: &[CycleSet],
@@ -16,9 +16,7 @@ pub fn gather_cycles(
 ) -> Result<(), AllocError> {
     for knot in search.knots {
         let cycles = search.cycles_of(knot.as_slice())?;
-        if accepted.contains(&cycles) {
-            found.accepted = found.accepted.saturating_add(1);
-        } else if found.takes_one() {
+        if !accepted.contains(&cycles) && found.takes_one() {
             let numbers = search.graph.cycle_in(knot.as_slice())?;
             let cycle = search.nodes_at(numbers.as_slice())?;
             let finding = cycle_finding(search.located, cycle.as_slice(), knot.len())?;

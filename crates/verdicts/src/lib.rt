@@ -6,6 +6,7 @@ mod certificate;
 mod chains;
 mod cycles;
 mod deletions;
+mod judged;
 mod judging;
 mod located;
 mod places;
