@@ -130,7 +130,8 @@ impl<'s> Compared<'s> {
             return "there is no such class";
         }
         match &name.member {
-            MemberName::Method(sig) if sig.name.bytes() == b"destroyed".as_slice() => {
+            MemberName::Method(sig)
+                if sig.name.bytes() == b"destroyed".as_slice() && sig.types.len() == 0 => {
                 "`destroyed(QObject*)` stands for it"
             }
             _ => "the class has no such member",

@@ -75,7 +75,7 @@ fn push_binding(text: &mut String, source: Source<'_>, place: usize) -> Result<(
     Ok(())
 }
 
-/// Adds that objects of one class may be deleted with one of the other.
+/// Adds that objects of one class may be deleted with one of the other: as its children, or as the children of what it owns.
 fn push_deletion(
     text: &mut String,
     source: Source<'_>,
@@ -87,8 +87,14 @@ fn push_deletion(
     }
     let parent = class_text(source.alloc, source.meta, from.class)?;
     let child = class_text(source.alloc, source.meta, to.class)?;
+    if source.meta.owns(from.class, to.class) {
+        return write!(
+            text,
+            "by `owns`, objects of `{child}` are deleted with their parent of `{parent}`"
+        );
+    }
     write!(
         text,
-        "by `owns`, objects of `{child}` are deleted with their parent of `{parent}`"
+        "by `owns`, objects of `{child}` may be deleted with one of `{parent}`, which stands further above them than their parent"
     )
 }
