@@ -1,5 +1,5 @@
 -- What draws no edge.
-use Rattle.std.proofs.Common.{◌≡◌, ◌≢◌, ◌↔◌, ◌⊎◌, inl, inr, ℕ, ◌+◌, ◌<◌, ◌≤◌, true, false, true≢false, IsTrue, IfNone, List, [], ◌∷◌, ◌++◌, length, get_or, take, slice_get, Option, Some, None, refl, sym, ap, ◌∙◌, subst, eqb, arith}
+use Rattle.std.proofs.Common.{◌≡◌, ◌≢◌, ◌↔◌, ◌⊎◌, inl, inr, ℕ, ◌+◌, ◌<◌, ◌≤◌, true, false, true≢false, IsTrue, IfNone, IsSome, List, [], ◌∷◌, ◌++◌, length, get_or, take, slice_get, Option, Some, None, refl, sym, ap, ◌∙◌, subst, eqb, arith}
 use Rattle.std.specs.List.{Contains, list_any}
 use Rattle.std.proofs.lemmas.List.{take_more, take_all}
 use Rattle.std.proofs.lemmas.Option.{same_Some, none-some}
@@ -30,6 +30,7 @@ use Rattle.effect_scan.specs.declared.effect.Effect.{Effect}
 use Rattle.effect_scan.specs.Nodes.{node, named}
 use Rattle.effect_scan.specs.Effects.{effect_of, Occurs, BodyHas, StatementHas, NativeHas, WorkHas}
 use Rattle.effect_scan.specs.Edges.{ReachedAs, Reaches, ByWork, ByWire, ByNotify, BySite, MayLead, by_work, by_wire, by_notify, by_site, by_destruction}
+use Rattle.effect_scan.specs.Destroying.{Closure}
 use Rattle.edge_reasons.specs.Reasons.{BodyLeads, DoesTo, NativeLeads, WireJoins, SiteBinds}
 use Rattle.effect_scan.proofs.Occurring.{IsPlain, no_blocks, plain_only, alone, body_none, occurs_either}
 use Rattle.effect_scan.proofs.Containing.{any_has}
@@ -275,3 +276,16 @@ module _ (p : Loaded) (x y : Node) where
   none_from_destruction from other (by_notify n) = property_destruction n.number (sym n.from ∙ from)
   none_from_destruction from other (by_site s) = property_destruction s.source.property (sym s.from.is ∙ from)
   none_from_destruction from other (by_destruction d) = other d.to
+
+  -- ---- a destruction that leads to an announcement
+  pub destroyed_with : x.member ≡ Destruction → MayLead p x y → Closure p x.class y.class
+  destroyed_with from (by_work w) = absurd (method_destruction w.number (sym w.from ∙ from))
+  destroyed_with from (by_wire w) = absurd (method_destruction (named w.wire.signal) (sym w.from.is ∙ from))
+  destroyed_with from (by_notify n) = absurd (property_destruction n.number (sym n.from ∙ from))
+  destroyed_with from (by_site s) = absurd (property_destruction s.source.property (sym s.from.is ∙ from))
+  destroyed_with from (by_destruction d) = d.closure
+
+-- what leads nowhere has a reason only if it doesn't lead nowhere
+pub some_if : {X P : Type 0} (o : Option X) → IfNone o (¬ P) → P → IsSome o
+some_if None none p = absurd (none p)
+some_if (Some x) none p = refl

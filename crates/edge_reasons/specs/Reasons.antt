@@ -26,7 +26,8 @@ use Rattle.edge_reasons.specs.declared.reasons.Reason.{Reason}
 use Rattle.edge_reasons.specs.declared.reasons.Reason.TheVariants as reason
 use Rattle.effect_scan.specs.Nodes.{node, named}
 use Rattle.effect_scan.specs.Effects.{effect_of, Occurs, NativeHas}
-use Rattle.effect_scan.specs.Edges.{AtOrBelow, Reaches, ByWork, ByNotify}
+use Rattle.effect_scan.specs.Edges.{AtOrBelow, Reaches, ByWork, ByNotify, MayLead}
+use Rattle.effect_scan.specs.Destroying.{Closure}
 use Rattle.statement_order.specs.Order.{in_order, capped}
 
 -- a statement of the body of a slot of class c does something to the node at once
@@ -93,10 +94,12 @@ pub record StatementDraws (p : Loaded) (x y : Node) (number : ℕ) : Type 0 wher
   pub first : StandsFirst (λ t. DoesTo p x.class method.kinds t y) (in_order body) place
   pub counted : number ≡ capped place
 
--- the destruction announces a destruction
-pub record IsAnnounced (x y : Node) : Type 0 where
+-- The destruction announces a destruction: where it leads to that at all, one of the classes that are destroyed with this one
+-- announces its own.
+pub record IsAnnounced (p : Loaded) (x y : Node) : Type 0 where
   pub from : x.member ≡ Destruction
   pub to : y.member ≡ Method DESTROYED
+  pub with_it : MayLead p x y → Closure p x.class y.class
 
 -- this draws the edge from the one node to the other, and nothing that is asked before it does
 abbrev pub Draws : Loaded → Node → Node → Reason → Type 0
@@ -105,4 +108,4 @@ Draws p x y reason.Native = ByWork p x y × IsNative p x
 Draws p x y (reason.Wire k) = (¬ ByWork p x y) × StandsFirst (WireJoins p x y) p.wires k
 Draws p x y reason.Notify = ByNotify p x y
 Draws p x y (reason.Binding k) = (¬ ByNotify p x y) × StandsFirst (SiteBinds p x y) p.sites k
-Draws p x y reason.Deletion = IsAnnounced x y
+Draws p x y reason.Deletion = IsAnnounced p x y

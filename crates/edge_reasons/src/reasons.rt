@@ -1,6 +1,6 @@
 //! What draws an edge: a statement, a native's declaration, a wire, a notify signal, a binding, or the deletion of objects.
 
-ghost use Rattle.std.specs.Prelude.{◌≡◌, ◌↔◌, [], ◌∷◌, IsTrue, IfSome, IfNone};
+ghost use Rattle.std.specs.Prelude.{◌≡◌, ◌↔◌, [], ◌∷◌, IsTrue, IsSome, IfSome, IfNone};
 ghost use Rattle.effect_scan.specs.Nodes.{node};
 ghost use Rattle.effect_scan.specs.Edges.{AtOrBelow, Reaches, ByWork, ByWire, ByNotify, BySite, MayLead};
 ghost use Rattle.effect_scan.specs.declared.node.Member.TheVariants.{Method, Property};
@@ -29,16 +29,17 @@ pub enum Reason {
     Notify,
     /// The binding at this place, from 0.
     Binding(usize),
-    /// Objects are deleted with one of the class. With which, isn't looked at.
+    /// Objects are deleted with one of the class, or with one of a class whose objects are.
     Deletion,
 }
 
 /// What draws the edge from the one node to the other; where several things do, the first: a body or a native before wires, a
-/// notify signal before bindings, and each of them in the order of the text. `None` where nothing leads from the one to the
-/// other. Time is linear in the body of a slot, in wires or in bindings.
+/// notify signal before bindings, and each of them in the order of the text. `None` only where nothing leads from the one to
+/// the other: where something does there is a reason. Time is linear in the body of a slot, in wires or in bindings.
 pub fn reason_for(meta: &Meta, from: Node, to: Node) -> Option<Reason>
     ensures draws { IfSome result (Draws meta.now from to) }
     ensures none { IfNone result (¬ MayLead meta.now from to) }
+    ensures some { MayLead meta.now from to → IsSome result }
 {
     match from.member {
         Member::Method(method) => match work_reason(meta, from, method, to) {

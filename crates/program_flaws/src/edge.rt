@@ -1,6 +1,7 @@
 //! An edge, in words.
 
-ghost use Rattle.std.specs.Prelude.{IfOk, IfSome};
+ghost use Rattle.std.specs.Prelude.{IfOk, IfSome, IsSome};
+ghost use Rattle.effect_scan.specs.Edges.{MayLead};
 ghost use Rattle.edge_reasons.specs.Reasons.{Draws};
 
 use crate::names::{class_text, node_text, text_of};
@@ -11,14 +12,15 @@ use edge_reasons::{Reason, reason_for};
 use effect_scan::Node;
 use std::alloc::AllocError;
 
-/// Adds a line that says what draws the edge from one node to the other, and answers it.
+/// Adds a line that says what draws the edge from one node to the other, and answers it: none only where there is no edge.
 pub fn push_edge(
     text: &mut String,
     source: Source<'_>,
     from: Node,
     to: Node,
 ) -> Result<Option<Reason>, AllocError>
-    ensures { IfOk result (λ told. IfSome told (Draws source.entry.meta.now from to)) }
+    ensures draws { IfOk result (λ told. IfSome told (Draws source.entry.meta.now from to)) }
+    ensures some { IfOk result (λ told. MayLead source.entry.meta.now from to → IsSome told) }
 {
     let first = node_text(source.alloc, source.meta, from)?;
     let second = node_text(source.alloc, source.meta, to)?;
