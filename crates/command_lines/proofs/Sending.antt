@@ -34,6 +34,7 @@ sent {W} {contents} {a} {b} {c} {x} {y} p q =
       whole = rest.1;
       kept = kept_so b.fault c.fault _ _ _ (λ some. (q.stopped some).1) q.kept rest.2;
       stopped = λ some. (ap (λ l. l ++ q.taken) (p.stopped some).0 ∙ (q.stopped (p.stopped some).1).0, (q.stopped (p.stopped some).1).1);
+      flagged = λ flagged. q.flagged (p.flagged flagged);
     }
 
 -- .. a text that is spelled otherwise
@@ -62,6 +63,7 @@ kept_back contents a p x is = record {
   whole = refl;
   kept = kept_as a.fault p _ is;
   stopped = λ some. (refl, some);
+  flagged = λ flagged. flagged;
 }
 
 pub none_sent : {W : Type 0} (contents : W → Option (List ℕ)) (a : Output W (List ℕ)) → Puts contents a a []

@@ -1,5 +1,5 @@
 -- What goes to a writer by way of an output, which keeps bytes back until they are worth a write.
-use Rattle.std.specs.Prelude.{◌≡◌, ℕ, List, [], ◌++◌, Option, None, Result, IfOk, OnOk, IfNone, IsNone, IsSome}
+use Rattle.std.specs.Prelude.{◌≡◌, ℕ, List, [], ◌++◌, Option, None, Result, IfOk, OnOk, OnErr, IfNone, IsNone, IsSome, IsTrue}
 use Rattle.std.specs.Io.KnownBytes.{Appends}
 use Rattle.command_lines.specs.declared.output.Output.{Output}
 
@@ -22,6 +22,10 @@ pub record IsBegun {W : Type 0} (writer : W) (output : Output W (List ℕ)) : Ty
   pub empty : output.pending ≡ []
   pub unfailed : output.fault ≡ None
 
+-- an output has a fault only where a write failed
+abbrev pub IsFlagged : {W : Type 0} → Output W (List ℕ) → Type 0
+IsFlagged output = IsSome output.fault → IsTrue output.failing.is_set
+
 module _ {W : Type 0} (contents : W → Option (List ℕ)) where
   -- These bytes are put into an output: of what it kept back, and then these, its writer took the first ones. While no
   -- write failed it keeps back the rest; after one that did, its writer takes nothing.
@@ -33,9 +37,11 @@ module _ {W : Type 0} (contents : W → Option (List ℕ)) where
     pub whole : taken ++ left ≡ before.pending ++ bytes
     pub kept : IfNone after.fault (after.pending ≡ left)
     pub stopped : IsSome before.fault → (taken ≡ []) × IsSome after.fault
+    pub flagged : IsFlagged before → IsFlagged after
 
   -- All that an output kept back is written, with this exit status for an answer, or a write has failed.
   pub record Ends {E : Type 0} (before after : Output W (List ℕ)) (expected : ℕ) (result : Result ℕ E) : Type 0 where
     pub puts : Puts before after []
     pub all : OnOk result (IsNone after.fault × (after.pending ≡ []))
     pub status : IfOk result (λ status. status ≡ expected)
+    pub faults : IsFlagged before → OnErr result (IsTrue after.failing.is_set)

@@ -13,6 +13,7 @@ mod node_line;
 mod output;
 mod pending;
 mod usage;
+mod watched;
 mod words;
 
 pub use cut::{one_text, three_texts, two_texts};
@@ -20,4 +21,5 @@ pub use fault::WriteFault;
 pub use input::{InputFault, LARGEST_INPUT, read_input};
 pub use output::Output;
 pub use usage::UsageFault;
+pub use watched::Failing;
 pub use words::{Command, Options};

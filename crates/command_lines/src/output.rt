@@ -1,10 +1,9 @@
-ghost use Rattle.std.specs.Prelude.{◌≡◌, [], ◌∷◌, None};
-ghost use Rattle.std.specs.Io.{WritesAtMost};
-ghost use Rattle.std.specs.Io.KnownBytes.{WriteAppends};
+ghost use Rattle.std.specs.Prelude.{◌≡◌, [], ◌∷◌, IsTrue, OnErr};
 ghost use Rattle.command_lines.specs.Sent.{Puts, Ends, IsBegun, Takes};
 
 use crate::fault::WriteFault;
 use crate::pending::Pending;
+use crate::watched::{Failing, write};
 use std::alloc::Global;
 use std::io;
 use std::io::{ErrorKind, Write};
@@ -13,6 +12,7 @@ use std::io::{ErrorKind, Write};
 /// it is written at once. Where a write fails nothing is written after that, and `finish` answers the fault.
 pub struct Output<'w, W, B = Pending> {
     writer: &'w mut W,
+    failing: Failing,
     pending: B,
     fault: Option<WriteFault>,
 }
@@ -24,6 +24,7 @@ impl<W, B: Drop> Drop for Output<'_, W, B> {
     {
         let Output {
             writer: _,
+            failing: _,
             pending: _,
             fault: _,
         } = self;
@@ -38,6 +39,7 @@ impl<'w, W: Write> Output<'w, W> {
     {
         Output {
             writer,
+            failing: Failing::none(),
             pending: Pending::new(alloc),
             fault: None,
         }
@@ -105,7 +107,7 @@ impl<'w, W: Write> Output<'w, W> {
         ensures empty { self.new.pending ≡ [] }
     {
         if self.fault.is_none() {
-            self.fault = write_out(self.writer, self.pending.as_slice()).err();
+            self.fault = write_out(self.writer, &mut self.failing, self.pending.as_slice()).err();
         }
         self.pending.clear();
     }
@@ -116,36 +118,37 @@ impl<'w, W: Write> Output<'w, W> {
         ensures { Puts W.contents self.old self.new bytes.now }
     {
         if self.fault.is_none() {
-            self.fault = write_out(self.writer, bytes).err();
+            self.fault = write_out(self.writer, &mut self.failing, bytes).err();
         }
     }
 }
+
+/// So many times a write that a signal interrupts is tried again, and once more for each byte that was taken.
+const PATIENCE: usize = 16;
 
 /// Writes bytes, as many at a time as the writer takes. The error is that a write answered one or took no byte; those
 /// that were taken by then are the first ones, and none is written after that.
-pub fn write_out<W: Write>(writer: &mut W, bytes: &[u8]) -> Result<(), WriteFault>
-    ensures { Takes (W.contents writer.old) (W.contents writer.new) bytes.now result }
+pub fn write_out<W: Write>(
+    writer: &mut W,
+    failing: &mut Failing,
+    bytes: &[u8],
+) -> Result<(), WriteFault>
+    ensures takes { Takes (W.contents writer.old) (W.contents writer.new) bytes.now result }
+    ensures faults { OnErr result (IsTrue failing.new.is_set) }
+    ensures kept { IsTrue failing.old.is_set → IsTrue failing.new.is_set }
 {
     let mut left = bytes;
-    for _ in 0..u64::MAX {
-        if left.is_empty() {
-            return Ok(());
+    let mut patience = PATIENCE;
+    while !left.is_empty() {
+        match write(writer, failing, left) {
+            Ok(0) => return Err(WriteFault::Failed(io::Error::from(ErrorKind::WriteZero))),
+            Ok(taken) => {
+                left = &left[taken..];
+                patience = patience.saturating_add(taken);
+            }
+            Err(error) if patience > 0 && error.kind() == ErrorKind::Interrupted => patience -= 1,
+            Err(error) => return Err(WriteFault::Failed(error)),
         }
-        let taken = write_some(writer, left)?;
-        left = &left[taken..];
     }
-    Err(WriteFault::Failed(io::Error::from(ErrorKind::Interrupted)))
-}
-
-/// Writes the first of these bytes, and answers how many, which is 0 only where a signal interrupted the write.
-fn write_some<W: Write>(writer: &mut W, bytes: &[u8]) -> Result<usize, WriteFault>
-    ensures bound { WritesAtMost result bytes.now }
-    ensures bytes { WriteAppends (W.contents writer.old) (W.contents writer.new) result bytes.now }
-{
-    match writer.write(bytes) {
-        Ok(0) => Err(WriteFault::Failed(io::Error::from(ErrorKind::WriteZero))),
-        Ok(taken) => Ok(taken),
-        Err(error) if error.kind() == ErrorKind::Interrupted => Ok(0),
-        Err(error) => Err(WriteFault::Failed(error)),
-    }
+    Ok(())
 }

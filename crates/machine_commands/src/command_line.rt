@@ -15,7 +15,8 @@ use crate::outcome::Outcome;
 use crate::prepared::{Carried, Prepared};
 use crate::runs::{prepare_run, prepare_unchecked_run};
 use command_lines::{
-    Command, InputFault, LARGEST_INPUT, UsageFault, one_text, read_input, three_texts, two_texts,
+    Command, Failing, InputFault, LARGEST_INPUT, UsageFault, one_text, read_input, three_texts,
+    two_texts,
 };
 use object_machine::ObjectMachine;
 use program_commands::{Outcome as ProgramOutcome, certify_outcome, check_outcome, meta_outcome};
@@ -54,7 +55,8 @@ pub fn answer<N: FittingNatives, M: ObjectMachine<Natives = N>, R: Read, W: Writ
             carried: prepared_usage().carry_out(alloc, w),
         };
     };
-    match read_input(alloc, reader) {
+    let mut failing = Failing::none();
+    match read_input(alloc, reader, &mut failing) {
         Ok(input) => {
             let carried = prepare_for(alloc, words, Ok(input.as_slice()), natives).carry_out(
                 alloc, w,

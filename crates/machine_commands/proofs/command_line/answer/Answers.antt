@@ -19,7 +19,7 @@ carry_out-carried-requires g c = c.prepare_for.ensures.may
 pub returns-in-Ok-clause-answers : goal.returns-in-Ok-clause-answers
 returns-in-Ok-clause-answers g c =
     let left = g.R.Read.remaining c.args.reader.now in
-    let reads = subst (λ (xs : List ℕ). IfSome left (λ all. xs ≡ take 67108865 all)) (sym c.as_slice.ensures.value) c.in-Ok.ensures in
+    let reads = subst (λ (xs : List ℕ). IfSome left (λ all. xs ≡ take 67108865 all)) (sym c.as_slice.ensures.value) c.in-Ok.ensures.input in
     carried-as (λ end comes. record { input = Ok c.as_slice.result.now; reads = reads; comes = comes }) (carried-of c.prepare_for.ensures c.carry_out-carried.ensures)
 
 -- .. or it can't be

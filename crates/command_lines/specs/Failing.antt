@@ -1,0 +1,18 @@
+-- When a read or a write fails, and what is so only then.
+use Rattle.std.specs.Prelude.{◌≡◌, ◌≢◌, ℕ, List, [], Result, Ok, Err, MatchResult, IsErr}
+use Rattle.command_lines.specs.declared.input.InputFault.{InputFault}
+use Rattle.command_lines.specs.declared.input.InputFault.TheVariants.{Unread, Memory}
+
+-- an answer is an error, or none of the bytes was taken
+abbrev pub HasWriteFailed : {E : Type 0} → Result ℕ E → List ℕ → Type 0
+HasWriteFailed answer bytes = MatchResult answer (λ taken. (taken ≡ 0) × (bytes ≢ [])) (λ error. Unit {0})
+
+-- an answer is an error
+abbrev pub HasReadFailed : {E : Type 0} → Result ℕ E → Type 0
+HasReadFailed answer = IsErr answer
+
+-- where there is no input because a read failed, this is so
+abbrev pub IfUnread : {A : Type 0} → Result A InputFault → Type 0 → Type 0
+IfUnread (Ok input) P = Unit {0}
+IfUnread (Err (Unread reason)) P = P
+IfUnread (Err Memory) P = Unit {0}
