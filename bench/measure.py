@@ -9,7 +9,11 @@ import sys
 import tempfile
 
 ROOT = os.path.dirname(os.path.dirname(os.path.abspath(__file__)))
-PROGRAM = os.path.join(os.environ.get("XDG_CACHE_HOME") or os.path.expanduser("~/.cache"), "gammonfig", "gammonfig")
+sys.path.insert(0, f"{ROOT}/bin")
+import kit
+import sources
+from store import Store
+
 RUN = ["run", "--unchecked", "256", "--steps", "9000000000"]
 TIMES = 3
 
@@ -302,10 +306,12 @@ def write_input(row, part, program, path):
 
 
 def build():
-    """Builds the program, as ./gammonfig builds it."""
-    built = subprocess.run([f"{ROOT}/gammonfig", *RUN], input=b"%%\n", stdout=subprocess.DEVNULL)
-    if built.returncode:
+    """Builds the program, as ./gammonfig builds it, and gives where it stands."""
+    built = subprocess.run([f"{ROOT}/gammonfig", "prove"])
+    found = Store().program("", "gammonfig", sources.sum_of(ROOT, "gammonfig", kit.identity()))
+    if built.returncode or not found:
         sys.exit("the program can't be built")
+    return found
 
 
 def meter(room):
@@ -334,13 +340,13 @@ def main():
     unknown = [row for row in rows if row not in ROWS]
     if unknown:
         sys.exit(f"no such row: {' '.join(unknown)}; there are {' '.join(ROWS)}")
-    build()
+    program = build()
     with tempfile.TemporaryDirectory() as room:
         used = meter(room)
         for row in rows:
             path = f"{room}/{row}"
-            write_input(row, 1, PROGRAM, path)
-            found = [measured(used, PROGRAM, words(row), path) for _ in range(TIMES)]
+            write_input(row, 1, program, path)
+            found = [measured(used, program, words(row), path) for _ in range(TIMES)]
             print(f"{row:24} {min(it[0] for it in found):6.2f} s {max(it[2] for it in found):7.1f} MB", flush=True)
 
 

@@ -2,9 +2,15 @@
 import os
 import shutil
 import subprocess
+import sys
 import tempfile
 
 import built
+
+sys.path.insert(0, f"{built.ROOT}/bin")
+import sources
+from kit import PROVED_WITH
+from store import Store
 
 PROGRAMS = ["gammonfig", "qt_tools", "trace_view"]
 
@@ -14,30 +20,33 @@ class Place:
 
     def __init__(self):
         self.folder = tempfile.mkdtemp(prefix="gammonfig-wrapper-")
-        cache = f"{self.folder}/cache/gammonfig"
-        os.makedirs(cache)
+        self.store = Store(f"{self.folder}/cache/gammonfig")
+        os.makedirs(self.store.folder)
+        sums = {it.name: it.sum for it in sources.crates_of(built.ROOT, PROGRAMS, PROVED_WITH)}
+        self.programs = {}
         for name in PROGRAMS:
-            shutil.copy(f"{built.ROOT}/crates/{name}/out/{name}", f"{cache}/{name}")
-            script = f'program={name}; . "{built.ROOT}/bin/build.sh"; sources'
-            with open(f"{cache}/{name}.sum", "wb") as file:
-                file.write(subprocess.run(["bash", "-c", script], capture_output=True, check=True).stdout)
+            made = f"{self.store.folder}/{name}.made"
+            shutil.copy(f"{built.ROOT}/crates/{name}/out/{name}", made)
+            self.programs[name] = self.store.put("", name, sums[name], made)
         # No toolchain is found: what isn't built can't be built.
         self.environment = {"PATH": "/usr/local/bin:/usr/bin:/bin", "XDG_CACHE_HOME": f"{self.folder}/cache"}
         self.environment["PATH"] = without_toolchain(self.environment["PATH"], self.folder)
 
     def write(self, files):
         for name, text in files.items():
-            with open(f"{self.folder}/{name}", "w") as file:
-                file.write(text)
+            with open(f"{self.folder}/{name}", "wb") as file:
+                file.write(text if isinstance(text, bytes) else text.encode())
 
-    def run(self, words, text=None, program=None):
+    def run(self, words, text=None, program=None, **how):
         """The status, standard output and standard error of the wrapper with these words, or of a program."""
-        command = [program] if program else ["bash", f"{built.ROOT}/gammonfig"]
-        given = {"input": text.encode()} if isinstance(text, str) else {"stdin": text or subprocess.DEVNULL}
-        found = subprocess.run(
-            command + words, cwd=self.folder, env=self.environment, capture_output=True, timeout=built.PATIENCE, **given
-        )
-        return found.returncode, found.stdout.decode(), found.stderr.decode()
+        command = [program] if program else [f"{built.ROOT}/gammonfig"]
+        given = {"input": text if isinstance(text, bytes) else text.encode()} if isinstance(text, (str, bytes)) else {"stdin": text or subprocess.DEVNULL}
+        how = {"cwd": self.folder, "env": self.environment, "stdout": subprocess.PIPE, "stderr": subprocess.PIPE, **given, **how}
+        found = subprocess.run(command + words, timeout=built.PATIENCE, **how)
+        return found.returncode, (found.stdout or b"").decode(), (found.stderr or b"").decode()
+
+    def remove(self):
+        shutil.rmtree(self.folder, ignore_errors=True)
 
 
 def without_toolchain(path, folder):

@@ -1,6 +1,7 @@
 #!/usr/bin/env python3
-"""Builds a program of two crates as ./gammonfig builds its own, by bin/build.sh and bin/build.py with the toolchain that is there:
-what is proved, what is kept, and what is told where something isn't proved.
+"""Builds a program of two crates as ./gammonfig builds its own, with the toolchain that is there: what is proved, what is kept, and
+what is told where something isn't proved. Then the same by a kit whose tools are done at once: what answers after each change, and
+what a signal, a full disk or an altered file leaves (keeping.py).
 
 Usage: tests/build/run.py. The last line is `N passed, M failed`."""
 import os
@@ -12,10 +13,11 @@ import tempfile
 sys.dont_write_bytecode = True
 sys.path.insert(0, os.path.dirname(os.path.dirname(os.path.abspath(__file__))))
 import built
+from keeping import Keeping
 
 # A build that isn't done after so many seconds hangs: with nothing beside it none takes 60 of them.
 PATIENCE = 1200
-CRATES = "# two crates\nlow:\napp: low\n"
+CRATES = "# two crates\nlow:\ngammonfig: low\n"
 LOW = """//! Below the program.
 #![tactic(auto)]
 
@@ -43,12 +45,11 @@ fn main(rt: HostRuntime) -> io::Result<()> {
 
 
 class Tests:
-    def __init__(self):
-        self.folder, self.count = tempfile.mkdtemp(prefix="gammonfig-build-"), built.Count()
-        for name in ("build.sh", "build.py"):
-            os.makedirs(f"{self.folder}/bin", exist_ok=True)
-            shutil.copy(f"{built.ROOT}/bin/{name}", f"{self.folder}/bin/{name}")
-        self.write({"crates.txt": CRATES, "crates/low/src/lib.rt": LOW, "crates/app/src/main.rt": APP})
+    def __init__(self, count):
+        self.folder, self.count = tempfile.mkdtemp(prefix="gammonfig-build-"), count
+        shutil.copytree(f"{built.ROOT}/bin", f"{self.folder}/bin", ignore=shutil.ignore_patterns("__pycache__"))
+        shutil.copy(f"{built.ROOT}/gammonfig", f"{self.folder}/gammonfig")
+        self.write({"crates.txt": CRATES, "crates/low/src/lib.rt": LOW, "crates/gammonfig/src/main.rt": APP})
 
     def write(self, files):
         for name, text in files.items():
@@ -56,22 +57,25 @@ class Tests:
             with open(f"{self.folder}/{name}", "w") as file:
                 file.write(text)
 
-    def check(self, what, status, output, errors, log):
+    def check(self, what, status, output, errors, log, **environment):
         """The program is built where it has to be and runs: its status, its output, what is told, and the outcomes in the log."""
-        script = 'program=app; . "$1/bin/build.sh"; run_program'
-        environment = {**os.environ, "XDG_CACHE_HOME": f"{self.folder}/cache"}
-        ran = subprocess.run(["bash", "-c", script, "", self.folder], capture_output=True, text=True, env=environment, timeout=PATIENCE)
-        with open(f"{self.folder}/cache/gammonfig/app.log") as file:
+        environment = {**os.environ, "XDG_CACHE_HOME": f"{self.folder}/cache", **environment}
+        command = {"stdin": subprocess.DEVNULL, "capture_output": True, "text": True, "env": environment, "timeout": PATIENCE}
+        ran = subprocess.run([f"{self.folder}/gammonfig", "meta"], **command)
+        with open(f"{self.folder}/cache/gammonfig/build.log") as file:
             told = [it for it in file.read().splitlines() if it.endswith((" is proved", " is kept", " isn't proved"))]
         holds = (ran.returncode, ran.stdout, told) == (status, output, log) and all(it in ran.stderr for it in errors) and bool(errors) == bool(ran.stderr)
         self.count.check(holds, lambda: f"{what}: {ran}, {told}, wanted {(status, output, errors, log)}")
 
     def run(self):
         proving = ["the program is proved first", "proving: 2 of 2 crates left", "proving: 0 of 2 crates left"]
-        self.check("first", 0, "7\n", proving, ["low is proved", "app is proved"])
-        self.check("again", 0, "7\n", [], ["low is proved", "app is proved"])
-        self.write({"crates/app/src/main.rt": APP.replace("(6)", "(7)")})
-        self.check("another program", 0, "8\n", ["proving: 1 of 2 crates left"], ["low is kept", "app is proved"])
+        self.check("first", 0, "7\n", proving, ["low is proved", "gammonfig is proved"])
+        self.check("again", 0, "7\n", [], ["low is proved", "gammonfig is proved"])
+        self.write({"crates/gammonfig/src/main.rt": APP.replace("(6)", "(7)")})
+        self.check("another program", 0, "8\n", ["proving: 1 of 2 crates left"], ["low is kept", "gammonfig is proved"])
+        kept = ["low is kept", "gammonfig is proved"]
+        self.check("a trial", 0, "8\n", ["building gammonfig unproved"], kept, GAMMONFIG_TRY="1")
+        self.check("a trial again", 0, "8\n", ["a trial run: nothing of it is proved"], kept, GAMMONFIG_TRY="1")
         self.write({"crates/low/src/lib.rt": LOW.replace("{\n    number + 1", "{\n    number")})
         self.check("a wrong body", 1, "", ["the program isn't proved: the end of "], ["low isn't proved"])
         self.write({"crates/low/src/lib.rt": LOW})
@@ -79,10 +83,12 @@ class Tests:
 
 
 def main():
-    tests = Tests()
+    count = built.Count()
+    tests = Tests(count)
     tests.run()
     shutil.rmtree(tests.folder, ignore_errors=True)
-    tests.count.end()
+    Keeping(count).run()
+    count.end()
 
 
 if __name__ == "__main__":

@@ -6,7 +6,6 @@ standard error.
 Usage: tests/pages/run.py. The last line is `N passed, M failed`."""
 import os
 import re
-import shutil
 import subprocess
 import sys
 
@@ -43,7 +42,7 @@ def main():
             written = found.stdout + found.stderr
             count.check(written == wanted, lambda: f"{command}: {written!r}, and the page has {wanted!r}")
     count.check(count.passed >= 7, lambda: "the page has fewer commands than it had")
-    shutil.rmtree(place.folder, ignore_errors=True)
+    place.remove()
     count.end()
 
 

@@ -5,13 +5,13 @@ what reaches the program, what comes back, and what the wrapper says of its own 
 Usage: tests/wrapper/run.py. The last line is `N passed, M failed`."""
 import os
 import pty
-import shutil
 import sys
 
 sys.dont_write_bytecode = True
 sys.path.insert(0, os.path.dirname(os.path.dirname(os.path.abspath(__file__))))
 import built
 from place import Place
+from reading import Reading
 
 LAMP = """class Lamp {
     property int level notify changed(int);
@@ -220,7 +220,7 @@ class Tests:
 
     def built(self):
         """Where a program isn't built and there is no toolchain, a sentence says so."""
-        os.remove(f"{self.place.folder}/cache/gammonfig/gammonfig")
+        os.remove(self.place.programs["gammonfig"])
         self.check(["certify", "app.gf"], 1, "", "isn't built here yet")
         self.check(["--help"], 0, self.place.run(["-h"])[1])
 
@@ -228,8 +228,10 @@ class Tests:
 def main():
     tests = Tests()
     for part in ("files", "places", "refused", "input", "terminal", "graph", "session", "view", "verdict", "witness", "import_classes", "effects", "built"):
+        if part == "built":
+            Reading(tests.place, tests.count).run()
         getattr(tests, part)()
-    shutil.rmtree(tests.place.folder, ignore_errors=True)
+    tests.place.remove()
     tests.count.end()
 
 

@@ -1,0 +1,69 @@
+"""What a program says of a text and a line of it, with the file's name in place of the text's. A program knows its input alone,
+so it names texts, as `line 3 of the script`, and places in the input."""
+from __future__ import annotations
+
+import re
+
+Files = dict  # of the names of texts to the names of their files, as bytes
+
+LINE = re.compile(rb"[^\n]*\n|[^\n]+")
+PLACED = re.compile(rb"<stdin>:\d+:\d+: ")
+WARNED = re.compile(rb"<stdin>(:(?:\d+:\d+:)? warning: .*)", re.S)
+# The place behind a line that is PLACED.
+OWN = re.compile(rb" at line (\d+), column (\d+) of the ([a-z]+)\n?")
+BOTH = re.compile(rb" at line \d+, column \d+ of the input \(line (\d+), column (\d+) of the ([a-z]+)\)\n?")
+# What is said of a line of a text: the text, and the line's number and what follows it with a blank or a colon in front.
+LINES = [
+    (b"certificate", re.compile(rb"line (\d+) of the certificate(.*)", re.S), b""),
+    (b"script", re.compile(rb"(?:qt_tools: )?line (\d+) of the script,? (.*)", re.S), b": "),
+    (b"list", re.compile(rb"qt_tools: line (\d+) of the list of cycles:(.*)", re.S), b":"),
+    (b"effects", re.compile(rb"line (\d+) of the effects: (.*)", re.S), b": "),
+]
+NUMBERED = re.compile(rb"qt_tools: (text \d+), line (\d+), column (\d+):(.*)", re.S)
+
+
+class Naming:
+    """Takes what a program says, line by line, and gives it with the files' names."""
+
+    def __init__(self, files: Files):
+        self.files, self.first = files, b""
+
+    def line(self, line: bytes) -> bytes:
+        """What is to be said at this line, which has its newline. A line with a place waits for the one behind it."""
+        before, self.first = self.first, b""
+        if before:
+            own = OWN.fullmatch(line)
+            if own and own[3] in self.files:
+                return b"%s:%s:%s: " % (self.files[own[3]], own[1], own[2]) + before[PLACED.match(before).end() :]
+            return before + self.line(line)
+        if b"program" in self.files:
+            warned = WARNED.fullmatch(line)
+            if warned:
+                return self.files[b"program"] + warned[1]
+        if PLACED.match(line):
+            self.first = line
+            return b""
+        both = BOTH.fullmatch(line)
+        if both and both[3] in self.files:
+            return b" at %s:%s:%s\n" % (self.files[both[3]], both[1], both[2])
+        return self.named(line)
+
+    def named(self, line: bytes) -> bytes:
+        """A line that says which line of a text it speaks of."""
+        for text, form, between in LINES:
+            found = form.fullmatch(line)
+            if found and text in self.files:
+                return b"%s:%s%s%s" % (self.files[text], found[1], between, found[2])
+        found = NUMBERED.fullmatch(line)
+        if found and found[1] in self.files:
+            return b"%s:%s:%s:%s" % (self.files[found[1]], found[2], found[3], found[4])
+        return line
+
+    def end(self) -> bytes:
+        """What still waits when no line follows."""
+        before, self.first = self.first, b""
+        return before
+
+    def whole(self, text: bytes) -> bytes:
+        """All that a program said, with the files' names."""
+        return b"".join(map(self.line, LINE.findall(text))) + self.end()

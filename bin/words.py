@@ -1,0 +1,151 @@
+"""The words of the command line: one table of the commands, with their options, texts, exit statuses and an example. Usage,
+help, completion and the table of docs/commands.md are made from it, and words are taken apart by it."""
+from __future__ import annotations
+
+MOST_STEPS = 9223372036854775807
+MOST_NESTED = 256
+PROGRAM, TOOLS, VIEWER = "gammonfig", "qt_tools", "trace_view"
+# The front's own work, for which no program is run.
+FRONT = ""
+
+
+class Option:
+    """An option: its name, what stands for its value, and what it does. A value may be a number from 1 to `most`, or name the
+    file of a text. Options of one `group` exclude one another."""
+
+    def __init__(self, name: str, told: str, value: str = "", most: int = 0, text: str = "", group: str = "", repeats: bool = False):
+        self.name, self.told, self.value, self.most, self.text, self.group, self.repeats = name, told, value, most, text, group, repeats
+
+    def shown(self) -> str:
+        return f"{self.name} {self.value}" if self.value else self.name
+
+
+class Command:
+    """A command: its word, the program that does it, what it does, its options in the order in which the program takes them, the
+    numbers of texts that it takes (None: any number), and what they are."""
+
+    def __init__(self, word, program, told, example, options=(), texts=(), least=None, statuses=(), page="", many=False):
+        self.word, self.program, self.told, self.example, self.options = word, program, told, example, options
+        self.texts, self.least, self.statuses, self.page, self.many = texts, least, statuses, page, many
+
+    def option(self, name: str) -> Option | None:
+        return next((it for it in self.options if it.name == name), None)
+
+
+STEPS = Option("--steps", "the most rules that a run carries out, 1,000,000 without it", "M", MOST_STEPS)
+UNCHECKED = Option("--unchecked", "needs no certificate; at most N activations nest, from 1 to 256", "N", MOST_NESTED)
+USAGE = (1, "the words are no command, or something can't be read or written")
+REFUSED = (2, "a text is refused, or a file can't be read")
+INVALID = (3, "the certificate isn't valid")
+
+COMMANDS = [
+    Command("certify", PROGRAM, "the certificate of a program, or why it has none", "certify app.gf > app.gfc",
+            texts=("program",), statuses=((0, "a certificate is written"), USAGE, REFUSED, (3, "the program has no certificate")), page="docs/commands.md"),
+    Command("check", PROGRAM, "whether a certificate is valid: `yes`, or `no` and a number", "check app.gf app.gfc",
+            texts=("program", "certificate"), statuses=((0, "it is valid"), USAGE, REFUSED, INVALID), page="docs/certificate.md"),
+    Command("run", PROGRAM, "checks, then runs a script: the trace of each event", "run app.gf app.gfc session.gfs", (UNCHECKED, STEPS),
+            ("program", "certificate", "script"), statuses=((0, "the run took all events"), USAGE, REFUSED, INVALID, (4, "a fault stopped the run")), page="docs/commands.md"),
+    Command("session", TOOLS, "runs a script as a test of what its comments expect", "session app.gf app.gfc session.gfs",
+            (Option("--tap", "writes the outcomes as TAP"), UNCHECKED, STEPS), ("program", "certificate", "script"),
+            statuses=((0, "each event went as expected"), USAGE, REFUSED, INVALID, (5, "events went otherwise")), page="docs/session.md"),
+    Command("verdict", TOOLS, "all findings at once, with their places", "verdict app.gf",
+            (Option("--json", "as JSON", group="form"), Option("--sarif", "as SARIF", group="form"),
+             Option("--accept-all", "writes the list of all cycles, to be accepted", group="form"),
+             Option("--accept", "leaves out the cycles of this list", "LIST", text="list")),
+            ("program", "certificate"), 1, ((0, "no findings"), USAGE, REFUSED, (3, "there are findings")), "docs/verdict.md"),
+    Command("witness", TOOLS, "a script that shows why a program has no certificate", "witness app.gf > shows.gfs", texts=("program",),
+            statuses=((0, "a script is written"), USAGE, REFUSED, (3, "no script was found, or there is a certificate")), page="docs/witness.md"),
+    Command("view", TOOLS, "a trace, indented, with its script's lines", "view app.trace session.gfs",
+            (Option("--mermaid", "as a sequence diagram", group="form"), Option("--html", "as a page for a browser", group="form"),
+             Option("--color", "in colours, also where no terminal is", group="form"), Option("--plain", "without colours", group="form")),
+            ("trace", "script"), 1, ((0, "it is shown"), USAGE, (2, "a file can't be read")), "docs/traces.md"),
+    Command("meta", PROGRAM, "the classes of a program, with their members' numbers", "meta app.gf", texts=("program",),
+            statuses=((0, "the classes are written"), USAGE, REFUSED), page="docs/commands.md"),
+    Command("graph", TOOLS, "what may lead to what, as a picture", "graph app.gf | dot -Tsvg > app.svg",
+            (Option("--json", "as JSON, in place of Graphviz's language"), Option("--class", "these classes alone", "CLASS,..", repeats=True),
+             Option("--from", "what this member may lead to alone", "MEMBER", repeats=True)),
+            ("program",), statuses=((0, "it is drawn"), USAGE, REFUSED), page="docs/graph.md"),
+    Command("import", TOOLS, "classes from what `moc --output-json` writes of C++ headers", "import app.json > app.gf",
+            (Option("--only", "these classes and their bases alone", "CLASS,..", repeats=True),
+             Option("--lean", "of properties those alone that notify, that a slot writes, or that effects name"),
+             Option("--strict", "the exit status is 3 where anything was left out"),
+             Option("--effects", "what slots do, a slot a line: `Dialog.accept() sets result deletes preview`", "FILE", text="effects")),
+            ("JSON",), many=True, statuses=((0, "classes are written"), USAGE, REFUSED, (3, "with `--strict`: something was left out")), page="docs/import.md"),
+]  # fmt: skip
+
+
+class NoCommand(Exception):
+    """The words are no command line."""
+
+
+class Call:
+    """A command line that was taken apart: the command, the program's own words, and the files with the texts that they hold."""
+
+    def __init__(self, command: Command):
+        self.command, self.words, self.values, self.files, self.texts = command, [command.word], {}, [], []
+
+    def has(self, name: str) -> bool:
+        return name in self.values
+
+
+def command_of(word: str) -> Command | None:
+    return next((it for it in COMMANDS if it.word == word), None)
+
+
+def parse(words: list[str]) -> Call:
+    """Takes the words apart."""
+    command = command_of(words[0]) if words else None
+    if not command:
+        raise NoCommand
+    call, rest = Call(command), words[1:]
+    while rest and rest[0].startswith("-") and rest[0] != "-":
+        option = command.option(rest.pop(0))
+        if not option:
+            raise NoCommand
+        take(call, option, rest)
+    call.files = rest
+    call.texts = texts_of(call)
+    return call
+
+
+def take(call: Call, option: Option, rest: list[str]) -> None:
+    """Takes an option and its value. They stand in the order of the table, but where that says nothing."""
+    is_again = call.has(option.name) and not option.repeats
+    is_other = option.group and any(it.group == option.group and call.has(it.name) for it in call.command.options)
+    if is_again or is_other or is_late(call, option):
+        raise NoCommand
+    value = ""
+    if option.value:
+        if not rest or (option.most and not is_number(rest[0], option.most)) or (option.text and not rest[0]):
+            raise NoCommand
+        value = rest.pop(0)
+    call.values[option.name] = value
+    if not option.text:
+        call.words += [option.name, value] if option.value else [option.name]
+
+
+def is_late(call: Call, option: Option) -> bool:
+    """Whether a number stands before this option that the program takes behind it."""
+    place = call.command.options.index(option)
+    return any(call.has(it.name) for it in call.command.options[place + 1 :]) and any(it.most for it in call.command.options)
+
+
+def is_number(digits: str, most: int) -> bool:
+    """Whether these are decimal digits of a number from 1 to the given one; leading zeros are allowed."""
+    significant = digits.lstrip("0")
+    return digits.isascii() and digits.isdigit() and 0 < len(significant) <= len(str(most)) and int(significant) <= most
+
+
+def texts_of(call: Call) -> list[str]:
+    """What the files hold, a text each."""
+    command, count = call.command, len(call.files)
+    texts = [it for it in command.texts if it != "certificate" or not call.has(UNCHECKED.name)]
+    if command.many:
+        return [f"text {it + 1}" for it in range(count)]
+    if count > len(texts) or (0 < count < (command.least or len(texts))):
+        raise NoCommand
+    if call.has("--accept") and not count:
+        raise NoCommand
+    if command.word == "view" and count > 1 and call.has("--mermaid"):
+        raise NoCommand
+    return texts[:count]
