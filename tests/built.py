@@ -20,8 +20,9 @@ PATIENCE = 120
 # So large the stack of each run may grow, in bytes: twice what any of them was measured to need as LLVM builds the program.
 # Of the build by Rattle's own compiler it wasn't measured.
 STACK, OWN_STACK = 1 << 20, 4 << 20
-# After so many seconds no piece of work is begun any more.
-LIMIT = int(os.environ.get("LIMIT") or 140)
+# After so many seconds no piece of work is begun any more, and the driver fails: on a machine with nothing else to do all of it is
+# done in a fifth of them.
+LIMIT = int(os.environ.get("LIMIT") or 600)
 # How an explanation on standard error begins, which says what the output's last line is.
 EXPLAINED = re.compile(rb"(usage|memory|refused \d+|fault \d+|no \d+|no)\b")
 # What is told beside a yes: warnings, and but for runs how deep the chains go.
@@ -32,13 +33,12 @@ BESIDE_YES = re.compile(rb"(?:" + WARNED + rb")?(?:" + DEPTH + rb")?")
 TOLD = 20
 
 
-def builds(given):
-    """The paths of the programs to be tried: those that were given, or those that are built."""
-    found = [os.path.abspath(it) for it in given] or [it for it in BUILDS if os.path.isfile(it)]
-    if not found:
-        sys.exit(f"{BUILDS[0]} isn't there: run `rt ci` first")
-    if not given and len(found) < len(BUILDS):
-        print(f"note: {BUILDS[1]} isn't there, so only the other build is tried", flush=True)
+def builds(given, path=BUILDS[0]):
+    """The paths of the programs to be tried: those that were given, or else both builds of a program, which have to be there."""
+    found = [os.path.abspath(it) for it in given] or [path, f"{path}.by-rattle"]
+    for it in found:
+        if not os.path.isfile(it):
+            sys.exit(f"{it} isn't there: run `rt ci` first")
     return found
 
 
@@ -180,7 +180,7 @@ class Count:
 def spread(work, items):
     """Does `work(item, count)` for each of the items, over the processors, and gives what all of it counted. Each process
     has its own `work`, which keeps what it holds from item to item. Items that aren't begun within the limit are left out,
-    which is told."""
+    which is a failure."""
     count, left = Count(), 0
     with get_context("fork").Pool(len(os.sched_getaffinity(0)), _begin, (work, time.monotonic() + LIMIT)) as pool:
         for part in pool.imap_unordered(_counted, items):
@@ -188,8 +188,7 @@ def spread(work, items):
                 left += 1
             else:
                 count.add(part)
-    if left:
-        print(f"note: {left} of {len(items)} pieces of work weren't begun within {LIMIT} seconds", flush=True)
+    count.check(not left, lambda: f"{left} of {len(items)} pieces of work weren't begun within {LIMIT} seconds")
     return count
 
 

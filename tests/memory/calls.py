@@ -11,9 +11,7 @@ The first line of an answer is the call's word and how it was answered, what fol
 - of a command: what the sweep wants of a run.
 
 With no request refused the answer is the one that the program's stored output has."""
-import os
 import re
-import sys
 
 import built
 from fronts import rule_ends
@@ -101,19 +99,8 @@ def calls():
     crate = f"{built.ROOT}/crates/{PROGRAM}"
     stored = built.content(f"{crate}/stdout")
     parts = re.split(rb"^(?=\w+: (?:ample|status \d)$)", stored, flags=re.MULTILINE)[1:]
-    for program in builds(f"{crate}/out/{PROGRAM}"):
+    for program in built.builds([], f"{crate}/out/{PROGRAM}"):
         yield from ((program, Call(part.split(b":")[0], part)) for part in parts)
-
-
-def builds(path):
-    """What was built of a program: by LLVM, which has to be there, and by Rattle's own compiler."""
-    if not os.path.isfile(path):
-        sys.exit(f"{path} isn't there: run `rt ci` first")
-    own = f"{path}.by-rattle"
-    if not os.path.isfile(own):
-        print(f"note: {own} isn't there, so only the other build is tried", flush=True)
-        return [path]
-    return [path, own]
 
 
 class RefusedCalls:

@@ -23,7 +23,7 @@ import costs
 import sarif
 
 FOLDER = os.path.dirname(os.path.abspath(__file__))
-BUILDS = [it.replace("gammonfig", "qt_tools") for it in ("gammonfig/out/gammonfig", "gammonfig/out/gammonfig.by-rattle")]
+PROGRAM = f"{built.ROOT}/crates/qt_tools/out/qt_tools"
 
 
 SEED, DRAWN, JUDGED = 20260101, 100, 60
@@ -233,13 +233,12 @@ def changed_program(rng, text):
 
 def main():
     bench, count = built.Bench(), built.Count()
-    programs = [f"{built.ROOT}/crates/{it}" for it in BUILDS]
-    if not os.path.isfile(programs[0]):
-        sys.exit(f"{programs[0]} isn't there: run `rt ci` first")
+    built.builds([])
+    programs = built.builds([], PROGRAM)
     for name in sorted(it for it in os.listdir(FOLDER) if it.endswith(".cases")):
         for case in case_files.cases_of(f"{FOLDER}/{name}"):
             for words in case.words:
-                for program in filter(os.path.isfile, programs):
+                for program in programs:
                     found = bench.run(program, words, text_of(case))
                     wanted = (case.status, case.text("output") or b"", case.text("errors") or found.errors)
                     told = f"{name}, {case.title} {words}, {os.path.basename(program)}"
@@ -247,7 +246,7 @@ def main():
                     count.check(holds, lambda: f"{told}: {found}, wanted {wanted}")
     text = next(it for it in case_files.cases_of(f"{FOLDER}/import.cases") if "moc" in it.title).text("input")
     effects = case_files.cases_of(f"{FOLDER}/effects.cases")[0].text("input")
-    for program in filter(os.path.isfile, programs):
+    for program in programs:
         change(bench, count, program, text)
         change_effects(bench, count, program, effects)
         draw(bench, count, program)
