@@ -17,7 +17,7 @@ import time
 import sources
 from kit import Kit
 from store import Lock, Store, listed, remove
-from told import Fault
+from told import Fault, say
 
 # So many bytes are enough for a check: the largest crate's was measured to take 3,100 MB.
 ENOUGH = 5_000_000_000
@@ -77,10 +77,10 @@ def linker(crate: sources.Crate, kit: Kit, place: str) -> list[str]:
 class Check:
     """A crate's proof that is going on, in processes of its own, with what the prover says in a file."""
 
-    def __init__(self, crate: sources.Crate, jobs: int, command: list[str], made: str):
+    def __init__(self, crate: sources.Crate, jobs: int, command: list[str], made: str, environment: dict | None = None):
         self.crate, self.jobs, self.made = crate, jobs, made
         self.said = open(f"{made}.said", "w+", encoding="utf-8", errors="replace")  # noqa: SIM115
-        how = {"cwd": crate.folder, "stdin": subprocess.DEVNULL, "stdout": self.said, "stderr": subprocess.STDOUT}
+        how = {"cwd": crate.folder, "env": environment, "stdin": subprocess.DEVNULL, "stdout": self.said, "stderr": subprocess.STDOUT}
         self.process = subprocess.Popen(command, start_new_session=True, **how)
 
     def kill(self) -> None:
@@ -102,6 +102,7 @@ class Build:
         self.behind = behind(crates)
         self.left, self.running, self.failed, self.made = [], [], [], {}
         for it in crates:
+            go_on()
             if not it.is_program and store.has_crate(it.name, it.sum):
                 self.write(f"{it.name} is kept\n")
             else:
@@ -160,6 +161,7 @@ class Build:
         self.tell_progress()
         try:
             while self.running or self.left and not self.failed:
+                go_on()
                 if not self.failed:
                     self.begin()
                 ended = [it for it in self.running if it.process.poll() is not None]
@@ -203,11 +205,12 @@ def clear(store: Store, prefix: str) -> None:
             remove(os.path.join(store.folder, name))
 
 
-def build(root: str, programs: list[str], kit: Kit, store: Store, lock: Lock, say) -> dict[str, str]:
-    """Proves and builds the programs, over a copy of the sources as they are now, and puts each by the sum of that copy. Gives the
-    sums. The lock is this process's."""
+def build(root: str, programs: list[str], kit: Kit, store: Store, lock: Lock) -> None:
+    """Proves and builds the programs, over a copy of the sources as they are now, and puts each by the sum of that copy. The
+    lock is this process's."""
     clear(store, ROOM)
     log = os.path.join(store.folder, "build.log")
+    say(f"{', '.join(programs)}: proved crate by crate, which takes up to an hour where nothing is proved yet; {log} has the details")
     with open(log, "w", encoding="utf-8") as file, tempfile.TemporaryDirectory(prefix=ROOM, dir=store.folder) as room:
         crates = sources.crates_of(root, programs, kit.identity)
         for it in crates:
@@ -223,6 +226,7 @@ def build(root: str, programs: list[str], kit: Kit, store: Store, lock: Lock, sa
         if not made.run():
             raise Unproved(f"the program isn't proved: {why(store, log)}")
         for it in crates:
+            go_on()
             if it.is_program:
                 place = made.made[it.name]
                 if subprocess.run(linker(it, kit, place), stdin=subprocess.DEVNULL, stdout=file, stderr=file).returncode:
@@ -230,25 +234,29 @@ def build(root: str, programs: list[str], kit: Kit, store: Store, lock: Lock, sa
                 store.put("", it.name, it.sum, f"{place}/{it.name}")
     kept = {store.crate(it.name, it.sum) for it in crates} | {store.place("", it.name, it.sum) for it in crates}
     store.prune(kept)
-    return {it.name: it.sum for it in crates if it.is_program}
+
+
+# The signals that came to end this build.
+_told: list[int] = []
+
+
+def go_on() -> None:
+    """Ends the build where a signal came. It is asked where nothing is half done, so that no process is begun and forgotten."""
+    if _told:
+        raise Stopped(_told[0])
 
 
 @contextlib.contextmanager
 def stoppable():
-    """Signals that end a process come as `Stopped` here, once, so that what was begun is let go of."""
+    """Signals that end a process are noted meanwhile, for `go_on`."""
     numbers = (signal.SIGINT, signal.SIGTERM, signal.SIGHUP)
-
-    def stop(number: int, _) -> None:
-        for it in numbers:
-            signal.signal(it, signal.SIG_IGN)
-        raise Stopped(number)
-
     before = {it: signal.getsignal(it) for it in numbers}
     try:
         for it in numbers:
             if before[it] is not signal.SIG_IGN:
-                signal.signal(it, stop)
+                signal.signal(it, lambda number, _: _told.append(number))
         yield
+        go_on()
     finally:
         for it, action in before.items():
             signal.signal(it, action)

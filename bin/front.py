@@ -46,13 +46,17 @@ class Front:
 
     def __init__(self, root: str):
         self.root, self.streams = root, Streams()
-        self.tries = os.environ.get("GAMMONFIG_TRY", "") not in ("", "0")
+        self.tries = is_set("GAMMONFIG_TRY")
 
     def run(self, given: list[str]) -> None:
         if len(given) == 1 and given[0] in ("--help", "-h", "help"):
             return self.help()
         if given == ["--version"]:
             return self.version()
+        if given in (["prove"], ["status"]):
+            import making
+
+            return making.prove(self.root) if given == ["prove"] else self.streams.write_output(making.status(self.root, VERSION).encode())
         if len(given) == 2 and given[0] == "import" and given[1] in ("--help", "-h"):
             return self.import_help()
         try:
@@ -70,10 +74,12 @@ class Front:
         self.streams.write_output(pages().IMPORT_HELP.encode())
 
     def version(self) -> None:
-        proved = f"proved with {kit.identity().split()[0]}"
-        if self.tries:
-            proved = "a trial run, which isn't proved"
-        self.streams.write_output(f"{NAME} {VERSION}, {proved}\n".encode())
+        place, identity = store.Store(), kit.identity()
+        if self.tries or not place.program("", NAME, sources.sum_of(self.root, NAME, identity)):
+            told = f"not proved here: `{NAME} prove` proves it" if not self.tries else "a trial run, which isn't proved"
+        else:
+            told = f"proved with {identity.split()[0]}"
+        self.streams.write_output(f"{NAME} {VERSION}, {told}\n".encode())
 
     def usage(self, given: list[str]) -> None:
         write_to(1, b"usage\n")
@@ -96,20 +102,29 @@ class Front:
         running.run(self, path, own + given.words, given, call)
 
     def program(self, name: str) -> str:
-        """Where the program stands that is made from these very sources. It is built first where it has to be."""
-        if self.tries:
-            say("a trial run: nothing of it is proved")
-            return self.made(store.UNPROVED, name)
-        return self.made("", name)
-
-    def made(self, kind: str, name: str) -> str:
+        """Where the program stands that is made from these very sources: the proved one, or else the unproved one, which is built
+        where it isn't there."""
         place, identity = store.Store(), kit.identity()
-        found = place.program(kind, name, sources.sum_of(self.root, name, identity))
+        total = sources.sum_of(self.root, name, identity)
+        found = None if self.tries else place.program("", name, total)
         if found:
             return found
-        import making
+        if is_set("GAMMONFIG_PROVED"):
+            raise Fault(f"the program isn't proved here, and GAMMONFIG_PROVED lets no other answer: `{NAME} prove` proves it")
+        found = place.program(store.UNPROVED, name, total)
+        if not found:
+            import making
 
-        return making.make(self.root, kind, name, place, say)
+            found = making.make(self.root, name, place)
+        beside = store.Lock(place, store.BUILDING).going_on()
+        beside = f"it is being proved ({beside})" if beside else f"`{NAME} prove` proves it"
+        say(f"this answer is of the unproved build, which is checked as it runs: {beside}")
+        return found
+
+
+def is_set(name: str) -> bool:
+    """Whether a variable of the environment asks for something: 0 asks for nothing."""
+    return os.environ.get(name, "") not in ("", "0")
 
 
 def viewed(call: words.Call) -> tuple[str, list[str]]:

@@ -1,6 +1,8 @@
-"""Sees to it that a program is built: waits for another build, builds, and looks whether the sources are still those."""
+"""Sees to it that programs are built: waits for another build, builds, and looks whether the sources are still those. And says what
+stands."""
 from __future__ import annotations
 
+import contextlib
 import errno
 import os
 import signal
@@ -9,8 +11,11 @@ import time
 import build
 import kit
 import sources
-from store import UNPROVED, Lock, Store
+from store import BUILDING, UNPROVED, Lock, Store, size_of
+from told import NAME, say
 
+# All that a user has.
+PROGRAMS = ["gammonfig", "qt_tools", "trace_view"]
 # How often, in seconds, it is told that another build is waited for.
 QUIET = 30
 
@@ -18,26 +23,25 @@ QUIET = 30
 class Waiting:
     """Tells that another build is waited for: at once, and then now and again."""
 
-    def __init__(self, say):
-        self.say, self.told = say, None
+    def __init__(self):
+        self.told = None
 
     def __call__(self, progress: dict) -> None:
+        build.go_on()
         if self.told is None or time.monotonic() - self.told >= QUIET:
             self.told = time.monotonic()
-            self.say(f"waiting for another build, {progress.get('told', 'which has just begun')}")
+            say(f"waiting for another build, {progress.get('told', 'which has just begun')}")
 
 
-def make(root: str, kind: str, name: str, store: Store, say) -> str:
-    """Builds the program, and gives where it stands. Where the sources change meanwhile it is built again."""
-    found = kit.kit()
+@contextlib.contextmanager
+def building(store: Store, name: str):
+    """The right to build, while which signals let go of what was begun."""
+    lock = Lock(store, name)
     try:
         with build.stoppable():
-            lock = Lock(store, UNPROVED if kind else "build")
             try:
-                lock.take(Waiting(say))
-                while not (path := store.program(kind, name, sources.sum_of(root, name, found.identity))):
-                    once(root, kind, name, found, store, lock, say)
-                return path
+                lock.take(Waiting())
+                yield lock
             finally:
                 lock.drop()
     except OSError as fault:
@@ -51,12 +55,38 @@ def make(root: str, kind: str, name: str, store: Store, say) -> str:
         raise
 
 
-def once(root: str, kind: str, name: str, found: kit.Kit, store: Store, lock: Lock, say) -> None:
-    if kind:
-        import trial
+def make(root: str, name: str, store: Store) -> str:
+    """Builds the program unproved, and gives where it stands. Where the sources change meanwhile it is built again."""
+    import trial
 
-        trial.build(root, name, found, store, lock, say)
-    else:
-        log = os.path.join(store.folder, "build.log")
-        say(f"the program is proved first, crate by crate, which takes up to an hour where nothing is proved yet; {log} has the details")
-        build.build(root, [name], found, store, lock, say)
+    found = kit.kit()
+    with building(store, UNPROVED) as lock:
+        while not (path := store.program(UNPROVED, name, sources.sum_of(root, name, found.identity))):
+            trial.build(root, name, found, store, lock)
+        return path
+
+
+def prove(root: str) -> None:
+    """Proves and builds all that a user has, in one build."""
+    found, store = kit.kit(), Store()
+    with building(store, BUILDING) as lock:
+        while left := [it for it in PROGRAMS if not store.program("", it, sources.sum_of(root, it, found.identity))]:
+            build.build(root, left, found, store, lock)
+    say("all of it is proved, and the proved programs answer")
+
+
+def status(root: str, version: str) -> str:
+    """Which programs stand for these sources, where, and how large they are."""
+    store, identity = Store(), kit.identity()
+    lines = [f"{NAME} {version}, for the kit {identity}"]
+    for name in PROGRAMS:
+        total = sources.sum_of(root, name, identity)
+        for kind, told in ("", "proved"), (UNPROVED, "unproved"):
+            path = store.program(kind, name, total)
+            lines.append(f"{name}: {told}, {path}, {os.path.getsize(path):,} bytes" if path else f"{name}: not {'proved' if not kind else 'built unproved'}")
+    kept = sum(size_of(path) for _, path in store.entries())
+    lines.append(f"{store.folder}: {kept:,} bytes are kept in all")
+    for name in (BUILDING, UNPROVED):
+        at = Lock(store, name).going_on()
+        lines += [f"a build is going on: {at}"] if at else []
+    return "\n".join(lines) + "\n"

@@ -25,7 +25,8 @@ come to depend on itself, or an object be destroyed while one of its own slots r
 options of `run`, and before them `--tap`. Without files the
 texts come from standard input, with a line `%%` between two of them: ./gammonfig run < examples/checked.txt.
 GAMMONFIG_EXPLAIN=1 tells after a run why events were refused.
-GAMMONFIG_TRY=1 runs the program unproved, for a first look.
+./gammonfig prove proves and builds the programs; until then an unproved one answers, which is built in a minute or two.
+./gammonfig status says which of them stand. GAMMONFIG_PROVED=1 lets no unproved one answer, GAMMONFIG_TRY=1 no other.
 
 README.md has a first run. The pages: docs/language.md (programs and scripts), docs/commands.md (commands, refusals and
 faults), docs/certificate.md, docs/qt.md (what a Qt author will notice); all of them are listed in README.md.

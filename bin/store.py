@@ -16,6 +16,8 @@ MOST_BYTES = 20_000_000_000
 # How often, in seconds, the use of a program is noted.
 NOTED = 24 * 3600
 CRATES, UNPROVED = "proved", "unproved"
+# The right to prove, beside the one to build an unproved program, which is called as those are.
+BUILDING = "build"
 # Where wrappers before this one kept proved crates, which nothing reads any more.
 OLD_CRATES = "crates"
 # What the sum of a kept folder is called in it.
@@ -183,6 +185,9 @@ class Store:
                 remove(f"{path}.sha256")
             else:
                 found.append((age, size, kind, path))
+        for path in self.left():
+            if now - os.lstat(path).st_mtime > NOTED:
+                remove(path)
         total = sum(size for _, size, _, _ in found)
         for _, size, kind, path in sorted(found, reverse=True):
             if total > most_bytes and kind in (CRATES, OLD_CRATES) and path not in kept:
@@ -191,14 +196,21 @@ class Store:
 
     def entries(self):
         """All that is kept, each with its kind: the programs, and the proved crates."""
+        return ((kind, path) for kind, path in self.all() if len(os.path.basename(path)) == 64)
+
+    def left(self):
+        """What was being written or removed when a build was killed."""
+        return [path for _, path in self.all() if len(os.path.basename(path).removesuffix(".sha256")) != 64]
+
+    def all(self):
+        """All that stands where programs and crates are kept, each with its kind."""
         kinds = (UNPROVED, CRATES, OLD_CRATES)
         for kind in ("", *kinds):
             for name in listed(os.path.join(self.folder, kind)):
                 at = os.path.join(self.folder, kind, name)
                 if kind or name not in kinds:
-                    for total in listed(at):
-                        if len(total) == 64:
-                            yield kind, os.path.join(at, total)
+                    for it in listed(at):
+                        yield kind, os.path.join(at, it)
 
 
 def listed(path: str) -> list[str]:
@@ -252,6 +264,11 @@ class Lock:
                 return json.load(file)
         except (OSError, ValueError):
             return {}
+
+    def going_on(self) -> str:
+        """What another process's build is at, or nothing."""
+        found = self.progress()
+        return found.get("told", "") if os.path.isdir(f"/proc/{found.get('process', 'none')}") else ""
 
     def drop(self) -> None:
         if self.file >= 0:
