@@ -49,29 +49,35 @@ class Front:
         self.tries = is_set("GAMMONFIG_TRY")
 
     def run(self, given: list[str]) -> None:
-        if len(given) == 1 and given[0] in ("--help", "-h", "help"):
-            return self.help()
+        if given in (["--help"], ["-h"], ["help"]):
+            return self.write(pages().help_text())
         if given == ["--version"]:
             return self.version()
-        if given in (["prove"], ["status"]):
-            import making
-
-            return making.prove(self.root) if given == ["prove"] else self.streams.write_output(making.status(self.root, VERSION).encode())
-        if len(given) == 2 and given[0] == "import" and given[1] in ("--help", "-h"):
-            return self.import_help()
+        if len(given) == 2 and (given[0] == "help" or given[1] in ("--help", "-h")):
+            command = words.command_of(given[0] if given[1] in ("--help", "-h") else given[1])
+            return self.write(pages().command_help(command)) if command else self.usage(given)
         try:
             call = words.parse(given)
         except words.NoCommand:
             return self.usage(given)
-        return self.do(call)
+        return self.do(call) if call.command.program else self.do_here(call, given)
 
-    # ---- what the front answers itself
+    # ---- what the front does itself
 
-    def help(self) -> None:
-        self.streams.write_output(pages().HELP.encode())
+    def write(self, text: str) -> None:
+        self.streams.write_output(text.encode())
 
-    def import_help(self) -> None:
-        self.streams.write_output(pages().IMPORT_HELP.encode())
+    def do_here(self, call: words.Call, given: list[str]) -> None:
+        import making
+
+        word, rest = call.command.word, call.files
+        if word == "prove" and not rest:
+            return making.prove(self.root)
+        if word == "status" and not rest:
+            return self.write(making.status(self.root, VERSION))
+        if word == "completion" and rest in (["bash"], ["zsh"]):
+            return self.write(pages().completion(rest[0]))
+        return self.usage(given)
 
     def version(self) -> None:
         place, identity = store.Store(), kit.identity()
@@ -82,10 +88,12 @@ class Front:
         self.streams.write_output(f"{NAME} {VERSION}, {told}\n".encode())
 
     def usage(self, given: list[str]) -> None:
+        """What is no command is told by a line on standard output, as the programs tell it, and its right form on standard error."""
         write_to(1, b"usage\n")
+        command = words.command_of(given[0]) if given else None
         if given:
             say("this is no command: " + " ".join(map(texts.shown, given)))
-        write_to(2, pages().HELP.encode())
+        write_to(2, (pages().usage(command) if command else pages().help_text()).encode())
         raise Ended(1)
 
     # ---- commands

@@ -1,50 +1,138 @@
-"""What is said to who asks for help."""
+#!/usr/bin/env python3
+"""What is said to who asks for help, and what completes words in a shell: all of it made from the table of commands.
+
+Usage: bin/pages.py writes the table of docs/commands.md."""
 from __future__ import annotations
 
-HELP = """\
-gammonfig: a runtime of signals and slots with a connection checker, after Qt 6.
+import textwrap
+
+from words import COMMANDS, DONE, FRONT, REFUSED, USAGE, Command
+
+WIDTH = 120
+ABOUT = """gammonfig: a runtime of signals and slots with a connection checker, after Qt 6.
 It tells from class declarations, before anything runs, whether a chain of direct calls can grow without end, a binding
 come to depend on itself, or an object be destroyed while one of its own slots runs; and it runs scripts on these classes.
-
-  ./gammonfig certify app.gf                          the certificate of a program, or why it has none
-  ./gammonfig check app.gf app.gfc                    whether a certificate is valid: `yes`, or `no` and a number
-  ./gammonfig run app.gf app.gfc session.gfs          checks, then runs the script: the trace of each event
-  ./gammonfig run --unchecked 256 app.gf session.gfs  runs without a certificate; at most 256 activations nest
-  ./gammonfig session app.gf app.gfc session.gfs      runs a script as a test of what its comments expect (docs/session.md)
-  ./gammonfig verdict app.gf                          all findings at once; --json, --sarif, --accept LIST (docs/verdict.md)
-  ./gammonfig witness app.gf                          a script that shows why a program has no certificate (docs/witness.md)
-  ./gammonfig view app.trace session.gfs              a trace, indented, each event with its line of the script
-  ./gammonfig view --mermaid app.trace                a trace as a sequence diagram
-  ./gammonfig view --html app.trace session.gfs       a trace as a page for a browser; the script may be left out
-  ./gammonfig meta app.gf                             the classes of a program, with their members' numbers
-  ./gammonfig graph app.gf | dot -Tsvg > app.svg      what may lead to what, as a picture (docs/graph.md)
-  ./gammonfig import app.json > app.gf                classes from what `moc --output-json` writes (docs/import.md)
-
-`import` takes options, among them `--effects FILE`: ./gammonfig import --help has them.
-`run` also takes `--steps N`, the most rules that it carries out, as its last option before the files. `session` takes the
-options of `run`, and before them `--tap`. Without files the
-texts come from standard input, with a line `%%` between two of them: ./gammonfig run < examples/checked.txt.
-GAMMONFIG_EXPLAIN=1 tells after a run why events were refused.
-./gammonfig prove proves and builds the programs; until then an unproved one answers, which is built in a minute or two.
-./gammonfig status says which of them stand. GAMMONFIG_PROVED=1 lets no unproved one answer, GAMMONFIG_TRY=1 no other.
+"""
+MORE = """`./gammonfig help WORD` has the options of each. Without files the texts come from standard input, with a line `%%` between
+two of them: ./gammonfig run < examples/checked.txt. A file named `-` is standard input.
+GAMMONFIG_EXPLAIN=1 in the environment tells after a run why events were refused. Until `./gammonfig prove` is done an
+unproved program answers, which is built in a minute or two; GAMMONFIG_PROVED=1 lets none of that kind answer,
+GAMMONFIG_TRY=1 no other.
 
 README.md has a first run. The pages: docs/language.md (programs and scripts), docs/commands.md (commands, refusals and
-faults), docs/certificate.md, docs/qt.md (what a Qt author will notice); all of them are listed in README.md.
+faults), docs/certificate.md, docs/qt.md (what a Qt author will notice); all of them are listed in docs/README.md.
 """
-IMPORT_HELP = """\
-./gammonfig import [--only CLASS,..] [--lean] [--strict] [--effects FILE] [FILE..]
-Writes class declarations for what Qt's meta-object compiler writes of C++ headers: what `moc --output-json` writes, what
-`moc --collect-json` puts together, or the files qt6*_metatypes.json that Qt installs. Without files the JSON comes from
-standard input. Standard error has how much was imported, how much was left out, and how many bodies aren't known.
 
-  --only CLASS,..  these classes and their bases alone
-  --lean           of properties those alone that notify, that a slot writes, or that effects name
-  --strict         the exit status is 3 where anything was left out
-  --effects FILE   what slots do, a slot a line: the imported slots get such bodies, and slots that aren't there are added
 
-    // Effects: a button that can be pressed, and a dialog that answers.
-    QAbstractButton.press() emits pressed(), clicked(bool)
-    Dialog.accept() sets result calls parent.refresh deletes preview
+def rows(pairs, indent: str = "  ") -> str:
+    """Two columns, the second one wrapped."""
+    pairs = list(pairs)
+    width = max((len(first) for first, _ in pairs), default=0) + 2
+    made = []
+    for first, second in pairs:
+        lines = textwrap.wrap(second, WIDTH - width - len(indent)) or [""]
+        made.append(f"{indent}{first:{width}}{lines[0]}")
+        made += [indent + " " * width + it for it in lines[1:]]
+    return "".join(f"{it.rstrip()}\n" for it in made)
 
-docs/import.md has what is written, what is left out, and the effects.
+
+def help_text() -> str:
+    return f"{ABOUT}\n{rows((f'./gammonfig {it.example}', it.told) for it in COMMANDS)}\n{MORE}"
+
+
+def form(command: Command) -> str:
+    """The command line of a command."""
+    parts = ["./gammonfig", command.word, *(f"[{it.shown()}]" for it in command.options)]
+    if command.many:
+        parts.append("[FILE..]")
+    elif command.texts:
+        least = len(command.texts) if command.least is None else command.least
+        names = [it.upper() for it in command.texts]
+        behind = "".join(f" [{it}" for it in names[least:]) + "]" * len(names[least:])
+        parts.append(f"[{' '.join(names[:least])}{behind}]")
+    return " ".join(parts)
+
+
+def usage(command: Command) -> str:
+    return f"usage: {form(command)}\n`./gammonfig help {command.word}` says more\n"
+
+
+def command_help(command: Command) -> str:
+    made = f"{form(command)}\n{command.told[0].upper()}{command.told[1:]}.\n"
+    if command.options:
+        made += "\n" + rows((it.shown(), it.told) for it in command.options)
+    if command.program != FRONT:
+        held = "JSON, any number of them" if command.many else ", ".join(f"{'a'} {it}" for it in command.texts)
+        made += f"\nTexts: {held}, a file each; `-` is standard input. Without files they come\nfrom standard input, with a line `%%` between two of them.\n"
+    made += f"\n{command.more}" if command.more else ""
+    made += "\nExit status:\n" + rows((str(status), told) for status, told in command.statuses)
+    return made + f"\nExample: ./gammonfig {command.example}\nMore: {command.page}\n"
+
+
+def table() -> str:
+    """The table of docs/commands.md."""
+    lines = ["| command line | what it does | exit status | page |", "|---|---|---|---|"]
+    for it in COMMANDS:
+        statuses = "; ".join(f"{status}: {told}" for status, told in it.statuses if (status, told) not in (USAGE, REFUSED, *DONE))
+        page = it.page.removeprefix("docs/")
+        lines.append(f"| `{form(it).removeprefix('./gammonfig ')}` | {it.told} | {statuses} | [{page}]({page}) |".replace("[commands.md](commands.md)", "this one"))
+    return "\n".join(lines) + "\n"
+
+
+def completion(shell: str) -> str:
+    return bash() if shell == "bash" else zsh()
+
+
+def bash() -> str:
+    """For bash: words, then the options of a word, then files."""
+    words = " ".join(it.word for it in COMMANDS)
+    cases = "".join(f'        {it.word}) options="{" ".join(["--help", *(option.name for option in it.options)])}" ;;\n' for it in COMMANDS)
+    return f"""# Completes the words of gammonfig: source <(gammonfig completion bash)
+_gammonfig() {{
+    local word=${{COMP_WORDS[COMP_CWORD]}} options=
+    if [ "$COMP_CWORD" -eq 1 ] || {{ [ "$COMP_CWORD" -eq 2 ] && [ "${{COMP_WORDS[1]}}" = help ]; }}; then
+        mapfile -t COMPREPLY < <(compgen -W "{words} --help --version" -- "$word")
+        return
+    fi
+    case ${{COMP_WORDS[1]}} in
+{cases}    esac
+    [ "${{COMP_WORDS[1]}}" != completion ] || options="bash zsh"
+    case $word,${{COMP_WORDS[1]}} in
+        -*,* | *,completion) mapfile -t COMPREPLY < <(compgen -W "$options" -- "$word") ;;
+        *) mapfile -t COMPREPLY < <(compgen -f -- "$word") ;;
+    esac
+}}
+complete -o filenames -F _gammonfig gammonfig ./gammonfig
 """
+
+
+def zsh() -> str:
+    """For zsh, with what each word and option does."""
+
+    def plain(text: str) -> str:
+        return "".join(f"\\{it}" if it in "[]:\\" else "'\\''" if it == "'" else it for it in text)
+
+    commands = "\n".join(f"    '{it.word}:{plain(it.told)}'" for it in COMMANDS)
+    cases = ""
+    for it in COMMANDS:
+        options = "".join(f" '{'*' if option.repeats else ''}{option.name}[{plain(option.told)}]{f':{plain(option.value)}:' if option.value else ''}{'_files' if option.text else ''}'" for option in it.options)
+        cases += f"    {it.word}) _arguments{options} '*:file:_files' ;;\n"
+    return f"""#compdef gammonfig ./gammonfig
+# Completes the words of gammonfig: a file _gammonfig in a folder of $fpath
+local -a commands
+commands=(
+{commands}
+)
+if (( CURRENT == 2 )); then
+    _describe command commands
+    return
+fi
+shift words
+(( CURRENT-- ))
+case $words[1] in
+{cases}esac
+"""
+
+
+if __name__ == "__main__":
+    print(table(), end="")

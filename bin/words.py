@@ -21,12 +21,13 @@ class Option:
 
 
 class Command:
-    """A command: its word, the program that does it, what it does, its options in the order in which the program takes them, the
-    numbers of texts that it takes (None: any number), and what they are."""
+    """A command: its word, the program that does it, what it does, an example, its options in the order in which the program takes
+    them, what its texts are, how many of them there are at least (None: all), whether any number of them is taken, what else is
+    to be said, and the page that says more. Of a command that the front does itself the texts are words."""
 
-    def __init__(self, word, program, told, example, options=(), texts=(), least=None, statuses=(), page="", many=False):
+    def __init__(self, word, program, told, example, options=(), texts=(), least=None, statuses=(), page="", many=False, more=""):
         self.word, self.program, self.told, self.example, self.options = word, program, told, example, options
-        self.texts, self.least, self.statuses, self.page, self.many = texts, least, statuses, page, many
+        self.texts, self.least, self.statuses, self.page, self.many, self.more = texts, least, statuses, page, many, more
 
     def option(self, name: str) -> Option | None:
         return next((it for it in self.options if it.name == name), None)
@@ -37,6 +38,14 @@ UNCHECKED = Option("--unchecked", "needs no certificate; at most N activations n
 USAGE = (1, "the words are no command, or something can't be read or written")
 REFUSED = (2, "a text is refused, or a file can't be read")
 INVALID = (3, "the certificate isn't valid")
+
+DONE = ((0, "it is done"), (1, "it can't be done"))
+EFFECTS = """Effects are a slot a line:
+
+    // Effects: a button that can be pressed, and a dialog that answers.
+    QAbstractButton.press() emits pressed(), clicked(bool)
+    Dialog.accept() sets result calls parent.refresh deletes preview
+"""
 
 COMMANDS = [
     Command("certify", PROGRAM, "the certificate of a program, or why it has none", "certify app.gf > app.gfc",
@@ -70,7 +79,11 @@ COMMANDS = [
              Option("--lean", "of properties those alone that notify, that a slot writes, or that effects name"),
              Option("--strict", "the exit status is 3 where anything was left out"),
              Option("--effects", "what slots do, a slot a line: `Dialog.accept() sets result deletes preview`", "FILE", text="effects")),
-            ("JSON",), many=True, statuses=((0, "classes are written"), USAGE, REFUSED, (3, "with `--strict`: something was left out")), page="docs/import.md"),
+            ("JSON",), many=True, statuses=((0, "classes are written"), USAGE, REFUSED, (3, "with `--strict`: something was left out")), page="docs/import.md", more=EFFECTS),
+    Command("prove", FRONT, "proves and builds the programs, in one build", "prove", statuses=DONE, page="docs/commands.md"),
+    Command("status", FRONT, "which programs stand, where, and how large they are", "status", statuses=DONE, page="docs/commands.md"),
+    Command("help", FRONT, "what a word does, and its options", "help run", texts=("WORD",), statuses=DONE, page="docs/commands.md"),
+    Command("completion", FRONT, "what a shell needs to complete words: `bash` or `zsh`", "completion bash", texts=("SHELL",), statuses=DONE, page="docs/commands.md"),
 ]  # fmt: skip
 
 
