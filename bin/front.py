@@ -47,6 +47,8 @@ class Front:
     def __init__(self, root: str):
         self.root, self.streams = root, Streams()
         self.tries = is_set("GAMMONFIG_TRY")
+        # An installed wrapper has its programs beside it, and no sources.
+        self.is_installed = os.path.isfile(f"{root}/programs/kit")
 
     def run(self, given: list[str]) -> None:
         if given in (["--help"], ["-h"], ["help"]):
@@ -71,15 +73,25 @@ class Front:
         import making
 
         word, rest = call.command.word, call.files
+        if self.is_installed and word in ("prove", "status") and not rest:
+            raise Fault(f"this is an installed {NAME}: its programs are proved, and stand in {self.root}/programs")
         if word == "prove" and not rest:
             return making.prove(self.root)
         if word == "status" and not rest:
             return self.write(making.status(self.root, VERSION))
+        if word == "install" and len(rest) == 1 and rest[0]:
+            import installing
+
+            return installing.install(self.root, rest[0])
         if word == "completion" and rest in (["bash"], ["zsh"]):
             return self.write(pages().completion(rest[0]))
         return self.usage(given)
 
     def version(self) -> None:
+        if self.is_installed:
+            import installing
+
+            return self.write(f"{NAME} {VERSION}, proved with {installing.identity(self.root).split()[0]}\n")
         place, identity = store.Store(), kit.identity()
         if self.tries or not place.program("", NAME, sources.sum_of(self.root, NAME, identity)):
             told = f"not proved here: `{NAME} prove` proves it" if not self.tries else "a trial run, which isn't proved"
@@ -112,6 +124,10 @@ class Front:
     def program(self, name: str) -> str:
         """Where the program stands that is made from these very sources: the proved one, or else the unproved one, which is built
         where it isn't there."""
+        if self.is_installed:
+            import installing
+
+            return installing.program(self.root, name)
         place, identity = store.Store(), kit.identity()
         total = sources.sum_of(self.root, name, identity)
         found = None if self.tries else place.program("", name, total)

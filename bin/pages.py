@@ -48,8 +48,10 @@ def form(command: Command) -> str:
     elif command.texts:
         least = len(command.texts) if command.least is None else command.least
         names = [it.upper() for it in command.texts]
-        behind = "".join(f" [{it}" for it in names[least:]) + "]" * len(names[least:])
-        parts.append(f"[{' '.join(names[:least])}{behind}]")
+        behind = " ".join(f"[{it}" for it in names[least:]) + "]" * len(names[least:])
+        whole = " ".join(it for it in (" ".join(names[:least]), behind) if it)
+        # Texts may come from standard input in place of all files.
+        parts.append(whole if command.program == FRONT else f"[{whole}]")
     return " ".join(parts)
 
 

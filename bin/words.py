@@ -82,7 +82,9 @@ COMMANDS = [
             ("JSON",), many=True, statuses=((0, "classes are written"), USAGE, REFUSED, (3, "with `--strict`: something was left out")), page="docs/import.md", more=EFFECTS),
     Command("prove", FRONT, "proves and builds the programs, in one build", "prove", statuses=DONE, page="docs/commands.md"),
     Command("status", FRONT, "which programs stand, where, and how large they are", "status", statuses=DONE, page="docs/commands.md"),
-    Command("help", FRONT, "what a word does, and its options", "help run", texts=("WORD",), statuses=DONE, page="docs/commands.md"),
+    Command("install", FRONT, "copies the proved programs, the wrapper, the pages and completions below a folder", "install ~/.local", texts=("PREFIX",),
+            statuses=DONE, page="docs/commands.md"),
+    Command("help", FRONT, "what a word does, and its options", "help run", texts=("WORD",), least=0, statuses=DONE, page="docs/commands.md"),
     Command("completion", FRONT, "what a shell needs to complete words: `bash` or `zsh`", "completion bash", texts=("SHELL",), statuses=DONE, page="docs/commands.md"),
 ]  # fmt: skip
 

@@ -42,7 +42,7 @@ class Place:
         command = [program] if program else [f"{built.ROOT}/gammonfig"]
         given = {"input": text if isinstance(text, bytes) else text.encode()} if isinstance(text, (str, bytes)) else {"stdin": text or subprocess.DEVNULL}
         how = {"cwd": self.folder, "env": self.environment, "stdout": subprocess.PIPE, "stderr": subprocess.PIPE, **given, **how}
-        found = subprocess.run(command + words, timeout=built.PATIENCE, **how)
+        found = subprocess.run([*command, *words], timeout=built.PATIENCE, **how)
         return found.returncode, (found.stdout or b"").decode(), (found.stderr or b"").decode()
 
     def remove(self):

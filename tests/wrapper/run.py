@@ -218,6 +218,39 @@ class Tests:
         for words in (["--effects"], ["--effects", ""], ["--effects", "a.effects", "--effects", "b.effects"], ["--lean", "--help"]):
             self.check(["import", *words], 1, USAGE, "this is no command")
 
+    def install(self):
+        """What is installed works from any folder, by a link, without the sources and without a kit."""
+        place, prefix = self.place, f"{self.place.folder}/an installed one"
+        found = place.run(["install", prefix])
+        self.count.check(found[:2] == (0, "") and f"installed: {prefix}/bin/gammonfig" in found[2], lambda: f"install: {found}")
+        os.symlink(f"{prefix}/bin/gammonfig", f"{place.folder}/linked")
+        environment = {"PATH": f"{prefix}/bin:{place.environment['PATH']}", "HOME": f"{place.folder}/nobody"}
+        for command in f"{prefix}/bin/gammonfig", f"{place.folder}/linked", "gammonfig":
+            for words in (["check", "app.gf", "app.gfc"], ["verdict", "cycle.gf"], ["run", "app.gf", "app.gfc", "wrong.gfs"], ["view", "trace"]):
+                wanted, found = place.run(words), place.run(words, program=command, env=environment)
+                self.count.check(found == wanted, lambda: f"installed {command} {words}: {found}, wanted {wanted}")
+        found = place.run(["--version"], program="gammonfig", env=environment)
+        self.count.check(found == (0, "gammonfig 0.1.0, proved with rattle-kit-13f\n", ""), lambda: f"installed --version: {found}")
+        self.count.check(not os.path.exists(f"{place.folder}/nobody"), lambda: "an installed wrapper needs a cache")
+        for name in ("share/bash-completion/completions/gammonfig", "share/zsh/site-functions/_gammonfig", "share/doc/gammonfig/docs/commands.md", "bin/trace_view"):
+            self.count.check(os.path.isfile(f"{prefix}/{name}"), lambda: f"{name} isn't installed")
+        found = place.run(["--plain"], TRACE, program=f"{prefix}/bin/trace_view", env=environment)
+        self.count.check(found[0] == 0 and found[1], lambda: f"installed trace_view: {found}")
+        found = place.run(["prove"], program="gammonfig", env=environment)
+        self.count.check(found[:2] == (1, "") and "its programs are proved" in found[2], lambda: f"installed prove: {found}")
+        kept = os.listdir(f"{prefix}/lib/gammonfig")
+        again = place.run(["install", prefix], program="gammonfig", env=environment)
+        self.count.check(again[0] == 0 and os.listdir(f"{prefix}/lib/gammonfig") == kept and len(kept) == 1, lambda: f"install again: {again}")
+        with open(f"{prefix}/lib/gammonfig/{kept[0]}/programs/gammonfig", "wb"):
+            pass
+        found = place.run(["certify", "app.gf"], program="gammonfig", env=environment)
+        self.count.check(found[:2] == (1, "") and "install it anew" in found[2], lambda: f"an emptied program: {found}")
+        place.write({"bin": ""})
+        for where in "/dev/null", place.folder:
+            found = place.run(["install", where])
+            self.count.check(found[:2] == (1, "") and found[2].count("\n") == 1, lambda: f"install {where}: {found}")
+        self.check(["install"], 1, USAGE, "this is no command")
+
     def drivers(self):
         """A driver that doesn't get to all its work fails, and so does one that misses a build."""
         place, tests = self.place, f'import sys; sys.path.insert(0, "{built.ROOT}/tests"); import built; '
@@ -233,12 +266,13 @@ class Tests:
         """Where a program isn't built and there is no toolchain, a sentence says so."""
         os.remove(self.place.programs["gammonfig"])
         self.check(["certify", "app.gf"], 1, "", "isn't built here yet")
+        self.check(["install", "elsewhere"], 1, "", "gammonfig isn't proved here")
         self.check(["--help"], 0, self.place.run(["-h"])[1])
 
 
 def main():
     tests = Tests()
-    for part in ("files", "places", "refused", "input", "terminal", "graph", "session", "view", "verdict", "witness", "import_classes", "effects", "drivers", "built"):
+    for part in ("files", "places", "refused", "input", "terminal", "graph", "session", "view", "verdict", "witness", "import_classes", "effects", "install", "drivers", "built"):
         if part == "built":
             Reading(tests.place, tests.count).run()
         getattr(tests, part)()
