@@ -1,6 +1,6 @@
 #!/usr/bin/env python3
 """Looks whether the table of docs/commands.md, each word's help and the shells' completion are made of one table of commands. Then runs
-docs/tutorial.md over the programs that `rt ci` built: a block with a file's name is written to that file, and of a block
+README.md and docs/tutorial.md over the programs that `rt ci` built: a block with a file's name is written to that file, and of a block
 `console` each line that begins with `$ ` is run, and has to write the lines under it, first on standard output and then on
 standard error.
 
@@ -18,8 +18,8 @@ from place import Place
 sys.path.insert(0, f"{built.ROOT}/bin")
 import pages
 import words
+from kit import PROVED_WITH
 
-PAGE = f"{built.ROOT}/docs/tutorial.md"
 BLOCK = re.compile(r"^```(\S+)\n(.*?)^```$", re.M | re.S)
 
 
@@ -63,26 +63,48 @@ def complete(place, count):
         count.check(sorted(found[1].splitlines()) == sorted(wanted), lambda: f"{typed} is completed: {found}, wanted {wanted}")
 
 
-def main():
-    place, count = Place(), built.Count()
-    told(place, count)
-    with open(f"{place.folder}/gammonfig", "w") as file:
-        file.write(f'#!/bin/bash\nexec bash "{built.ROOT}/gammonfig" "$@"\n')
-    os.chmod(f"{place.folder}/gammonfig", 0o755)
-    with open(PAGE) as file:
-        blocks = BLOCK.findall(file.read())
-    for name, text in blocks:
+def run_page(place, count, path, environment, least):
+    """Writes the files of a page and runs its commands, in a folder of its own. At least so many commands are there."""
+    folder = f"{place.folder}/{os.path.basename(path)}"
+    os.makedirs(folder)
+    os.symlink(f"{built.ROOT}/gammonfig", f"{folder}/gammonfig")
+    with open(f"{built.ROOT}/{path}") as file:
+        text = file.read()
+    ran = []
+    for name, block in BLOCK.findall(text):
         if name != "console":
-            place.write({name: text})
+            with open(f"{folder}/{name}", "w") as file:
+                file.write(block)
             continue
-        for command, wanted in commands(text):
+        for command, wanted in commands(block):
             found = subprocess.run(
-                ["bash", "-c", command], cwd=place.folder, env=place.environment, capture_output=True, text=True,
+                ["bash", "-c", command], cwd=folder, env=environment, capture_output=True, text=True,
                 stdin=subprocess.DEVNULL, timeout=built.PATIENCE,
             )  # fmt: skip
             written = found.stdout + found.stderr
-            count.check(written == wanted, lambda: f"{command}: {written!r}, and the page has {wanted!r}")
-    count.check(count.passed >= 7, lambda: "the page has fewer commands than it had")
+            count.check(written == wanted, lambda: f"{path}: {command}: {written!r}, and the page has {wanted!r}")
+            ran.append(command)
+    count.check(len(ran) >= least, lambda: f"{path} has fewer commands than it had")
+    return text, ran
+
+
+def run_readme(place, count):
+    """The README: it is short, and what stands there as a command is run, but for the gate itself, which runs this."""
+    text, ran = run_page(place, count, "README.md", place.environment, 6)
+    count.check(text.count("\n") <= 110, lambda: f"README.md has {text.count(chr(10))} lines, and at most 110 are wanted")
+    count.check(f"Proved with `{PROVED_WITH}`" in text, lambda: f"README.md names another kit than bin/kit.py, which has {PROVED_WITH}")
+    shown = re.findall(r"^    ([.$]\S.*)$", text, re.M)
+    count.check(shown[1:] == [".ci/run"] and ran, lambda: f"README.md has commands that nothing runs: {shown}")
+    found = subprocess.run(["bash", "-c", shown[0]], cwd=built.ROOT, env=place.environment, capture_output=True, text=True, stdin=subprocess.DEVNULL)
+    count.check(found.returncode == 3 and found.stdout.startswith("examples/cycle.txt:14:1: error: "), lambda: f"README.md: {shown[0]}: {found}")
+
+
+def main():
+    place, count = Place(), built.Count()
+    told(place, count)
+    run_readme(place, count)
+    on_path = {**place.environment, "PATH": f"{built.ROOT}:{place.environment['PATH']}"}
+    run_page(place, count, "docs/tutorial.md", on_path, 10)
     place.remove()
     count.end()
 
