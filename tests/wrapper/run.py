@@ -10,6 +10,7 @@ import sys
 sys.dont_write_bytecode = True
 sys.path.insert(0, os.path.dirname(os.path.dirname(os.path.abspath(__file__))))
 import built
+from first_minute import FirstMinute
 from place import Place
 from reading import Reading
 
@@ -272,10 +273,12 @@ class Tests:
 
 def main():
     tests = Tests()
+    first = FirstMinute(tests.count)
     for part in ("files", "places", "refused", "input", "terminal", "graph", "session", "view", "verdict", "witness", "import_classes", "effects", "install", "drivers", "built"):
         if part == "built":
             Reading(tests.place, tests.count).run()
         getattr(tests, part)()
+    first.end()
     tests.place.remove()
     tests.count.end()
 
