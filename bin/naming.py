@@ -19,14 +19,16 @@ LINES = [
     (b"list", re.compile(rb"qt_tools: line (\d+) of the list of cycles:(.*)", re.S), b":"),
     (b"effects", re.compile(rb"line (\d+) of the effects: (.*)", re.S), b": "),
 ]
+OTHERS = re.compile(rb"^(?:qt_tools|trace_view): ")
 NUMBERED = re.compile(rb"qt_tools: (text \d+), line (\d+), column (\d+):(.*)", re.S)
 
 
 class Naming:
-    """Takes what a program says, line by line, and gives it with the files' names."""
+    """Takes what a program says, line by line, and gives it with the files' names. Where the program has another name than the one
+    that a user knows, which is `known`, that stands in its place."""
 
-    def __init__(self, files: Files):
-        self.files, self.first = files, b""
+    def __init__(self, files: Files, known: bytes = b""):
+        self.files, self.known, self.first = files, known, b""
 
     def line(self, line: bytes) -> bytes:
         """What is to be said at this line, which has its newline. A line with a place waits for the one behind it."""
@@ -57,7 +59,7 @@ class Naming:
         found = NUMBERED.fullmatch(line)
         if found and found[1] in self.files:
             return b"%s:%s:%s:%s" % (self.files[found[1]], found[2], found[3], found[4])
-        return line
+        return OTHERS.sub(self.known + b": ", line, count=1) if self.known else line
 
     def end(self) -> bytes:
         """What still waits when no line follows."""

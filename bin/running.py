@@ -9,7 +9,7 @@ import signal
 import naming
 import texts
 import words
-from told import Ended, Fault, say, write_to
+from told import NAME, Ended, Fault, say, write_to
 
 # What these commands read has no bound of its own that they tell, so an input that is too long isn't given to them.
 UNTOLD = ("session", "verdict", "import")
@@ -93,12 +93,14 @@ def run(front, path: str, own: list[str], given: Given, call: words.Call) -> Non
     if given.input is not None:
         os.dup2(input_file(given.input), 0)
         closed.discard(0)
-    if given.files:
-        named(path, own, given, call, closed, front.streams)
-    if not call.files and (has_file or given.input is not None):
+    end = None
+    if given.files or call.command.program != words.PROGRAM:
+        end = named(path, own, given, call, closed, front.streams)
+    elif not call.files and has_file:
         end = spawned(path, own, {}, closed)
-        if end == 1:
-            tell_blanks(begun if has_file else 0)
+    if end is not None:
+        if end == 1 and not call.files and (has_file or given.input is not None):
+            tell_blanks(begun)
         ended(end)
     for file in closed:
         os.close(file)
@@ -107,10 +109,10 @@ def run(front, path: str, own: list[str], given: Given, call: words.Call) -> Non
     os.execv(path, [path, *own])
 
 
-def named(path: str, own: list[str], given: Given, call: words.Call, closed: set[int], streams) -> None:
+def named(path: str, own: list[str], given: Given, call: words.Call, closed: set[int], streams) -> int:
     """Runs the program beside this process, and names the files in what it says. What a session writes names lines too: it is
-    written behind the run, and where that fails it ends as the program does then."""
-    names = naming.Naming(given.files)
+    written behind the run, and where that fails it ends as the program does then. Gives how the program ended."""
+    names = naming.Naming(given.files, NAME.encode())
     ours, theirs = os.pipe2(os.O_CLOEXEC)
     changed, output = {2: theirs}, None
     if call.command.word == "session":
@@ -132,7 +134,7 @@ def named(path: str, own: list[str], given: Given, call: words.Call, closed: set
     if output is not None:
         streams.write_output(naming.Naming(given.files).whole(content(output)))
         write_to(2, b"".join(told))
-    ended(end)
+    return end
 
 
 def content(file: int) -> bytes:

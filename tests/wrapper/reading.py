@@ -140,6 +140,7 @@ class Reading:
         ):
             self.same(f"{line} with names", naming.Naming(files).whole(line), wanted)
             self.same(f"{line} without names", naming.Naming({}).whole(line), line)
+        self.same("another name", naming.Naming({}, b"known").whole(b"qt_tools: x\ny qt_tools: z\n"), b"known: x\ny qt_tools: z\n")
 
     # ---- ./gammonfig
 
