@@ -99,10 +99,28 @@ def run_readme(place, count):
     count.check(found.returncode == 3 and found.stdout.startswith("examples/cycle.txt:14:1: error: "), lambda: f"README.md: {shown[0]}: {found}")
 
 
+def run_language(place, count):
+    """The examples of docs/language.md: each program loads, and the script's events are taken by the program that the page names."""
+    with open(f"{built.ROOT}/docs/language.md") as file:
+        blocks = [re.sub(r"^    ", "", it, flags=re.M) for it in re.findall(r"(?:^    .*\n)+", file.read(), re.M)]
+    programs = [it for it in blocks if re.match(r"(?://.*\n)?class ", it)]
+    scripts = [it for it in blocks if re.match(r"//.*\nloop ", it)]
+    count.check(len(programs) >= 7 and len(scripts) == 1, lambda: f"docs/language.md has {len(programs)} programs and {len(scripts)} scripts")
+    for it in programs:
+        found = place.run(["meta", "-"], it)
+        count.check(found[0] == 0 and not found[2], lambda: f"docs/language.md: {it!r}: {found}")
+    player = built.texts(built.content(f"{built.EXAMPLES}/player.txt"))[0]
+    place.write({"player.gf": player})
+    for it in scripts:
+        found = place.run(["run", "--unchecked", "256", "player.gf", "-"], it)
+        count.check(found[0] == 0 and " refused " not in found[1], lambda: f"docs/language.md: {it!r}: {found}")
+
+
 def main():
     place, count = Place(), built.Count()
     told(place, count)
     run_readme(place, count)
+    run_language(place, count)
     on_path = {**place.environment, "PATH": f"{built.ROOT}:{place.environment['PATH']}"}
     run_page(place, count, "docs/tutorial.md", on_path, 10)
     place.remove()
