@@ -16,7 +16,7 @@ import time
 
 import sources
 from kit import Kit
-from store import Lock, Store, listed, remove
+from store import CRATES, OLD_CRATES, PROVED, Lock, Store, listed, remove
 from told import Fault, say
 
 # So many bytes are enough for a check: the largest crate's was measured to take 3,100 MB.
@@ -231,9 +231,9 @@ def build(root: str, programs: list[str], kit: Kit, store: Store, lock: Lock) ->
                 place = made.made[it.name]
                 if subprocess.run(linker(it, kit, place), stdin=subprocess.DEVNULL, stdout=file, stderr=file).returncode:
                     raise Unproved(f"the program can't be linked: {why(store, log)}")
-                store.put("", it.name, it.sum, f"{place}/{it.name}")
-    kept = {store.crate(it.name, it.sum) for it in crates} | {store.place("", it.name, it.sum) for it in crates}
-    store.prune(kept)
+                store.put(PROVED, it.name, it.sum, f"{place}/{it.name}")
+    kept = {store.crate(it.name, it.sum) for it in crates} | {store.place(PROVED, it.name, it.sum) for it in crates}
+    store.prune((PROVED, CRATES, OLD_CRATES), kept)
 
 
 # The signals that came to end this build.

@@ -93,7 +93,7 @@ class Front:
 
             return self.write(f"{NAME} {VERSION}, proved with {installing.identity(self.root).split()[0]}\n")
         place, identity = store.Store(), kit.identity()
-        if self.tries or not place.program("", NAME, sources.sum_of(self.root, NAME, identity)):
+        if self.tries or not place.program(store.PROVED, NAME, sources.sum_of(self.root, NAME, identity)):
             told = f"not proved here: `{NAME} prove` proves it" if not self.tries else "a trial run, which isn't proved"
         else:
             told = f"proved with {identity.split()[0]}"
@@ -130,7 +130,7 @@ class Front:
             return installing.program(self.root, name)
         place, identity = store.Store(), kit.identity()
         total = sources.sum_of(self.root, name, identity)
-        found = None if self.tries else place.program("", name, total)
+        found = None if self.tries else place.program(store.PROVED, name, total)
         if found:
             return found
         if is_set("GAMMONFIG_PROVED"):

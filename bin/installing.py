@@ -11,7 +11,7 @@ import kit
 import sources
 from making import PROGRAMS
 from pages import completion
-from store import Store, file_sum, listed, remove, synced, written
+from store import PROVED, Store, file_sum, listed, remove, synced, written
 from told import NAME, Fault, say
 
 # Where an installed wrapper has its programs.
@@ -50,7 +50,7 @@ def install(root: str, prefix: str) -> None:
     prefix, found = os.path.abspath(prefix), {}
     store, proved_by = Store(), kit.identity()
     for name in PROGRAMS:
-        path = program(root, name) or store.program("", name, sources.sum_of(root, name, proved_by))
+        path = program(root, name) or store.program(PROVED, name, sources.sum_of(root, name, proved_by))
         if not path:
             raise Fault(f"{name} isn't proved here: `./gammonfig prove` proves it, and then it can be installed")
         found[name] = path

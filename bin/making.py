@@ -11,7 +11,7 @@ import time
 import build
 import kit
 import sources
-from store import BUILDING, UNPROVED, Lock, Store, size_of
+from store import BUILDING, PROVED, UNPROVED, Lock, Store, size_of
 from told import NAME, say
 
 # All that a user has.
@@ -70,7 +70,7 @@ def prove(root: str) -> None:
     """Proves and builds all that a user has, in one build."""
     found, store = kit.kit(), Store()
     with building(store, BUILDING) as lock:
-        while left := [it for it in PROGRAMS if not store.program("", it, sources.sum_of(root, it, found.identity))]:
+        while left := [it for it in PROGRAMS if not store.program(PROVED, it, sources.sum_of(root, it, found.identity))]:
             build.build(root, left, found, store, lock)
     say("all of it is proved, and the proved programs answer")
 
@@ -81,7 +81,7 @@ def status(root: str, version: str) -> str:
     lines = [f"{NAME} {version}, for the kit {identity}"]
     for name in PROGRAMS:
         total = sources.sum_of(root, name, identity)
-        for kind, told in ("", "proved"), (UNPROVED, "unproved"):
+        for kind, told in (PROVED, "proved"), (UNPROVED, "unproved"):
             path = store.program(kind, name, total)
             lines.append(f"{name}: {told}, {path}, {os.path.getsize(path):,} bytes" if path else f"{name}: not {'proved' if not kind else 'built unproved'}")
     kept = sum(size_of(path) for _, path in store.entries())

@@ -10,12 +10,13 @@ import time
 
 from told import Fault
 
-# What nobody used for so many seconds goes, and so does what was used least lately while there is more than so many bytes.
+# What nobody used for so many seconds goes, and so does what was used least lately while there is more than so many bytes of proved
+# crates, or of unproved programs.
 MOST_AGE = 30 * 24 * 3600
-MOST_BYTES = 20_000_000_000
+MOST_BYTES, MOST_UNPROVED = 20_000_000_000, 1_000_000_000
 # How often, in seconds, the use of a program is noted.
 NOTED = 24 * 3600
-CRATES, UNPROVED = "proved", "unproved"
+PROVED, CRATES, UNPROVED = "", "proved", "unproved"
 # The right to prove, beside the one to build an unproved program, which is called as those are.
 BUILDING = "build"
 # Where wrappers before this one kept proved crates, which nothing reads any more.
@@ -112,7 +113,7 @@ class Store:
         self.folder = at or folder()
 
     def place(self, kind: str, name: str, total: str) -> str:
-        """Where a program of this sum stands. `kind` is empty, or `unproved`."""
+        """Where a program of this sum stands. `kind` is PROVED or UNPROVED."""
         return os.path.join(self.folder, kind, name, total)
 
     def program(self, kind: str, name: str, total: str) -> str | None:
@@ -174,25 +175,28 @@ class Store:
         os.rename(made, path)
         os.utime(path)
 
-    def prune(self, kept: set[str], most_age: float = MOST_AGE, most_bytes: int = MOST_BYTES) -> None:
-        """Lets go of what nobody used for long, and of crates that were used least lately while all of it is too much. What is
-        in `kept` stays."""
+    def prune(self, kinds: tuple, kept: set[str], most_age: float = MOST_AGE, most_bytes: int = MOST_BYTES) -> None:
+        """Lets go of what nobody used for long of these kinds, and, but for proved programs, of what was used least lately while
+        all of it is too much. What is in `kept` stays."""
         now, found = time.time(), []
         for kind, path in self.entries():
             age, size = now - os.lstat(path).st_mtime, size_of(path)
-            if age > most_age and path not in kept:
-                remove(path)
-                remove(f"{path}.sha256")
-            else:
+            if kind in kinds and age > most_age and path not in kept:
+                self.let_go(path)
+            elif kind in kinds:
                 found.append((age, size, kind, path))
         for path in self.left():
             if now - os.lstat(path).st_mtime > NOTED:
                 remove(path)
         total = sum(size for _, size, _, _ in found)
         for _, size, kind, path in sorted(found, reverse=True):
-            if total > most_bytes and kind in (CRATES, OLD_CRATES) and path not in kept:
-                remove(path)
+            if total > most_bytes and kind and path not in kept:
+                self.let_go(path)
                 total -= size
+
+    def let_go(self, path: str) -> None:
+        remove(path)
+        remove(f"{path}.sha256")
 
     def entries(self):
         """All that is kept, each with its kind: the programs, and the proved crates."""
@@ -205,7 +209,7 @@ class Store:
     def all(self):
         """All that stands where programs and crates are kept, each with its kind."""
         kinds = (UNPROVED, CRATES, OLD_CRATES)
-        for kind in ("", *kinds):
+        for kind in (PROVED, *kinds):
             for name in listed(os.path.join(self.folder, kind)):
                 at = os.path.join(self.folder, kind, name)
                 if kind or name not in kinds:
