@@ -29,7 +29,7 @@ class Place:
             shutil.copy(f"{built.ROOT}/crates/{name}/out/{name}", made)
             self.programs[name] = self.store.put("", name, sums[name], made)
         # No toolchain is found: what isn't built can't be built.
-        self.environment = {"PATH": "/usr/local/bin:/usr/bin:/bin", "XDG_CACHE_HOME": f"{self.folder}/cache"}
+        self.environment = {"PATH": f"/usr/local/bin:/usr/bin:/bin:{os.path.dirname(sys.executable)}", "XDG_CACHE_HOME": f"{self.folder}/cache"}
         self.environment["PATH"] = without_toolchain(self.environment["PATH"], self.folder)
 
     def write(self, files):

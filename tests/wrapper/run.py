@@ -256,11 +256,11 @@ class Tests:
         """A driver that doesn't get to all its work fails, and so does one that misses a build."""
         place, tests = self.place, f'import sys; sys.path.insert(0, "{built.ROOT}/tests"); import built; '
         for limit, told, status in ("-1", "2 of 2 pieces of work weren't begun within -1 seconds\n0 passed, 1 failed\n", 1), ("60", "3 passed, 0 failed\n", 0):
-            words = ["-c", f"LIMIT={limit} exec python3 -Bc '{tests} built.spread(lambda item, count: count.check(True, str), [1, 2]).end()'"]
+            words = ["-c", f"LIMIT={limit} exec {sys.executable} -Bc '{tests} built.spread(lambda item, count: count.check(True, str), [1, 2]).end()'"]
             found = place.run(words, program="/bin/sh")
             self.count.check(found[0] == status and found[1].endswith(told), lambda: f"LIMIT={limit}: {found}")
         place.write({"one": ""})
-        found = place.run(["-Bc", f'{tests} built.builds([], "{place.folder}/one")'], program="/usr/bin/python3")
+        found = place.run(["-Bc", f'{tests} built.builds([], "{place.folder}/one")'], program=sys.executable)
         self.count.check(found[0] == 1 and "one.by-rattle isn't there" in found[2], lambda: f"a missing build: {found}")
 
     def built(self):
