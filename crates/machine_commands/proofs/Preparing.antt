@@ -9,6 +9,7 @@ use Rattle.trace_entries.specs.Faults.{number_of as fault_number}
 use Rattle.trace_entries.specs.declared.entry.Entry.{Entry}
 use Rattle.trace_entries.specs.declared.fault.Fault.{Fault}
 use Rattle.machine_rules.specs.Natives.{NativeAnswers}
+use Rattle.object_machine.specs.Claims.{HasItsArguments, IsEverAcyclic, SparesActive, IsEverShallow, IsEverTyped, IsEverSettled}
 use Rattle.object_machine.specs.Checked.{IsChecked, Claims, StopsAtLimit}
 use Rattle.object_machine.specs.Seen.{Seen, AreKept, RunsAll, begun, with_front}
 use Rattle.program_commands.specs.Refusals.{fault_line}
@@ -53,8 +54,9 @@ module _ {N : Type 0} {gives : N → NativeAnswers} {machine : Seen N} {loaded :
       let Goes : Seen N → Type 0 = λ m. RunsAll gives m events end.ended end.machine in
       ran end (subst Goes begins so.ran)
 
-  pub faultless-begun : machine ≡ begun loaded natives depth steps → IsChecked gives machine → Claims gives machine → (end : Ran (Seen N)) → RunsSo gives machine events end → RunsFaultless gives (begun loaded natives depth steps) events (OfRun end)
-  faultless-begun begins checked claims end so =
+  pub faultless-begun : machine ≡ begun loaded natives depth steps → IsChecked gives machine → HasItsArguments gives machine → IsEverAcyclic gives machine → SparesActive gives machine → IsEverShallow gives machine → IsEverTyped gives machine → IsEverSettled gives machine → (end : Ran (Seen N)) → RunsSo gives machine events end → RunsFaultless gives (begun loaded natives depth steps) events (OfRun end)
+  faultless-begun begins checked arguments acyclic spared shallow typed settled end so =
+      let claims : Claims gives machine = record { arguments = arguments; acyclic = acyclic; spared = spared; shallow = shallow; typed = typed; settled = settled } in
       let Goes : Seen N → Type 0 = λ m. RunsAll gives m events end.ended end.machine in
       ran_faultless end (subst Goes begins so.ran) (ends_at_limit end.ended begins (so.limits checked)) (claims_of begins claims)
 

@@ -1,3 +1,4 @@
+mod Claims
 mod Itself
 mod Lines
 mod OneCommand

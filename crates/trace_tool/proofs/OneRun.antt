@@ -181,7 +181,7 @@ certified_sound {both = both} steps =
     let same : both ≡ (a.0, b.0) = cc b.2 in
     subst IsSound (sym (ap (λ (pair : Loaded × Certificate). pair.0) same)) (loaded_sound a.1)
 
-accepted_sound : {heads : List NativeHead} {program certificate script : List ℕ} {both : Checking × List Event} → Accepting heads program certificate script (Ok both) → IsSound both.0.program
+pub accepted_sound : {heads : List NativeHead} {program certificate script : List ℕ} {both : Checking × List Event} → Accepting heads program certificate script (Ok both) → IsSound both.0.program
 accepted_sound {both = both} steps =
     let a = went steps (λ fault is. cc is) in
     let b = went a.2 (λ fault is. cc is) in

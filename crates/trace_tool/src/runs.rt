@@ -7,6 +7,8 @@ ghost use Rattle.texts.specs.Limits.{most_depth};
 ghost use Rattle.script_lang.specs.declared.event.Event.{Event as AnEvent};
 ghost use Rattle.machine_commands.specs.Outcomes.{Writes};
 ghost use Rattle.machine_commands.specs.Commands.{Accepts, AcceptedComesTo, RunComesTo, UncheckedRunComesTo};
+ghost use Rattle.object_machine.specs.Claims.{HasItsArguments, IsEverAcyclic, IsEverSettled, IsEverShallow, IsEverTyped, SparesActive};
+ghost use Rattle.trace_tool.specs.Accepted.{WhereAccepted};
 
 use machine_commands::{Outcome, WriteFault, prepare_run, prepare_unchecked_run, written};
 use native_slots::{Answering, Natives};
@@ -45,7 +47,11 @@ pub fn run_outcome(
 /// At most as many activations nest as the certificate's bound says, and at most `steps` rules are used (1 to 2^63 - 1).
 /// The answer is the exit status: 0 after a whole run, 4 after a fault, 3 where the certificate isn't valid, 2 where a
 /// text or a native is refused, 1 where memory ran out outside the run.
-/// Where it accepts, as `Accepts` says, the run's text is written, or `memory`, and nothing is refused.
+/// Where it accepts, as `Accepts` says, the run's text is written, or `memory`, and nothing is refused; and of each run of
+/// the machine, whatever events come, hold the claims: every call that is delivered has the arguments that its method
+/// declares (`arguments`), no binding depends on itself (`acyclic`), no object dies while a body of its own is active
+/// (`spared`), activations nest no deeper than the certificate's bound (`shallow`), every value is of its type (`typed`),
+/// and all values are settled (`settled`).
 /// There is a `WriteFault` only where a write failed: what was taken by then is the beginning of what is written, and
 /// nothing is written after that.
 pub fn run<W: Write>(
@@ -66,6 +72,24 @@ pub fn run<W: Write>(
         Accepts heads program.now certificate.now script.now loaded read events →
         let ComesTo = AcceptedComesTo ⟦<Natives as Answering>⟧.gives natives loaded read events steps in
         Writes ComesTo (W.contents w.old) (W.contents w.new) result }
+    ensures arguments { let heads = map (λ slot. slot.head) natives.slots.items in
+        WhereAccepted heads natives program.now certificate.now script.now steps
+        (HasItsArguments ⟦<Natives as Answering>⟧.gives) }
+    ensures acyclic { let heads = map (λ slot. slot.head) natives.slots.items in
+        WhereAccepted heads natives program.now certificate.now script.now steps
+        (IsEverAcyclic ⟦<Natives as Answering>⟧.gives) }
+    ensures spared { let heads = map (λ slot. slot.head) natives.slots.items in
+        WhereAccepted heads natives program.now certificate.now script.now steps
+        (SparesActive ⟦<Natives as Answering>⟧.gives) }
+    ensures shallow { let heads = map (λ slot. slot.head) natives.slots.items in
+        WhereAccepted heads natives program.now certificate.now script.now steps
+        (IsEverShallow ⟦<Natives as Answering>⟧.gives) }
+    ensures typed { let heads = map (λ slot. slot.head) natives.slots.items in
+        WhereAccepted heads natives program.now certificate.now script.now steps
+        (IsEverTyped ⟦<Natives as Answering>⟧.gives) }
+    ensures settled { let heads = map (λ slot. slot.head) natives.slots.items in
+        WhereAccepted heads natives program.now certificate.now script.now steps
+        (IsEverSettled ⟦<Natives as Answering>⟧.gives) }
 {
     let prepared = prepare_run::<Natives, Machine<Natives>>(
         alloc,

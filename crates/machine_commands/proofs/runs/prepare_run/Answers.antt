@@ -14,7 +14,7 @@ returns g c =
     let machine = c.in-Ok-checked.ensures in
     let begins = machine.begins in
     ready-prepares _ _ _ (rw begins c.in-Ok.ensures.promises)
-    (λ end so. goes_on _ _ c.in-Ok.ensures.accepting (faultless-begun begins machine.checked (record { arguments = machine.arguments; acyclic = machine.acyclic; spared = machine.spared; shallow = machine.shallow; typed = machine.typed; settled = machine.settled }) end so))
+    (λ end so. goes_on _ _ c.in-Ok.ensures.accepting (faultless-begun begins machine.checked machine.arguments machine.acyclic machine.spared machine.shallow machine.typed machine.settled end so))
 
 pub returns-in_default : goal.returns-in_default
 returns-in_default g c = done-now _ _ _ (goes_on _ _ c.in-Ok.ensures.accepting short_of_memory)

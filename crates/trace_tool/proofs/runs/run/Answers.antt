@@ -1,5 +1,9 @@
+use Rattle.std.proofs.Common.{IsTrue, Ok, sym, subst}
+use Rattle.native_slots.specs.Effects.{accepts}
+use Rattle.native_slots.proofs.Promising.{promised}
 use Rattle.machine_commands.proofs.Accepted.{accepted_comes}
 use Rattle.machine_commands.proofs.Preparing.{carried-as, carried-of, carried-writes}
+use Rattle.trace_tool.proofs.Claims.{prepared-claims}
 use Rattle.trace_tool.proofs.runs.run.Goals as goal
 
 pub carry_out-requires : goal.carry_out-requires
@@ -12,3 +16,81 @@ pub returns-clause-accepted : goal.returns-clause-accepted
 returns-clause-accepted g c =
     λ loaded read events accepts.
     carried-writes (carried-as (λ end comes. accepted_comes accepts comes) (carried-of c.prepare_run-prepared.ensures c.carry_out.ensures)) c.written.ensures
+
+pub returns-clause-arguments : goal.returns-clause-arguments
+returns-clause-arguments g c =
+    λ loaded read events accepted.
+    (prepared-claims c.prepare_run-prepared.ensures c.args.natives c.args.steps
+    (λ fits.
+    promised (λ slot. slot.head) _ c.args.natives.slots.items loaded fits
+    (λ slot arguments reads v h ret.
+    slot.within ret.first ret.second (Ok v)
+    (subst (λ xs. IsTrue (accepts slot.head.effects ret.first.now xs)) (sym ret.shows.1)
+    (subst (λ xs. IsTrue (accepts slot.head.effects xs reads)) (sym ret.shows.0) h))
+    ret.says.met))
+    accepted).arguments
+
+pub returns-clause-acyclic : goal.returns-clause-acyclic
+returns-clause-acyclic g c =
+    λ loaded read events accepted.
+    (prepared-claims c.prepare_run-prepared.ensures c.args.natives c.args.steps
+    (λ fits.
+    promised (λ slot. slot.head) _ c.args.natives.slots.items loaded fits
+    (λ slot arguments reads v h ret.
+    slot.within ret.first ret.second (Ok v)
+    (subst (λ xs. IsTrue (accepts slot.head.effects ret.first.now xs)) (sym ret.shows.1)
+    (subst (λ xs. IsTrue (accepts slot.head.effects xs reads)) (sym ret.shows.0) h))
+    ret.says.met))
+    accepted).acyclic
+
+pub returns-clause-spared : goal.returns-clause-spared
+returns-clause-spared g c =
+    λ loaded read events accepted.
+    (prepared-claims c.prepare_run-prepared.ensures c.args.natives c.args.steps
+    (λ fits.
+    promised (λ slot. slot.head) _ c.args.natives.slots.items loaded fits
+    (λ slot arguments reads v h ret.
+    slot.within ret.first ret.second (Ok v)
+    (subst (λ xs. IsTrue (accepts slot.head.effects ret.first.now xs)) (sym ret.shows.1)
+    (subst (λ xs. IsTrue (accepts slot.head.effects xs reads)) (sym ret.shows.0) h))
+    ret.says.met))
+    accepted).spared
+
+pub returns-clause-shallow : goal.returns-clause-shallow
+returns-clause-shallow g c =
+    λ loaded read events accepted.
+    (prepared-claims c.prepare_run-prepared.ensures c.args.natives c.args.steps
+    (λ fits.
+    promised (λ slot. slot.head) _ c.args.natives.slots.items loaded fits
+    (λ slot arguments reads v h ret.
+    slot.within ret.first ret.second (Ok v)
+    (subst (λ xs. IsTrue (accepts slot.head.effects ret.first.now xs)) (sym ret.shows.1)
+    (subst (λ xs. IsTrue (accepts slot.head.effects xs reads)) (sym ret.shows.0) h))
+    ret.says.met))
+    accepted).shallow
+
+pub returns-clause-typed : goal.returns-clause-typed
+returns-clause-typed g c =
+    λ loaded read events accepted.
+    (prepared-claims c.prepare_run-prepared.ensures c.args.natives c.args.steps
+    (λ fits.
+    promised (λ slot. slot.head) _ c.args.natives.slots.items loaded fits
+    (λ slot arguments reads v h ret.
+    slot.within ret.first ret.second (Ok v)
+    (subst (λ xs. IsTrue (accepts slot.head.effects ret.first.now xs)) (sym ret.shows.1)
+    (subst (λ xs. IsTrue (accepts slot.head.effects xs reads)) (sym ret.shows.0) h))
+    ret.says.met))
+    accepted).typed
+
+pub returns-clause-settled : goal.returns-clause-settled
+returns-clause-settled g c =
+    λ loaded read events accepted.
+    (prepared-claims c.prepare_run-prepared.ensures c.args.natives c.args.steps
+    (λ fits.
+    promised (λ slot. slot.head) _ c.args.natives.slots.items loaded fits
+    (λ slot arguments reads v h ret.
+    slot.within ret.first ret.second (Ok v)
+    (subst (λ xs. IsTrue (accepts slot.head.effects ret.first.now xs)) (sym ret.shows.1)
+    (subst (λ xs. IsTrue (accepts slot.head.effects xs reads)) (sym ret.shows.0) h))
+    ret.says.met))
+    accepted).settled
