@@ -11,10 +11,10 @@ FRONT = ""
 
 class Option:
     """An option: its name, what stands for its value, and what it does. A value may be a number from 1 to `most`, or name the
-    file of a text. Options of one `group` exclude one another."""
+    file of a text. Options of one `group` exclude one another. One that is `first` stands in front of the word for the program."""
 
-    def __init__(self, name: str, told: str, value: str = "", most: int = 0, text: str = "", group: str = "", repeats: bool = False):
-        self.name, self.told, self.value, self.most, self.text, self.group, self.repeats = name, told, value, most, text, group, repeats
+    def __init__(self, name: str, told: str, value: str = "", most: int = 0, text: str = "", group: str = "", repeats: bool = False, first: bool = False):
+        self.name, self.told, self.value, self.most, self.text, self.group, self.repeats, self.first = name, told, value, most, text, group, repeats, first
 
     def shown(self) -> str:
         return f"{self.name} {self.value}" if self.value else self.name
@@ -35,6 +35,7 @@ class Command:
 
 STEPS = Option("--steps", "the most rules that a run carries out, 1,000,000 without it", "M", MOST_STEPS)
 UNCHECKED = Option("--unchecked", "needs no certificate; at most N activations nest, from 1 to 256", "N", MOST_NESTED)
+WIDE = Option("--wide", "takes a program as large as one that a tool writes: 8,192 classes, 16,384 wires, 32 MiB", first=True)
 USAGE = (1, "the words are no command, or something can't be read or written")
 REFUSED = (2, "a text is refused, or a file can't be read")
 INVALID = (3, "the certificate isn't valid")
@@ -48,11 +49,11 @@ EFFECTS = """Effects are a slot a line:
 """
 
 COMMANDS = [
-    Command("certify", PROGRAM, "the certificate of a program, or why it has none", "certify app.gf > app.gfc",
+    Command("certify", PROGRAM, "the certificate of a program, or why it has none", "certify app.gf > app.gfc", (WIDE,),
             texts=("program",), statuses=((0, "a certificate is written"), USAGE, REFUSED, (3, "the program has no certificate")), page="docs/commands.md"),
-    Command("check", PROGRAM, "whether a certificate is valid: `yes`, or `no` and a number", "check app.gf app.gfc",
+    Command("check", PROGRAM, "whether a certificate is valid: `yes`, or `no` and a number", "check app.gf app.gfc", (WIDE,),
             texts=("program", "certificate"), statuses=((0, "it is valid"), USAGE, REFUSED, INVALID), page="docs/certificate.md"),
-    Command("run", PROGRAM, "checks, then runs a script: the trace of each event", "run app.gf app.gfc session.gfs", (UNCHECKED, STEPS),
+    Command("run", PROGRAM, "checks, then runs a script: the trace of each event", "run app.gf app.gfc session.gfs", (WIDE, UNCHECKED, STEPS),
             ("program", "certificate", "script"), statuses=((0, "the run took all events"), USAGE, REFUSED, INVALID, (4, "a fault stopped the run")), page="docs/commands.md"),
     Command("session", TOOLS, "runs a script as a test of what its comments expect", "session app.gf app.gfc session.gfs",
             (Option("--tap", "writes the outcomes as TAP"), UNCHECKED, STEPS), ("program", "certificate", "script"),
@@ -68,7 +69,7 @@ COMMANDS = [
             (Option("--mermaid", "as a sequence diagram", group="form"), Option("--html", "as a page for a browser", group="form"),
              Option("--color", "in colours, also where no terminal is", group="form"), Option("--plain", "without colours", group="form")),
             ("trace", "script"), 1, ((0, "it is shown"), USAGE, (2, "a file can't be read")), "docs/traces.md"),
-    Command("meta", PROGRAM, "the classes of a program, with their members' numbers", "meta app.gf", texts=("program",),
+    Command("meta", PROGRAM, "the classes of a program, with their members' numbers", "meta app.gf", (WIDE,), texts=("program",),
             statuses=((0, "the classes are written"), USAGE, REFUSED), page="docs/commands.md"),
     Command("graph", TOOLS, "what may lead to what, as a picture", "graph app.gf | dot -Tsvg > app.svg",
             (Option("--json", "as JSON, in place of Graphviz's language"), Option("--class", "these classes alone", "CLASS,..", repeats=True),
@@ -135,14 +136,16 @@ def take(call: Call, option: Option, rest: list[str]) -> None:
             raise NoCommand
         value = rest.pop(0)
     call.values[option.name] = value
-    if not option.text:
+    if option.first:
+        call.words.insert(0, option.name)
+    elif not option.text:
         call.words += [option.name, value] if option.value else [option.name]
 
 
 def is_late(call: Call, option: Option) -> bool:
     """Whether a number stands before this option that the program takes behind it."""
     place = call.command.options.index(option)
-    return any(call.has(it.name) for it in call.command.options[place + 1 :]) and any(it.most for it in call.command.options)
+    return not option.first and any(call.has(it.name) for it in call.command.options[place + 1 :]) and any(it.most for it in call.command.options)
 
 
 def is_number(digits: str, most: int) -> bool:

@@ -44,8 +44,14 @@ class Case:
         return joined(parts)
 
 
+def narrow(words):
+    """The words of a command, without `--wide` in front."""
+    return words[1:] if words[:1] == ["--wide"] else words
+
+
 def texts_of(words):
     """The texts that a command takes, or None for words that are no command."""
+    words = narrow(words)
     if words[:1] == ["run"]:
         return ["program", "script"] if words[1:2] == ["--unchecked"] else ["program", "certificate", "script"]
     return TEXTS.get(words[0]) if words else None

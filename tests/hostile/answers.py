@@ -82,8 +82,9 @@ class Wanted:
     isn't judged, which takes long for large ones."""
 
     def __init__(self, words, text, judges=True):
-        self.words, self.names, self.judges = words, case_files.texts_of(words), judges
-        self.parts = built.texts(text) if is_command(words) and len(text) <= LARGEST_INPUT else []
+        self.words, self.names, self.judges = case_files.narrow(words), case_files.texts_of(words), judges
+        self.is_wide = self.words != words
+        self.parts = built.texts(text) if is_command(self.words) and len(text) <= LARGEST_INPUT else []
         self.is_usage = not self.names or len(self.parts) != len(self.names)
 
     def why_not(self, answer):
@@ -105,7 +106,7 @@ class Wanted:
         if not self.judges:
             return None, False
         given = dict(zip(self.names, self.parts))
-        number = grammar.program_refusal(given["program"])
+        number = grammar.program_refusal(given["program"], self.is_wide)
         if number:
             return b"refused %d\n" % number, True
         if "certificate" in given and not grammar.is_certificate(given["certificate"]):

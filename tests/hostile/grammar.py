@@ -14,9 +14,9 @@ RESERVED = set(
     b"delete later this true false null const auto direct queued unique single".split()
 )
 KINDS = {b"auto", b"direct", b"queued"}
-# A declaration, and the most of it: in a class, or in a program.
-MOST_IN_CLASS = {b"property": 32, b"method": 64}
-MOST = {b"class": 256, b"native": 64, b"wire": 1000, b"owns": 1000, b"binding": 1000}
+# A declaration, and the most of it, in a class or in a program, and of a program's bytes: by the standard limits, and with `--wide`.
+STANDARD = {b"bytes": MOST_BYTES, b"property": 32, b"method": 64, b"class": 256, b"native": 64, b"wire": 1000, b"owns": 1000, b"binding": 1000}
+WIDE = {b"bytes": 33554432, b"property": 256, b"method": 1024, b"class": 8192, b"native": 64, b"wire": 16384, b"owns": 16384, b"binding": 16384}
 
 
 class Refused(Exception):
@@ -55,16 +55,17 @@ def is_nested_deep(found):
     return False
 
 
-def program_refusal(text):
+def program_refusal(text, is_wide=False):
     """The number from 2 to 7 for which a program is refused, or None."""
-    if len(text) > MOST_BYTES:
+    limits = WIDE if is_wide else STANDARD
+    if len(text) > limits[b"bytes"]:
         return 7
     found = tokens(text)
     if found is None:
         return 4
     if is_nested_deep(found):
         return 6
-    reading = Reading(found)
+    reading = Reading(found, limits)
     try:
         reading.program()
     except Refused:
@@ -116,10 +117,10 @@ def is_line(line, part):
 class Reading:
     """Reads tokens by the rules of the grammar, each a method."""
 
-    def __init__(self, found):
-        self.found, self.at = found, 0
+    def __init__(self, found, limits=STANDARD):
+        self.found, self.at, self.limits = found, 0, limits
         self.has_reference = self.is_long = self.is_large = False
-        self.counts = dict.fromkeys(MOST, 0)
+        self.counts = dict.fromkeys(limits, 0)
 
     def next(self):
         return self.found[self.at] if self.at < len(self.found) else b""
@@ -211,7 +212,7 @@ class Reading:
             word = self.take()
             if word not in (b"class", b"wire", b"owns", b"binding"):
                 raise Refused
-            self.count(self.counts, word, MOST)
+            self.count(self.counts, word, self.limits)
             {b"class": self.klass, b"wire": self.wire, b"owns": self.owns, b"binding": self.binding}[word]()
 
     def klass(self):
@@ -219,12 +220,12 @@ class Reading:
         if self.has(b":"):
             self.name()
         self.need(b"{")
-        counts = dict.fromkeys(MOST_IN_CLASS, 0)
+        counts = dict.fromkeys((b"property", b"method"), 0)
         while not self.has(b"}"):
             word = self.take()
             if word not in (b"property", b"signal", b"slot", b"native"):
                 raise Refused
-            self.count(counts, word if word == b"property" else b"method", MOST_IN_CLASS)
+            self.count(counts, word if word == b"property" else b"method", self.limits)
             {b"property": self.property, b"signal": self.signal, b"slot": self.slot, b"native": self.native}[word]()
         self.has(b";")
 
@@ -247,7 +248,7 @@ class Reading:
         self.block()
 
     def native(self):
-        self.count(self.counts, b"native", MOST)
+        self.count(self.counts, b"native", self.limits)
         self.name()
         self.parameters(self.type_and_name)
         for word, part in ((b"reads", self.name), (b"emits", self.signature), (b"sets", self.name)):

@@ -157,8 +157,8 @@ one_least p is a b h g = same p is a b h g
 
 -- ---- one certificate for a text
 pub one_made : OneMade
-one_made source a b h g =
-    let program : h.program ≡ g.program = one_program_text source h.program g.program h.reads.text g.reads.text in
+one_made limits source a b h g =
+    let program : h.program ≡ g.program = one_program_text limits source h.program g.program h.reads.text g.reads.text in
     let builds : Builds g.program (Ok h.loaded) = subst (λ (x : Program). Builds x (Ok h.loaded)) program h.builds in
     let loaded : h.loaded ≡ g.loaded = one_loading g.program h.loaded g.loaded builds g.builds in
     one_least g.loaded (form_sound g.program g.loaded g.builds) a b (subst (λ (p : Loaded). IsLeastValid p a) loaded h.makes) g.makes

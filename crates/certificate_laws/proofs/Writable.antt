@@ -63,7 +63,7 @@ module _ (p : Loaded) (named : IsNamedLoaded p) where
       }
 
 pub valid_is_writable : ValidIsWritable
-valid_is_writable source program p certificate reads builds valid = writable p (loaded_is_named program p (read_is_named source program reads) builds) certificate valid
+valid_is_writable limits source program p certificate reads builds valid = writable p (loaded_is_named program p (read_is_named limits source program reads) builds) certificate valid
 
 pub made_is_read : MadeIsRead
-made_is_read source program p certificate reads builds makes = text_is_read certificate (valid_is_writable source program p certificate reads builds makes.valid)
+made_is_read limits source program p certificate reads builds makes = text_is_read certificate (valid_is_writable limits source program p certificate reads builds makes.valid)

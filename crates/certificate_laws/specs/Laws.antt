@@ -1,7 +1,8 @@
 -- Laws on the certificates of a program (docs/certificate.md, "The check" and "The maker").
 use Rattle.std.specs.Prelude.{◌≡◌, ◌⊎◌, ℕ, List, Result, Ok, Err}
 use Rattle.syntax_trees.specs.declared.program.Program.{Program}
-use Rattle.class_lang.specs.Reads.{ReadsProgram}
+use Rattle.class_lang.specs.Reads.{ReadsWithin}
+use Rattle.class_lang.specs.declared.size.Limits.{Limits}
 use Rattle.meta_model.specs.Loaded.{Loaded}
 use Rattle.meta_model.specs.Sound.{IsSound}
 use Rattle.meta_objects.specs.Builds.{Builds}
@@ -22,17 +23,17 @@ use Rattle.rank_make.specs.declared.why.Why.TheVariants as why
 abbrev pub OneLeast : Type 0
 OneLeast = (p : Loaded) → IsSound p → (a b : Certificate) → IsLeastValid p a → IsLeastValid p b → a ≡ b
 
--- the maker makes this certificate for the program that is read from the text
-pub record IsMadeFor (source : List ℕ) (certificate : Certificate) : Type 0 where
+-- the maker makes this certificate for the program that is read from the text by these limits
+pub record IsMadeFor (limits : Limits) (source : List ℕ) (certificate : Certificate) : Type 0 where
   pub program : Program
-  pub reads : ReadsProgram source (Ok program)
+  pub reads : ReadsWithin limits source (Ok program)
   pub loaded : Loaded
   pub builds : Builds program (Ok loaded)
   pub makes : Makes loaded (Ok certificate)
 
 -- so a text has one such certificate at most
 abbrev pub OneMade : Type 0
-OneMade = (source : List ℕ) (a b : Certificate) → IsMadeFor source a → IsMadeFor source b → a ≡ b
+OneMade = (limits : Limits) (source : List ℕ) (a b : Certificate) → IsMadeFor limits source a → IsMadeFor limits source b → a ≡ b
 
 -- the same reason: which cycle, path or chain shows it isn't fixed
 abbrev pub IsSameReason : Why → Why → Type 0
@@ -64,12 +65,12 @@ OneVerdict =
 -- what is valid for a program that was read and loaded has a text that is read again
 abbrev pub ValidIsWritable : Type 0
 ValidIsWritable =
-    (source : List ℕ) (program : Program) (p : Loaded) (certificate : Certificate)
-    → ReadsProgram source (Ok program) → Builds program (Ok p) → IsValid p certificate → IsWritable certificate
+    (limits : Limits) (source : List ℕ) (program : Program) (p : Loaded) (certificate : Certificate)
+    → ReadsWithin limits source (Ok program) → Builds program (Ok p) → IsValid p certificate → IsWritable certificate
 
 -- what the maker makes for it is read from its text
 abbrev pub MadeIsRead : Type 0
 MadeIsRead =
-    (source : List ℕ) (program : Program) (p : Loaded) (certificate : Certificate)
-    → ReadsProgram source (Ok program) → Builds program (Ok p) → Makes p (Ok certificate)
+    (limits : Limits) (source : List ℕ) (program : Program) (p : Loaded) (certificate : Certificate)
+    → ReadsWithin limits source (Ok program) → Builds program (Ok p) → Makes p (Ok certificate)
     → ReadsCertificate (certificate_text certificate) (Ok certificate)

@@ -2,6 +2,7 @@
 -- what refuses it to the command `meta` (docs/commands.md, "Refusals").
 use Rattle.std.specs.Prelude.{◌≡◌, ℕ, List, Ok, Err, Some, ⊤}
 use Rattle.meta_model.specs.Loaded.{Loaded}
+use Rattle.class_lang.specs.Limits.{standard}
 use Rattle.program_commands.specs.Loading.{LoadsProgram}
 use Rattle.program_commands.specs.Refusals.{refusal_number}
 use Rattle.program_commands.specs.declared.refusal.Refusal.{Refusal}
@@ -11,12 +12,12 @@ use Rattle.class_graph.specs.declared.fault.GraphFault.TheVariants.{Refused, Unk
 -- the text is a program that loads
 pub record Loads (text : List ℕ) : Type 0 where
   pub loaded : Loaded
-  pub loads : LoadsProgram text (Ok loaded)
+  pub loads : LoadsProgram standard text (Ok loaded)
 
 -- the text is refused, or the program that it is, with this number
 pub record IsRefused (text : List ℕ) (number : ℕ) : Type 0 where
   pub refusal : Refusal
-  pub refused : LoadsProgram text (Err refusal)
+  pub refused : LoadsProgram standard text (Err refusal)
   pub numbered : refusal_number refusal ≡ Some number
 
 -- why there is no graph: a part that isn't there is asked of a program that loads, and one that loads has too many edges

@@ -2,6 +2,8 @@
 #![tactic(auto)]
 
 ghost use Rattle.std.specs.Prelude.{IfOk, IfErr};
+ghost use Rattle.class_lang.specs.Limits.{standard};
+ghost use Rattle.program_commands.specs.Loading.{LoadsProgram};
 ghost use Rattle.class_graph.specs.Graphs.{Loads, Lacks};
 
 mod dot;
@@ -17,9 +19,11 @@ use crate::dot::dot_text;
 use crate::drawing::Drawing;
 use crate::fault::{PartFault, refused};
 use crate::json::json_text;
+use class_lang::Limits;
 pub use fault::GraphFault;
+use meta_model::Meta;
 pub use part::Part;
-use program_commands::load_program;
+use program_commands::{Refusal, load_program};
 use std::alloc::Global;
 
 /// How a graph is written.
@@ -43,7 +47,7 @@ pub fn class_graph(
     ensures drawn { IfOk result (λ text. Loads program.now) }
     ensures lacks { IfErr result (Lacks program.now) }
 {
-    let meta = match load_program(alloc, program) {
+    let meta = match load(alloc, program) {
         Ok(meta) => meta,
         Err(refusal) => return Err(refused(&refusal)),
     };
@@ -58,4 +62,11 @@ pub fn class_graph(
         Form::Json => json_text(alloc, &drawing)?,
     };
     Ok(text)
+}
+
+/// Reads a program by the standard limits, and loads it.
+fn load(alloc: Global, program: &[u8]) -> Result<Meta, Refusal>
+    ensures { LoadsProgram standard program.now result }
+{
+    load_program(alloc, Limits::standard(), program)
 }

@@ -6,44 +6,45 @@ use Rattle.texts.specs.declared.token.Token.{Token}
 use Rattle.texts.proofs.Cut.{same_tokens}
 use Rattle.class_lang.specs.Declarations.{IsProgram}
 use Rattle.class_lang.specs.Limits.{HasFewParameters, IsWithinLimits}
-use Rattle.class_lang.specs.Reads.{IsShortText, IsLongText, IsDeepText, IsOutsideGrammar, HasBadType, IsProgramText, HasTooManyParameters, IsLargeProgram, ReadsProgram}
+use Rattle.class_lang.specs.Reads.{IsShortText, IsLongText, IsDeepText, IsOutsideGrammar, HasBadType, IsProgramText, HasTooManyParameters, IsLargeProgram, ReadsWithin}
 use Rattle.class_lang.specs.declared.fault.TextFault.{TextFault}
 use Rattle.class_lang.specs.declared.fault.TextFault.TheVariants.{TooLarge, BadByte, TooDeepText, Syntax, BadType, TooMany, Memory}
+use Rattle.class_lang.specs.declared.size.Limits.{Limits}
 use Rattle.syntax_trees.specs.declared.program.Program.{Program}
 use Rattle.class_lang.proofs.OneTree.{one_program}
 
-pub one_program_text : (bytes : List ℕ) (p q : Program) → IsProgramText bytes p → IsProgramText bytes q → p ≡ q
-one_program_text bytes p q h k =
+pub one_program_text : (limits : Limits) (bytes : List ℕ) (p q : Program) → IsProgramText limits bytes p → IsProgramText limits bytes q → p ≡ q
+one_program_text limits bytes p q h k =
     let same = same_tokens bytes h.tokens k.tokens h.cut k.cut in
     one_program k.tokens p q (rw same at h.reads) k.reads
 
 -- ---- no two refusals, and no refusal beside a program
 
-module _ (bytes : List ℕ) where
-  long_short : IsLongText bytes → IsShortText bytes → ⊥
+module _ (limits : Limits) (bytes : List ℕ) where
+  long_short : IsLongText limits bytes → IsShortText limits bytes → ⊥
   long_short h k = absurd (omega arith)
 
-  deep_flat : IsDeepText bytes → (tokens : List Token) → AreTokens bytes tokens → ¬ IsTooDeep tokens → ⊥
+  deep_flat : IsDeepText limits bytes → (tokens : List Token) → AreTokens bytes tokens → ¬ IsTooDeep tokens → ⊥
   deep_flat h tokens cut flat =
       let same = same_tokens bytes h.tokens tokens h.cut cut in flat (rw same at h.deep)
 
-  outside_program : IsOutsideGrammar bytes → {p : Program} (tokens : List Token) → AreTokens bytes tokens → IsProgram tokens p → ⊥
+  outside_program : IsOutsideGrammar limits bytes → {p : Program} (tokens : List Token) → AreTokens bytes tokens → IsProgram tokens p → ⊥
   outside_program h {p} tokens cut reads =
       let same = same_tokens bytes tokens h.tokens cut h.cut in h.none p (rw same at reads)
 
-  plain_constant : HasBadType bytes → {p : Program} → IsProgramText bytes p → ⊥
+  plain_constant : HasBadType limits bytes → {p : Program} → IsProgramText limits bytes p → ⊥
   plain_constant h {p} k =
       let same = same_tokens bytes h.tokens k.tokens h.cut k.cut in k.constant (rw same at h.plain)
 
-  many_few : HasTooManyParameters bytes → {p : Program} → IsProgramText bytes p → HasFewParameters p → ⊥
+  many_few : HasTooManyParameters limits bytes → {p : Program} → IsProgramText limits bytes p → HasFewParameters p → ⊥
   many_few h {p} k few =
-      let same = one_program_text bytes p h.program k h.text in h.many (rw same at few)
+      let same = one_program_text limits bytes p h.program k h.text in h.many (rw same at few)
 
-  large_within : IsLargeProgram bytes → {p : Program} → IsProgramText bytes p → IsWithinLimits p → ⊥
+  large_within : IsLargeProgram limits bytes → {p : Program} → IsProgramText limits bytes p → IsWithinLimits limits p → ⊥
   large_within h {p} k within =
-      let same = one_program_text bytes p h.program k h.text in h.large (rw same at within)
+      let same = one_program_text limits bytes p h.program k h.text in h.large (rw same at within)
 
-  pub one_answer : (a b : Result Program TextFault) → ReadsProgram bytes a → ReadsProgram bytes b → (a ≡ Err Memory) ⊎ (b ≡ Err Memory) ⊎ (a ≡ b)
+  pub one_answer : (a b : Result Program TextFault) → ReadsWithin limits bytes a → ReadsWithin limits bytes b → (a ≡ Err Memory) ⊎ (b ≡ Err Memory) ⊎ (a ≡ b)
   one_answer (Err Memory) b h k = inl refl
   one_answer (Err TooLarge) (Err Memory) (inl h) k = inr (inl refl)
   one_answer (Err TooLarge) (Err TooLarge) (inl h) (inl k) = inr (inr refl)
@@ -116,4 +117,4 @@ module _ (bytes : List ℕ) where
   one_answer (Ok p) (Err BadType) h k = absurd (plain_constant k h.text)
   one_answer (Ok p) (Err TooMany) h k = absurd (many_few k h.text h.few)
   one_answer (Ok p) (Err TooLarge) h (inr k) = absurd (large_within k h.text h.within)
-  one_answer (Ok p) (Ok q) h k = inr (inr (ap Ok (one_program_text bytes p q h.text k.text)))
+  one_answer (Ok p) (Ok q) h k = inr (inr (ap Ok (one_program_text limits bytes p q h.text k.text)))

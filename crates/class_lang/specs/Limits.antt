@@ -11,34 +11,16 @@ use Rattle.syntax_trees.specs.declared.program.SlotWork.TheVariants as work
 use Rattle.syntax_trees.specs.declared.program.Wire.{Wire}
 use Rattle.syntax_trees.specs.declared.program.Site.{Site}
 use Rattle.syntax_trees.specs.declared.program.Program.{Program}
+use Rattle.texts.specs.Limits.{most_bytes}
+use Rattle.class_lang.specs.declared.size.Limits.{Limits}
 
--- classes of a program
-abbrev pub most_classes : ℕ
-most_classes = 256
+-- those of a program that a person writes
+abbrev pub standard : Limits
+standard = record { bytes = most_bytes; classes = 256; methods = 64; properties = 32; natives = 64; wires = 1000; owns = 1000; sites = 1000 }
 
--- signals, slots and natives of a class, counted together
-abbrev pub most_methods : ℕ
-most_methods = 64
-
--- properties of a class
-abbrev pub most_properties : ℕ
-most_properties = 32
-
--- natives of a program
-abbrev pub most_natives : ℕ
-most_natives = 64
-
--- wires of a program
-abbrev pub most_wires : ℕ
-most_wires = 1000
-
--- declarations of ownership of a program
-abbrev pub most_owns : ℕ
-most_owns = 1000
-
--- bindings of a program
-abbrev pub most_sites : ℕ
-most_sites = 1000
+-- those of a program that a tool writes, as one that is read from C++
+abbrev pub wide : Limits
+wide = record { bytes = 33554432; classes = 8192; methods = 1024; properties = 256; natives = 64; wires = 16384; owns = 16384; sites = 16384 }
 
 -- the signatures in a slot's body, and those that a native may emit
 abbrev pub signatures_at_work : SlotWork → List Sig
@@ -85,18 +67,18 @@ natives_among slots = count_by is_native slots
 abbrev pub natives_of : Class → ℕ
 natives_of class = natives_among class.slots
 
--- all of the classes together have no more natives than a program may have
-abbrev pub HaveFewNatives : List Class → Type 0
-HaveFewNatives classes = sum_by natives_of classes ≤ most_natives
+-- all of the classes together have no more natives than this
+abbrev pub HaveFewNatives : ℕ → List Class → Type 0
+HaveFewNatives most classes = sum_by natives_of classes ≤ most
 
-pub record ClassIsWithinLimits (class : Class) : Type 0 where
-  pub methods : length class.signals + length class.slots ≤ most_methods
-  pub properties : length class.properties ≤ most_properties
+pub record ClassIsWithinLimits (limits : Limits) (class : Class) : Type 0 where
+  pub methods : length class.signals + length class.slots ≤ limits.methods
+  pub properties : length class.properties ≤ limits.properties
 
-pub record IsWithinLimits (program : Program) : Type 0 where
-  pub classes : length program.classes ≤ most_classes
-  pub each_class : All ClassIsWithinLimits program.classes
-  pub natives : HaveFewNatives program.classes
-  pub wires : length program.wires ≤ most_wires
-  pub owns : length program.owns ≤ most_owns
-  pub sites : length program.sites ≤ most_sites
+pub record IsWithinLimits (limits : Limits) (program : Program) : Type 0 where
+  pub classes : length program.classes ≤ limits.classes
+  pub each_class : All (ClassIsWithinLimits limits) program.classes
+  pub natives : HaveFewNatives limits.natives program.classes
+  pub wires : length program.wires ≤ limits.wires
+  pub owns : length program.owns ≤ limits.owns
+  pub sites : length program.sites ≤ limits.sites

@@ -1,27 +1,13 @@
-//! How large programs may be.
+//! Whether a program is as large as it may be, or larger.
 
 ghost use Rattle.std.specs.Prelude.{◌≡◌, ◌↔◌, IsTrue, IfSome, All};
 ghost use Rattle.syntax_trees.specs.Connections.{HasFewTypes};
 ghost use Rattle.class_lang.specs.Limits.{is_native, natives_among, HaveFewNatives, signatures_at_work, SlotHasFewParameters, ClassHasFewParameters, WireHasFewParameters, HasFewParameters, ClassIsWithinLimits, IsWithinLimits};
 
+use crate::size::Limits;
 use basic_types::MOST_PARAMETERS;
 use slot_lang::body_has_few_parameters;
 use syntax_trees::{Class, Program, Property, Slot, SlotWork, Wire, has_few_types};
-
-/// Classes of a program.
-const MOST_CLASSES: usize = 256;
-/// Signals, slots and natives of a class, counted together.
-const MOST_METHODS: usize = 64;
-/// Properties of a class.
-const MOST_PROPERTIES: usize = 32;
-/// Natives of a program.
-const MOST_NATIVES: usize = 64;
-/// Wires of a program.
-const MOST_WIRES: usize = 1000;
-/// Declarations of ownership of a program.
-const MOST_OWNS: usize = 1000;
-/// Bindings of a program.
-const MOST_SITES: usize = 1000;
 
 /// Whether its signal's signature has at most 8 parameters, if it names one.
 fn property_has_few_parameters(property: &Property) -> bool
@@ -75,12 +61,12 @@ fn class_has_few_parameters(class: &Class) -> bool
             .all(|slot| slot_has_few_parameters(slot))
 }
 
-fn class_is_within_limits(class: &Class) -> bool
-    ensures { IsTrue result ↔ ClassIsWithinLimits class.now }
+fn class_is_within(class: &Class, limits: Limits) -> bool
+    ensures { IsTrue result ↔ ClassIsWithinLimits limits class.now }
 {
-    class.properties.len() <= MOST_PROPERTIES
-        && class.signals.len() <= MOST_METHODS
-        && class.slots.len() <= MOST_METHODS - class.signals.len()
+    class.properties.len() <= limits.properties
+        && class.signals.len() <= limits.methods
+        && class.slots.len() <= limits.methods - class.signals.len()
 }
 
 /// Whether it is a native.
@@ -106,11 +92,11 @@ fn natives_among(slots: &[Slot]) -> usize
     natives
 }
 
-/// Whether the classes have at most 64 natives, all of them together.
-fn have_few_natives(classes: &[Class]) -> bool
-    ensures { IsTrue result ↔ HaveFewNatives classes.now }
+/// Whether the classes have at most so many natives, all of them together.
+fn have_few_natives(classes: &[Class], most: usize) -> bool
+    ensures { IsTrue result ↔ HaveFewNatives most classes.now }
 {
-    let mut left = MOST_NATIVES;
+    let mut left = most;
     for class in classes {
         let natives = natives_among(class.slots.as_slice());
         if natives > left {
@@ -148,19 +134,19 @@ pub fn has_few_parameters(program: &Program) -> bool
             .all(|site| site.formals.len() <= MOST_PARAMETERS)
 }
 
-/// Whether the program has at most 256 classes, 64 methods and 32 properties in each, 64 natives in all of them, 1,000
-/// wires, 1,000 owns and 1,000 bindings.
-pub fn is_within_limits(program: &Program) -> bool
-    ensures { IsTrue result ↔ IsWithinLimits program.now }
+/// Whether the program has no more classes, methods and properties in each, natives in all of them, wires, `owns` and bindings
+/// than these limits say.
+pub fn is_within_limits(program: &Program, limits: Limits) -> bool
+    ensures { IsTrue result ↔ IsWithinLimits limits program.now }
 {
-    program.classes.len() <= MOST_CLASSES
-        && program.wires.len() <= MOST_WIRES
-        && program.owns.len() <= MOST_OWNS
-        && program.sites.len() <= MOST_SITES
+    program.classes.len() <= limits.classes
+        && program.wires.len() <= limits.wires
+        && program.owns.len() <= limits.owns
+        && program.sites.len() <= limits.sites
         && program
             .classes
             .as_slice()
             .iter()
-            .all(|class| class_is_within_limits(class))
-        && have_few_natives(program.classes.as_slice())
+            .all(|class| class_is_within(class, limits))
+        && have_few_natives(program.classes.as_slice(), limits.natives)
 }

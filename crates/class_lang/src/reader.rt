@@ -4,14 +4,15 @@ ghost use Rattle.std.specs.Prelude.{◌≡◌, ℕ, List, Err, IfOk};
 ghost use Rattle.token_reading.specs.declared.fault.ParseFault.TheVariants.{Syntax};
 ghost use Rattle.texts.specs.declared.token.Token.{Token};
 ghost use Rattle.class_lang.specs.Declarations.{IsProgram};
-ghost use Rattle.class_lang.specs.Reads.{ReadsProgram, IsNoProgram, HasOneReading, HasOneProgram, HasOneAnswer};
+ghost use Rattle.class_lang.specs.Reads.{ReadsProgram, ReadsWithin, IsNoProgram, HasOneReading, HasOneProgram, HasOneAnswer};
 
 use crate::declarations::program;
 use crate::fault::TextFault;
 use crate::limits::{has_few_parameters, is_within_limits};
+use crate::size::Limits;
 use std::alloc::Global;
 use syntax_trees::Program;
-use texts::{MOST_BYTES, Token, nesting, tokens};
+use texts::{Token, nesting, tokens};
 use token_reading::{Cursor, ParseFault, Trail, has_plain_reference};
 
 /// Reads a program from its text: at most 1,048,576 bytes, in time that grows as the text does.
@@ -32,7 +33,15 @@ use token_reading::{Cursor, ParseFault, Trail, has_plain_reference};
 pub fn read_program(alloc: Global, bytes: &[u8]) -> Result<Program, TextFault>
     ensures { ReadsProgram bytes.now result }
 {
-    if bytes.len() > MOST_BYTES {
+    read_within(alloc, Limits::standard(), bytes)
+}
+
+/// Reads a program as [`read_program`] does, by these limits in the place of the standard ones: `TooLarge` is the answer for a
+/// text, and for a program, that is larger than they say.
+pub fn read_within(alloc: Global, limits: Limits, bytes: &[u8]) -> Result<Program, TextFault>
+    ensures { ReadsWithin limits bytes.now result }
+{
+    if bytes.len() > limits.bytes {
         return Err(TextFault::TooLarge);
     }
     let tokens = tokens(alloc, bytes)?;
@@ -46,7 +55,7 @@ pub fn read_program(alloc: Global, bytes: &[u8]) -> Result<Program, TextFault>
     if !has_few_parameters(&program) {
         return Err(TextFault::TooMany);
     }
-    if !is_within_limits(&program) {
+    if !is_within_limits(&program, limits) {
         return Err(TextFault::TooLarge);
     }
     Ok(program)

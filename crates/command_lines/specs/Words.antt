@@ -1,9 +1,10 @@
 -- The words of a command line (docs/commands.md, "The command line").
-use Rattle.std.specs.Prelude.{◌≡◌, ◌≢◌, ℕ, ◌-◌, ◌^◌, ◌<◌, ◌≤◌, ◌⊎◌, List, [], ◌∷◌, codes}
+use Rattle.std.specs.Prelude.{◌≡◌, ◌≢◌, ℕ, ◌-◌, ◌^◌, ◌<◌, ◌≤◌, ◌⊎◌, Bool, true, false, List, [], ◌∷◌, codes}
 use Rattle.texts.specs.Limits.{most_depth}
 use Rattle.texts.specs.Numerals.{IsNumeral}
 use Rattle.command_lines.specs.declared.words.Command.{Command}
 use Rattle.command_lines.specs.declared.words.Command.TheVariants.{Meta, Certify, Check, Run, RunUnchecked}
+use Rattle.command_lines.specs.declared.words.CommandLine.{CommandLine}
 
 -- decimal digits that write a number from 1 to the largest one
 pub record IsNumber (largest : ℕ) (word : List ℕ) (n : ℕ) : Type 0 where
@@ -44,6 +45,20 @@ IsCommand words Check = words ≡ codes "check" ∷ []
 IsCommand words (Run steps) = IsRun words steps
 IsCommand words (RunUnchecked options) = IsUncheckedRun words options.depth options.steps
 
+-- `--wide`, and then the words of this command
+pub record IsWide (words : List (List ℕ)) (command : Command) : Type 0 where
+  pub rest : List (List ℕ)
+  pub are : words ≡ codes "--wide" ∷ rest
+  pub is : IsCommand rest command
+
+-- the words are this command line's: a command's, with `--wide` in front or without it
+abbrev pub IsLineOf : List (List ℕ) → Command → Bool → Type 0
+IsLineOf words command true = IsWide words command
+IsLineOf words command false = IsCommand words command
+
+abbrev pub IsLine : List (List ℕ) → CommandLine → Type 0
+IsLine words line = IsLineOf words line.command line.is_wide
+
 -- the numbers of steps from 1 to the largest
 abbrev pub AreSteps : ℕ → Type 0
 AreSteps steps = (1 ≤ steps) × (steps < 2 ^ 63)
@@ -71,6 +86,9 @@ IsNoUncheckedRun words = (depth steps : ℕ) → IsUncheckedRun words depth step
 
 abbrev pub IsNoCommand : List (List ℕ) → Type 0
 IsNoCommand words = (command : Command) → IsCommand words command → ⊥
+
+abbrev pub IsNoLine : List (List ℕ) → Type 0
+IsNoLine words = (line : CommandLine) → IsLine words line → ⊥
 
 -- the first word isn't this one
 abbrev pub BeginsOtherwise : List ℕ → List (List ℕ) → Type 0

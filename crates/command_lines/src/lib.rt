@@ -22,4 +22,4 @@ pub use input::{InputFault, LARGEST_INPUT, read_input};
 pub use output::Output;
 pub use usage::UsageFault;
 pub use watched::Failing;
-pub use words::{Command, Options};
+pub use words::{Command, CommandLine, Options};

@@ -3,8 +3,8 @@
 ghost use Rattle.std.specs.Prelude.{◌≡◌, ◌↔◌, Some, ◌≤◌, ◌<◌, ◌^◌, [], ◌∷◌, map, codes};
 ghost use Rattle.std.specs.Prelude.{IsTrue, IfSome, MatchOption};
 ghost use Rattle.texts.specs.Limits.{most_depth};
-ghost use Rattle.command_lines.specs.Words.{IsNumber, IsFirstNumber, IsLimit, IsRun, IsUncheckedRun, IsCommand};
-ghost use Rattle.command_lines.specs.Words.{IsNoNumber, IsNoLimit, IsNoRun, IsNoUncheckedRun, IsNoCommand};
+ghost use Rattle.command_lines.specs.Words.{IsNumber, IsFirstNumber, IsLimit, IsRun, IsUncheckedRun, IsCommand, IsLine};
+ghost use Rattle.command_lines.specs.Words.{IsNoNumber, IsNoLimit, IsNoRun, IsNoUncheckedRun, IsNoCommand, IsNoLine};
 ghost use Rattle.command_lines.specs.Words.{BeginsOtherwise, BeginsWithNoNumber, IsWithinLimits};
 
 use texts::MOST_DEPTH;
@@ -49,6 +49,37 @@ impl Command {
         }
         let options = Options::of(words)?;
         Some(Command::RunUnchecked(options))
+    }
+}
+
+/// The words of a command line.
+#[derive(Clone, Copy)]
+pub struct CommandLine {
+    /// What is to be done.
+    pub command: Command,
+    /// Whether a program may be as large as one that a tool writes (`--wide`, in front of the command).
+    pub is_wide: bool,
+}
+
+impl CommandLine {
+    /// What the words say, if they are a command line: a command, or `--wide` and a command.
+    pub fn of(words: &[&str]) -> Option<CommandLine>
+        ensures said { let said = map (λ w. w.now) words.now in
+            MatchOption result (IsNoLine said) (λ line. IsLine said line) }
+        ensures limits { IfSome result (λ line. IsWithinLimits line.command) }
+    {
+        if let Some(rest) = after(words, "--wide") {
+            let command = Command::of(rest)?;
+            return Some(CommandLine {
+                command,
+                is_wide: true,
+            });
+        }
+        let command = Command::of(words)?;
+        Some(CommandLine {
+            command,
+            is_wide: false,
+        })
     }
 }
 

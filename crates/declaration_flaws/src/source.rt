@@ -1,6 +1,6 @@
 //! A program's text, as it is read.
 
-use class_lang::{TextFault, read_program};
+use class_lang::{Limits, TextFault, read_within};
 use sqlite_items::Items;
 use std::alloc::{AllocError, Global};
 use syntax_trees::Program;
@@ -13,9 +13,9 @@ pub struct Source {
     pub tokens: Items<PlacedToken>,
 }
 
-/// The program of this text, with the text's tokens; `None` where the text is no program.
+/// The program of this text, however large, with the text's tokens; `None` where the text is no program.
 pub fn source_of(alloc: Global, text: &[u8]) -> Result<Option<Source>, AllocError> {
-    let program = match read_program(alloc, text) {
+    let program = match read_within(alloc, Limits::wide(), text) {
         Ok(program) => program,
         Err(TextFault::Memory) => return Err(AllocError),
         Err(_) => return Ok(None),

@@ -8,7 +8,7 @@ use program_flaws::{broken_condition, missing_certificate};
 use rank_check::Denied;
 use script_lang::ScriptFault;
 use std::alloc::{AllocError, Global};
-use text_flaws::{certificate_flaw, program_flaw, script_flaw, size_flaw, wire_flaw};
+use text_flaws::{certificate_flaw, program_flaw, script_flaw, script_size_flaw, wire_flaw};
 use trace_entries::Fault;
 
 /// Adds what a command that runs nothing comes to on this input, or why a program doesn't run, for a person: what it means, in
@@ -101,7 +101,7 @@ fn flaw_of(
         Refusal::Natives(misfit) => native_flaw(alloc, source, *misfit),
         Refusal::Certificate(_) => certificate_flaw(alloc, source),
         Refusal::Script(ScriptFault::BadLine(line)) => script_flaw(alloc, source, *line),
-        Refusal::Script(_) => size_flaw(alloc, "script", source),
+        Refusal::Script(_) => script_size_flaw(alloc, source),
         Refusal::Check(_) => Ok(None),
     }
 }

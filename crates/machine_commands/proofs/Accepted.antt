@@ -17,6 +17,7 @@ use Rattle.program_commands.specs.declared.refusal.Refusal.{Refusal}
 use Rattle.program_commands.specs.declared.refusal.Refusal.TheVariants as refusal
 use Rattle.program_commands.specs.Refusals.{refusal_number, script_number}
 use Rattle.program_commands.proofs.Once.{OneOf, one_first, one_is, goes_with, loads_once, certified_once, check_once, check_short, never_denied, IsShortCheck, IsShortResult, never_short, same_short, short_refusal}
+use Rattle.class_lang.specs.declared.size.Limits.{Limits}
 use Rattle.machine_commands.specs.declared.outcome.Outcome.{Outcome}
 use Rattle.machine_commands.specs.Outcomes.{IsShort}
 use Rattle.machine_commands.specs.Commands.{Accepting, Accepts, AcceptedComesTo, MayRun, RunComesTo, refused}
@@ -51,17 +52,17 @@ NeverShort r = ⊥
 pub fit_once : (heads : List NativeHead) (p : Loaded) → OneOf NeverShort (Fits heads p)
 fit_once heads p a b h k = inr (inr (one_misfit heads p a b h k))
 
-pub accepting_once : (heads : List NativeHead) (program certificate script : List ℕ) → OneOf IsShortResult (Accepting heads program certificate script)
-accepting_once heads program certificate script =
-    one_first IsShortResult IsShortResult (certified_once program certificate) same_short never_short
+pub accepting_once : (limits : Limits) (heads : List NativeHead) (program certificate script : List ℕ) → OneOf IsShortResult (Accepting limits heads program certificate script)
+accepting_once limits heads program certificate script =
+    one_first IsShortResult IsShortResult (certified_once limits program certificate) same_short never_short
     (λ both. one_first IsShortScript IsShortResult (script_once script) script_short (λ x e. cc e)
     (λ events. one_first IsShortCheck IsShortResult (check_once both.0 both.1) check_short never_denied
     (λ checked. one_first NeverShort IsShortResult (fit_once heads checked.program) (λ fault s. absurd s) (λ x s. s)
     (λ fit. one_is IsShortResult (Ok (checked, events))))))
 
-pub may_run_once : (heads : List NativeHead) (program script : List ℕ) → OneOf IsShortResult (MayRun heads program script)
-may_run_once heads program script =
-    one_first IsShortResult IsShortResult (loads_once program) same_short never_short
+pub may_run_once : (limits : Limits) (heads : List NativeHead) (program script : List ℕ) → OneOf IsShortResult (MayRun limits heads program script)
+may_run_once limits heads program script =
+    one_first IsShortResult IsShortResult (loads_once limits program) same_short never_short
     (λ loaded. one_first IsShortScript IsShortResult (script_once script) script_short (λ x e. cc e)
     (λ events. one_first NeverShort IsShortResult (fit_once heads loaded) (λ fault s. absurd s) (λ x s. s)
     (λ fit. one_is IsShortResult (Ok (loaded, events)))))
@@ -71,12 +72,12 @@ short_refused r is = let s = short_refusal r is in record { line = s.line; statu
 
 -- ---- what is written where `run` accepts
 
-pub accepted_comes : {N : Type 0} {gives : N → NativeAnswers} {heads : List NativeHead} {natives : N} {program certificate script : List ℕ} {loaded : Loaded} {read : Certificate} {events : List Event} {steps : ℕ} {outcome : Outcome (Seen N)} →
-    Accepts heads program certificate script loaded read events → RunComesTo gives heads natives program certificate script steps outcome →
+pub accepted_comes : {N : Type 0} {limits : Limits} {gives : N → NativeAnswers} {heads : List NativeHead} {natives : N} {program certificate script : List ℕ} {loaded : Loaded} {read : Certificate} {events : List Event} {steps : ℕ} {outcome : Outcome (Seen N)} →
+    Accepts limits heads program certificate script loaded read events → RunComesTo limits gives heads natives program certificate script steps outcome →
     AcceptedComesTo gives natives loaded read events steps outcome
-accepted_comes {heads = heads} {program = program} {certificate = certificate} {script = script} {loaded = loaded} {read = read} {events = events} accepts comes =
+accepted_comes {limits = limits} {heads = heads} {program = program} {certificate = certificate} {script = script} {loaded = loaded} {read = read} {events = events} accepts comes =
     let checked : Checking = record { program = loaded; certificate = read } in
-    elim (goes_with IsShortResult IsShort (accepting_once heads program certificate script) short_refused never_short (checked, events) accepts comes) [
+    elim (goes_with IsShortResult IsShort (accepting_once limits heads program certificate script) short_refused never_short (checked, events) accepts comes) [
       | inl short ↦ inr short
       | inr runs ↦ inl runs
     ]

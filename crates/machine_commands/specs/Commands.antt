@@ -1,8 +1,10 @@
 -- What runs and command lines come to (docs/commands.md). Memory may run out outside a run at any time before the run;
 -- that it comes only where a growth of memory was refused is not stated here.
-use Rattle.std.specs.Prelude.{◌≡◌, ℕ, ◌<◌, ◌≤◌, ◌⊎◌, List, [], ◌∷◌, length, take, Option, Result, Ok, Err, IfSome}
+use Rattle.std.specs.Prelude.{◌≡◌, ℕ, ◌<◌, ◌≤◌, ◌⊎◌, Bool, true, false, List, [], ◌∷◌, length, take, Option, Result, Ok, Err, IfSome}
 use Rattle.std.specs.Borrow.{Bor}
 use Rattle.certificate_lang.specs.declared.certificate.Certificate.{Certificate}
+use Rattle.class_lang.specs.Limits.{standard, wide}
+use Rattle.class_lang.specs.declared.size.Limits.{Limits}
 use Rattle.meta_model.specs.Loaded.{Loaded}
 use Rattle.native_slots.specs.declared.head.NativeHead.{NativeHead}
 use Rattle.native_slots.specs.Misfits.{Fits}
@@ -21,12 +23,13 @@ use Rattle.program_commands.specs.Commands.{CheckComesTo, CertifyComesTo, MetaCo
 use Rattle.program_commands.specs.Loading.{LoadsProgram, LoadsCertified}
 use Rattle.program_commands.specs.Steps.{First, Is, Gives}
 use Rattle.command_lines.specs.Cut.{AreTexts}
-use Rattle.command_lines.specs.Words.{IsCommand, IsNoCommand}
+use Rattle.command_lines.specs.Words.{IsLine, IsNoLine}
 use Rattle.command_lines.specs.declared.input.InputFault.{InputFault}
 use Rattle.command_lines.specs.declared.usage.UsageFault.{UsageFault}
 use Rattle.command_lines.specs.declared.usage.UsageFault.TheVariants.{Words, TooLarge, Texts}
 use Rattle.command_lines.specs.declared.words.Command.{Command}
 use Rattle.command_lines.specs.declared.words.Command.TheVariants.{Meta, Certify, Check, Run, RunUnchecked}
+use Rattle.command_lines.specs.declared.words.CommandLine.{CommandLine}
 use Rattle.machine_commands.specs.Outcomes.{IsShort, Writes}
 use Rattle.machine_commands.specs.declared.outcome.Outcome.{Outcome}
 use Rattle.machine_commands.specs.declared.outcome.Outcome.TheVariants.{Usage, NoInput, Program, Ran as OfRun, Memory}
@@ -40,9 +43,9 @@ refused refusal = Program (Refused refusal)
 
 -- The program is loaded, the script is read, and each native that the program declares has a closure that keeps to the effects
 -- declared.
-abbrev pub MayRun : List NativeHead → List ℕ → List ℕ → Result (Loaded × List Event) Refusal → Type 0
-MayRun heads program script =
-    First (LoadsProgram program) Err (λ loaded.
+abbrev pub MayRun : Limits → List NativeHead → List ℕ → List ℕ → Result (Loaded × List Event) Refusal → Type 0
+MayRun limits heads program script =
+    First (LoadsProgram limits program) Err (λ loaded.
     First (ReadsScript script) (λ fault. Err (Script fault)) (λ events.
     First (Fits heads loaded) (λ misfit. Err (OfNatives misfit)) (λ fit. Gives (loaded, events))))
 
@@ -51,27 +54,27 @@ pub data Runs {N : Type 0} (gives : N → NativeAnswers) (machine : Seen N) (eve
   ran : (end : Ran (Seen N)) → RunsAll gives machine events end.ended end.machine → Runs gives machine events (OfRun end)
   short : Runs gives machine events Memory
 
--- `run --unchecked`, from the closures, the texts, the depth and the limit of steps. The closures are known by what they are
+-- `run --unchecked`, from the limits of a program, the closures, the texts, the depth and the limit of steps. The closures are known by what they are
 -- for, and by what they may answer.
-abbrev pub UncheckedRunComesTo : {N : Type 0} → (N → NativeAnswers) → List NativeHead → N → List ℕ → List ℕ → ℕ → ℕ → Outcome (Seen N) → Type 0
-UncheckedRunComesTo gives heads natives program script depth steps =
-    First (MayRun heads program script) refused (λ both. Runs gives (begun both.0 natives depth steps) both.1)
+abbrev pub UncheckedRunComesTo : {N : Type 0} → Limits → (N → NativeAnswers) → List NativeHead → N → List ℕ → List ℕ → ℕ → ℕ → Outcome (Seen N) → Type 0
+UncheckedRunComesTo limits gives heads natives program script depth steps =
+    First (MayRun limits heads program script) refused (λ both. Runs gives (begun both.0 natives depth steps) both.1)
 
 -- ---- `run`
 
 -- The program is loaded, its certificate is read, the script is read, the certificate is valid for the program, and the closures
 -- are those that the program declares.
-abbrev pub Accepting : List NativeHead → List ℕ → List ℕ → List ℕ → Result (Checking × List Event) Refusal → Type 0
-Accepting heads program certificate script =
-    First (LoadsCertified program certificate) Err (λ both.
+abbrev pub Accepting : Limits → List NativeHead → List ℕ → List ℕ → List ℕ → Result (Checking × List Event) Refusal → Type 0
+Accepting limits heads program certificate script =
+    First (LoadsCertified limits program certificate) Err (λ both.
     First (ReadsScript script) (λ fault. Err (Script fault)) (λ events.
     First (Examines both.0 both.1) (λ why. Err (OfCheck why)) (λ checked.
     First (Fits heads checked.program) (λ misfit. Err (OfNatives misfit)) (λ fit. Gives (checked, events)))))
 
--- `run` accepts texts with the closures: nothing refuses them, and this is what they say
-abbrev pub Accepts : List NativeHead → List ℕ → List ℕ → List ℕ → Loaded → Certificate → List Event → Type 0
-Accepts heads program certificate script loaded read events =
-    Accepting heads program certificate script (Ok (record { program = loaded; certificate = read }, events))
+-- by these limits `run` accepts texts with the closures: nothing refuses them, and this is what they say
+abbrev pub Accepts : Limits → List NativeHead → List ℕ → List ℕ → List ℕ → Loaded → Certificate → List Event → Type 0
+Accepts limits heads program certificate script loaded read events =
+    Accepting limits heads program certificate script (Ok (record { program = loaded; certificate = read }, events))
 
 -- the run of a machine that is accepted ends whole, or at the step limit, or as memory runs out
 abbrev pub EndsAtLimit : Result (Unit {0}) Fault → Type 0
@@ -84,10 +87,10 @@ pub data RunsFaultless {N : Type 0} (gives : N → NativeAnswers) (machine : See
       RunsFaultless gives machine events (OfRun end)
   short_of_memory : RunsFaultless gives machine events Memory
 
--- `run`, from the closures, the texts and the limit of steps: the depth is the certificate's bound
-abbrev pub RunComesTo : {N : Type 0} → (N → NativeAnswers) → List NativeHead → N → List ℕ → List ℕ → List ℕ → ℕ → Outcome (Seen N) → Type 0
-RunComesTo gives heads natives program certificate script steps =
-    First (Accepting heads program certificate script) refused (λ both.
+-- `run`, from the limits of a program, the closures, the texts and the limit of steps: the depth is the certificate's bound
+abbrev pub RunComesTo : {N : Type 0} → Limits → (N → NativeAnswers) → List NativeHead → N → List ℕ → List ℕ → List ℕ → ℕ → Outcome (Seen N) → Type 0
+RunComesTo limits gives heads natives program certificate script steps =
+    First (Accepting limits heads program certificate script) refused (λ both.
     RunsFaultless gives (begun both.0.program natives both.0.certificate.bound steps) both.1)
 
 -- where it accepts: the run of this program for these events; or, where memory runs out, `memory`
@@ -97,10 +100,15 @@ AcceptedComesTo gives natives loaded read events steps outcome =
 
 -- ---- command lines
 
--- the words are this command's, or no command's
-abbrev pub Says : List (List ℕ) → Result Command (Unit {0}) → Type 0
-Says words (Ok command) = IsCommand words command
-Says words (Err none) = IsNoCommand words
+-- the words are this command line's, or none's
+abbrev pub Says : List (List ℕ) → Result CommandLine (Unit {0}) → Type 0
+Says words (Ok line) = IsLine words line
+Says words (Err none) = IsNoLine words
+
+-- how large a program may be, with `--wide` and without it
+abbrev pub limits_of : Bool → Limits
+limits_of true = wide
+limits_of false = standard
 
 -- how many texts a command takes
 abbrev pub texts_of : Command → ℕ
@@ -125,20 +133,20 @@ pub record IsOfProgram {N : Type 0} (ComesTo : ProgramOutcome → Type 0) (outco
   pub comes : ComesTo told
   pub is : outcome ≡ Program told
 
--- what a command comes to with its texts
-abbrev pub Does : {N : Type 0} → (N → NativeAnswers) → List NativeHead → N → Command → List (List ℕ) → Outcome (Seen N) → Type 0
-Does gives heads natives Meta (program ∷ []) outcome = IsOfProgram (MetaComesTo program) outcome
-Does gives heads natives Certify (program ∷ []) outcome = IsOfProgram (CertifyComesTo program) outcome
-Does gives heads natives Check (program ∷ certificate ∷ []) outcome = IsOfProgram (CheckComesTo program certificate) outcome
-Does gives heads natives (Run steps) (program ∷ certificate ∷ script ∷ []) outcome =
-    RunComesTo gives heads natives program certificate script steps outcome
-Does gives heads natives (RunUnchecked options) (program ∷ script ∷ []) outcome =
-    UncheckedRunComesTo gives heads natives program script options.depth options.steps outcome
-Does gives heads natives command texts outcome = ⊥
+-- what a command comes to with its texts, of which the program is read by these limits
+abbrev pub Does : {N : Type 0} → Limits → (N → NativeAnswers) → List NativeHead → N → Command → List (List ℕ) → Outcome (Seen N) → Type 0
+Does limits gives heads natives Meta (program ∷ []) outcome = IsOfProgram (MetaComesTo limits program) outcome
+Does limits gives heads natives Certify (program ∷ []) outcome = IsOfProgram (CertifyComesTo limits program) outcome
+Does limits gives heads natives Check (program ∷ certificate ∷ []) outcome = IsOfProgram (CheckComesTo limits program certificate) outcome
+Does limits gives heads natives (Run steps) (program ∷ certificate ∷ script ∷ []) outcome =
+    RunComesTo limits gives heads natives program certificate script steps outcome
+Does limits gives heads natives (RunUnchecked options) (program ∷ script ∷ []) outcome =
+    UncheckedRunComesTo limits gives heads natives program script options.depth options.steps outcome
+Does limits gives heads natives command texts outcome = ⊥
 
 -- what a command comes to with its input
-abbrev pub InputComesTo : {N : Type 0} → (N → NativeAnswers) → List NativeHead → N → Command → List ℕ → Outcome (Seen N) → Type 0
-InputComesTo gives heads natives command input = First (Cuts command input) Usage (Does gives heads natives command)
+abbrev pub InputComesTo : {N : Type 0} → Limits → (N → NativeAnswers) → List NativeHead → N → Command → List ℕ → Outcome (Seen N) → Type 0
+InputComesTo limits gives heads natives command input = First (Cuts command input) Usage (Does limits gives heads natives command)
 
 -- the bytes that were read, or why there are none
 abbrev pub read_of : Result (Bor (List ℕ)) InputFault → Result (List ℕ) InputFault
@@ -148,8 +156,8 @@ read_of (Err fault) = Err fault
 -- A command line, from its words and from what was read: the bytes, or why there are none.
 abbrev pub CommandComesTo : {N : Type 0} → (N → NativeAnswers) → List NativeHead → N → List (List ℕ) → Result (List ℕ) InputFault → Outcome (Seen N) → Type 0
 CommandComesTo gives heads natives words input =
-    First (Says words) (λ none. Usage Words) (λ command.
-    First (Is input) NoInput (InputComesTo gives heads natives command))
+    First (Says words) (λ none. Usage Words) (λ line.
+    First (Is input) NoInput (InputComesTo (limits_of line.is_wide) gives heads natives line.command))
 
 -- What is read of a reader's bytes, where those are known: all, but no more than a byte past 64 MiB. When a read fails
 -- isn't stated, since no contract of a reader says it.

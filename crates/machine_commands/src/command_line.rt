@@ -2,11 +2,11 @@
 
 ghost use Rattle.std.specs.Prelude.{◌≡◌, map};
 ghost use Rattle.command_lines.specs.declared.usage.UsageFault.TheVariants.{Words};
-ghost use Rattle.command_lines.specs.Words.{IsCommand, IsWithinLimits};
-ghost use Rattle.command_lines.specs.declared.words.Command.{Command as ACommand};
+ghost use Rattle.command_lines.specs.Words.{IsLine, IsWithinLimits};
+ghost use Rattle.command_lines.specs.declared.words.CommandLine.{CommandLine as ALine};
 ghost use Rattle.machine_commands.specs.Outcomes.{seen_outcome};
 ghost use Rattle.machine_commands.specs.declared.outcome.Outcome.TheVariants.{Program, Usage};
-ghost use Rattle.machine_commands.specs.Commands.{CommandComesTo, ReadsAndComesTo, InputComesTo, read_of};
+ghost use Rattle.machine_commands.specs.Commands.{CommandComesTo, ReadsAndComesTo, InputComesTo, limits_of, read_of};
 ghost use Rattle.machine_commands.specs.Prepared.{CarriesOut, Prepares, seen_prepared};
 ghost use Rattle.machine_commands.specs.declared.prepared.Prepared.TheVariants.{Done};
 
@@ -14,9 +14,10 @@ use crate::natives::FittingNatives;
 use crate::outcome::Outcome;
 use crate::prepared::{Carried, Prepared};
 use crate::runs::{prepare_run, prepare_unchecked_run};
+use class_lang::Limits;
 use command_lines::{
-    Command, Failing, InputFault, LARGEST_INPUT, UsageFault, one_text, read_input, three_texts,
-    two_texts,
+    Command, CommandLine, Failing, InputFault, LARGEST_INPUT, UsageFault, one_text, read_input,
+    three_texts, two_texts,
 };
 use object_machine::ObjectMachine;
 use program_commands::{Outcome as ProgramOutcome, certify_outcome, check_outcome, meta_outcome};
@@ -47,9 +48,9 @@ pub fn answer<N: FittingNatives, M: ObjectMachine<Natives = N>, R: Read, W: Writ
         CarriesOut (ReadsAndComesTo N.gives heads natives said (R.remaining reader.old))
         (W.contents w.old) (W.contents w.new) (seen_outcome M.seen result.carried.outcome) result.carried.written }
     ensures unread { let said = map (λ word. word.now) words.now in
-        ((c : ACommand) → IsCommand said c → ⊥) → reader.new ≡ reader.old }
+        ((line : ALine) → IsLine said line → ⊥) → reader.new ≡ reader.old }
 {
-    let Some(_) = Command::of(words) else {
+    let Some(_) = CommandLine::of(words) else {
         return Answered {
             input: None,
             carried: prepared_usage().carry_out(alloc, w),
@@ -93,18 +94,30 @@ pub fn prepare_for<N: FittingNatives, M: ObjectMachine<Natives = N>>(
         (CommandComesTo N.gives heads natives said (read_of input.entry))
         (seen_prepared M.seen result) }
 {
-    let Some(command) = Command::of(words) else {
+    let Some(line) = CommandLine::of(words) else {
         return prepared_usage();
     };
     match input {
-        Ok(bytes) => prepare(alloc, command, bytes, natives),
+        Ok(bytes) => prepare(alloc, limits_of(line.is_wide), line.command, bytes, natives),
         Err(fault) => Prepared::Done(Outcome::NoInput(fault)),
     }
 }
 
-/// What is to be done for a command on its input.
+/// How large a program may be, with `--wide` and without it.
+fn limits_of(is_wide: bool) -> Limits
+    ensures { result ≡ limits_of is_wide }
+{
+    if is_wide {
+        Limits::wide()
+    } else {
+        Limits::standard()
+    }
+}
+
+/// What is to be done for a command on its input, where the program is read by these limits.
 fn prepare<N: FittingNatives, M: ObjectMachine<Natives = N>>(
     alloc: Global,
+    limits: Limits,
     command: Command,
     input: &[u8],
     natives: N,
@@ -112,7 +125,7 @@ fn prepare<N: FittingNatives, M: ObjectMachine<Natives = N>>(
     requires limits { IsWithinLimits command }
     ensures { let heads = N.heads natives in
         Prepares N.takes N.gives
-        (InputComesTo N.gives heads natives command input.now)
+        (InputComesTo limits N.gives heads natives command input.now)
         (seen_prepared M.seen result) }
 {
     if input.len() > LARGEST_INPUT {
@@ -120,26 +133,32 @@ fn prepare<N: FittingNatives, M: ObjectMachine<Natives = N>>(
     }
     match command {
         Command::Meta => match one_text(input) {
-            Some(program) => of_program(meta_outcome(alloc, program)),
+            Some(program) => of_program(meta_outcome(alloc, limits, program)),
             None => Prepared::Done(Outcome::Usage(UsageFault::Texts(1))),
         },
         Command::Certify => match one_text(input) {
-            Some(program) => of_program(certify_outcome(alloc, program)),
+            Some(program) => of_program(certify_outcome(alloc, limits, program)),
             None => Prepared::Done(Outcome::Usage(UsageFault::Texts(1))),
         },
         Command::Check => match two_texts(input) {
-            Some((program, certificate)) => of_program(check_outcome(alloc, program, certificate)),
+            Some((program, certificate)) => of_program(check_outcome(
+                alloc,
+                limits,
+                program,
+                certificate,
+            )),
             None => Prepared::Done(Outcome::Usage(UsageFault::Texts(2))),
         },
         Command::Run(steps) => match three_texts(input) {
             Some((program, certificate, script)) => {
-                prepare_run(alloc, program, certificate, script, natives, steps)
+                prepare_run(alloc, limits, program, certificate, script, natives, steps)
             }
             None => Prepared::Done(Outcome::Usage(UsageFault::Texts(3))),
         },
         Command::RunUnchecked(options) => match two_texts(input) {
             Some((program, script)) => prepare_unchecked_run(
                 alloc,
+                limits,
                 program,
                 script,
                 natives,

@@ -10,6 +10,7 @@ ghost use Rattle.machine_commands.specs.declared.prepared.Prepared.TheVariants.{
 use crate::natives::FittingNatives;
 use crate::outcome::Outcome;
 use crate::prepared::{Prepared, Ready};
+use class_lang::Limits;
 use meta_model::Meta;
 use object_machine::ObjectMachine;
 use program_commands::{Outcome as ProgramOutcome, Refusal, load_certified, load_program};
@@ -18,9 +19,10 @@ use script_lang::{Event, read_script};
 use sqlite_items::Items;
 use std::alloc::Global;
 
-/// What `run` is about to do: a run of the program on the script, or to say why there is none.
+/// What `run` is about to do: a run of the program, which is read by these limits, on the script, or to say why there is none.
 pub fn prepare_run<N: FittingNatives, M: ObjectMachine<Natives = N>>(
     alloc: Global,
+    limits: Limits,
     program: &[u8],
     certificate: &[u8],
     script: &[u8],
@@ -30,10 +32,10 @@ pub fn prepare_run<N: FittingNatives, M: ObjectMachine<Natives = N>>(
     requires steps { (1 ≤ steps) × (steps < 2 ^ 63) }
     ensures { let heads = N.heads natives in
         Prepares N.takes N.gives
-        (RunComesTo N.gives heads natives program.now certificate.now script.now steps)
+        (RunComesTo limits N.gives heads natives program.now certificate.now script.now steps)
         (seen_prepared M.seen result) }
 {
-    let (checked, events) = match accept(alloc, program, certificate, script, &natives) {
+    let (checked, events) = match accept(alloc, limits, program, certificate, script, &natives) {
         Ok(accepted) => accepted,
         Err(refusal) => return refused(refusal),
     };
@@ -43,9 +45,10 @@ pub fn prepare_run<N: FittingNatives, M: ObjectMachine<Natives = N>>(
     Prepared::Ready(Ready { machine, events })
 }
 
-/// What `run --unchecked` is about to do: a run of the program on the script, or to say why there is none.
+/// What `run --unchecked` is about to do: a run of the program, which is read by these limits, on the script, or to say why there is none.
 pub fn prepare_unchecked_run<N: FittingNatives, M: ObjectMachine<Natives = N>>(
     alloc: Global,
+    limits: Limits,
     program: &[u8],
     script: &[u8],
     natives: N,
@@ -56,10 +59,10 @@ pub fn prepare_unchecked_run<N: FittingNatives, M: ObjectMachine<Natives = N>>(
     requires steps { (1 ≤ steps) × (steps < 2 ^ 63) }
     ensures { let heads = N.heads natives in
         Prepares N.takes N.gives
-        (UncheckedRunComesTo N.gives heads natives program.now script.now depth steps)
+        (UncheckedRunComesTo limits N.gives heads natives program.now script.now depth steps)
         (seen_prepared M.seen result) }
 {
-    let (meta, events) = match load(alloc, program, script, &natives) {
+    let (meta, events) = match load(alloc, limits, program, script, &natives) {
         Ok(loaded) => loaded,
         Err(refusal) => return refused(refusal),
     };
@@ -76,40 +79,42 @@ fn refused<M: ObjectMachine>(refusal: Refusal) -> Prepared<M>
     Prepared::Done(Outcome::Program(ProgramOutcome::Refused(refusal)))
 }
 
-/// Reads and loads a program, reads its certificate and its script, checks the program, and compares its natives with the
+/// Reads a program by these limits, loads it, reads its certificate and its script, checks the program, and compares its natives with the
 /// closures.
 fn accept<N: FittingNatives>(
     alloc: Global,
+    limits: Limits,
     program: &[u8],
     certificate: &[u8],
     script: &[u8],
     natives: &N,
 ) -> Result<(Checked, Items<Event>), Refusal>
     ensures accepting { let heads = N.heads natives.now in
-        Accepting heads program.now certificate.now script.now result }
+        Accepting limits heads program.now certificate.now script.now result }
     ensures promises { IfOk result (λ accepted. Promises accepted.0.program
         (N.takes natives.now) (N.gives natives.now)) }
 {
-    let (meta, certificate) = load_certified(alloc, program, certificate)?;
+    let (meta, certificate) = load_certified(alloc, limits, program, certificate)?;
     let events = read_script(alloc, script)?;
     let checked = examine(alloc, meta, certificate)?;
     natives.fitting(checked.meta())?;
     Ok((checked, events))
 }
 
-/// Reads and loads a program, reads its script, and compares its natives with the closures.
+/// Reads a program by these limits, loads it, reads its script, and compares its natives with the closures.
 fn load<N: FittingNatives>(
     alloc: Global,
+    limits: Limits,
     program: &[u8],
     script: &[u8],
     natives: &N,
 ) -> Result<(Meta, Items<Event>), Refusal>
     ensures loading { let heads = N.heads natives.now in
-        MayRun heads program.now script.now result }
+        MayRun limits heads program.now script.now result }
     ensures promises { IfOk result (λ loaded. Promises loaded.0
         (N.takes natives.now) (N.gives natives.now)) }
 {
-    let meta = load_program(alloc, program)?;
+    let meta = load_program(alloc, limits, program)?;
     let events = read_script(alloc, script)?;
     natives.fitting(&meta)?;
     Ok((meta, events))

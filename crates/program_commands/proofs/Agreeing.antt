@@ -3,6 +3,7 @@ use Rattle.std.proofs.Common.{◌≡◌, ◌≤◌, ℕ, List, Option, Some, Non
 use Rattle.certificate_lang.specs.declared.certificate.Certificate.{Certificate}
 use Rattle.certificate_laws.proofs.Writable.{made_is_read}
 use Rattle.certificate_texts.specs.Texts.{certificate_text}
+use Rattle.class_lang.specs.declared.size.Limits.{Limits}
 use Rattle.meta_model.specs.Loaded.{Loaded}
 use Rattle.rank_make.specs.Makes.{Makes}
 use Rattle.rank_make.specs.declared.why.Why.{Why}
@@ -40,27 +41,27 @@ reason_some (why.DestroyPath nodes) e = omega arith
 reason_some (why.TooHigh nodes) e = omega arith
 reason_some why.Memory e = omega arith
 
-agreed : (program : List ℕ) (loaded : Loaded) (certificate : Certificate) → LoadsProgram program (Ok loaded) → Makes loaded (Ok certificate) →
-    CheckComesTo program (certificate_text certificate) (Valid (with_certificate loaded certificate))
-agreed program loaded certificate steps makes =
+agreed : (limits : Limits) (program : List ℕ) (loaded : Loaded) (certificate : Certificate) → LoadsProgram limits program (Ok loaded) → Makes loaded (Ok certificate) →
+    CheckComesTo limits program (certificate_text certificate) (Valid (with_certificate loaded certificate))
+agreed limits program loaded certificate steps makes =
     let loads = loads_of steps in
-    let read = made_is_read program loads.program loaded certificate loads.reads loads.builds makes in
+    let read = made_is_read limits program loads.program loaded certificate loads.reads loads.builds makes in
     let certified = goes_on loaded (Ok (loaded, certificate)) steps (goes_on certificate (Ok (loaded, certificate)) read refl) in
     let checked = with_certificate loaded certificate in
     goes_on checked (Valid checked)
     (goes_on (loaded, certificate) (Ok checked) certified (goes_on checked (Ok checked) (refl, refl, makes.valid) refl))
     refl
 
-made_agreed : {program : List ℕ} {loaded : Loaded} {outcome : Outcome} → LoadsProgram program (Ok loaded) →
+made_agreed : {limits : Limits} {program : List ℕ} {loaded : Loaded} {outcome : Outcome} → LoadsProgram limits program (Ok loaded) →
     First (Makes loaded) (Uncertified loaded) (λ certificate. Is (Certified (with_text loaded (certificate_text certificate)))) outcome → outcome_status outcome ≡ 0 →
-    IsAgreed program outcome
+    IsAgreed limits program outcome
 made_agreed steps (fails w reason) zero = absurd (reason_some w zero)
-made_agreed {program} {loaded} steps (goes_on certificate end makes is) zero =
-    subst (λ (o : Outcome). IsAgreed program o) (sym is) (with_certificate loaded certificate, refl, agreed program loaded certificate steps makes)
+made_agreed {limits} {program} {loaded} steps (goes_on certificate end makes is) zero =
+    subst (λ (o : Outcome). IsAgreed limits program o) (sym is) (with_certificate loaded certificate, refl, agreed limits program loaded certificate steps makes)
 
-certified_at : {program : List ℕ} {outcome : Outcome} → CertifyComesTo program outcome → outcome_status outcome ≡ 0 → IsAgreed program outcome
+certified_at : {limits : Limits} {program : List ℕ} {outcome : Outcome} → CertifyComesTo limits program outcome → outcome_status outcome ≡ 0 → IsAgreed limits program outcome
 certified_at (fails r bad) zero = absurd (refused_some r zero)
 certified_at (goes_on loaded end steps made) zero = made_agreed steps made zero
 
 pub certified_is_agreed : CertifiedIsAgreed
-certified_is_agreed program outcome comes zero = certified_at comes zero
+certified_is_agreed limits program outcome comes zero = certified_at comes zero

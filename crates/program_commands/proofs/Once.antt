@@ -8,6 +8,7 @@ use Rattle.certificate_lang.proofs.Certificates.{one_certificate}
 use Rattle.certificate_laws.proofs.Makings.{one_making}
 use Rattle.certificate_laws.proofs.Verdicts.{one_verdict}
 use Rattle.class_lang.specs.Reads.{number_of as text_number}
+use Rattle.class_lang.specs.declared.size.Limits.{Limits}
 use Rattle.class_lang.specs.declared.fault.TextFault.{TextFault}
 use Rattle.class_lang.specs.declared.fault.TextFault.TheVariants as of_text
 use Rattle.class_lang.proofs.OneAnswer.{one_answer as one_reading}
@@ -139,9 +140,9 @@ builds_once program a b h k = elim (loading_or_short a) [
   ]
 ]
 
-pub loads_once : (program : List ℕ) → OneOf IsShortResult (LoadsProgram program)
-loads_once program =
-    one_first IsShortReading IsShortResult (one_reading program) text_short (λ x e. cc e)
+pub loads_once : (limits : Limits) (program : List ℕ) → OneOf IsShortResult (LoadsProgram limits program)
+loads_once limits program =
+    one_first IsShortReading IsShortResult (one_reading limits program) text_short (λ x e. cc e)
     (λ tree. one_first IsShortLoading IsShortResult (builds_once tree) (λ fault is. let same : fault ≡ of_meta.Memory = cc is in ap meta_number same) (λ x e. cc e)
     (λ loaded. one_is IsShortResult (Ok loaded)))
 
@@ -157,9 +158,9 @@ certificate_once text (Err of_certificate.Format) (Err of_certificate.Format) h 
 certificate_once text (Err of_certificate.Format) (Err of_certificate.Memory) h k = inr (inl refl)
 certificate_once text (Err of_certificate.Memory) b h k = inl refl
 
-pub certified_once : (program certificate : List ℕ) → OneOf IsShortResult (LoadsCertified program certificate)
-certified_once program certificate =
-    one_first IsShortResult IsShortResult (loads_once program) same_short never_short
+pub certified_once : (limits : Limits) (program certificate : List ℕ) → OneOf IsShortResult (LoadsCertified limits program certificate)
+certified_once limits program certificate =
+    one_first IsShortResult IsShortResult (loads_once limits program) same_short never_short
     (λ loaded. one_first IsShortCertificate IsShortResult (certificate_once certificate) (λ fault is. let same : fault ≡ of_certificate.Memory = cc is in ap certificate_number same) (λ x e. cc e)
     (λ read. one_is IsShortResult (Ok (loaded, read))))
 
@@ -203,9 +204,9 @@ check_once p c (Err a) (Err b) h g = elim (one_verdict p c (Err a.no) (Err b.no)
 pub check_short : (denial : Denial) → IsShortCheck (Err denial) → refusal_number (refusal.Check denial) ≡ None
 check_short denial is = ap no_number is
 
-valid_once : (program certificate : List ℕ) → OneOf IsShortResult (LoadsValid program certificate)
-valid_once program certificate =
-    one_first IsShortResult IsShortResult (certified_once program certificate) same_short never_short
+valid_once : (limits : Limits) (program certificate : List ℕ) → OneOf IsShortResult (LoadsValid limits program certificate)
+valid_once limits program certificate =
+    one_first IsShortResult IsShortResult (certified_once limits program certificate) same_short never_short
     (λ both. one_first IsShortCheck IsShortResult (check_once both.0 both.1) check_short never_denied (λ checked. one_is IsShortResult (Ok checked)))
 
 -- ---- the commands
@@ -224,15 +225,15 @@ short_refusal (refusal.Check w) is = record { line = ap (line_of (codes "no ")) 
 short_refusal (refusal.Natives fault) is = absurd (cc is)
 
 pub one_description : OneDescription
-one_description program = one_first IsShortResult IsShort (loads_once program) short_refusal never_short (λ loaded. one_is IsShort _)
+one_description limits program = one_first IsShortResult IsShort (loads_once limits program) short_refusal never_short (λ loaded. one_is IsShort _)
 
 pub one_check : OneCheck
-one_check program certificate = one_first IsShortResult IsShort (valid_once program certificate) short_refusal never_short (λ checked. one_is IsShort _)
+one_check limits program certificate = one_first IsShortResult IsShort (valid_once limits program certificate) short_refusal never_short (λ checked. one_is IsShort _)
 
 -- ---- `certify`
 
-pub loaded_sound : {text : List ℕ} {loaded : Loaded} → LoadsProgram text (Ok loaded) → IsSound loaded
-loaded_sound {text} {loaded} steps =
+pub loaded_sound : {limits : Limits} {text : List ℕ} {loaded : Loaded} → LoadsProgram limits text (Ok loaded) → IsSound loaded
+loaded_sound {limits} {text} {loaded} steps =
     let loads = loads_of steps in
     form_sound loads.program loaded loads.builds
 
@@ -278,9 +279,9 @@ one_made loaded is a b (goes_on c end h so) (goes_on d other k also) = elim (one
 ]
 
 pub one_certifying : OneCertifying
-one_certifying program a b (fails f h) (fails g k) = both_fail IsShortResult IsShort (loads_once program) short_refusal never_short f g h k
-one_certifying program a b (fails f h) (goes_on y end k more) = inl (one_fails IsShortResult IsShort (loads_once program) short_refusal never_short f y h k)
-one_certifying program a b (goes_on x end h more) (fails g k) = inr (inl (one_fails IsShortResult IsShort (loads_once program) short_refusal never_short g x k h))
-one_certifying program a b (goes_on x end h more) (goes_on y other k still) =
-    let same = same_found {fault_of = Refused} IsShortResult IsShort (loads_once program) short_refusal never_short x y h k in
+one_certifying limits program a b (fails f h) (fails g k) = both_fail IsShortResult IsShort (loads_once limits program) short_refusal never_short f g h k
+one_certifying limits program a b (fails f h) (goes_on y end k more) = inl (one_fails IsShortResult IsShort (loads_once limits program) short_refusal never_short f y h k)
+one_certifying limits program a b (goes_on x end h more) (fails g k) = inr (inl (one_fails IsShortResult IsShort (loads_once limits program) short_refusal never_short g x k h))
+one_certifying limits program a b (goes_on x end h more) (goes_on y other k still) =
+    let same = same_found {fault_of = Refused} IsShortResult IsShort (loads_once limits program) short_refusal never_short x y h k in
     one_made y (loaded_sound k) end other (subst (λ (z : Loaded). MakesAs z end) same more) still

@@ -1,6 +1,7 @@
 -- Steps one after another, backwards from what they come to.
 use Rattle.std.proofs.Common.{◌≡◌, ℕ, List, Result, Ok, refl, sym, subst}
-use Rattle.class_lang.specs.Reads.{ReadsProgram}
+use Rattle.class_lang.specs.Reads.{ReadsWithin}
+use Rattle.class_lang.specs.declared.size.Limits.{Limits}
 use Rattle.meta_model.specs.Loaded.{Loaded}
 use Rattle.meta_objects.specs.Builds.{Builds}
 use Rattle.syntax_trees.specs.declared.program.Program.{Program}
@@ -14,13 +15,13 @@ went (fails fault finds) other = absurd (other fault refl)
 went (goes_on found end finds next) other = (found, finds, next)
 
 -- what is loaded of a text
-pub record Loads (text : List ℕ) (loaded : Loaded) : Type 0 where
+pub record Loads (limits : Limits) (text : List ℕ) (loaded : Loaded) : Type 0 where
   pub program : Program
-  pub reads : ReadsProgram text (Ok program)
+  pub reads : ReadsWithin limits text (Ok program)
   pub builds : Builds program (Ok loaded)
 
-pub loads_of : {text : List ℕ} {loaded : Loaded} → LoadsProgram text (Ok loaded) → Loads text loaded
-loads_of {text} {loaded} steps =
+pub loads_of : {limits : Limits} {text : List ℕ} {loaded : Loaded} → LoadsProgram limits text (Ok loaded) → Loads limits text loaded
+loads_of {limits} {text} {loaded} steps =
     let read = went steps (λ fault is. cc is) in
     let built = went read.2 (λ fault is. cc is) in
     let same : loaded ≡ built.0 = cc built.2 in

@@ -3,6 +3,7 @@
 use Rattle.std.specs.Prelude.{◌≡◌, ◌⊎◌, ℕ, List}
 use Rattle.certificate_laws.specs.Laws.{IsSameReason}
 use Rattle.certificate_texts.specs.Texts.{certificate_text}
+use Rattle.class_lang.specs.declared.size.Limits.{Limits}
 use Rattle.meta_model.specs.Loaded.{Loaded}
 use Rattle.rank_check.specs.Checks.{Checking}
 use Rattle.rank_make.specs.Makes.{Makes}
@@ -13,45 +14,47 @@ use Rattle.program_commands.specs.Texts.{with_text}
 use Rattle.program_commands.specs.Outcomes.{outcome_text, outcome_status, IsShort}
 use Rattle.program_commands.specs.Steps.{First, Is}
 
--- `meta`, from the program's text
-abbrev pub MetaComesTo : List ℕ → Outcome → Type 0
-MetaComesTo program = First (LoadsProgram program) Refused (λ loaded. Is (Classes loaded))
+-- `meta`, from the limits and the program's text
+abbrev pub MetaComesTo : Limits → List ℕ → Outcome → Type 0
+MetaComesTo limits program = First (LoadsProgram limits program) Refused (λ loaded. Is (Classes loaded))
 
 -- `certify`, from the program
 abbrev pub CertifiedComesTo : Loaded → Outcome → Type 0
 CertifiedComesTo loaded = First (Makes loaded) (Uncertified loaded) (λ certificate. Is (Certified (with_text loaded (certificate_text certificate))))
 
--- `certify`, from the program's text
-abbrev pub CertifyComesTo : List ℕ → Outcome → Type 0
-CertifyComesTo program =
-    First (LoadsProgram program) Refused (λ loaded.
+-- `certify`, from the limits and the program's text
+abbrev pub CertifyComesTo : Limits → List ℕ → Outcome → Type 0
+CertifyComesTo limits program =
+    First (LoadsProgram limits program) Refused (λ loaded.
     CertifiedComesTo loaded)
 
--- `check`, from the texts of the program and the certificate
-abbrev pub CheckComesTo : List ℕ → List ℕ → Outcome → Type 0
-CheckComesTo program certificate = First (LoadsValid program certificate) Refused (λ checked. Is (Valid checked))
+-- `check`, from the limits and the texts of the program and the certificate
+abbrev pub CheckComesTo : Limits → List ℕ → List ℕ → Outcome → Type 0
+CheckComesTo limits program certificate = First (LoadsValid limits program certificate) Refused (λ checked. Is (Valid checked))
 
 -- ---- laws
 
 -- the outcome is a program with its certificate's text, and `check` comes to these from the outcome's text
-abbrev pub IsAgreed : List ℕ → Outcome → Type 0
-IsAgreed program outcome =
-    (checked : Checking) × (outcome ≡ Certified (with_text checked.program (certificate_text checked.certificate))) × CheckComesTo program (outcome_text outcome) (Valid checked)
+abbrev pub IsAgreed : Limits → List ℕ → Outcome → Type 0
+IsAgreed limits program outcome =
+    (checked : Checking) × (outcome ≡ Certified (with_text checked.program (certificate_text checked.certificate))) × CheckComesTo limits program (outcome_text outcome) (Valid checked)
 
 -- what `certify` writes of a program with status 0, `check` says yes to, byte for byte
 abbrev pub CertifiedIsAgreed : Type 0
 CertifiedIsAgreed =
-    (program : List ℕ) (outcome : Outcome) → CertifyComesTo program outcome → outcome_status outcome ≡ 0 → IsAgreed program outcome
+    (limits : Limits) (program : List ℕ) (outcome : Outcome) → CertifyComesTo limits program outcome → outcome_status outcome ≡ 0 →
+    IsAgreed limits program outcome
 
 -- Unless memory runs out, `meta` comes to one thing, and so writes one thing.
 abbrev pub OneDescription : Type 0
 OneDescription =
-    (program : List ℕ) (a b : Outcome) → MetaComesTo program a → MetaComesTo program b → IsShort a ⊎ IsShort b ⊎ (a ≡ b)
+    (limits : Limits) (program : List ℕ) (a b : Outcome) → MetaComesTo limits program a → MetaComesTo limits program b → IsShort a ⊎ IsShort b ⊎ (a ≡ b)
 
 -- Unless memory runs out, `check` comes to one thing.
 abbrev pub OneCheck : Type 0
 OneCheck =
-    (program certificate : List ℕ) (a b : Outcome) → CheckComesTo program certificate a → CheckComesTo program certificate b →
+    (limits : Limits) (program certificate : List ℕ) (a b : Outcome) → CheckComesTo limits program certificate a →
+    CheckComesTo limits program certificate b →
     IsShort a ⊎ IsShort b ⊎ (a ≡ b)
 
 -- outcomes are the same; but which cycle, path or chain shows why there is no certificate isn't fixed
@@ -61,4 +64,4 @@ IsSameOutcome a b = a ≡ b
 
 abbrev pub OneCertifying : Type 0
 OneCertifying =
-    (program : List ℕ) (a b : Outcome) → CertifyComesTo program a → CertifyComesTo program b → IsShort a ⊎ IsShort b ⊎ IsSameOutcome a b
+    (limits : Limits) (program : List ℕ) (a b : Outcome) → CertifyComesTo limits program a → CertifyComesTo limits program b → IsShort a ⊎ IsShort b ⊎ IsSameOutcome a b

@@ -2,7 +2,8 @@
 use Rattle.std.specs.Prelude.{ℕ, List, Result, Err}
 use Rattle.certificate_lang.specs.Reads.{ReadsCertificate}
 use Rattle.certificate_lang.specs.declared.certificate.Certificate.{Certificate}
-use Rattle.class_lang.specs.Reads.{ReadsProgram}
+use Rattle.class_lang.specs.Reads.{ReadsWithin}
+use Rattle.class_lang.specs.declared.size.Limits.{Limits}
 use Rattle.meta_objects.specs.Builds.{Builds}
 use Rattle.meta_model.specs.Loaded.{Loaded}
 use Rattle.rank_check.specs.Checks.{Checking, Examines}
@@ -14,20 +15,20 @@ use Rattle.program_commands.specs.Steps.{First, Gives}
 abbrev pub with_certificate : Loaded → Certificate → Checking
 with_certificate p certificate = record { program = p; certificate = certificate }
 
--- the program's text is read, and the program is loaded
-abbrev pub LoadsProgram : List ℕ → Result Loaded Refusal → Type 0
-LoadsProgram program =
-    First (ReadsProgram program) (λ fault. Err (Text fault)) (λ tree.
+-- the program's text is read by these limits, and the program is loaded
+abbrev pub LoadsProgram : Limits → List ℕ → Result Loaded Refusal → Type 0
+LoadsProgram limits program =
+    First (ReadsWithin limits program) (λ fault. Err (Text fault)) (λ tree.
     First (Builds tree) (λ fault. Err (Loading fault)) Gives)
 
 -- the program is loaded, and then its certificate is read
-abbrev pub LoadsCertified : List ℕ → List ℕ → Result (Loaded × Certificate) Refusal → Type 0
-LoadsCertified program certificate =
-    First (LoadsProgram program) Err (λ loaded.
+abbrev pub LoadsCertified : Limits → List ℕ → List ℕ → Result (Loaded × Certificate) Refusal → Type 0
+LoadsCertified limits program certificate =
+    First (LoadsProgram limits program) Err (λ loaded.
     First (ReadsCertificate certificate) (λ fault. Err (OfCertificate fault)) (λ read. Gives (loaded, read)))
 
 -- the program and its certificate are read, and then the one is checked with the other
-abbrev pub LoadsValid : List ℕ → List ℕ → Result Checking Refusal → Type 0
-LoadsValid program certificate =
-    First (LoadsCertified program certificate) Err (λ both.
+abbrev pub LoadsValid : Limits → List ℕ → List ℕ → Result Checking Refusal → Type 0
+LoadsValid limits program certificate =
+    First (LoadsCertified limits program certificate) Err (λ both.
     First (Examines both.0 both.1) (λ why. Err (Check why)) Gives)

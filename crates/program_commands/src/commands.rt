@@ -1,5 +1,6 @@
 //! The commands `meta`, `certify` and `check`.
 
+ghost use Rattle.class_lang.specs.Limits.{standard};
 ghost use Rattle.program_commands.specs.Commands.{MetaComesTo, CertifyComesTo, CertifiedComesTo, CheckComesTo};
 ghost use Rattle.program_commands.specs.Outcomes.{Writes};
 ghost use Rattle.rank_make.specs.Ranked.{IsBoundOf};
@@ -8,17 +9,18 @@ use crate::certified::Certified;
 use crate::certifying::least_text;
 use crate::loading::{load_program, load_valid};
 use crate::outcome::Outcome;
+use class_lang::Limits;
 use command_lines::WriteFault;
 use meta_model::Meta;
 use rank_make::{Ranks, Why, make_bound};
 use std::alloc::Global;
 use std::io::Write;
 
-/// What `meta` comes to: the classes of a program with their members, or why it is refused.
-pub fn meta_outcome(alloc: Global, program: &[u8]) -> Outcome
-    ensures { MetaComesTo program.now result }
+/// What `meta` comes to: the classes of a program that is read by these limits, with their members, or why it is refused.
+pub fn meta_outcome(alloc: Global, limits: Limits, program: &[u8]) -> Outcome
+    ensures { MetaComesTo limits program.now result }
 {
-    match load_program(alloc, program) {
+    match load_program(alloc, limits, program) {
         Ok(meta) => Outcome::Classes(meta),
         Err(refusal) => Outcome::Refused(refusal),
     }
@@ -30,17 +32,17 @@ pub fn meta_outcome(alloc: Global, program: &[u8]) -> Outcome
 /// out. There is a `WriteFault` only where a write failed: what was taken by then is the beginning of what is written,
 /// and nothing is written after that.
 pub fn meta<W: Write>(alloc: Global, program: &[u8], w: &mut W) -> Result<u8, WriteFault>
-    ensures { Writes (MetaComesTo program.now) (W.contents w.old) (W.contents w.new) result }
+    ensures { Writes (MetaComesTo standard program.now) (W.contents w.old) (W.contents w.new) result }
 {
-    meta_outcome(alloc, program).write(alloc, w)
+    meta_outcome(alloc, Limits::standard(), program).write(alloc, w)
 }
 
-/// What `certify` comes to: the least valid certificate of a program, or the first reason why it has none, or why the program
+/// What `certify` comes to: the least valid certificate of a program that is read by these limits, or the first reason why it has none, or why the program
 /// is refused.
-pub fn certify_outcome(alloc: Global, program: &[u8]) -> Outcome
-    ensures { CertifyComesTo program.now result }
+pub fn certify_outcome(alloc: Global, limits: Limits, program: &[u8]) -> Outcome
+    ensures { CertifyComesTo limits program.now result }
 {
-    let meta = match load_program(alloc, program) {
+    let meta = match load_program(alloc, limits, program) {
         Ok(meta) => meta,
         Err(refusal) => return Outcome::Refused(refusal),
     };
@@ -67,16 +69,16 @@ fn with_least_text(alloc: Global, meta: Meta, bound: u32, ranks: Ranks) -> Outco
 /// memory ran out. There is a `WriteFault` only where a write failed: what was taken by then is the
 /// beginning of what is written, and nothing is written after that.
 pub fn certify<W: Write>(alloc: Global, program: &[u8], w: &mut W) -> Result<u8, WriteFault>
-    ensures { Writes (CertifyComesTo program.now) (W.contents w.old) (W.contents w.new) result }
+    ensures { Writes (CertifyComesTo standard program.now) (W.contents w.old) (W.contents w.new) result }
 {
-    certify_outcome(alloc, program).write(alloc, w)
+    certify_outcome(alloc, Limits::standard(), program).write(alloc, w)
 }
 
-/// What `check` comes to: the program with its certificate, where that is valid for it, or why it isn't.
-pub fn check_outcome(alloc: Global, program: &[u8], certificate: &[u8]) -> Outcome
-    ensures { CheckComesTo program.now certificate.now result }
+/// What `check` comes to: the program, read by these limits, with its certificate, where that is valid for it, or why it isn't.
+pub fn check_outcome(alloc: Global, limits: Limits, program: &[u8], certificate: &[u8]) -> Outcome
+    ensures { CheckComesTo limits program.now certificate.now result }
 {
-    match load_valid(alloc, program, certificate) {
+    match load_valid(alloc, limits, program, certificate) {
         Ok(checked) => Outcome::Valid(checked),
         Err(refusal) => Outcome::Refused(refusal),
     }
@@ -93,8 +95,8 @@ pub fn check<W: Write>(
     certificate: &[u8],
     w: &mut W,
 ) -> Result<u8, WriteFault>
-    ensures { Writes (CheckComesTo program.now certificate.now)
+    ensures { Writes (CheckComesTo standard program.now certificate.now)
         (W.contents w.old) (W.contents w.new) result }
 {
-    check_outcome(alloc, program, certificate).write(alloc, w)
+    check_outcome(alloc, Limits::standard(), program, certificate).write(alloc, w)
 }

@@ -1,6 +1,6 @@
 //! A program, as it is declared and as it is loaded.
 
-use class_lang::{TextFault, read_program};
+use class_lang::{Limits, TextFault, read_within};
 use class_outlines::MetaFault;
 use meta_model::Meta;
 use meta_objects::FromProgram;
@@ -46,9 +46,9 @@ pub fn declaring_class(meta: &Meta, class: usize, method: usize) -> usize {
     declaring
 }
 
-/// The declarations of a program, if they can be read.
+/// The declarations of a program, however large, if they can be read.
 pub fn declarations_of(alloc: Global, program: &[u8]) -> Result<Option<Program>, AllocError> {
-    match read_program(alloc, program) {
+    match read_within(alloc, Limits::wide(), program) {
         Ok(tree) => Ok(Some(tree)),
         Err(TextFault::Memory) => Err(AllocError),
         Err(_) => Ok(None),

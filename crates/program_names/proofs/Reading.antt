@@ -188,7 +188,7 @@ classes_named [] typed few = tt
 classes_named (c ∷ cs) typed few = (class_named c typed.0 few.0, classes_named cs typed.1 few.1)
 
 pub read_is_named : ReadProgramsAreNamed
-read_is_named text program read =
+read_is_named limits text program read =
     let whole = read.text in
     let reads = whole.reads in
     let free : AreFree (spell_each spell_declaration reads.reading []) = subst AreFree reads.spelled (free_in_text text whole.tokens whole.cut) in

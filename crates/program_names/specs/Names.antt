@@ -8,7 +8,8 @@ use Rattle.syntax_trees.specs.declared.program.Signal.{Signal}
 use Rattle.syntax_trees.specs.declared.program.Slot.{Slot}
 use Rattle.syntax_trees.specs.declared.program.Class.{Class}
 use Rattle.syntax_trees.specs.declared.program.Program.{Program}
-use Rattle.class_lang.specs.Reads.{ReadsProgram}
+use Rattle.class_lang.specs.Reads.{ReadsWithin}
+use Rattle.class_lang.specs.declared.size.Limits.{Limits}
 use Rattle.meta_model.specs.declared.object.MetaMethod.{MetaMethod}
 use Rattle.meta_model.specs.declared.object.MetaProperty.{MetaProperty}
 use Rattle.meta_model.specs.declared.object.MetaObject.{MetaObject}
@@ -41,7 +42,7 @@ IsNamedLoaded p = AllByRecursion IsNamedObject p.classes
 
 -- ---- laws
 abbrev pub ReadProgramsAreNamed : Type 0
-ReadProgramsAreNamed = (text : List ℕ) (program : Program) → ReadsProgram text (Ok program) → IsNamedProgram program
+ReadProgramsAreNamed = (limits : Limits) (text : List ℕ) (program : Program) → ReadsWithin limits text (Ok program) → IsNamedProgram program
 
 abbrev pub LoadedProgramsAreNamed : Type 0
 LoadedProgramsAreNamed = (program : Program) (loaded : Loaded) → IsNamedProgram program → Builds program (Ok loaded) → IsNamedLoaded loaded

@@ -5,6 +5,7 @@ ghost use Rattle.std.specs.Prelude.{◌<◌, ◌≤◌, ◌^◌};
 use crate::choice::{Choice, Part};
 use crate::events::{push_begins, push_joints};
 use crate::stage::push_stage;
+use class_lang::Limits;
 use effect_scan::Node;
 use meta_model::Meta;
 use native_slots::Natives;
@@ -63,7 +64,7 @@ impl From<AllocError> for WitnessFault {
 /// reason names are used, and each of its members is begun with; events that aren't needed are left out, as far as a bounded
 /// number of trials finds them.
 pub fn find_witness(alloc: Global, program: &[u8]) -> Result<Sought, WitnessFault> {
-    let meta = match load_program(alloc, program) {
+    let meta = match load_program(alloc, Limits::standard(), program) {
         Ok(meta) => meta,
         Err(refusal) => {
             return Err(match refusal.number() {

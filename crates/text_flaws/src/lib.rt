@@ -7,6 +7,6 @@ mod lines;
 mod parts;
 mod program;
 
-pub use limits::size_flaw;
+pub use limits::script_size_flaw;
 pub use lines::{certificate_flaw, script_flaw};
 pub use program::{program_flaw, wire_flaw};

@@ -3,6 +3,7 @@
 ghost use Rattle.std.specs.Prelude.{◌≤◌, length, IfOk, IfSome};
 
 use crate::parts::within;
+use class_lang::Limits;
 use diagnostics::Flaw;
 use std::alloc::{AllocError, Global};
 use texts::{MOST_BYTES, Symbol, Token, Word};
@@ -10,8 +11,12 @@ use token_reading::Trail;
 use unexpected_tokens::Source;
 
 /// A limit of how many declarations there may be.
+#[derive(Clone, Copy)]
 struct Limit {
-    most: usize,
+    /// How many, by the standard limits.
+    standard: usize,
+    /// How many with `--wide`.
+    wide: usize,
     name: &'static str,
     /// With which words those begin that are counted.
     words: &'static [Word],
@@ -20,20 +25,29 @@ struct Limit {
 }
 
 macro_rules! limits {
-    ($($most:literal $name:literal [$($word:ident)*] $in_class:literal;)*) => {
-        [$(Limit { most: $most, name: $name, words: &[$(Word::$word),*], in_class: $in_class },)*]
+    ($($field:ident $name:literal [$($word:ident)*] $in_class:literal;)*) => {
+        [$(Limit {
+            standard: Limits::standard().$field,
+            wide: Limits::wide().$field,
+            name: $name,
+            words: &[$(Word::$word),*],
+            in_class: $in_class,
+        },)*]
     };
 }
 
-const LIMITS: [Limit; 7] = limits! {
-    256 "classes" [Class] false;
-    1000 "wires" [Wire] false;
-    1000 "`owns`" [Owns] false;
-    1000 "bindings" [Binding] false;
-    64 "natives" [Native] false;
-    32 "properties" [Property] true;
-    64 "signals, slots and natives" [Signal Slot Native] true;
-};
+/// The limits of a program's declarations.
+fn limits() -> [Limit; 7] {
+    limits! {
+        classes "classes" [Class] false;
+        wires "wires" [Wire] false;
+        owns "`owns`" [Owns] false;
+        sites "bindings" [Binding] false;
+        natives "natives" [Native] false;
+        properties "properties" [Property] true;
+        methods "signals, slots and natives" [Signal Slot Native] true;
+    }
+}
 
 /// What goes over a limit.
 #[derive(Clone, Copy)]
@@ -47,8 +61,8 @@ struct Excess {
 }
 
 impl Limit {
-    /// What goes over it, if anything does.
-    fn excess(&self, source: Source, trail: &Trail) -> Option<Excess> {
+    /// What goes over this number of them, if anything does.
+    fn excess(&self, most: usize, source: Source, trail: &Trail) -> Option<Excess> {
         let mut found: Option<Excess> = None;
         let mut total = 0usize;
         let mut class = 0usize;
@@ -69,7 +83,7 @@ impl Limit {
                     Some(first) => first.at,
                     None => begun.at,
                 };
-                if total > self.most {
+                if total > most {
                     found = Some(Excess { at, total, class });
                 }
             }
@@ -78,21 +92,40 @@ impl Limit {
     }
 }
 
-/// The first declaration with which there are too many.
+/// The first declaration with which there are too many: more than `--wide` takes, where there are so many of some kind, and
+/// else more than the standard limits say.
 pub fn count_flaw(
     alloc: Global,
     source: Source,
     trail: &Trail,
 ) -> Result<Option<Flaw>, AllocError> {
+    match first_excess(alloc, source, trail, true)? {
+        Some(flaw) => Ok(Some(flaw)),
+        None => first_excess(alloc, source, trail, false),
+    }
+}
+
+/// The first declaration with which there are more than `--wide` takes, or more than the standard limits say.
+fn first_excess(
+    alloc: Global,
+    source: Source,
+    trail: &Trail,
+    is_wide: bool,
+) -> Result<Option<Flaw>, AllocError> {
     let mut first: Option<(usize, Flaw)> = None;
-    for limit in &LIMITS {
-        if let Some(excess) = limit.excess(source, trail) {
+    for limit in &limits() {
+        let most = if is_wide { limit.wide } else { limit.standard };
+        if let Some(excess) = limit.excess(most, source, trail) {
             let is_first = match &first {
                 Some((at, _)) => excess.at < *at,
                 None => true,
             };
             if is_first {
-                first = Some((excess.at, excess_flaw(alloc, source, limit, &excess)?));
+                let mut flaw = excess_flaw(alloc, source, limit, most, &excess)?;
+                if !is_wide {
+                    flaw.advice = Some(wide_advice(alloc, limit.wide)?);
+                }
+                first = Some((excess.at, flaw));
             }
         }
     }
@@ -102,13 +135,19 @@ pub fn count_flaw(
     }
 }
 
+/// What helps where the standard limits are too small.
+fn wide_advice(alloc: Global, most: usize) -> Result<String, AllocError> {
+    format!(in alloc; "with `--wide` at most {most} may be")
+}
+
 fn excess_flaw(
     alloc: Global,
     source: Source,
     limit: &Limit,
+    most: usize,
     excess: &Excess,
 ) -> Result<Flaw, AllocError> {
-    let sentence = excess_sentence(alloc, source, limit, excess)?;
+    let sentence = excess_sentence(alloc, source, limit, most, excess)?;
     Flaw::with_advice(alloc, source.place(excess.at), sentence, None)
 }
 
@@ -116,9 +155,10 @@ fn excess_sentence(
     alloc: Global,
     source: Source,
     limit: &Limit,
+    most: usize,
     excess: &Excess,
 ) -> Result<String, AllocError> {
-    let (most, name, total) = (limit.most, limit.name, excess.total);
+    let (name, total) = (limit.name, excess.total);
     let mut sentence = if limit.in_class {
         let class = source.shown(excess.class);
         format!(in alloc; "class `{class}`")?
@@ -132,16 +172,43 @@ fn excess_sentence(
     Ok(sentence)
 }
 
-/// A text of this name, a program or a script, with more bytes than it may have.
-pub fn size_flaw(alloc: Global, name: &str, text: &[u8]) -> Result<Option<Flaw>, AllocError>
+/// A script with more bytes than it may have.
+pub fn script_size_flaw(alloc: Global, text: &[u8]) -> Result<Option<Flaw>, AllocError>
+    ensures { IfOk result (λ flaw. IfSome flaw (λ f. f.at ≤ length text.now)) }
+{
+    size_flaw(alloc, "script", text, MOST_BYTES)
+}
+
+/// A program with more bytes than it may have: than `--wide` takes, or else than the standard limits say.
+pub fn program_size_flaw(alloc: Global, text: &[u8]) -> Result<Option<Flaw>, AllocError>
+    ensures { IfOk result (λ flaw. IfSome flaw (λ f. f.at ≤ length text.now)) }
+{
+    let wide = Limits::wide().bytes;
+    if text.len() > wide {
+        return size_flaw(alloc, "program", text, wide);
+    }
+    let Some(mut flaw) = size_flaw(alloc, "program", text, Limits::standard().bytes)? else {
+        return Ok(None);
+    };
+    flaw.advice = Some(wide_advice(alloc, wide)?);
+    Ok(within(0, text.len(), Some(flaw)))
+}
+
+/// A text of this name with more bytes than this.
+fn size_flaw(
+    alloc: Global,
+    name: &str,
+    text: &[u8],
+    most: usize,
+) -> Result<Option<Flaw>, AllocError>
     ensures { IfOk result (λ flaw. IfSome flaw (λ f. f.at ≤ length text.now)) }
 {
     let size = text.len();
-    if size <= MOST_BYTES {
+    if size <= most {
         return Ok(None);
     }
-    let sentence = format!(in alloc; "the {name} has {size} bytes: at most {MOST_BYTES} may be")?;
-    let flaw = Flaw::with_advice(alloc, MOST_BYTES, sentence, None)?;
+    let sentence = format!(in alloc; "the {name} has {size} bytes: at most {most} may be")?;
+    let flaw = Flaw::with_advice(alloc, most, sentence, None)?;
     Ok(within(0, size, Some(flaw)))
 }
 

@@ -3,7 +3,7 @@
 ghost use Rattle.std.specs.Prelude.{◌≤◌, length, IfOk, IfSome};
 
 use crate::bytes::bad_byte;
-use crate::limits::{count_flaw, depth_flaw, parameters_flaw, reference_flaw, size_flaw};
+use crate::limits::{count_flaw, depth_flaw, parameters_flaw, program_size_flaw, reference_flaw};
 use crate::parts::{plain_tokens, whole, within};
 use class_lang::program_trail;
 use diagnostics::{Flaw, meaning};
@@ -24,7 +24,7 @@ pub fn program_flaw(alloc: Global, text: &[u8], number: u8) -> Result<Option<Fla
 
 fn flaw_of(alloc: Global, text: &[u8], number: u8) -> Result<Option<Flaw>, AllocError> {
     if number == 7
-        && let Some(flaw) = size_flaw(alloc, "program", text)?
+        && let Some(flaw) = program_size_flaw(alloc, text)?
     {
         return Ok(Some(flaw));
     }

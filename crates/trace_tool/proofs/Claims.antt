@@ -1,6 +1,7 @@
 -- The claims on what `run` accepts.
 use Rattle.std.proofs.Common.{◌≡◌, ℕ, List, Ok, refl, sym, ap, ◌∙◌, subst}
 use Rattle.certificate_lang.specs.declared.certificate.Certificate.{Certificate}
+use Rattle.class_lang.specs.declared.size.Limits.{Limits}
 use Rattle.meta_model.specs.Loaded.{Loaded}
 use Rattle.native_slots.specs.declared.head.NativeHead.{NativeHead}
 use Rattle.native_slots.specs.Misfits.{Fits}
@@ -20,8 +21,8 @@ use Rattle.machine_commands.specs.declared.prepared.Prepared.{Prepared}
 use Rattle.trace_tool.proofs.OneRun.{accepted_sound}
 
 -- they hold where closures that fit a program keep what it declares of them
-pub accepted-claims : {N : Type 0} (takes : N → Takes) (gives : N → NativeAnswers) {heads : List NativeHead} {program certificate script : List ℕ} {natives : N} {steps : ℕ} {loaded : Loaded} {read : Certificate} {events : List Event} →
-    (Fits heads loaded (Ok tt) → KeepPromises takes gives loaded natives) → Accepts heads program certificate script loaded read events → Claims gives (begun loaded natives read.bound steps)
+pub accepted-claims : {N : Type 0} (takes : N → Takes) (gives : N → NativeAnswers) {limits : Limits} {heads : List NativeHead} {program certificate script : List ℕ} {natives : N} {steps : ℕ} {loaded : Loaded} {read : Certificate} {events : List Event} →
+    (Fits heads loaded (Ok tt) → KeepPromises takes gives loaded natives) → Accepts limits heads program certificate script loaded read events → Claims gives (begun loaded natives read.bound steps)
 accepted-claims takes gives {heads = heads} {loaded = loaded} {read = read} {events = events} keeps accepts =
     let a = went accepts (λ fault is. cc is) in
     let b = went a.2 (λ fault is. cc is) in
@@ -38,6 +39,6 @@ accepted-claims takes gives {heads = heads} {loaded = loaded} {read = read} {eve
     begun-claims takes gives (accepted_sound accepts) (keeps fits) refl refl valid refl
 
 -- .. so they hold of what `run` is about to do
-pub prepared-claims : {N : Type 0} {takes : N → Takes} {gives : N → NativeAnswers} {ComesTo : Outcome (Seen N) → Type 0} {prepared : Prepared (Seen N)} {heads : List NativeHead} {program certificate script : List ℕ} {loaded : Loaded} {read : Certificate} {events : List Event} →
-    Prepares takes gives ComesTo prepared → (natives : N) (steps : ℕ) → (Fits heads loaded (Ok tt) → KeepPromises takes gives loaded natives) → Accepts heads program certificate script loaded read events → Claims gives (begun loaded natives read.bound steps)
+pub prepared-claims : {N : Type 0} {takes : N → Takes} {gives : N → NativeAnswers} {ComesTo : Outcome (Seen N) → Type 0} {prepared : Prepared (Seen N)} {limits : Limits} {heads : List NativeHead} {program certificate script : List ℕ} {loaded : Loaded} {read : Certificate} {events : List Event} →
+    Prepares takes gives ComesTo prepared → (natives : N) (steps : ℕ) → (Fits heads loaded (Ok tt) → KeepPromises takes gives loaded natives) → Accepts limits heads program certificate script loaded read events → Claims gives (begun loaded natives read.bound steps)
 prepared-claims {takes = takes} {gives = gives} x natives steps keeps accepts = accepted-claims takes gives keeps accepts

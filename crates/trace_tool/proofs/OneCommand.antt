@@ -1,5 +1,5 @@
 -- For natives with one answer a command line comes to one thing.
-use Rattle.std.proofs.Common.{◌≡◌, ◌⊎◌, inl, inr, ℕ, List, [], ◌∷◌, Result, Ok, Err, codes, refl, sym, ap, ◌∙◌, subst, arith}
+use Rattle.std.proofs.Common.{◌≡◌, ◌⊎◌, inl, inr, ℕ, Bool, true, false, List, [], ◌∷◌, Result, Ok, Err, codes, refl, sym, ap, ◌∙◌, subst, arith}
 use Rattle.native_slots.specs.declared.head.NativeHead.{NativeHead}
 use Rattle.qt_runtime.specs.Natives.{NativeAnswers, AnswersOnce}
 use Rattle.rank_make.specs.declared.why.Why.TheVariants as why
@@ -9,20 +9,26 @@ use Rattle.program_commands.specs.declared.outcome.Outcome.{Outcome as ProgramOu
 use Rattle.program_commands.specs.declared.outcome.Outcome.TheVariants as of_program
 use Rattle.program_commands.specs.Steps.{Is}
 use Rattle.program_commands.proofs.Once.{OneOf, one_description, one_certifying, one_check}
-use Rattle.command_lines.specs.Words.{IsNumber, IsLimit, IsCommand}
+use Rattle.class_lang.specs.declared.size.Limits.{Limits}
+use Rattle.command_lines.specs.Words.{IsNumber, IsLimit, IsCommand, IsLineOf}
 use Rattle.command_lines.specs.declared.input.InputFault.{InputFault}
 use Rattle.command_lines.specs.declared.usage.UsageFault.TheVariants.{Words, TooLarge, Texts}
 use Rattle.command_lines.specs.declared.words.Command.{Command}
 use Rattle.command_lines.specs.declared.words.Command.TheVariants.{Meta, Certify, Check, Run, RunUnchecked}
+use Rattle.command_lines.specs.declared.words.CommandLine.{CommandLine}
+use Rattle.command_lines.proofs.Saying.{after_first, not_wide}
 use Rattle.command_lines.proofs.Partings.{texts_once}
 use Rattle.machine_commands.specs.Outcomes.{IsShort}
 use Rattle.machine_commands.specs.declared.outcome.Outcome.{Outcome}
 use Rattle.machine_commands.specs.declared.outcome.Outcome.TheVariants.{Program}
-use Rattle.machine_commands.specs.Commands.{Says, Cuts, Does, IsOfProgram}
+use Rattle.machine_commands.specs.Commands.{Says, Cuts, Does, IsOfProgram, limits_of}
 use Rattle.trace_tool.specs.Laws.{IsSameOutcome, OneCommandOutcome}
 use Rattle.trace_tool.proofs.OneRun.{OneAs, same_first, one_run_outcome, one_unchecked_outcome}
 use Rattle.texts.specs.Numerals.{value_of}
 use Rattle.object_machine.specs.Seen.{Seen}
+
+abbrev line_of : Command → Bool → CommandLine
+line_of command is_wide = record { command = command; is_wide = is_wide }
 
 -- ---- the words are one command's
 
@@ -88,13 +94,22 @@ command-once words (RunUnchecked m) (RunUnchecked n) x y =
     let steps : m.steps ≡ n.steps = limit-once options x.limited y.limited in
     ap (λ (k : ℕ). RunUnchecked (record { depth = k; steps = m.steps })) depth ∙ ap (λ (k : ℕ). RunUnchecked (record { depth = n.depth; steps = k })) steps
 
+-- so with `--wide` in front
+line-once : (words : List (List ℕ)) (c d : Command) (v w : Bool) → IsLineOf words c v → IsLineOf words d w → line_of c v ≡ line_of d w
+line-once words c d true true x y =
+    let rest : x.rest ≡ y.rest = after_first words x.rest y.rest _ _ x.are y.are in
+    ap (λ (k : Command). line_of k true) (command-once y.rest c d (subst (λ ws. IsCommand ws c) rest x.is) y.is)
+line-once words c d true false x y = absurd (not_wide words x.rest d x.are y)
+line-once words c d false true x y = absurd (not_wide words y.rest c y.are x)
+line-once words c d false false x y = ap (λ (k : Command). line_of k false) (command-once words c d x y)
+
 -- ---- each step comes to one thing
 
 abbrev Never : {X F : Type 0} → Result X F → Type 0
 Never r = ⊥
 
 says-once : (words : List (List ℕ)) → OneOf Never (Says words)
-says-once words (Ok c) (Ok d) x y = inr (inr (ap (λ (k : Command). Ok k) (command-once words c d x y)))
+says-once words (Ok c) (Ok d) x y = inr (inr (ap (λ (line : CommandLine). Ok line) (line-once words c.command d.command c.is_wide d.is_wide x y)))
 says-once words (Ok c) (Err none) x y = absurd (y c x)
 says-once words (Err none) (Ok d) x y = absurd (x d y)
 says-once words (Err none) (Err other) x y = inr (inr refl)
@@ -160,18 +175,18 @@ of-program {N} one a b x y = elim (one x.told y.told x.comes y.comes) [
 
 -- ---- all commands
 
-does-once : {N : Type 0} (gives : N → NativeAnswers) (heads : List NativeHead) (natives : N) → AnswersOnce (gives natives) → (command : Command) (texts : List (List ℕ)) →
-    OneAs IsShort IsSameOutcome (Does gives heads natives command texts)
-does-once gives heads natives once Meta (program ∷ []) = of-program (by-equal (one_description program))
-does-once gives heads natives once Certify (program ∷ []) = of-program (one_certifying program)
-does-once gives heads natives once Check (program ∷ certificate ∷ []) = of-program (by-equal (one_check program certificate))
-does-once gives heads natives once (Run steps) (program ∷ certificate ∷ script ∷ []) = λ a b x y. one_run_outcome gives heads natives program certificate script steps a b once x y
-does-once gives heads natives once (RunUnchecked options) (program ∷ script ∷ []) = λ a b x y. one_unchecked_outcome gives heads natives program script options.depth options.steps a b once x y
-does-once gives heads natives once command texts = λ a b x y. absurd x
+does-once : {N : Type 0} (limits : Limits) (gives : N → NativeAnswers) (heads : List NativeHead) (natives : N) → AnswersOnce (gives natives) → (command : Command) (texts : List (List ℕ)) →
+    OneAs IsShort IsSameOutcome (Does limits gives heads natives command texts)
+does-once limits gives heads natives once Meta (program ∷ []) = of-program (by-equal (one_description limits program))
+does-once limits gives heads natives once Certify (program ∷ []) = of-program (one_certifying limits program)
+does-once limits gives heads natives once Check (program ∷ certificate ∷ []) = of-program (by-equal (one_check limits program certificate))
+does-once limits gives heads natives once (Run steps) (program ∷ certificate ∷ script ∷ []) = λ a b x y. one_run_outcome gives limits heads natives program certificate script steps a b once x y
+does-once limits gives heads natives once (RunUnchecked options) (program ∷ script ∷ []) = λ a b x y. one_unchecked_outcome gives limits heads natives program script options.depth options.steps a b once x y
+does-once limits gives heads natives once command texts = λ a b x y. absurd x
 
 pub one_command_outcome : {N : Type 0} (gives : N → NativeAnswers) → OneCommandOutcome gives
 one_command_outcome gives heads natives words input a b once =
     same_first Never IsShort IsSameOutcome (says-once words) (λ none s. absurd s) (λ c s. s) (λ none. refl)
-    (λ command said. same_first Never IsShort IsSameOutcome (input-once input) (λ fault s. absurd s) (λ bytes s. s) (λ fault. refl)
-    (λ bytes read. same_first Never IsShort IsSameOutcome (cuts-once command bytes) (λ fault s. absurd s) (λ texts s. s) (λ fault. refl)
-    (λ texts cut. does-once gives heads natives once command texts))) a b
+    (λ line said. same_first Never IsShort IsSameOutcome (input-once input) (λ fault s. absurd s) (λ bytes s. s) (λ fault. refl)
+    (λ bytes read. same_first Never IsShort IsSameOutcome (cuts-once line.command bytes) (λ fault s. absurd s) (λ texts s. s) (λ fault. refl)
+    (λ texts cut. does-once (limits_of line.is_wide) gives heads natives once line.command texts))) a b

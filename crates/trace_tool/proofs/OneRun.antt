@@ -18,6 +18,7 @@ use Rattle.qt_runtime.specs.Runs.{Run, done, goes, takes, RunsWhole, RunsFront, 
 use Rattle.object_machine.proofs.OneRun.{no-rule, one_run, one_front, one_front_of_answers}
 use Rattle.object_machine.proofs.CheckedRuns.Kept.{start-invariant}
 use Rattle.qt_runtime.specs.Seen.{Seen, RunsAll, Halts, begun}
+use Rattle.class_lang.specs.declared.size.Limits.{Limits}
 use Rattle.program_commands.specs.Loading.{LoadsCertified}
 use Rattle.program_commands.specs.Steps.{First, fails, goes_on}
 use Rattle.program_commands.proofs.Once.{OneOf, both_fail, one_fails, same_found, IsShortResult, never_short, loaded_sound}
@@ -174,14 +175,14 @@ module _ {X F R : Type 0} {Finds : Result X F → Type 0} {fault_of : F → R} (
 
 -- ---- what is accepted is sound
 
-certified_sound : {program certificate : List ℕ} {both : Loaded × Certificate} → LoadsCertified program certificate (Ok both) → IsSound both.0
+certified_sound : {limits : Limits} {program certificate : List ℕ} {both : Loaded × Certificate} → LoadsCertified limits program certificate (Ok both) → IsSound both.0
 certified_sound {both = both} steps =
     let a = went steps (λ fault is. cc is) in
     let b = went a.2 (λ fault is. cc is) in
     let same : both ≡ (a.0, b.0) = cc b.2 in
     subst IsSound (sym (ap (λ (pair : Loaded × Certificate). pair.0) same)) (loaded_sound a.1)
 
-pub accepted_sound : {heads : List NativeHead} {program certificate script : List ℕ} {both : Checking × List Event} → Accepting heads program certificate script (Ok both) → IsSound both.0.program
+pub accepted_sound : {limits : Limits} {heads : List NativeHead} {program certificate script : List ℕ} {both : Checking × List Event} → Accepting limits heads program certificate script (Ok both) → IsSound both.0.program
 accepted_sound {both = both} steps =
     let a = went steps (λ fault is. cc is) in
     let b = went a.2 (λ fault is. cc is) in
@@ -191,7 +192,7 @@ accepted_sound {both = both} steps =
     let program : both.0.program ≡ a.0.0 = ap (λ (pair : Checking × List Event). pair.0.program) same ∙ c.1.0 in
     subst IsSound (sym program) (certified_sound a.1)
 
-may_run_sound : {heads : List NativeHead} {program script : List ℕ} {both : Loaded × List Event} → MayRun heads program script (Ok both) → IsSound both.0
+may_run_sound : {limits : Limits} {heads : List NativeHead} {program script : List ℕ} {both : Loaded × List Event} → MayRun limits heads program script (Ok both) → IsSound both.0
 may_run_sound {both = both} steps =
     let a = went steps (λ fault is. cc is) in
     let b = went a.2 (λ fault is. cc is) in
@@ -214,13 +215,13 @@ one_unchecked gives p natives depth steps events is_sound once (ran x all) short
 one_unchecked gives p natives depth steps events is_sound once short y = inl (record { line = refl; status_is = refl })
 
 pub one_run_outcome : {N : Type 0} (gives : N → NativeAnswers) → OneRunOutcome gives
-one_run_outcome gives heads natives program certificate script steps a b once =
-    same_first IsShortResult IsShort IsSameOutcome (accepting_once heads program certificate script) short_refused never_short (λ r. refl)
+one_run_outcome gives limits heads natives program certificate script steps a b once =
+    same_first IsShortResult IsShort IsSameOutcome (accepting_once limits heads program certificate script) short_refused never_short (λ r. refl)
     (λ both accepted x y h k. one_faultless gives both.0.program natives both.0.certificate.bound steps both.1 (accepted_sound accepted) once h k) a b
 
 pub one_unchecked_outcome : {N : Type 0} (gives : N → NativeAnswers) → OneUncheckedOutcome gives
-one_unchecked_outcome gives heads natives program script depth steps a b once =
-    same_first IsShortResult IsShort IsSameOutcome (may_run_once heads program script) short_refused never_short (λ r. refl)
+one_unchecked_outcome gives limits heads natives program script depth steps a b once =
+    same_first IsShortResult IsShort IsSameOutcome (may_run_once limits heads program script) short_refused never_short (λ r. refl)
     (λ both may x y h k. one_unchecked gives both.0 natives depth steps both.1 (may_run_sound may) once h k) a b
 
 -- ---- a run that stopped

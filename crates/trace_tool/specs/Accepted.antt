@@ -1,14 +1,15 @@
 -- What holds of a machine that `run` makes of what it accepts (docs/theorem.md).
 use Rattle.std.specs.Prelude.{ℕ, List}
 use Rattle.certificate_lang.specs.declared.certificate.Certificate.{Certificate}
+use Rattle.class_lang.specs.declared.size.Limits.{Limits}
 use Rattle.meta_model.specs.Loaded.{Loaded}
 use Rattle.native_slots.specs.declared.head.NativeHead.{NativeHead}
 use Rattle.script_lang.specs.declared.event.Event.{Event}
 use Rattle.object_machine.specs.Seen.{Seen, begun}
 use Rattle.machine_commands.specs.Commands.{Accepts}
 
--- where `run` accepts these texts with these closures, this holds of the machine that it then makes
-abbrev pub WhereAccepted : {N : Type 0} → List NativeHead → N → List ℕ → List ℕ → List ℕ → ℕ → (Seen N → Type 0) → Type 0
-WhereAccepted heads natives program certificate script steps Holds =
+-- where by these limits `run` accepts these texts with these closures, this holds of the machine that it then makes
+abbrev pub WhereAccepted : {N : Type 0} → Limits → List NativeHead → N → List ℕ → List ℕ → List ℕ → ℕ → (Seen N → Type 0) → Type 0
+WhereAccepted limits heads natives program certificate script steps Holds =
     (loaded : Loaded) (read : Certificate) (events : List Event) →
-    Accepts heads program certificate script loaded read events → Holds (begun loaded natives read.bound steps)
+    Accepts limits heads program certificate script loaded read events → Holds (begun loaded natives read.bound steps)

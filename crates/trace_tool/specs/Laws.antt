@@ -22,6 +22,7 @@ use Rattle.machine_commands.specs.declared.outcome.Outcome.{Outcome}
 use Rattle.machine_commands.specs.declared.outcome.Outcome.TheVariants.{Program, Ran as OfRun}
 use Rattle.machine_commands.specs.declared.outcome.Ran.{Ran}
 use Rattle.machine_commands.specs.Outcomes.{outcome_text, outcome_status, IsShort}
+use Rattle.class_lang.specs.declared.size.Limits.{Limits}
 use Rattle.machine_commands.specs.Commands.{RunComesTo, UncheckedRunComesTo, CommandComesTo}
 
 -- Where nothing was done nothing comes before `usage` or `memory`, nor after it; after a read that failed nothing is
@@ -49,16 +50,16 @@ IsSameOutcome a b = a ≡ b
 -- or to one run.
 abbrev pub OneRunOutcome : {N : Type 0} → (N → NativeAnswers) → Type 0
 OneRunOutcome {N} gives =
-    (heads : List NativeHead) (natives : N) (program certificate script : List ℕ) (steps : ℕ) (a b : Outcome (Seen N)) →
-    AnswersOnce (gives natives) → RunComesTo gives heads natives program certificate script steps a →
-    RunComesTo gives heads natives program certificate script steps b → IsShort a ⊎ IsShort b ⊎ IsSameOutcome a b
+    (limits : Limits) (heads : List NativeHead) (natives : N) (program certificate script : List ℕ) (steps : ℕ) (a b : Outcome (Seen N)) →
+    AnswersOnce (gives natives) → RunComesTo limits gives heads natives program certificate script steps a →
+    RunComesTo limits gives heads natives program certificate script steps b → IsShort a ⊎ IsShort b ⊎ IsSameOutcome a b
 
 -- So `run --unchecked` comes to one refusal, or to one run.
 abbrev pub OneUncheckedOutcome : {N : Type 0} → (N → NativeAnswers) → Type 0
 OneUncheckedOutcome {N} gives =
-    (heads : List NativeHead) (natives : N) (program script : List ℕ) (depth steps : ℕ) (a b : Outcome (Seen N)) →
-    AnswersOnce (gives natives) → UncheckedRunComesTo gives heads natives program script depth steps a →
-    UncheckedRunComesTo gives heads natives program script depth steps b → IsShort a ⊎ IsShort b ⊎ IsSameOutcome a b
+    (limits : Limits) (heads : List NativeHead) (natives : N) (program script : List ℕ) (depth steps : ℕ) (a b : Outcome (Seen N)) →
+    AnswersOnce (gives natives) → UncheckedRunComesTo limits gives heads natives program script depth steps a →
+    UncheckedRunComesTo limits gives heads natives program script depth steps b → IsShort a ⊎ IsShort b ⊎ IsSameOutcome a b
 
 -- So each command line comes, from what was read, to one line `usage`, one thing of a command on programs, or one run.
 abbrev pub OneCommandOutcome : {N : Type 0} → (N → NativeAnswers) → Type 0

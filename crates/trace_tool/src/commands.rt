@@ -1,8 +1,8 @@
 //! The program's commands.
 
 ghost use Rattle.std.specs.Prelude.{◌≡◌, map};
-ghost use Rattle.command_lines.specs.Words.{IsCommand};
-ghost use Rattle.command_lines.specs.declared.words.Command.{Command as ACommand};
+ghost use Rattle.command_lines.specs.Words.{IsLine};
+ghost use Rattle.command_lines.specs.declared.words.CommandLine.{CommandLine as ALine};
 ghost use Rattle.machine_commands.specs.Outcomes.{Writes};
 ghost use Rattle.machine_commands.specs.Commands.{CommandComesTo, WritesCommand, read_of};
 
@@ -27,7 +27,7 @@ pub fn command<R: Read, W: Write>(
         WritesCommand ⟦<Natives as Answering>⟧.gives heads natives said (R.remaining reader.old)
         (W.contents w.old) (W.contents w.new) result }
     ensures unread { let said = map (λ word. word.now) words.now in
-        ((c : ACommand) → IsCommand said c → ⊥) → reader.new ≡ reader.old }
+        ((line : ALine) → IsLine said line → ⊥) → reader.new ≡ reader.old }
 {
     let Answered { input: _, carried } = answer::<Natives, Machine<Natives>, R, W>(
         alloc, words, reader, natives, w,
@@ -45,6 +45,8 @@ pub fn command<R: Read, W: Write>(
 ///   script.
 /// - `run --unchecked N [--steps M]` takes two texts, a program and a script, with a line `%%` between them, and runs
 ///   the one on the other; N is from 1 to 256, M from 1 to 2^63 - 1, or 1,000,000 where it isn't given.
+///
+/// With `--wide` in front of these words the program may be as large as one that a tool writes (docs/language.md, "Limits").
 ///
 /// Other words, another number of texts and an input of more than 67,108,864 bytes write `usage`. After a read that
 /// failed nothing is written, and `memory` where there was none for the input. All of these end with 1.

@@ -6,10 +6,12 @@ ghost use Rattle.certificate_lang.specs.declared.certificate.Certificate.{Certif
 ghost use Rattle.texts.specs.Limits.{most_depth};
 ghost use Rattle.script_lang.specs.declared.event.Event.{Event as AnEvent};
 ghost use Rattle.machine_commands.specs.Outcomes.{Writes};
+ghost use Rattle.class_lang.specs.Limits.{standard};
 ghost use Rattle.machine_commands.specs.Commands.{Accepts, AcceptedComesTo, RunComesTo, UncheckedRunComesTo};
 ghost use Rattle.object_machine.specs.Claims.{HasItsArguments, IsEverAcyclic, IsEverSettled, IsEverShallow, IsEverTyped, SparesActive};
 ghost use Rattle.trace_tool.specs.Accepted.{WhereAccepted};
 
+use class_lang::Limits;
 use machine_commands::{Outcome, WriteFault, prepare_run, prepare_unchecked_run, written};
 use native_slots::{Answering, Natives};
 use qt_runtime::Machine;
@@ -30,16 +32,18 @@ pub fn run_outcome(
 ) -> Outcome<Machine<Natives>>
     requires steps { (1 ≤ steps) × (steps < 2 ^ 63) }
     ensures { let heads = map (λ slot. slot.head) natives.slots.items in
-        RunComesTo ⟦<Natives as Answering>⟧.gives heads natives program.now certificate.now script.now steps result }
+        RunComesTo standard ⟦<Natives as Answering>⟧.gives heads natives program.now certificate.now script.now steps result }
 {
     prepare_run::<Natives, Machine<Natives>>(
         alloc,
+        Limits::standard(),
         program,
         certificate,
         script,
         natives,
         steps,
-    ).outcome()
+    )
+    .outcome()
 }
 
 /// Checks a program with its certificate, runs it on a script, and writes the trace, or why there is none.
@@ -65,34 +69,35 @@ pub fn run<W: Write>(
 ) -> Result<u8, WriteFault>
     requires steps { (1 ≤ steps) × (steps < 2 ^ 63) }
     ensures written { let heads = map (λ slot. slot.head) natives.slots.items in
-        let ComesTo = RunComesTo ⟦<Natives as Answering>⟧.gives heads natives program.now certificate.now script.now steps in
+        let ComesTo = RunComesTo standard ⟦<Natives as Answering>⟧.gives heads natives program.now certificate.now script.now steps in
         Writes ComesTo (W.contents w.old) (W.contents w.new) result }
     ensures accepted { let heads = map (λ slot. slot.head) natives.slots.items in
         (loaded : Loaded) (read : Certificate) (events : List AnEvent) →
-        Accepts heads program.now certificate.now script.now loaded read events →
+        Accepts standard heads program.now certificate.now script.now loaded read events →
         let ComesTo = AcceptedComesTo ⟦<Natives as Answering>⟧.gives natives loaded read events steps in
         Writes ComesTo (W.contents w.old) (W.contents w.new) result }
     ensures arguments { let heads = map (λ slot. slot.head) natives.slots.items in
-        WhereAccepted heads natives program.now certificate.now script.now steps
+        WhereAccepted standard heads natives program.now certificate.now script.now steps
         (HasItsArguments ⟦<Natives as Answering>⟧.gives) }
     ensures acyclic { let heads = map (λ slot. slot.head) natives.slots.items in
-        WhereAccepted heads natives program.now certificate.now script.now steps
+        WhereAccepted standard heads natives program.now certificate.now script.now steps
         (IsEverAcyclic ⟦<Natives as Answering>⟧.gives) }
     ensures spared { let heads = map (λ slot. slot.head) natives.slots.items in
-        WhereAccepted heads natives program.now certificate.now script.now steps
+        WhereAccepted standard heads natives program.now certificate.now script.now steps
         (SparesActive ⟦<Natives as Answering>⟧.gives) }
     ensures shallow { let heads = map (λ slot. slot.head) natives.slots.items in
-        WhereAccepted heads natives program.now certificate.now script.now steps
+        WhereAccepted standard heads natives program.now certificate.now script.now steps
         (IsEverShallow ⟦<Natives as Answering>⟧.gives) }
     ensures typed { let heads = map (λ slot. slot.head) natives.slots.items in
-        WhereAccepted heads natives program.now certificate.now script.now steps
+        WhereAccepted standard heads natives program.now certificate.now script.now steps
         (IsEverTyped ⟦<Natives as Answering>⟧.gives) }
     ensures settled { let heads = map (λ slot. slot.head) natives.slots.items in
-        WhereAccepted heads natives program.now certificate.now script.now steps
+        WhereAccepted standard heads natives program.now certificate.now script.now steps
         (IsEverSettled ⟦<Natives as Answering>⟧.gives) }
 {
     let prepared = prepare_run::<Natives, Machine<Natives>>(
         alloc,
+        Limits::standard(),
         program,
         certificate,
         script,
@@ -116,11 +121,18 @@ pub fn unchecked_run_outcome(
     requires depth { (1 ≤ depth) × (depth ≤ most_depth) }
     requires steps { (1 ≤ steps) × (steps < 2 ^ 63) }
     ensures { let heads = map (λ slot. slot.head) natives.slots.items in
-        UncheckedRunComesTo ⟦<Natives as Answering>⟧.gives heads natives program.now script.now depth steps result }
+        UncheckedRunComesTo standard ⟦<Natives as Answering>⟧.gives heads natives program.now script.now depth steps result }
 {
     prepare_unchecked_run::<Natives, Machine<Natives>>(
-        alloc, program, script, natives, depth, steps,
-    ).outcome()
+        alloc,
+        Limits::standard(),
+        program,
+        script,
+        natives,
+        depth,
+        steps,
+    )
+    .outcome()
 }
 
 /// Runs a program, which need not be checked, on a script, and writes the trace, or why there is none.
@@ -142,11 +154,17 @@ pub fn run_unchecked<W: Write>(
     requires depth { (1 ≤ depth) × (depth ≤ most_depth) }
     requires steps { (1 ≤ steps) × (steps < 2 ^ 63) }
     ensures { let heads = map (λ slot. slot.head) natives.slots.items in
-        let ComesTo = UncheckedRunComesTo ⟦<Natives as Answering>⟧.gives heads natives program.now script.now depth steps in
+        let ComesTo = UncheckedRunComesTo standard ⟦<Natives as Answering>⟧.gives heads natives program.now script.now depth steps in
         Writes ComesTo (W.contents w.old) (W.contents w.new) result }
 {
     let prepared = prepare_unchecked_run::<Natives, Machine<Natives>>(
-        alloc, program, script, natives, depth, steps,
+        alloc,
+        Limits::standard(),
+        program,
+        script,
+        natives,
+        depth,
+        steps,
     );
     written(prepared.carry_out(alloc, w))
 }

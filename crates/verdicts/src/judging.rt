@@ -1,6 +1,7 @@
 //! The verdict on a program and its certificate.
 
 ghost use Rattle.std.specs.Prelude.{◌≡◌, ◌≢◌, ◌<◌, ◌⊎◌, [], IsTrue, IfOk, MatchOption, count_by};
+ghost use Rattle.class_lang.specs.Limits.{standard};
 ghost use Rattle.program_commands.specs.Commands.{CertifyComesTo, CheckComesTo};
 ghost use Rattle.program_commands.specs.Outcomes.{outcome_status};
 ghost use Rattle.verdicts.specs.Accepted.{is_accepted, IsClean};
@@ -12,7 +13,7 @@ use crate::located::Located;
 use crate::places::Places;
 use crate::program::gather_program;
 use crate::refusal::refusal_finding;
-use class_lang::read_program;
+use class_lang::{Limits, read_program};
 use findings::{CycleSet, Verdict};
 use meta_model::Meta;
 use meta_objects::FromProgram;
@@ -49,8 +50,8 @@ pub fn verdict(
 ) -> Result<Verdict, AllocError>
     ensures status { IfOk result (λ verdict. (verdict.accepted ≡ 0 ⊎ verdict.status ≢ 0) → HasStatus
         (λ outcome. MatchOption texts.entry.certificate
-        (CertifyComesTo texts.entry.program.now outcome)
-        (λ certificate. CheckComesTo texts.entry.program.now certificate.now outcome))
+        (CertifyComesTo standard texts.entry.program.now outcome)
+        (λ certificate. CheckComesTo standard texts.entry.program.now certificate.now outcome))
         verdict.status) }
     ensures accepted { IfOk result (λ verdict. verdict.accepted ≡ count_by (is_accepted accepted.now) verdict.cycles.items) }
     ensures clean { IfOk result (λ verdict. verdict.status ≡ 0 → IsClean verdict) }
@@ -140,13 +141,27 @@ fn is_clean(found: &Verdict) -> bool
 /// What `check` comes to, or where no certificate is given `certify`.
 fn outcome(alloc: Global, texts: Texts<'_>) -> Outcome
     ensures { MatchOption texts.entry.certificate
-        (CertifyComesTo texts.entry.program.now result)
-        (λ certificate. CheckComesTo texts.entry.program.now certificate.now result) }
+        (CertifyComesTo standard texts.entry.program.now result)
+        (λ certificate. CheckComesTo standard texts.entry.program.now certificate.now result) }
 {
     match texts.certificate {
-        Some(certificate) => check_outcome(alloc, texts.program, certificate),
-        None => certify_outcome(alloc, texts.program),
+        Some(certificate) => check_program(alloc, texts.program, certificate),
+        None => certify_program(alloc, texts.program),
     }
+}
+
+/// What `check` comes to, by the standard limits.
+fn check_program(alloc: Global, program: &[u8], certificate: &[u8]) -> Outcome
+    ensures { CheckComesTo standard program.now certificate.now result }
+{
+    check_outcome(alloc, Limits::standard(), program, certificate)
+}
+
+/// What `certify` comes to, by the standard limits.
+fn certify_program(alloc: Global, program: &[u8]) -> Outcome
+    ensures { CertifyComesTo standard program.now result }
+{
+    certify_outcome(alloc, Limits::standard(), program)
 }
 
 /// Adds what is wrong.

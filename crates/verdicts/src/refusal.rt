@@ -39,7 +39,7 @@ pub fn refusal_finding(
     }
 }
 
-/// The flaw as a finding.
+/// The flaw as a finding. What helps a text that is too large is an option that verdicts don't take.
 fn flaw_finding(
     alloc: Global,
     text: &[u8],
@@ -56,7 +56,7 @@ fn flaw_finding(
         rule,
         place: Some(TextPlace::of(text, at.min(text.len()))),
         message: sentence,
-        help: advice,
+        help: if rule == Rule::TooLarge { None } else { advice },
         text: kind,
         chain: Vec::new(alloc),
     })

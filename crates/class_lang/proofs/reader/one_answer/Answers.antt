@@ -2,4 +2,4 @@ use Rattle.class_lang.proofs.OneAnswer as law
 use Rattle.class_lang.proofs.reader.one_answer.Goals as goal
 
 pub returns : goal.returns
-returns c = law.one_answer
+returns c bytes limits = law.one_answer limits bytes

@@ -9,7 +9,7 @@ returns-in_default g c = done-prepares _ _ _ c.prepared_usage.ensures (fails tt 
 
 pub returns-in-Ok : goal.returns-in-Ok
 returns-in-Ok g c =
-    prepares-as _ _ (λ end comes. goes_on c.in-Some.command _ c.in-Some.ensures.said (goes_on _ _ (sym (ap read_of c.in-Ok.is)) comes)) c.prepare.ensures
+    prepares-as _ _ (λ end comes. goes_on c.in-Some.line _ c.in-Some.ensures.said (goes_on _ _ (sym (ap read_of c.in-Ok.is)) comes)) (rw c.limits_of.ensures at c.prepare.ensures)
 
 pub returns-in-Err : goal.returns-in-Err
-returns-in-Err g c = done-now _ _ _ (goes_on c.in-Some.command _ c.in-Some.ensures.said (fails c.in-Err.fault (sym (ap read_of c.in-Err.is))))
+returns-in-Err g c = done-now _ _ _ (goes_on c.in-Some.line _ c.in-Some.ensures.said (fails c.in-Err.fault (sym (ap read_of c.in-Err.is))))

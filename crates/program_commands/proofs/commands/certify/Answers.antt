@@ -1,4 +1,4 @@
 use Rattle.program_commands.proofs.commands.certify.Goals as goal
 
 pub returns : goal.returns
-returns g c = record { outcome = c.certify_outcome.result; comes = c.certify_outcome.ensures; takes = c.write.ensures }
+returns g c = record { outcome = c.certify_outcome.result; comes = rw c.standard.ensures at c.certify_outcome.ensures; takes = c.write.ensures }

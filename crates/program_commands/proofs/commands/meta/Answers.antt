@@ -1,4 +1,4 @@
 use Rattle.program_commands.proofs.commands.meta.Goals as goal
 
 pub returns : goal.returns
-returns g c = record { outcome = c.meta_outcome.result; comes = c.meta_outcome.ensures; takes = c.write.ensures }
+returns g c = record { outcome = c.meta_outcome.result; comes = rw c.standard.ensures at c.meta_outcome.ensures; takes = c.write.ensures }

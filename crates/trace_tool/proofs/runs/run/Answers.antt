@@ -10,12 +10,12 @@ pub carry_out-requires : goal.carry_out-requires
 carry_out-requires g c = c.prepare_run-prepared.ensures.may
 
 pub returns-clause-written : goal.returns-clause-written
-returns-clause-written g c = carried-writes (carried-of c.prepare_run-prepared.ensures c.carry_out.ensures) c.written.ensures
+returns-clause-written g c = carried-writes (carried-of (rw c.standard.ensures at c.prepare_run-prepared.ensures) c.carry_out.ensures) c.written.ensures
 
 pub returns-clause-accepted : goal.returns-clause-accepted
 returns-clause-accepted g c =
     λ loaded read events accepts.
-    carried-writes (carried-as (λ end comes. accepted_comes accepts comes) (carried-of c.prepare_run-prepared.ensures c.carry_out.ensures)) c.written.ensures
+    carried-writes (carried-as (λ end comes. accepted_comes accepts comes) (carried-of (rw c.standard.ensures at c.prepare_run-prepared.ensures) c.carry_out.ensures)) c.written.ensures
 
 pub returns-clause-arguments : goal.returns-clause-arguments
 returns-clause-arguments g c =

@@ -5,4 +5,4 @@ pub carry_out-requires : goal.carry_out-requires
 carry_out-requires g c = c.prepare_unchecked_run-prepared.ensures.may
 
 pub returns : goal.returns
-returns g c = carried-writes (carried-of c.prepare_unchecked_run-prepared.ensures c.carry_out.ensures) c.written.ensures
+returns g c = carried-writes (carried-of (rw c.standard.ensures at c.prepare_unchecked_run-prepared.ensures) c.carry_out.ensures) c.written.ensures
