@@ -1,0 +1,102 @@
+#include "poke.h"
+#include <QtWidgets>
+
+namespace {
+
+QRandomGenerator &numbers()
+{
+    static QRandomGenerator made(quint32(qEnvironmentVariableIntValue("SPY_SEED")) + 1);
+    return made;
+}
+
+int number(int below)
+{
+    return int(numbers().bounded(quint32(qMax(1, below))));
+}
+
+// What would end the program, wait for another one, or leave something on the disk.
+bool left(const QString &text)
+{
+    static const QRegularExpression words("quit|exit|close all|print|open|save|about|browse|delete",
+                                          QRegularExpression::CaseInsensitiveOption);
+    return text.contains(words);
+}
+
+QList<QAction *> actionsOf(const QWidgetList &widgets)
+{
+    QList<QAction *> found;
+    for (const QWidget *it : widgets)
+        for (QAction *action : it->actions())
+            if (action->isEnabled() && !action->menu() && !left(action->text()) && !found.contains(action))
+                found << action;
+    return found;
+}
+
+void key(QWidget *to)
+{
+    const bool end = number(8) == 0;
+    const int letter = number(26);
+    const int code = end ? int(Qt::Key_Return) : int(Qt::Key_A) + letter;
+    const QString text = end ? QString("\r") : QString(QChar('a' + letter));
+    const QPointer<QWidget> kept(to);
+    to->setFocus();
+    for (QEvent::Type type : {QEvent::KeyPress, QEvent::KeyRelease}) {
+        QKeyEvent event(type, code, Qt::NoModifier, text);
+        if (kept)
+            QCoreApplication::sendEvent(kept, &event);
+    }
+}
+
+void click(QWidget *on)
+{
+    const QPointF at(number(on->width()), number(on->height()));
+    const QPointer<QWidget> kept(on);
+    for (QEvent::Type type : {QEvent::MouseButtonPress, QEvent::MouseButtonRelease}) {
+        QMouseEvent event(type, at, kept ? kept->mapToGlobal(at) : at, Qt::LeftButton,
+                          type == QEvent::MouseButtonPress ? Qt::LeftButton : Qt::NoButton, Qt::NoModifier);
+        if (kept)
+            QCoreApplication::sendEvent(kept, &event);
+    }
+}
+
+void pokeAt(QWidget *it, bool modal)
+{
+    if (auto *button = qobject_cast<QAbstractButton *>(it)) {
+        if (modal || !left(button->text()))
+            button->click();
+    } else if (auto *slider = qobject_cast<QAbstractSlider *>(it)) {
+        slider->setValue(slider->minimum() + number(slider->maximum() - slider->minimum() + 1));
+    } else if (auto *box = qobject_cast<QAbstractSpinBox *>(it)) {
+        box->stepBy(number(7) - 3);
+    } else if (auto *choice = qobject_cast<QComboBox *>(it)) {
+        if (choice->count())
+            choice->setCurrentIndex(number(choice->count()));
+    } else if (auto *view = qobject_cast<QAbstractItemView *>(it)) {
+        if (view->model() && view->model()->rowCount())
+            view->setCurrentIndex(view->model()->index(number(view->model()->rowCount()), 0));
+    } else if (auto *tabs = qobject_cast<QTabWidget *>(it)) {
+        tabs->setCurrentIndex(number(tabs->count()));
+    } else if (it->inherits("QLineEdit") || it->inherits("QTextEdit") || it->inherits("QPlainTextEdit")) {
+        key(it);
+    } else {
+        click(it);
+    }
+}
+
+}  // namespace
+
+void poke()
+{
+    if (!qobject_cast<QApplication *>(qApp))
+        return;
+    const QWidget *modal = QApplication::activeModalWidget();
+    QWidgetList widgets;
+    for (QWidget *it : QApplication::allWidgets())
+        if (it->isVisible() && it->isEnabled() && (!modal || it->window() == modal))
+            widgets << it;
+    const QList<QAction *> actions = modal ? QList<QAction *>() : actionsOf(widgets);
+    if (!actions.isEmpty() && number(3) == 0)
+        actions.at(number(int(actions.size())))->trigger();
+    else if (!widgets.isEmpty())
+        pokeAt(widgets.at(number(int(widgets.size()))), modal != nullptr);
+}
