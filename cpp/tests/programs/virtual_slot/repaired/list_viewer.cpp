@@ -1,0 +1,6 @@
+#include "list_viewer.h"
+
+void ListViewer::refresh()
+{
+    ++m_rows;
+}
