@@ -1,0 +1,145 @@
+"""The ways of a program that a reader of C++ wrote (`app.gf`): which member leads at once to which, each told by the class that declares
+it, since a run doesn't know by which member an object is held."""
+import re
+from dataclasses import dataclass, field
+from pathlib import Path
+
+Node = tuple[str, str]
+CLASS = re.compile(r"class (\w+)(?: : (\w+))? \{")
+PROPERTY = re.compile(r"property (\w+)(\*?) (\w+)(?: notify (\w+)\(.*\))?;")
+METHOD = re.compile(r"(signal|slot) (\w+)\(")
+STATEMENT = re.compile(r"(emit|call|set) ([\w.]+)")
+WIRE = re.compile(r"wire (\w+) (\w+)\(.*\) -> (\w+) (\w+)\(.*\) (\w+)")
+BINDING = re.compile(r"binding \w+ (\w+)\.(\w+) \((.*?)\) = (.*);")
+
+
+class BadProgram(Exception):
+    """A line that no reader writes: the sentence that says so."""
+
+
+@dataclass
+class Class:
+    name: str
+    base: str
+    signals: set[str] = field(default_factory=set)
+    members: set[str] = field(default_factory=set)
+    references: dict[str, str] = field(default_factory=dict)
+
+
+@dataclass
+class Graph:
+    classes: dict[str, Class] = field(default_factory=dict)
+    edges: dict[Node, set[Node]] = field(default_factory=dict)
+    statements: list[tuple[str, str, str, str]] = field(default_factory=list)     # class, slot, kind, path
+    wires: list[tuple[Node, Node]] = field(default_factory=list)
+
+    def chain(self, name: str) -> list[str]:
+        found = []
+        while name in self.classes and name not in found:
+            found.append(name)
+            name = self.classes[name].base
+        return found
+
+    def node(self, cls: str, member: str) -> Node:
+        """A member, by the class that declares it."""
+        for it in self.chain(cls):
+            if member in self.classes[it].members:
+                return it, member
+        return cls, member
+
+    def add(self, start: Node, end: Node) -> None:
+        self.edges.setdefault(start, set()).add(end)
+
+    def target(self, cls: str, path: str) -> Node:
+        """The member that a statement's path names, along references."""
+        words = path.split(".")
+        if words[0] == "this":
+            words = words[1:]
+        for reference in words[:-1]:
+            types = [self.classes[it].references[reference] for it in self.chain(cls) if reference in self.classes[it].references]
+            if not types:
+                raise BadProgram(f"{cls} has no reference {reference}")
+            cls = types[0]
+        return self.node(cls, words[-1])
+
+    def reach(self, starts: set[Node]) -> set[Node]:
+        """What is reached by one way or more."""
+        seen: set[Node] = set()
+        todo = list(starts)
+        while todo:
+            for end in self.edges.get(todo.pop(), ()):
+                if end not in seen:
+                    seen.add(end)
+                    todo.append(end)
+        return seen
+
+    def signals(self, cls: str, name: str) -> set[Node]:
+        """The signals of a C++ class by their C++ name: overloads and words of the language have something behind it."""
+        wanted = re.compile(rf"{re.escape(name)}(_\d*)?")
+        own = re.compile(rf"{re.escape(cls.rpartition('::')[2])}(_\d+)?|{re.escape(cls.replace('::', '_'))}(_\d+)?")
+        return {(it.name, signal) for it in self.classes.values() if own.fullmatch(it.name) for signal in it.signals if wanted.fullmatch(signal)}
+
+
+def member(graph: Graph, cls: Class, line: str) -> str:
+    """Takes a declaration; the name of a slot whose statements follow, if it is one."""
+    found = PROPERTY.match(line)
+    if found:
+        cls.members.add(found[3])
+        if found[2]:
+            cls.references[found[3]] = found[1]
+        if found[4]:
+            graph.statements.append((cls.name, found[3], "emit", found[4]))
+        return ""
+    method = METHOD.match(line)
+    if not method:
+        raise BadProgram(f"`{line}` is no declaration")
+    cls.members.add(method[2])
+    if method[1] == "signal":
+        cls.signals.add(method[2])
+    ends = re.sub(r"\s*//.*", "", line).endswith(("}", ";"))
+    return "" if ends else method[2]
+
+
+def outside(graph: Graph, line: str) -> None:
+    """A wire, a binding or what owns."""
+    wire = WIRE.match(line)
+    if wire and wire[5] != "queued":
+        graph.wires.append(((wire[1], wire[2]), (wire[3], wire[4])))
+    bound = BINDING.match(line)
+    if bound:
+        types: dict[str, str] = {}
+        for parameter in filter(None, bound[3].split(", ")):
+            kind, name = parameter.split()
+            types[name] = kind
+        for name, read in re.findall(r"(\w+)\.(\w+)", bound[4]):
+            graph.wires.append(((types[name], read), (bound[1], bound[2])))
+
+
+def parse(text: str) -> Graph:
+    graph = Graph()
+    cls: Class | None = None
+    slot = ""
+    for whole in text.splitlines():
+        line = whole.strip()
+        opened = CLASS.match(line)
+        if opened:
+            cls = graph.classes[opened[1]] = Class(opened[1], opened[2] or "")
+        elif line == "}":
+            cls, slot = (cls, "") if slot else (None, "")
+        elif cls and slot:
+            statement = STATEMENT.match(line)
+            if statement:
+                graph.statements.append((cls.name, slot, statement[1], statement[2]))
+        elif cls and line and not line.startswith("//"):
+            slot = member(graph, cls, line)
+        else:
+            outside(graph, line)
+    for owner, name, _, path in graph.statements:
+        graph.add(graph.node(owner, name), graph.target(owner, path))
+    for (sender, signal), (receiver, method) in graph.wires:
+        graph.add(graph.node(sender, signal), graph.node(receiver, method))
+    return graph
+
+
+def read(path: Path) -> Graph:
+    return parse(path.read_text())
