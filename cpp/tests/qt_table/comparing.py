@@ -1,0 +1,172 @@
+"""What came of each call, against what the table says of the function."""
+from dataclasses import dataclass, field
+
+from effects_table import Line, Table
+from qt_headers import Headers
+from table_program import Called, Note
+
+# What every object has, and nobody connects to but those who mean just that.
+NOISE = {"objectNameChanged"}
+# The window that Qt makes for a widget tells nothing that the widget doesn't; style animations are Qt's own.
+HIDDEN_INSIDE = {"QWindow", "QScreen", "QInputMethod", "QPaintDeviceWindow", "QAbstractAnimation", "QAbstractTextDocumentLayout"}
+UNTOLD_HANDLERS = {"timerEvent", "enterEvent", "leaveEvent"}
+CLAUSES = {"called": "calls", "deleted": "deletes", "owned": "owns", "released": "takes"}
+
+
+@dataclass
+class Fact:
+    """One thing that came: of which function on which class, in which clause, by which names the table may tell it."""
+
+    chain: list[str]              # the classes of the object whose function it is, from the nearest on
+    function: str
+    declared: str                 # the class whose header declares the function
+    clause: str
+    name: str                     # as it is proposed
+    names: list[str]              # all that mean it
+    place: str
+    signal: str = ""
+    classes: list[str] = field(default_factory=list)    # of the object that emits
+
+
+def ignored(note: Note, headers: Headers) -> bool:
+    chain = headers.public(note.classes)
+    if note.kind == "signal":
+        return note.name in NOISE or note.whose == "hidden" or not chain or (note.whose != "self" and bool(HIDDEN_INSIDE & set(chain)))
+    if note.kind == "called":
+        return note.name in UNTOLD_HANDLERS or (note.whose == "other" and note.classes in (["QWidget"], ["QObject"]))
+    if note.kind == "owned":
+        return note.name == "0"
+    return note.kind == "deleted" and (note.whose in ("inside", "beyond", "hidden") or not chain)
+
+
+def signal_names(note: Note, headers: Headers) -> tuple[str, list[str]]:
+    """The name that is proposed for a signal, and all by which the table may tell it."""
+    whole, last = headers.public(note.classes), note.classes[-1]
+    chain = whole[: whole.index(last) + 1] if last in whole else whole
+    names = [f"{cls}::{note.name}" for cls in chain]
+    if note.whose == "self":
+        return note.name, [note.name, *names]
+    # The class of what Qt makes is always the same; of what the application makes only the class that declares is known.
+    return f"{chain[0] if note.whose in ('inside', 'beyond') else chain[-1]}::{note.name}", names
+
+
+def clause_and_names(note: Note, headers: Headers) -> tuple[str, str, list[str]]:
+    if note.kind == "signal":
+        name, names = signal_names(note, headers)
+        return ("inside" if note.whose in ("inside", "owned") else "emits"), name, names
+    if note.kind == "called":
+        prefix = {"self": "", "owned": "owned::"}.get(note.whose, f"{note.classes[0]}::")
+        return "calls", prefix + note.name, [prefix + note.name]
+    if note.kind == "deleted":
+        names = ["this"] if note.whose == "self" else [*headers.public(note.classes), note.name]
+        return ("deletes" if note.once else "later"), names[0], names
+    name = "result" if note.kind == "released" and note.name == "0" else note.name
+    return CLAUSES[note.kind], name, [name, "result"]
+
+
+def facts(calls: list[Called], headers: Headers) -> list[Fact]:
+    found = []
+    for call in calls:
+        dead = any(it.kind == "deleted" and it.whose == "self" for it in call.notes)
+        for note in call.notes:
+            if ignored(note, headers) or (not note.once and note.kind != "deleted"):
+                continue
+            if note.kind == "deleted" and note.whose != "self" and dead:
+                continue          # what an object owns dies with it
+            if note.kind == "called" and note.whose == "self" and note.name == call.function:
+                continue
+            clause, name, names = clause_and_names(note, headers)
+            chain, function, declared = headers.chain(call.subject), call.function, call.cls
+            if note.handler and note.handler != "event" and note.whose in ("self", "inside", "owned"):
+                chain, function = headers.public(note.handlers_classes), note.handler
+                declared = chain[-1] if chain else ""
+            if chain:
+                classes = headers.public(note.classes) if note.kind == "signal" else []
+                found.append(Fact(chain, function, declared, clause, name, names, call.place(), note.name, classes))
+    return found
+
+
+def lines_of(table: Table, chain: list[str], function: str) -> list[Line]:
+    """The line of a function, and those of the virtual functions of the object that it calls, since these are Qt's own here."""
+    found: list[Line] = []
+    todo = [function]
+    while todo:
+        line = table.line(chain, todo.pop())
+        if line and line not in found:
+            found.append(line)
+            todo += [name for name in line.names("calls") if "::" not in name]
+    return found
+
+
+def by_others(fact: Fact, lines: list[Line], table: Table) -> bool:
+    """Whether a handler of another object, which the function calls, emits the signal."""
+    for line in lines:
+        for name in line.names("calls"):
+            _, mark, handler = name.rpartition("::")
+            other = table.line(fact.classes, handler) if mark else None
+            if other and fact.signal in other.names("emits", "rarely"):
+                return True
+    return False
+
+
+def wired(fact: Fact, emitted: set[tuple[str, str]], table: Table) -> bool:
+    """Whether Qt's own connections bring the signal about, from another one that came."""
+    return any(
+        name == fact.signal and to in fact.classes and (cls, signal) in emitted for cls, signal, to, name in table.wires
+    )
+
+
+@dataclass
+class Finding:
+    """Something that came and isn't in the table."""
+
+    cls: str
+    function: str
+    clause: str
+    name: str
+    places: set[str] = field(default_factory=set)
+
+
+ASKED = {"emits": ["emits", "rarely", "inside"], "inside": ["emits", "rarely", "inside"]}
+Used = set[tuple[str, str, str, str]]
+
+
+def allowed(fact: Fact, table: Table, headers: Headers, emitted: set[tuple[str, str]], used: Used) -> bool:
+    lines = lines_of(table, fact.chain, fact.function)
+    good = False
+    for line in lines:
+        for clause in ASKED.get(fact.clause, [fact.clause]):
+            for name in line.clauses.get(clause, []):
+                if name in fact.names:
+                    used.add((line.cls, line.function, clause, name))
+                    good = True
+    if good or fact.clause not in ASKED:
+        return good
+    notified = fact.name in headers.notified(fact.chain[0], fact.function)
+    return notified or wired(fact, emitted, table) or by_others(fact, lines, table)
+
+
+def compare(calls: list[Called], table: Table, headers: Headers) -> tuple[list[Finding], Used]:
+    """What came and isn't in the table; and what of the table came: class, function, clause and name."""
+    findings: dict[tuple[str, str, str, str], Finding] = {}
+    used: Used = set()
+    for call in calls:
+        these = facts([call], headers)
+        emitted = {(cls, it.signal) for it in these if it.signal for cls in it.classes}
+        for fact in these:
+            if not allowed(fact, table, headers, emitted, used):
+                line = table.line(fact.chain, fact.function)
+                cls = line.cls if line else fact.declared
+                key = (cls, fact.function, fact.clause, fact.name)
+                findings.setdefault(key, Finding(*key)).places.add(fact.place)
+    return list(findings.values()), used
+
+
+def wires_that_came(calls: list[Called], table: Table, headers: Headers) -> set[tuple[str, str, str, str]]:
+    """Qt's own connections of which both signals came in one call."""
+    found: set[tuple[str, str, str, str]] = set()
+    for call in calls:
+        came = {(cls, it.name) for it in call.notes if it.once and it.kind == "signal" for cls in headers.public(it.classes)}
+        if len(came) > 1:
+            found |= {it for it in table.wires if (it[0], it[1]) in came and (it[2], it[3]) in came}
+    return found

@@ -1,0 +1,169 @@
+// Set-ups of models, selections, views and their items.
+#include "registry.h"
+
+namespace {
+
+class Table : public QAbstractTableModel
+{
+public:
+    int rowCount(const QModelIndex &above = {}) const override { return above.isValid() ? 0 : m_rows; }
+    int columnCount(const QModelIndex &above = {}) const override { return above.isValid() ? 0 : 2; }
+    QVariant data(const QModelIndex &at, int role) const override
+    {
+        return role == Qt::DisplayRole || role == Qt::EditRole ? QVariant(at.row() * 10 + at.column()) : QVariant();
+    }
+    bool insertRows(int at, int count, const QModelIndex &above) override
+    {
+        recorder::called("insertRows");
+        beginInsertRows(above, at, at + count - 1);
+        m_rows += count;
+        endInsertRows();
+        return true;
+    }
+    bool removeRows(int at, int count, const QModelIndex &above) override
+    {
+        recorder::called("removeRows");
+        beginRemoveRows(above, at, at + count - 1);
+        m_rows -= count;
+        endRemoveRows();
+        return true;
+    }
+    bool insertColumns(int, int, const QModelIndex &) override { recorder::called("insertColumns"); return false; }
+    bool removeColumns(int, int, const QModelIndex &) override { recorder::called("removeColumns"); return false; }
+    bool moveRows(const QModelIndex &, int, int, const QModelIndex &, int) override { recorder::called("moveRows"); return false; }
+    bool moveColumns(const QModelIndex &, int, int, const QModelIndex &, int) override
+    {
+        recorder::called("moveColumns");
+        return false;
+    }
+    bool setData(const QModelIndex &, const QVariant &, int) override { recorder::called("setData"); return false; }
+    // What only those below may call is public here.
+    using QAbstractItemModel::beginInsertRows;
+    using QAbstractItemModel::endInsertRows;
+
+private:
+    int m_rows = 3;
+};
+
+class Proxy : public QSortFilterProxyModel
+{
+public:
+    bool filterAcceptsRow(int row, const QModelIndex &above) const override
+    {
+        recorder::called("filterAcceptsRow");
+        return QSortFilterProxyModel::filterAcceptsRow(row, above);
+    }
+    bool filterAcceptsColumn(int column, const QModelIndex &above) const override
+    {
+        recorder::called("filterAcceptsColumn");
+        return QSortFilterProxyModel::filterAcceptsColumn(column, above);
+    }
+    bool lessThan(const QModelIndex &left, const QModelIndex &right) const override
+    {
+        recorder::called("lessThan");
+        return QSortFilterProxyModel::lessThan(left, right);
+    }
+};
+
+Proxy *proxy(Scene &s)
+{
+    auto *it = new Proxy;
+    it->setDynamicSortFilter(true);
+    it->setSourceModel(s.filledModel());
+    it->sort(0);
+    return it;
+}
+
+template <class T> T *view(Scene &s)
+{
+    auto *it = new T;
+    it->setModel(s.filledModel());
+    s.other(it->selectionModel());
+    it->setCurrentIndex(s.model->index(0, 0));
+    return it;
+}
+
+QListWidget *list(Scene &s)
+{
+    auto *it = new QListWidget;
+    it->addItems({"one", "two", "three"});
+    it->setCurrentRow(0);
+    s.item(it->item(1));
+    s.model = it->model();
+    return it;
+}
+
+QTableWidget *table(Scene &s)
+{
+    auto *it = new QTableWidget(3, 2);
+    for (int row = 0; row < 3; ++row)
+        it->setItem(row, 0, new QTableWidgetItem(QString("cell %1").arg(3 - row)));
+    it->setCurrentCell(0, 0);
+    s.item(it->item(1, 0));
+    s.model = it->model();
+    return it;
+}
+
+QTreeWidget *tree(Scene &s)
+{
+    auto *it = new QTreeWidget;
+    it->setColumnCount(2);
+    for (const char *name : {"b", "a", "c"})
+        new QTreeWidgetItem(new QTreeWidgetItem(it, {name, "x"}), {"child"});
+    it->setCurrentItem(it->topLevelItem(0));
+    s.item(it->topLevelItem(1));
+    s.model = it->model();
+    return it;
+}
+
+void setUpItems()
+{
+    SET_UP(QListWidget, "three items", return list(s);)
+    SET_UP(QListWidget, "many chosen", auto *it = list(s); it->setSelectionMode(QAbstractItemView::MultiSelection);
+           it->selectAll(); return it;)
+    SET_UP(QListWidgetItem, "of a list", auto *it = s.other(list(s)); return it->item(1);)
+    SET_UP(QListWidgetItem, "the current one", auto *it = s.other(list(s)); return it->item(0);)
+    SET_UP(QTableWidget, "a column filled", return table(s);)
+    SET_UP(QTableWidgetItem, "of a table", auto *it = s.other(table(s)); return it->item(1, 0);)
+    SET_UP(QTreeWidget, "three items", return tree(s);)
+    SET_UP(QTreeWidget, "expanded", auto *it = tree(s); it->expandAll(); it->setCurrentItem(it->topLevelItem(1)->child(0)); return it;)
+    SET_UP(QTreeWidgetItem, "of a tree", auto *it = s.other(tree(s)); return it->topLevelItem(1);)
+    SET_UP(QTreeWidgetItem, "the current one, expanded", auto *it = s.other(tree(s)); it->expandAll(); return it->topLevelItem(0);)
+    SET_UP(QStandardItem, "of a model", auto *it = s.filledModel(); return it->item(1, 0);)
+    SET_UP(QStandardItem, "checkable", auto *it = s.filledModel(); it->item(0, 0)->setCheckable(true);
+           it->item(0, 0)->setAutoTristate(true); it->item(0, 0)->child(0)->setCheckable(true); return it->item(0, 0)->child(0);)
+}
+
+}  // namespace
+
+void setUpModels()
+{
+    SET_UP(QAbstractTableModel, "of its own", auto *it = new Table; s.model = it; return it;)
+    SET_UP(QStandardItemModel, "filled", auto *it = s.filledModel(); return it;)
+    SET_UP(QStandardItemModel, "shown by a view", auto *it = s.filledModel(); auto *shown = s.other(new QTreeView);
+           shown->setModel(it); s.other(shown->selectionModel()); shown->setCurrentIndex(it->index(0, 0)); return it;)
+    SET_UP(QStringListModel, "three rows", auto *it = new QStringListModel({"c", "a", "b"}); s.model = it; return it;)
+    SET_UP(QSortFilterProxyModel, "filtered", auto *it = proxy(s); it->setFilterFixedString("row"); s.model = it; return it;)
+    SET_UP(QSortFilterProxyModel, "of all", auto *it = proxy(s); s.model = it; return it;)
+    SET_UP(QSortFilterProxyModel, "of columns", auto *it = proxy(s); it->setFilterKeyColumn(-1); it->setFilterFixedString("1"); return it;)
+    SET_UP(QIdentityProxyModel, "plain", auto *it = new QIdentityProxyModel; it->setSourceModel(s.filledModel()); return it;)
+    SET_UP(QTransposeProxyModel, "plain", auto *it = new QTransposeProxyModel; it->setSourceModel(s.filledModel()); return it;)
+    SET_UP(QConcatenateTablesProxyModel, "plain", auto *it = new QConcatenateTablesProxyModel; it->addSourceModel(s.filledModel()); return it;)
+    SET_UP(QFileSystemModel, "plain", return new QFileSystemModel;)
+    SET_UP(QItemSelectionModel, "a row chosen", auto *it = new QItemSelectionModel(s.filledModel());
+           it->setCurrentIndex(s.model->index(0, 0), QItemSelectionModel::ClearAndSelect | QItemSelectionModel::Rows); return it;)
+    SET_UP(QItemSelectionModel, "of a view", auto *it = s.other(view<QTreeView>(s)); return it->selectionModel();)
+    SET_UP(QListView, "filled", return view<QListView>(s);)
+    SET_UP(QTableView, "filled", return view<QTableView>(s);)
+    SET_UP(QTreeView, "filled", return view<QTreeView>(s);)
+    SET_UP(QTreeView, "expanded", auto *it = view<QTreeView>(s); it->expandAll(); return it;)
+    SET_UP(QTreeView, "empty", return new QTreeView;)
+    SET_UP(QColumnView, "filled", return view<QColumnView>(s);)
+    SET_UP(QUndoView, "plain", return new QUndoView(s.other(new QUndoStack));)
+    SET_UP(QHeaderView, "of a table", auto *it = s.other(view<QTableView>(s)); it->setSortingEnabled(true); return it->horizontalHeader();)
+    SET_UP(QHeaderView, "of a tree", auto *it = s.other(view<QTreeView>(s)); it->header()->setSectionsClickable(true); return it->header();)
+    SET_UP(QStyledItemDelegate, "plain", return new QStyledItemDelegate;)
+    SET_UP(QDataWidgetMapper, "three rows", auto *it = new QDataWidgetMapper; it->setModel(s.filledModel());
+           it->addMapping(s.sibling, 0); it->toFirst(); return it;)
+    setUpItems();
+}
