@@ -1,0 +1,341 @@
+"""What declarations and bodies do, in the order of the text."""
+from __future__ import annotations
+
+from .classes import OWNING
+from .comparing import Comparing
+from .context import Context
+from .libclang import FUNCTIONS, NAMES, RECORDS, VARIABLES, Cursor, K, T, bare, expressions, strip
+from .model import Condition, Function, Value
+
+# What Q_OBJECT declares and defines.
+OF_MOC = {'tr', 'trUtf8', 'qt_metacall', 'qt_metacast', 'qt_static_metacall', 'metaObject', 'qt_check_for_QGADGET_macro'}
+ENDS = (K.RETURN_STMT, K.CONTINUE_STMT, K.BREAK_STMT)
+SOLE_OWNERS = ('unique_ptr', 'QScopedPointer')
+
+
+class Bodies:
+    def __init__(self, context: Context) -> None:
+        self.context = context
+        self.comparing = Comparing(context)
+        self.locals: list[tuple[str, Cursor, str]] = []
+        self.released: set[str] = set()
+
+    # Declarations
+
+    def unit(self, top: Cursor) -> None:
+        for inner in top.get_children():
+            if self.context.is_inside(inner):
+                self.declaration(inner)
+
+    def declaration(self, cursor: Cursor) -> None:
+        kind = cursor.kind
+        if kind in (K.NAMESPACE, K.UNEXPOSED_DECL, K.LINKAGE_SPEC):
+            for inner in cursor.get_children():
+                self.declaration(inner)
+        elif kind in RECORDS or kind == K.CLASS_TEMPLATE:
+            self._record(cursor)
+        elif kind in FUNCTIONS:
+            if cursor.is_definition() and cursor.spelling not in OF_MOC:
+                self.definition(cursor)
+        elif kind == K.VAR_DECL:
+            self.variable(cursor)
+
+    def _record(self, cursor: Cursor) -> None:
+        if cursor.kind == K.CLASS_TEMPLATE:
+            self.context.note('template', cursor, f'class template {cursor.spelling}: its bodies are read once for all instances')
+            self.context.classes.note_template(cursor)
+        elif cursor.is_definition():
+            self.context.classes.note(cursor)
+        else:
+            return
+        for inner in cursor.get_children():
+            if inner.kind in RECORDS + FUNCTIONS + (K.CLASS_TEMPLATE,):
+                self.declaration(inner)
+            elif inner.kind == K.FIELD_DECL:
+                self._member(inner)
+
+    def _member(self, cursor: Cursor) -> None:
+        """A member variable: its initialiser, and that its object owns it where it holds one."""
+        context, key = self.context, str(cursor.get_usr())
+        initial = expressions(cursor)
+        with context.hinted(cursor.spelling), context.around(str(cursor.semantic_parent.canonical.get_usr())):
+            if initial:
+                context.flow(key, context.values.of(initial[-1]))
+                if strip(initial[-1]).kind == K.LAMBDA_EXPR:
+                    context.lambdas[key] = self.lambda_key(strip(initial[-1]))
+        cls = context.classes.of(cursor.type)
+        if not cls:
+            return
+        whole = Value('member', cls=str(cursor.semantic_parent.canonical.get_usr()))
+        if context.classes.is_value(cursor.type):
+            site = context.site(key, cursor, cls, cursor.spelling)
+            context.facts.owns.append((whole, site, context.place(cursor)))
+        elif context.classes.holder(cursor.type) in OWNING:
+            context.facts.owns.append((whole, Value('variable', key, cls), context.place(cursor)))
+
+    # Functions
+
+    def definition(self, cursor: Cursor) -> None:
+        context, key = self.context, self.context.function_key(cursor)
+        known = context.facts.functions.get(key)
+        if known is not None and known.statements:
+            return
+        cls = self._class_around(cursor)
+        if cursor.kind == K.FUNCTION_TEMPLATE:
+            context.note('template', cursor, f'function template {cursor.spelling}: its body is read once for all instances')
+        kind = {K.CONSTRUCTOR: 'constructor', K.DESTRUCTOR: 'destructor'}.get(cursor.kind, 'function')
+        if kind == 'function' and cls and cursor.is_static_method():
+            kind = 'static'
+        shown = (context.facts.classes[cls].qualified + '::' if cls else '') + cursor.displayname
+        formals = [k for k in cursor.get_children() if k.kind == K.PARM_DECL] if cursor.kind == K.FUNCTION_TEMPLATE \
+            else list(cursor.get_arguments())
+        function = Function(key, cursor.spelling, shown, cls, kind, context.declared(cursor), cursor.extent.end.line,
+                            context.classes.parameters(formals))
+        context.facts.functions[key] = function
+        self.declare_parameters(key, formals)
+        self._read(function, cursor)
+
+    def _class_around(self, cursor: Cursor) -> str:
+        parent = cursor.semantic_parent
+        if parent is not None and parent.kind in RECORDS:
+            return self.context.classes.note(parent)
+        if parent is not None and parent.kind == K.CLASS_TEMPLATE:
+            return self.context.classes.note_template(parent)
+        return ''
+
+    def declare_parameters(self, key: str, formals: list[Cursor]) -> None:
+        for at, formal in enumerate(formals):
+            if formal.location.file:
+                self.context.parameters[(self.context.path(formal.location.file.name)[0], formal.location.offset)] = f'P:{key}:{at}'
+
+    def _read(self, function: Function, cursor: Cursor) -> None:
+        outer, self.locals = self.locals, []
+        kids = list(cursor.get_children())
+        with self.context.within(function), self.comparing.fresh():
+            self.context.changed = self.context.values.changed_parameters(kids[-1]) if kids else set()
+            at = 0
+            while at < len(kids):
+                kid = kids[at]
+                if kid.kind == K.MEMBER_REF and at + 1 < len(kids):
+                    self._initialiser(kid, kids[at + 1])
+                    at += 1
+                elif kid.kind == K.CALL_EXPR and function.kind == 'constructor':
+                    self.context.calls.initial(kid, self.context.this)
+                elif kid.kind.is_statement():
+                    self.walk(kid)
+                at += 1
+            self._end_scope()
+        self.locals = outer
+
+    def _end_scope(self) -> None:
+        """Smart pointers that are locals destroy at the end what they still hold."""
+        for key, cursor, cls in self.locals:
+            if key not in self.released:
+                self.context.add('scope', cursor, Value('variable', key, cls)).cls = cls
+
+    def _initialiser(self, name: Cursor, given: Cursor) -> None:
+        context, member = self.context, name.referenced
+        with context.hinted(name.spelling):
+            cls = context.classes.of(member.type) if member is not None else ''
+            if member is not None and member.kind == K.FIELD_DECL and cls and context.classes.is_value(member.type):
+                context.calls.initial(given, context.site(str(member.get_usr()), member, cls, member.spelling))
+            elif member is not None:
+                context.flow(str(member.get_usr()), context.values.of(given))
+                self.walk(given)
+
+    def lambda_key(self, cursor: Cursor) -> str:
+        """The lambda's function; its body is read when it is first met."""
+        context, key = self.context, self.context.spot('L', cursor)
+        if key in context.facts.functions:
+            return key
+        outer = context.function
+        place = context.declared(cursor)
+        shown = f'lambda in {outer.shown}' if outer else 'lambda'
+        formals = [k for k in cursor.get_children() if k.kind == K.PARM_DECL]
+        function = Function(key, f'lambda_{place.line}', shown, outer.cls if outer else '', 'lambda', place, cursor.extent.end.line,
+                            context.classes.parameters(formals))
+        context.facts.functions[key] = function
+        self.declare_parameters(key, formals)
+        bodies = [k for k in cursor.get_children() if k.kind == K.COMPOUND_STMT]
+        outer_locals, self.locals = self.locals, []
+        with context.within(function), self.comparing.fresh():
+            for body in bodies:
+                context.changed = context.values.changed_parameters(body)
+                self.walk(body)
+            self._end_scope()
+        self.locals = outer_locals
+        return key
+
+    # Variables
+
+    def variable(self, cursor: Cursor) -> None:
+        context = self.context
+        cls, key = context.classes.of(cursor.type), context.variable_key(cursor)
+        initial = expressions(cursor)
+        first = initial[-1] if initial else None
+        if first is not None and strip(first).kind == K.LAMBDA_EXPR:
+            context.lambdas[str(key)] = self.lambda_key(strip(first))
+            return
+        kind = cursor.type.get_canonical().kind
+        if first is not None and not cls and kind in (T.MEMBERPOINTER, T.AUTO, T.UNEXPOSED):
+            named = context.callees.of(first)
+            if named.kind == 'method':
+                context.pointers[str(key)] = named
+                return
+        with context.hinted(cursor.spelling):
+            if cls and context.classes.is_value(cursor.type):
+                self._local_object(cursor, str(key), cls, first)
+            elif first is not None:
+                if cls:
+                    context.flow(key, context.values.of(first), cls)
+                self.walk(first)
+        if cls and context.function is not None and context.classes.holder(cursor.type) in SOLE_OWNERS and str(key).startswith('V:'):
+            self.locals.append((str(key), cursor, cls))
+
+    def _local_object(self, cursor: Cursor, key: str, cls: str, first: Cursor | None) -> None:
+        context = self.context
+        if first is None:
+            return
+        if strip(first).kind != K.CALL_EXPR:
+            self.walk(first)
+            return
+        site = context.site(key, cursor, cls, cursor.spelling)
+        context.calls.initial(first, site)
+        function = context.function
+        if function is not None and key.startswith('V:') and context.classes.is_object(cls) and function.name != 'main':
+            context.add('scope', cursor, site).cls = cls
+
+    # Statements
+
+    def walk(self, cursor: Cursor) -> None:
+        kind = cursor.kind
+        handler = {K.COMPOUND_STMT: self._compound, K.IF_STMT: self._branch, K.CALL_EXPR: self.context.calls.call,
+                   K.LAMBDA_EXPR: self._loose_lambda, K.VAR_DECL: self.variable, K.CXX_NEW_EXPR: self.new, K.CXX_DELETE_EXPR: self._delete,
+                   K.RETURN_STMT: self._return, K.CXX_FOR_RANGE_STMT: self._for_each}.get(kind)
+        if handler is not None:
+            handler(cursor)
+            return
+        if kind == K.BINARY_OPERATOR:
+            self._operator(cursor)
+        self.inside(cursor)
+
+    def inside(self, cursor: Cursor) -> None:
+        for inner in cursor.get_children():
+            if inner.kind.is_expression() or inner.kind.is_statement() or inner.kind == K.VAR_DECL:
+                self.walk(inner)
+            elif inner.kind in RECORDS:
+                self.declaration(inner)
+
+    def _compound(self, cursor: Cursor) -> None:
+        context = self.context
+        depth, blocked = len(context.conditions), len(context.blocked)
+        with self.comparing.block():
+            for inner in cursor.get_children():
+                self.walk(inner)
+                parts = list(inner.get_children()) if inner.kind == K.IF_STMT else []
+                if len(parts) == 2 and self._ends(parts[1]):
+                    words = context.text(parts[0])
+                    context.conditions.append(Condition('unless', words, inner.location.line))
+                    self.comparing.guard(parts[0], '==')
+        del context.conditions[depth:]
+        del context.blocked[blocked:]
+
+    def _ends(self, cursor: Cursor) -> bool:
+        if cursor.kind == K.COMPOUND_STMT:
+            kids = list(cursor.get_children())
+            return bool(kids) and self._ends(kids[-1])
+        return bool(cursor.kind in ENDS)
+
+    def _branch(self, cursor: Cursor) -> None:
+        parts = list(cursor.get_children())
+        at = 0
+        while at + 2 < len(parts) and parts[at].kind in (K.DECL_STMT, K.VAR_DECL):
+            self.walk(parts[at])
+            at += 1
+        condition = parts[at]
+        self.walk(condition)
+        words, line = self.context.text(condition), cursor.location.line
+        for branch, how in zip(parts[at + 1:], ('if', 'unless')):
+            with self.context.under(Condition(how, words, line)), self.comparing.block():
+                if how == 'if':
+                    self.comparing.guard(condition, '!=')
+                self.walk(branch)
+
+    def _loose_lambda(self, cursor: Cursor) -> None:
+        key = self.lambda_key(cursor)
+        self.context.calls.inline(cursor, key)
+        self.context.note('lambda', cursor, 'taken to be called where it is made: ' + self.context.text(cursor, 50))
+
+    def new(self, cursor: Cursor) -> None:
+        site = self.context.values.made(cursor)
+        for inner in cursor.get_children():
+            stripped = strip(inner)
+            if stripped.kind == K.CALL_EXPR and stripped.referenced is not None and stripped.referenced.kind == K.CONSTRUCTOR:
+                with self.context.hinted(''):
+                    self.context.calls.construct(stripped, site)
+                    for given in stripped.get_arguments():
+                        self.walk(given)
+            elif inner.kind.is_expression():
+                self.walk(inner)
+
+    def _delete(self, cursor: Cursor) -> None:
+        operand = list(cursor.get_children())[0]
+        cls = self.context.classes.of(strip(operand).type)
+        if cls:
+            self.context.add('delete', cursor, self.context.values.of(operand)).cls = cls
+        self.walk(operand)
+
+    def _return(self, cursor: Cursor) -> None:
+        context = self.context
+        for inner in expressions(cursor):
+            self.release(inner)
+            if 'QBindable' in inner.type.spelling:
+                for k in inner.walk_preorder():
+                    if k.kind == K.MEMBER_REF_EXPR and k.referenced is not None and k.referenced.kind == K.FIELD_DECL:
+                        context.add('bindable', cursor).field = str(k.referenced.get_usr())
+            cls = context.classes.of(inner.type)
+            if cls and context.function is not None:
+                context.flow('R:' + context.function.key, context.values.of(inner), cls)
+            self.walk(inner)
+
+    def release(self, cursor: Cursor) -> None:
+        """A local that holds an object gives it away."""
+        named = bare(cursor)
+        if named.kind == K.DECL_REF_EXPR and named.referenced is not None and named.referenced.kind == K.VAR_DECL:
+            self.released.add(self.context.variable_key(named.referenced) or '')
+
+    def _for_each(self, cursor: Cursor) -> None:
+        kids = list(cursor.get_children())
+        variable = next((k for k in kids if k.kind == K.VAR_DECL), None)
+        ranges = [k for k in kids if k.kind.is_expression()]
+        if variable is not None and ranges:
+            cls = self.context.classes.of(variable.type)
+            if cls:
+                self.context.flow(self.context.variable_key(variable), self.context.values.of(ranges[0]), cls)
+        for k in kids:
+            if k.kind != K.VAR_DECL and (k.kind.is_expression() or k.kind.is_statement()):
+                self.walk(k)
+
+    def _operator(self, cursor: Cursor) -> None:
+        kids = list(cursor.get_children())
+        if len(kids) != 2:
+            return
+        if cursor.type.get_canonical().kind == T.POINTER:
+            self.assign(kids[0], kids[1])
+        self.comparing.assignment(cursor, kids[0], kids[1])
+
+    def assign(self, left: Cursor, right: Cursor) -> None:
+        """What the right side may be, the variable on the left may hold."""
+        context, target = self.context, strip(left)
+        while target.kind in (K.UNARY_OPERATOR, K.ARRAY_SUBSCRIPT_EXPR):
+            kids = list(target.get_children())
+            if not kids:
+                return
+            target = strip(kids[0])
+        if target.kind == K.CALL_EXPR:
+            on = context.calls.object_of(target)
+            target = strip(on) if on is not None else target
+        named = target.referenced if target.kind in NAMES else None
+        if named is not None and named.kind in VARIABLES:
+            with context.hinted(named.spelling):
+                context.flow(context.variable_key(named), context.values.of(right), context.classes.of(left.type))

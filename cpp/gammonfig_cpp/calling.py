@@ -1,0 +1,219 @@
+"""Which functions a call may reach: virtual ones by the classes of the objects, Qt's own by the table."""
+from __future__ import annotations
+
+from .model import Function, Parameter, Place, Statement, Term, Value
+from .objects import Element
+from .program import Key, Member, Program, Step
+from .qtmodel import Entry, QtModel, Written
+
+
+class Calling:
+    def __init__(self, program: Program, qt: QtModel) -> None:
+        self.program, self.qt = program, qt
+        self.whole, self.objects = program.whole, program.objects
+        self._owned: dict[Element, set[Element]] | None = None
+
+    # Targets
+
+    def elements(self, value: Value, fallback: str, function: Function | None) -> tuple[set[Element], bool]:
+        """The objects of a value, and whether it is `this` of the function."""
+        if value.kind == 'this' and function is not None and function.cls in self.whole.classes and value.cls in self.whole.classes:
+            if self.whole.is_a(function.cls, value.cls):
+                return {Element('class', function.cls)}, True
+        return self.objects.elements(value, fallback), False
+
+    def reached(self, usr: str, shown: str, name: str, found: set[Element], virtual: bool) -> list[tuple[Element, str]]:
+        """The functions that a call reaches, each with the object that it runs on."""
+        whole, out = self.whole, []
+        for element in sorted(found):
+            cls = self.objects.cls(element)
+            if not virtual:
+                out.append((element, usr))
+                continue
+            over = whole.overrider(cls, shown, name)
+            if over is not None:
+                out.append((element, over))
+            for below in whole.below(cls)[1:] if element.kind == 'class' else ():
+                out += [(Element('class', below), u) for u, m in whole.classes[below].methods.items() if m.shown == shown]
+        return out
+
+    def call_steps(self, statement: Statement, function: Function, is_library: bool) -> tuple[list[Step], bool]:
+        """The steps of a call, and whether anything is known of what it reaches."""
+        whole, program = self.whole, self.program
+        method = whole.method(statement.function)
+        own = whole.functions.get(statement.function)
+        if statement.on.kind in ('free', 'static') or (own is not None and own.kind == 'static'):
+            return self._static(statement, is_library)
+        fallback = statement.cls or whole.class_of(statement.function)
+        found, this = self.elements(statement.on, fallback, function)
+        shown = method.shown if method is not None else statement.name
+        steps, known = [], False
+        for element, usr in self.reached(statement.function, shown, statement.name, found, statement.virtual):
+            target = self.target(element, usr, statement.name)
+            if target is None:
+                continue
+            known = True
+            on = None if this and self.program.is_this(element, function) else program.role(element)
+            steps.append(Step('call', target, on, statement.terms, statement.place, statement.conditions))
+        return steps, known
+
+    def _static(self, statement: Statement, is_library: bool) -> tuple[list[Step], bool]:
+        whole, program = self.whole, self.program
+        if statement.function in whole.functions:
+            key = program.function(statement.function)
+            return [Step('call', key, program.members[key].owner, statement.terms, statement.place, statement.conditions)], True
+        if is_library and statement.cls in whole.classes:
+            element = Element('class', statement.cls)
+            if self.qt.entry(statement.cls, statement.name) is not None:
+                key = self.library(element, statement.name, [])
+                return [Step('call', key, program.role(element), (), statement.place, statement.conditions)], True
+        return [], False
+
+    def target(self, element: Element, usr: str, name: str) -> Key | None:
+        """The slot that stands for a function: with its body, or one of Qt of which something is known."""
+        whole = self.whole
+        if usr in whole.functions:
+            return self.program.function(usr)
+        cls = whole.class_of(usr)
+        if whole.is_inside(cls):
+            return None
+        if self.qt.entry(self.objects.cls(element), name) is None:
+            return None
+        method = whole.method(usr)
+        return self.library(element, name, list(method.parameters) if method is not None else [])
+
+    # Functions of Qt
+
+    def library(self, element: Element, name: str, parameters: list[Parameter]) -> Key:
+        """The slot that stands for a function of Qt on an object; its body is made once."""
+        program, element = self.program, self.program.role(element)
+        key = ('library', element.kind, element.key, name, *(p.type for p in parameters))
+        if key in program.members:
+            return key
+        cls = self.objects.cls(element)
+        found = self.qt.entry(cls, name)
+        shown = f'{self.whole.name(found[0] if found else cls)}::{name}'
+        member = Member(key, element, name, 'slot', shown, None, parameters, library=True)
+        program.add(member)
+        if found is not None:
+            member.steps = self._library_steps(element, name, parameters, found[1], found[2])
+        return key
+
+    def _library_steps(self, element: Element, name: str, parameters: list[Parameter], entry: Entry, written: list[Written]) -> list[Step]:
+        cls, steps, told = self.objects.cls(element), [], set()
+        for one in written:
+            usr = self.whole.signal(cls, one.notify)
+            step = self._write(cls, one, usr, parameters) if usr is not None else None
+            if step is not None and one.notify not in told:
+                told.add(one.notify)
+                steps.append(step)
+        for signal in entry.emits:
+            if signal not in told:
+                steps += self._emit(cls, signal)
+        for function in entry.calls:
+            for target_element, target in self.callbacks(element, function):
+                steps.append(Step('call', target, target_element, words=f'{name} calls {function}'))
+        for deleted in entry.deletes:
+            steps += self._deletes(element, deleted)
+        return steps
+
+    def _write(self, cls: str, one: Written, usr: str, parameters: list[Parameter]) -> Step | None:
+        """A property of Qt is set: it compares first, and tells what it was given."""
+        signal = self.whole.methods[usr][1]
+        if self.whole.name(self.whole.class_of(usr)) == 'QObject':
+            return None
+        fits = not signal.parameters or (len(parameters) == 1 and len(signal.parameters) == 1
+                                         and signal.parameters[0].type == parameters[0].type)
+        if not fits or len(parameters) != 1:
+            return Step('emit', self.program.signal(usr))
+        owner = self.program.of_class(self.whole.class_of(usr))
+        key = self.program.property((self.whole.class_of(usr), one.name), owner, one.name, parameters[0].sort, self.program.signal(usr), None)
+        return Step('set', key, None, (Term('parameter', 0),))
+
+    def _emit(self, cls: str, name: str) -> list[Step]:
+        whole, program = self.whole, self.program
+        if '::' not in name:
+            usr = whole.signal(cls, name)
+            if usr is None:
+                program.counts[f'signals of the table that Qt doesn\'t have: {whole.name(cls)}.{name}'] += 1
+            fit = usr is not None and whole.name(whole.class_of(usr)) != 'QObject'
+            return [Step('emit', program.signal(usr))] if fit and usr is not None else []
+        class_name, signal = name.split('::')
+        steps = []
+        for key in whole.by_name.get(class_name, ()):
+            found = whole.signal(key, signal)
+            if found is not None and not whole.is_inside(key) and self.is_present(key):
+                steps.append(Step('call', program.emitter(found), program.of_class(key)))
+        return steps
+
+    def _deletes(self, element: Element, name: str) -> list[Step]:
+        """What a function of Qt deletes: the object itself, or what it owns of a class."""
+        if name == 'this':
+            return [Step('delete', (), None)]
+        steps = []
+        for owned in sorted(self.owned(element)):
+            if self.whole.is_named(self.objects.cls(owned), name):
+                steps.append(Step('delete', (), self.program.role(owned)))
+                steps += [Step('call', key, self.program.role(owned)) for key in self.destructors(owned)]
+        return steps
+
+    def is_present(self, cls: str) -> bool:
+        """Whether the application has objects of a class."""
+        return any(self.objects.roles_of.get(b) or self.whole.is_inside(b) for b in self.whole.below(cls))
+
+    def owned(self, element: Element) -> set[Element]:
+        """What an object may own, directly or not."""
+        if self._owned is None:
+            self._owned = {}
+            for owner, child, _ in owners_of(self.program):
+                self._owned.setdefault(owner, set()).add(child)
+        found: set[Element] = set()
+        todo = [element]
+        while todo:
+            at = todo.pop()
+            for owner, children in self._owned.items():
+                covers = owner.kind == 'class' and self.whole.is_a(self.objects.cls(at), owner.key) and self.whole.is_inside(owner.key)
+                if owner == at or covers or self.program.objects.role(owner) == at:
+                    todo += children - found
+                    found |= children
+        return found
+
+    def callbacks(self, element: Element, name: str) -> list[tuple[Element, Key]]:
+        """The application's functions that Qt calls back by a virtual function's name."""
+        whole, out = self.whole, []
+        if name.startswith('owned::'):
+            return list(dict.fromkeys(t for o in sorted(self.owned(element)) for t in self.callbacks(o, name[7:])))
+        if '::' in name:
+            class_name, name = name.split('::')
+            return [t for key in whole.by_name.get(class_name, ()) for t in self.callbacks(Element('class', key), name)]
+        cls, seen = self.objects.cls(element), set()
+        for below in [cls] if element.kind == 'site' else whole.below(cls):
+            for above in whole.above(below):
+                hit = [u for u, m in whole.classes[above].methods.items() if m.name == name]
+                for usr in hit if whole.is_inside(above) else ():
+                    if usr in whole.functions and usr not in seen:
+                        seen.add(usr)
+                        on = self.program.role(element) if element.kind == 'site' else self.program.of_class(above)
+                        out.append((on, self.program.function(usr)))
+                if hit:
+                    break
+        return out
+
+    def destructors(self, element: Element) -> list[Key]:
+        """The destructors with a body that run when an object dies."""
+        cls, whole = self.objects.cls(element), self.whole
+        classes = whole.above(cls) + (whole.below(cls) if element.kind == 'class' else [])
+        return [self.program.function(usr) for c in dict.fromkeys(classes) if c in whole.classes
+                for usr, m in whole.classes[c].methods.items() if m.kind == 'destructor' and usr in whole.functions]
+
+
+def owners_of(program: Program) -> list[tuple[Element, Element, Place]]:
+    """Which objects may own which."""
+    found: dict[tuple[Element, Element], Place] = {}
+    for owner, child, place in program.whole.owns:
+        if owner.kind == 'variable' and owner.key.startswith('P:') and owner.key not in program.whole.flows:
+            continue
+        for a in program.objects.elements(owner):
+            for b in program.objects.elements(child):
+                found.setdefault((a, b), place)
+    return [(a, b, place) for (a, b), place in sorted(found.items(), key=lambda f: f[0])]

@@ -1,0 +1,332 @@
+"""What a call does: of a function with sources, of Qt, of a smart pointer or container."""
+from __future__ import annotations
+
+import re
+
+from .classes import BINDABLE, CONTAINERS, SMART
+from .context import Context
+from .holders import Holders
+from .libclang import FUNCTIONS, NAMES, RECORDS, VARIABLES, Cursor, K, T, bare, expressions, is_written, overloads, strip
+from .model import NONE, Named, Statement, Value
+from .special import Special
+
+# Classes of values, whose functions do nothing that others see.
+PLAIN = {'QString', 'QByteArray', 'QVariant', 'QPainter', 'QDebug', 'QRect', 'QPoint', 'QSize', 'QPointF', 'QRectF', 'QSizeF',
+         'QStringBuilder', 'QColor', 'QModelIndex', 'QTextStream', 'QStringView', 'QLatin1String', 'QChar', 'QUrl', 'QDir', 'QFont',
+         'QDateTime', 'QDate', 'QTime', 'QPixmap', 'QImage', 'QIcon', 'QBrush', 'QPen', 'QMargins', 'QStringList', 'QBasicAtomicInteger'}
+BINDABLES = BINDABLE + ('QPropertyData', 'QBindable', 'QUntypedBindable')
+# Functions that take a functor and call it later, from an event loop or in another thread.
+DEFERRED = {'singleShot', 'run', 'create', 'mapped', 'map', 'filtered', 'filter', 'mappedReduced', 'filteredReduced', 'then', 'onFailed',
+            'onCanceled', 'callOnTimeout', 'start', 'tryStart', 'addTransition', 'defineRole', 'task', 'postToMain', 'runOnThread'}
+
+
+class Calls:
+    def __init__(self, context: Context) -> None:
+        self.context = context
+        self.holders = Holders(context)
+        self.special = Special(context)
+
+    # The parts of a call
+
+    def object_of(self, call: Cursor) -> Cursor | None:
+        """The object expression of a member call, or None where `this` isn't written."""
+        kids = list(call.get_children())
+        if not kids:
+            return None
+        called, first = call.referenced, strip(kids[0])
+        if called is not None and called.spelling.startswith('operator'):
+            if first.kind != K.MEMBER_REF_EXPR or not first.spelling.startswith('operator'):
+                return kids[0]
+        if first.kind == K.MEMBER_REF_EXPR:
+            inner = expressions(first)
+            return inner[0] if inner else None
+        return None
+
+    @staticmethod
+    def is_qualified(call: Cursor) -> bool:
+        """Whether a call names the class of the function, as `Base::f()` does: it isn't virtual then."""
+        kids = list(call.get_children())
+        first = strip(kids[0]) if kids else None
+        return first is not None and first.kind == K.MEMBER_REF_EXPR and any(k.kind == K.TYPE_REF for k in first.get_children())
+
+    def rest(self, call: Cursor, callables: bool = True) -> None:
+        """The object and the arguments; where `callables` is false, pointers to members have been looked at already."""
+        for inner in call.get_children():
+            stripped = strip(inner)
+            if stripped.kind == K.LAMBDA_EXPR or (not callables and stripped.kind == K.UNARY_OPERATOR):
+                continue
+            if inner.kind.is_expression():
+                self.context.bodies.walk(inner)
+
+    # Kinds of calls
+
+    def call(self, call: Cursor) -> None:
+        called = call.referenced
+        if called is None or called.kind == K.OVERLOADED_DECL_REF:
+            self._undecided(call)
+        elif called.kind not in FUNCTIONS:
+            self._through_variable(call)
+        elif called.kind == K.CONSTRUCTOR:
+            self._temporary(call)
+        elif called.semantic_parent is None or called.semantic_parent.kind not in RECORDS + (K.CLASS_TEMPLATE,):
+            self._free(call)
+        else:
+            self._member(call)
+
+    def inline(self, cursor: Cursor, key: str) -> Statement:
+        """A lambda that is called here."""
+        statement = self.context.add('call', cursor, self.context.this)
+        statement.function, statement.name, statement.inline = key, 'lambda', True
+        return statement
+
+    def _undecided(self, call: Cursor) -> None:
+        """A call in a template that its arguments decide."""
+        kids, given = list(call.get_children()), list(call.get_arguments())
+        over = next((k for k in kids[0].walk_preorder() if k.kind == K.OVERLOADED_DECL_REF), None) if kids else None
+        if over is not None and over.spelling == 'connect':
+            self.context.connects.connect(call, given or kids[1:], self.context.this)
+            self.rest(call, callables=False)
+            return
+        candidates = [d for d in overloads(over) if d.kind in FUNCTIONS and self.context.is_inside(d)] if over is not None else []
+        for candidate in candidates:
+            on = expressions(strip(kids[0]))
+            value = self.context.values.of(on[0]) if on else self.context.this
+            self._to_function(call, candidate, value, given)
+        if not candidates and over is None:
+            words = self.context.text(call)
+            if words and not re.match(r'^[A-Z]\w*\(', words):
+                self.context.note('undecided call', call, words)
+        self.rest(call)
+
+    def _to_function(self, call: Cursor, called: Cursor, on: Value, given: list[Cursor]) -> Statement:
+        """A call of a function whose sources are the application's."""
+        context, parent = self.context, called.semantic_parent
+        statement = context.add('call', call, on)
+        statement.function, statement.name = context.function_key(called), called.spelling
+        if parent is not None and parent.kind in RECORDS:
+            statement.cls = context.classes.note(parent)
+            statement.virtual = bool(called.kind == K.CXX_METHOD and called.is_virtual_method()) and not self.is_qualified(call)
+        elif parent is None or parent.kind != K.CLASS_TEMPLATE:
+            statement.on = Value('free')
+        statement.terms = context.values.terms(given, context.classes.parameters(list(called.get_arguments())))
+        self.pass_arguments(called, given)
+        return statement
+
+    def _through_variable(self, call: Cursor) -> None:
+        called = call.referenced
+        if called.kind in VARIABLES:
+            key = self.context.variable_key(called)
+            if key in self.context.lambdas:
+                self.inline(call, self.context.lambdas[str(key)])
+            elif key is not None:
+                statement = self.context.add('call', call, self.context.this)
+                statement.named, statement.inline = Named('parameter', key), True
+                self.context.note('function pointer', call)
+        self.rest(call)
+
+    def _temporary(self, call: Cursor) -> None:
+        context = self.context
+        cls = context.classes.of(call.type)
+        given = list(call.get_arguments())
+        if cls and context.is_inside(call.referenced):
+            if len(given) != 1 or context.classes.of(given[0].type) != cls:
+                self.construct(call, context.site(context.spot('T', call), call, cls, 'temporary'))
+        self.rest(call)
+
+    def _free(self, call: Cursor) -> None:
+        called, given = call.referenced, list(call.get_arguments())
+        if self.context.is_inside(called):
+            self._to_function(call, called, Value('free'), given)
+            self.functors_of_own(call, called, given)
+        elif called.spelling == 'qDeleteAll' and given:
+            cls = self.context.classes.of(given[0].type)
+            if cls:
+                self.context.add('delete', call, self.context.values.of(given[0])).cls = cls
+            else:
+                self.context.note('qDeleteAll', call)
+        else:
+            if called.spelling in ('move', 'forward') and given:
+                self.context.bodies.release(given[0])
+            self.functors(call, called.spelling, given)
+        self.rest(call)
+
+    def _member(self, call: Cursor) -> None:
+        called, given = call.referenced, list(call.get_arguments())
+        name, parent = called.spelling, called.semantic_parent.spelling
+        on, inside = self.object_of(call), self.context.is_inside(called)
+        if name == 'operator()' and self._call_operator(call, on, inside, parent):
+            self.rest(call)
+        elif parent in SMART | CONTAINERS:
+            self.holders.call(call, parent, name, on, given)
+            self.rest(call)
+        elif not inside and ('terator' in parent or parent in PLAIN):
+            self.rest(call)
+        elif parent in BINDABLES:
+            self.special.bindable(call, name, on, given)
+            self.rest(call, callables=False)
+        elif self.special.is_special(call, parent, name):
+            self.special.call(call, parent, name, self.objects(call, on), given)
+        elif inside:
+            self._to_function(call, called, self.objects(call, on), given)
+            self._told(call, called, given)
+            self.functors_of_own(call, called, given)
+            self.rest(call)
+        else:
+            self._library(call, on, given)
+
+    def _told(self, call: Cursor, called: Cursor, given: list[Cursor]) -> None:
+        statement = self._last()
+        if statement is not None and statement.on.kind == 'this':
+            self.context.bodies.comparing.emission(statement, [a for a in given if is_written(a) and a.type.spelling != 'QPrivateSignal'])
+        self._block(statement)
+
+    def _last(self) -> Statement | None:
+        function = self.context.function
+        return function.statements[-1] if function is not None and function.statements else None
+
+    def _block(self, statement: Statement | None) -> None:
+        """Marks what a blocked object does."""
+        if statement is not None and any(value == statement.on for value, _ in self.context.blocked):
+            statement.blocked = True
+
+    def _call_operator(self, call: Cursor, on: Cursor | None, inside: bool, parent: str) -> bool:
+        """A call of a function object; whether that is all of it."""
+        named = strip(on) if on is not None else None
+        key = None
+        if named is not None and named.kind in NAMES and named.referenced is not None:
+            key = self.context.variable_key(named.referenced)
+        if key in self.context.lambdas:
+            self.inline(call, self.context.lambdas[str(key)])
+        elif not inside and not re.match(r'Q(Non)?(Const)?Overload', parent):
+            if key is not None:
+                statement = self.context.add('call', call, self.context.this)
+                statement.named, statement.inline = Named('parameter', key), True
+            self.context.note('function object', call)
+        return not inside
+
+    def objects(self, call: Cursor, on: Cursor | None) -> Value:
+        """The objects that a member function is called on."""
+        context, called = self.context, call.referenced
+        parent = called.semantic_parent
+        cls = context.classes.note(parent) if parent.kind in RECORDS else context.classes.note_template(parent)
+        if called.is_static_method():
+            return Value('static', cls=cls)
+        if on is None:
+            own = context.function.cls if context.function else ''
+            return Value('this', cls=own) if own else Value('class', cls=cls)
+        value = context.values.of(on)
+        if value.kind in ('none', 'null'):
+            return Value('class', cls=context.classes.of(strip(on).type) or cls)
+        return value
+
+    def _library(self, call: Cursor, on: Cursor | None, given: list[Cursor]) -> None:
+        """A call of one of Qt's functions."""
+        context, called = self.context, call.referenced
+        value = self.objects(call, on)
+        parameters = context.classes.parameters(list(called.get_arguments()))
+        statement = context.add('library', call, value)
+        statement.function, statement.name = context.function_key(called), called.spelling
+        statement.cls = context.classes.note(called.semantic_parent) if called.semantic_parent.kind in RECORDS else value.cls
+        statement.virtual = bool(called.is_virtual_method()) and not self.is_qualified(call)
+        statement.constant = bool(called.is_const_method()) or called.is_static_method()
+        statement.terms = context.values.terms(given, parameters)
+        self._block(statement)
+        if called.semantic_parent.kind in RECORDS and context.classes.is_object(statement.cls):
+            self.special.owning(call, called.semantic_parent.spelling, called.spelling, value, given)
+        if not self.context.connects.by_library(call, called.semantic_parent.spelling, called.spelling, value, given):
+            self.functors(call, called.spelling, given)
+        self.rest(call, callables=False)
+
+    # Arguments
+
+    def pass_arguments(self, called: Cursor, given: list[Cursor]) -> None:
+        """What the arguments may be, the parameters may hold."""
+        context, key = self.context, self.context.function_key(called)
+        formals = list(called.get_arguments())
+        for at, argument in enumerate(given):
+            slot = f'P:{key}:{at}'
+            if context.callees.is_callable(argument):
+                named = context.callees.of(argument)
+                if named.kind != 'unknown':
+                    context.facts.callables.append((slot, named))
+            elif strip(argument).kind in (K.DECL_REF_EXPR, K.CALL_EXPR, K.UNARY_OPERATOR) and not context.classes.of(argument.type):
+                named = context.callees.of(argument)
+                if named.kind in ('parameter', 'lambda', 'method', 'text'):
+                    context.facts.callables.append((slot, named))
+            cls = context.classes.of(argument.type)
+            if not cls:
+                continue
+            context.flow(slot, context.values.of(argument), cls)
+            if at < len(formals) and self._goes_back(formals[at]):
+                named_variable = strip(argument).referenced
+                if named_variable is not None and named_variable.kind in (K.VAR_DECL, K.FIELD_DECL):
+                    context.flow(context.variable_key(named_variable), Value('variable', slot, cls))
+
+    @staticmethod
+    def _goes_back(formal: Cursor) -> bool:
+        """Whether a parameter is a pointer by reference, which the function may change for its caller."""
+        kind = formal.type.get_canonical()
+        if kind.kind != T.LVALUEREFERENCE:
+            return False
+        return bool(kind.get_pointee().kind == T.POINTER and not kind.get_pointee().is_const_qualified())
+
+    def initial(self, given: Cursor, on: Value) -> None:
+        """The initialiser of an object: its constructor runs."""
+        call = strip(given)
+        if call.kind == K.CALL_EXPR and call.referenced is not None and call.referenced.kind == K.CONSTRUCTOR:
+            self.construct(call, on)
+            for argument in call.get_arguments():
+                self.context.bodies.walk(argument)
+        else:
+            self.context.bodies.walk(given)
+
+    def construct(self, call: Cursor, on: Value) -> None:
+        """A constructor runs on an object; a parent among its arguments owns it."""
+        context, called = self.context, call.referenced
+        parent = called.semantic_parent
+        if parent.kind not in RECORDS or parent.spelling in SMART | CONTAINERS:
+            return
+        cls, given = context.classes.note(parent), list(call.get_arguments())
+        inside = context.is_inside(called)
+        if inside:
+            self._to_function(call, called, on, given).virtual = False
+        formals = list(called.get_arguments())
+        owner = NONE
+        for at, argument in enumerate(given[:len(formals)]):
+            held = context.classes.of(argument.type)
+            if held and (formals[at].spelling.lower().endswith('parent') or not inside) \
+                    and argument.type.get_canonical().kind == T.POINTER \
+                    and (context.classes.is_object(held) or context.facts.classes[held].name.startswith('QGraphics')):
+                owner = context.values.of(argument)
+        if owner.kind not in ('null', 'none') and on.kind in ('site', 'this'):
+            context.facts.owns.append((owner, on, context.place(call)))
+        self.special.constructed(call, context.facts.classes[cls].name, inside, on, given)
+
+    def functors(self, call: Cursor, name: str, given: list[Cursor]) -> None:
+        """A lambda handed to a function of a library: called at once as far as is known, unless it is known to be later."""
+        for argument in given:
+            stripped = bare(argument)
+            is_holder = stripped.kind == K.CALL_EXPR and stripped.referenced is not None and stripped.referenced.kind == K.CONSTRUCTOR
+            key = self.context.callees.lambda_in(argument) if stripped.kind == K.LAMBDA_EXPR or is_holder \
+                or stripped.kind == K.DECL_REF_EXPR else None
+            if key is None:
+                continue
+            if name in DEFERRED:
+                statement = self.context.add('post', call)
+                statement.named, statement.name = Named('lambda', key), name
+            else:
+                self.inline(call, key)
+                self.context.note('functor', call, f'given to {name}, taken to be called at once: {self.context.text(call, 50)}')
+
+    def functors_of_own(self, call: Cursor, called: Cursor, given: list[Cursor]) -> None:
+        """A lambda handed to a function of the application: called there, if it isn't connected."""
+        for at, argument in enumerate(given):
+            stripped = bare(argument)
+            holds = stripped.kind == K.CALL_EXPR and any(k.kind == K.LAMBDA_EXPR for k in stripped.walk_preorder())
+            if stripped.kind != K.LAMBDA_EXPR and not holds:
+                continue
+            key = self.context.callees.lambda_in(argument)
+            if key:
+                slot = f'P:{self.context.function_key(called)}:{at}'
+                self.context.facts.callables.append((slot, Named('lambda', key)))
+                self.inline(call, key).given = slot

@@ -1,0 +1,212 @@
+"""What is at hand while a unit is read: its files, what has been noted, and where the reader stands."""
+from __future__ import annotations
+
+import os
+import re
+from contextlib import contextmanager
+from typing import TYPE_CHECKING, Iterator
+
+from .libclang import FUNCTIONS, K, Cursor, T, template_of
+from .model import NONE, Condition, Facts, Function, Named, Place, Site, Statement, Unknown, Value
+from .units import is_generated
+
+if TYPE_CHECKING:
+    from .bodies import Bodies
+    from .calls import Calls
+    from .classes import Classes
+    from .connects import Connects
+    from .naming_callees import Callees
+    from .values import Values
+
+
+class Context:
+    """The reader of one unit. Its parts hang on it, so that each of them may call the others."""
+    classes: Classes
+    values: Values
+    callees: Callees
+    bodies: Bodies
+    calls: Calls
+    connects: Connects
+
+    def __init__(self, source: str, roots: list[str]) -> None:
+        self.roots = [os.path.realpath(root) + os.sep for root in roots]
+        self.facts = Facts(source)
+        self.function: Function | None = None
+        self.conditions: list[Condition] = []
+        self.blocked: list[tuple[Value, int]] = []
+        self.hint = self.outer = ''
+        self.parameters: dict[tuple[str, int], str] = {}
+        self.changed: set[str] = set()
+        self.lambdas: dict[str, str] = {}
+        self.pointers: dict[str, Named] = {}
+        self._paths: dict[str, tuple[str, bool]] = {}
+        self._texts: dict[str, bytes] = {}
+
+    # Places
+
+    def path(self, name: str) -> tuple[str, bool]:
+        """A file's real path, and whether an author of the application wrote it."""
+        known = self._paths.get(name)
+        if known is None:
+            real = os.path.realpath(name)
+            inside = any(real.startswith(root) for root in self.roots) and not is_generated(real)
+            known = self._paths[name] = (real, inside)
+        return known
+
+    def is_inside(self, cursor: Cursor) -> bool:
+        file = cursor.location.file
+        return bool(file) and self.path(file.name)[1]
+
+    def bytes_between(self, file: str, start: int, end: int) -> str:
+        text = self._texts.get(file)
+        if text is None:
+            try:
+                with open(file, 'rb') as opened:
+                    text = opened.read()
+            except OSError:
+                text = b''
+            self._texts[file] = text
+        return text[start:end].decode('utf-8', 'replace')
+
+    def text(self, cursor: Cursor, limit: int = 100) -> str:
+        """The words that stand in the source, with single blanks."""
+        extent = cursor.extent
+        if extent.start.file is None:
+            return ''
+        words = self.bytes_between(extent.start.file.name, extent.start.offset, extent.end.offset)
+        words = re.sub(r'\s+', ' ', words).strip()
+        return words if len(words) <= limit else words[:limit - 2].rstrip() + ' ..'
+
+    def place(self, cursor: Cursor, limit: int = 100) -> Place:
+        location = cursor.location
+        if not location.file:
+            return Place('', 0, 0)
+        start = cursor.extent.start if cursor.kind.is_expression() or cursor.kind.is_statement() else location
+        if start.file is None or start.file.name != location.file.name:
+            start = location
+        words = self.text(cursor, limit) if limit else ''
+        return Place(self.path(location.file.name)[0], start.line, start.column, words)
+
+    def declared(self, cursor: Cursor) -> Place:
+        """The place of a declaration, with the words of its first line alone."""
+        place = self.place(cursor, 0)
+        words = self.text(cursor, 4000)
+        words = re.split(r'[{]', words, maxsplit=1)[0].strip()
+        return Place(place.file, place.line, place.column, words[:100])
+
+    # Notes
+
+    def note(self, kind: str, cursor: Cursor, what: str = '') -> None:
+        function = self.function.shown if self.function else ''
+        self.facts.unknown.append(Unknown(kind, what or self.text(cursor), self.place(cursor, 0), function))
+
+    def add(self, kind: str, cursor: Cursor, on: Value = NONE) -> Statement:
+        """Adds a statement to the function that is read, or to the initialisers of globals."""
+        statement = Statement(kind, self.place(cursor), on, conditions=tuple(self.conditions))
+        if self.function is None:
+            place = Place(self.facts.source, 1, 1, 'initialisers')
+            key = 'G:' + self.facts.source
+            self.function = self.facts.functions.setdefault(
+                key, Function(key, 'initialisers', 'initialisers of globals', '', 'function', place, 0))
+            self.function.statements.append(statement)
+            self.function = None
+        else:
+            self.function.statements.append(statement)
+        return statement
+
+    def flow(self, key: str | None, value: Value, cls: str = '') -> None:
+        """What `value` may be, the variable `key` may hold."""
+        if value.kind == 'none' and cls:
+            value = Value('class', cls=cls)
+        if key and value.kind != 'none':
+            self.facts.flows.append((key, value))
+
+    def site(self, key: str, cursor: Cursor, cls: str, hint: str = '') -> Value:
+        """A place where an object is made."""
+        if key not in self.facts.sites:
+            within = self.outer
+            if self.function is not None:
+                within = self.function.cls or self.function.key
+            self.facts.sites[key] = Site(cls, self.place(cursor), hint or self.hint, within)
+        return Value('site', key, cls)
+
+    def spot(self, letter: str, cursor: Cursor) -> str:
+        """A key for what stands at a place."""
+        place = self.place(cursor, 0)
+        return f'{letter}:{place.file}:{place.line}:{place.column}'
+
+    @property
+    def this(self) -> Value:
+        cls = self.function.cls if self.function else ''
+        return Value('this', cls=cls) if cls else NONE
+
+    # Keys
+
+    def variable_key(self, declaration: Cursor) -> str | None:
+        kind = declaration.kind
+        if kind == K.PARM_DECL:
+            file = declaration.location.file
+            return self.parameters.get((self.path(file.name)[0], declaration.location.offset)) if file else None
+        if kind == K.FIELD_DECL:
+            return str(declaration.get_usr())
+        if kind == K.VAR_DECL:
+            parent = declaration.semantic_parent
+            if parent is not None and parent.kind in FUNCTIONS + (K.LAMBDA_EXPR,):
+                file = declaration.location.file
+                return f'V:{self.path(file.name)[0] if file else ""}:{declaration.location.offset}'
+            return str(declaration.canonical.get_usr())
+        return None
+
+    def function_key(self, declaration: Cursor) -> str:
+        """A function's key; of an instance of a template that of the template, whose body is read once."""
+        usr = declaration.get_usr()
+        if '<' in usr.rsplit('@F@', 1)[-1] or ('>#' in usr.rsplit('@F@', 1)[0] and self.is_inside(declaration)):
+            template = template_of(declaration)
+            if template is not None and template.kind in FUNCTIONS and template.spelling == declaration.spelling:
+                declaration = template
+        return str(declaration.canonical.get_usr())
+
+    @contextmanager
+    def hinted(self, hint: str) -> Iterator[None]:
+        before, self.hint = self.hint, hint
+        try:
+            yield
+        finally:
+            self.hint = before
+
+    @contextmanager
+    def around(self, cls: str) -> Iterator[None]:
+        """Reads members of a class, outside its functions."""
+        before, self.outer = self.outer, cls
+        try:
+            yield
+        finally:
+            self.outer = before
+
+    @contextmanager
+    def under(self, condition: Condition) -> Iterator[None]:
+        self.conditions.append(condition)
+        try:
+            yield
+        finally:
+            self.conditions.pop()
+
+    @contextmanager
+    def within(self, function: Function) -> Iterator[None]:
+        """Reads a function's body: nothing of the one around it holds there."""
+        before = self.function, self.conditions, self.blocked, self.hint, self.changed
+        self.function, self.conditions, self.blocked, self.hint, self.changed = function, [], [], '', set()
+        try:
+            yield
+        finally:
+            self.function, self.conditions, self.blocked, self.hint, self.changed = before
+
+
+def sort_of(cxx_type: object) -> tuple[str, str]:
+    """What a type is written as, and its canonical name without const and reference."""
+    kind = cxx_type.get_canonical()  # type: ignore[attr-defined]
+    if kind.kind in (T.LVALUEREFERENCE, T.RVALUEREFERENCE):
+        kind = kind.get_pointee().get_canonical()
+    name = re.sub(r'^const\s+|\s*const$', '', str(kind.spelling))
+    number = T.BOOL.value <= kind.kind.value <= T.LONGDOUBLE.value or kind.kind == T.ENUM or name.startswith('QFlags<')
+    return ('int' if number else 'QString'), name

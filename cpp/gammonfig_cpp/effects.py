@@ -1,0 +1,263 @@
+"""What the body of each function does, as steps."""
+from __future__ import annotations
+
+import re
+from typing import Callable
+
+from .calling import Calling
+from .model import Field, Function, Named, Statement, Value
+from .objects import Element
+from .program import Key, Program, Step, Wire
+from .targets import Targets
+
+
+class Effects:
+    def __init__(self, program: Program, calling: Calling, targets: Targets) -> None:
+        self.program, self.calling, self.targets = program, calling, targets
+        self.whole, self.objects = program.whole, program.objects
+        self.notify: dict[str, str] = {}
+        self.connected: set[str] = set()
+        self.bindable: list[tuple[Statement, Function]] = []
+        self._kinds: dict[str, Callable[[Statement, Function], list[Step]]] = {
+            'call': self._call, 'library': self._library, 'delete': self._delete, 'scope': self._delete, 'property': self._set_property,
+            'event': self._event, 'invoke': self._invoke, 'post': self._post, 'assign': self._assign, 'field': self._field}
+
+    def all(self) -> None:
+        """Reads all bodies; those that are made meanwhile too."""
+        self._find_told()
+        self._find_connected()
+        for usr in self.whole.functions:
+            key = self.program.function(usr)
+            self.program.members[key].steps = self.body(self.whole.functions[usr])
+
+    def body(self, function: Function) -> list[Step]:
+        steps: list[Step] = []
+        for statement in function.statements:
+            kind = self._kinds.get(statement.kind)
+            if statement.kind in ('bind', 'observe'):
+                self.bindable.append((statement, function))
+            if kind is not None:
+                steps += kind(statement, function)
+        return steps
+
+    # Properties that setters compare
+
+    def _find_told(self) -> None:
+        """Which signal tells of which compared member: the first that fits."""
+        for function in self.whole.functions.values():
+            for statement in function.statements:
+                if statement.how == 'told' and self._fits(statement, function):
+                    self.notify.setdefault(statement.field, statement.function)
+
+    def _fits(self, statement: Statement, function: Function) -> bool:
+        """Whether a signal can be the notify signal: with no parameter, or one of the member's own type."""
+        field, method = self.whole.fields.get(statement.field), self.whole.method(statement.function)
+        if field is None or method is None or method.kind != 'signal' or len(method.parameters) > 1:
+            return False
+        if any((p.type, p.sort) != (field.type, field.sort) for p in method.parameters):
+            return False
+        terms = next((s.terms for s in function.statements if s.kind == 'assign' and s.field == statement.field), ())
+        given = function.parameters[terms[0].index] if terms and terms[0].index < len(function.parameters) else None
+        return given is not None and (given.type, given.sort) == (field.type, field.sort)
+
+    def _property(self, field: Field, key: str) -> Key:
+        signal = self.notify[key]
+        cls = self.whole.class_of(signal)
+        name = re.sub(r'^(m_|_|d_)|_$', '', field.name) or field.name
+        return self.program.property((key,), self.program.of_class(cls), name, field.sort, self.program.signal(signal), field.place)
+
+    def _assign(self, statement: Statement, function: Function) -> list[Step]:
+        told = [s for s in function.statements if s.how == 'told' and s.field == statement.field and self._fits(s, function)]
+        if not any(self.notify.get(s.field) == s.function for s in told):
+            return []
+        key = self._property(self.whole.fields[statement.field], statement.field)
+        return [Step('set', key, None, statement.terms, statement.place, statement.conditions)]
+
+    # Calls and emissions
+
+    def _call(self, statement: Statement, function: Function) -> list[Step]:
+        if statement.inline:
+            return self._inline(statement, function)
+        if statement.function not in self.whole.functions:
+            if self.whole.is_signal(statement.function):
+                return self._emission(statement, function)
+            if not statement.virtual:
+                self.program.counts['calls of functions without a body'] += 1
+                return []
+        return self.calling.call_steps(statement, function, False)[0]
+
+    def _inline(self, statement: Statement, function: Function) -> list[Step]:
+        """A lambda or function object that is called here, unless it is connected where it was handed to."""
+        if statement.given and statement.given in self.connected:
+            return []
+        named = [Named('lambda', statement.function)] if statement.function else self.targets.named(statement.named or Named('unknown'))
+        steps = []
+        for one in named:
+            for element, key in self.targets.of(one, statement.on, function.cls):
+                on = None if self.program.is_this(element, function) else element
+                if key is not None:
+                    steps.append(Step('call', self._callable(key), on, (), statement.place, statement.conditions))
+        return steps
+
+    def _callable(self, key: Key) -> Key:
+        """The slot that does what a member does: of a signal the one that emits it."""
+        return self.program.emitter(key[1]) if key[0] == 'signal' else key
+
+    def _library(self, statement: Statement, function: Function) -> list[Step]:
+        if self.whole.is_signal(statement.function):
+            return self._emission(statement, function)
+        steps, known = self.calling.call_steps(statement, function, True)
+        name = f'{self.whole.name(statement.cls)}::{statement.name}'
+        if statement.blocked and all(self.program.members[s.member].library for s in steps):
+            self.program.counts['calls on objects whose signals are blocked'] += len(steps)
+            return []
+        if not known and not statement.constant:
+            self.program.silent[name] += 1
+        return steps
+
+    def _emission(self, statement: Statement, function: Function) -> list[Step]:
+        usr, program = statement.function, self.program
+        cls = self.whole.class_of(usr)
+        program.counts['emissions'] += 1
+        if statement.how == 'told' and self._fits(statement, function) and self.notify.get(statement.field) == usr:
+            return []
+        if statement.blocked or self.whole.name(cls) == 'QObject':
+            program.counts['emissions of blocked objects'] += int(statement.blocked)
+            return []
+        on, place, conditions = statement.on, statement.place, statement.conditions
+        if on.kind == 'this' and function.cls in self.whole.classes and self.whole.is_a(function.cls, cls):
+            return [Step('emit', program.signal(usr), None, statement.terms, place, conditions)]
+        steps = []
+        for element in sorted(self.objects.elements(on, cls)):
+            fit = self.whole.is_a(self.objects.cls(element), cls)
+            target = program.role(element) if fit else program.of_class(cls)
+            steps.append(Step('call', program.emitter(usr), target, statement.terms, place, conditions))
+        return steps
+
+    # Deletions
+
+    def _delete(self, statement: Statement, function: Function) -> list[Step]:
+        program, on = self.program, statement.on
+        steps: list[Step] = []
+        fresh = statement.kind == 'scope' and on.kind == 'site' or self._is_fresh(on, function)
+        of_member = function.kind == 'destructor' and on.kind == 'variable' and '@FI@' in on.key
+        if of_member:
+            # What a destructor deletes of its members is owned.
+            self.whole.owns.append((Value('member', cls=function.cls), on, statement.place))
+        for element in sorted(self.objects.elements(on, statement.cls)):
+            role = program.role(element)
+            if fresh and not self.targets.is_watched(element):
+                program.counts['deletions of what the function itself made'] += 1
+            elif not of_member and self._matters(element):
+                this = on.kind == 'this'
+                steps.append(Step('delete', (), None if this else role, (), statement.place, statement.conditions))
+            for key in self.calling.destructors(element):
+                owner = program.members[key].owner
+                target = owner if element.kind == 'class' else role
+                if key != ('function', function.key):
+                    steps.append(Step('call', key, target, (), statement.place, statement.conditions))
+        return steps
+
+    def _matters(self, element: Element) -> bool:
+        """Whether an object's death may be seen: it is one of the application's, or a QObject, or of a class of the table."""
+        cls = self.objects.cls(element)
+        if self.whole.is_inside(cls):
+            return True
+        names = {self.whole.name(a) for a in self.whole.above(cls)}
+        return 'QObject' in names or bool(names & self.calling.qt.table.classes)
+
+    def _is_fresh(self, value: Value, function: Function) -> bool:
+        """Whether a local variable only ever holds what its own function makes."""
+        if value.kind != 'variable' or not value.key.startswith('V:'):
+            return False
+        for flow in self.whole.flows.get(value.key, [Value('class')]):
+            sites = flow.parts if flow.kind == 'any' else (flow,)
+            for one in sites:
+                site = self.whole.sites.get(one.key) if one.kind == 'site' else None
+                if one.kind == 'null':
+                    continue
+                if site is None or site.place.file != function.place.file or not function.place.line <= site.place.line <= function.end:
+                    return False
+        return True
+
+    # By name, by event, later
+
+    def _set_property(self, statement: Statement, function: Function) -> list[Step]:
+        whole, steps = self.whole, []
+        for element in sorted(self.objects.elements(statement.on)):
+            cls = self.objects.cls(element)
+            for key in whole.above(cls) + (whole.below(cls)[1:] if element.kind == 'class' else []):
+                for text in whole.classes[key].properties if key in whole.classes else ():
+                    if re.match(rf'.*\b{re.escape(statement.name)}(?= READ| MEMBER)', text):
+                        steps += self._written(statement, element, key, text)
+        return steps
+
+    def _written(self, statement: Statement, element: Element, cls: str, text: str) -> list[Step]:
+        whole, program = self.whole, self.program
+        write, notify = re.search(r'\bWRITE (\w+)', text), re.search(r'\bNOTIFY (\w+)', text)
+        on = element if whole.is_a(self.objects.cls(element), cls) else Element('class', cls)
+        if write:
+            hit = [u for u, m in whole.classes[cls].methods.items() if m.name == write[1]]
+            keys = [program.function(u) for u in hit if u in whole.functions]
+            if not keys and hit and self.calling.qt.entry(cls, write[1]) is not None:
+                keys = [self.calling.library(on, write[1], list(whole.classes[cls].methods[hit[0]].parameters))]
+            return [Step('call', k, program.role(on), (), statement.place, statement.conditions) for k in keys]
+        usr = whole.signal(cls, notify[1]) if notify else None
+        if usr is None:
+            return []
+        return [Step('call', program.emitter(usr), program.of_class(cls), (), statement.place, statement.conditions)]
+
+    def _event(self, statement: Statement, function: Function) -> list[Step]:
+        steps = []
+        for element in sorted(self.objects.elements(statement.on)):
+            for name in ('event', 'customEvent'):
+                for on, key in self.calling.callbacks(element, name):
+                    steps.append(Step('call', key, on, (), statement.place, statement.conditions))
+        return steps
+
+    def _invoke(self, statement: Statement, function: Function) -> list[Step]:
+        if statement.named is None:
+            return []
+        if statement.how == 'queued':
+            return self._post(statement, function)
+        steps = []
+        for element, key in self.targets.of(statement.named, statement.on, statement.cls or function.cls):
+            if key is not None:
+                steps.append(Step('call', self._callable(key), element, statement.terms, statement.place, statement.conditions))
+        return steps
+
+    def _post(self, statement: Statement, function: Function) -> list[Step]:
+        """What an event loop is asked to call: a signal of its own, with a queued wire."""
+        program = self.program
+        program.counts['posted calls'] += 1
+        if statement.named is None:
+            return []
+        fallback = statement.cls or function.cls
+        found = [(e, k) for e, k in self.targets.of(statement.named, statement.on, fallback) if k is not None]
+        if not found:
+            return []
+        signal, owner = program.posted(function, statement.place), program.owner_of(function)
+        for element, key in found:
+            program.wires.append(Wire(owner, signal, element, program.adapted(key, []), 'queued', statement.place))
+        return [Step('emit', signal, None, (), statement.place, statement.conditions)]
+
+    def _field(self, statement: Statement, function: Function) -> list[Step]:
+        """A bindable property is written."""
+        field = self.whole.fields.get(statement.field)
+        if field is None:
+            return []
+        key = ('property', 'bindable', statement.field)
+        return [Step('set', key, self._holder(field, function), (), statement.place, statement.conditions)]
+
+    def _holder(self, field: Field, function: Function) -> Element | None:
+        if function.cls in self.whole.classes and self.whole.is_a(function.cls, field.cls):
+            return None
+        return self.program.of_class(field.cls)
+
+    def _find_connected(self) -> None:
+        """Parameters that hold a function which is connected: it isn't called where it is handed over."""
+        self.connected = {c.slot.key for c in self.whole.connects if c.slot.kind == 'parameter'}
+        for _ in range(3):
+            for key, named in self.whole.callables.items():
+                if key in self.connected:
+                    self.connected |= {n.key for n in named if n.kind == 'parameter'}

@@ -1,0 +1,122 @@
+"""What one unit says, as data: read by libclang, and kept by the sum of what was read."""
+from __future__ import annotations
+
+import hashlib
+import os
+import pickle
+import time
+
+from . import model
+from .bodies import Bodies
+from .calls import Calls
+from .classes import Classes
+from .connects import Connects
+from .context import Context
+from .libclang import cindex
+from .model import Class, Facts
+from .naming_callees import Callees
+from .units import ANNOTATIONS, Unit, is_generated
+from .values import Values
+
+ERROR = 3
+
+
+def read_unit(unit: Unit, roots: list[str], known: dict[str, Class]) -> Facts:
+    """Reads one unit. `known` has the classes of libraries that earlier units have told."""
+    begun = time.time()
+    context = Context(unit.source, roots)
+    facts = context.facts
+    try:
+        tree = cindex.Index.create().parse(unit.source, args=list(unit.flags) + list(ANNOTATIONS))
+    except cindex.TranslationUnitLoadError:
+        facts.errors.append(f'{unit.source}: libclang can\'t read this file with its flags')
+        return facts
+    facts.errors = errors_of(tree, context)
+    facts.files = sorted({os.path.realpath(i.include.name) for i in tree.get_includes()} | {unit.source})
+    context.classes, context.values, context.callees = Classes(context, known), Values(context), Callees(context)
+    context.calls, context.connects = Calls(context), Connects(context)
+    context.bodies = Bodies(context)
+    context.bodies.unit(tree.cursor)
+    for key, cls in facts.classes.items():
+        if not cls.inside and cls.defined:
+            known[key] = cls
+    facts.seconds = time.time() - begun
+    return facts
+
+
+def errors_of(tree: object, context: Context) -> list[str]:
+    """Each error of clang in a file of the application, with what is missing."""
+    told = []
+    for found in tree.diagnostics:  # type: ignore[attr-defined]
+        if found.severity < ERROR:
+            continue
+        file = found.location.file
+        name = context.path(file.name)[0] if file else context.facts.source
+        inside = any(name.startswith(root) for root in context.roots)
+        if not inside and found.severity == ERROR:
+            continue
+        what = found.spelling
+        if 'file not found' in what:
+            missing = what.split("'")[1] if "'" in what else what
+            generated = missing.startswith('ui_') or is_generated(missing)
+            what = f'{"build first: " if generated else ""}{missing} isn\'t there'
+        told.append(f'{name}:{found.location.line}:{found.location.column}: {what}')
+    return list(dict.fromkeys(told))
+
+
+class Cache:
+    """Facts that were read before, each valid while none of its files has changed."""
+
+    def __init__(self, folder: str) -> None:
+        self.folder = folder
+        here = os.path.dirname(os.path.abspath(model.__file__))
+        whole = hashlib.sha256()
+        for name in sorted(os.listdir(here)):
+            if name.endswith('.py'):
+                with open(os.path.join(here, name), 'rb') as file:
+                    whole.update(file.read())
+        self.reader = whole.hexdigest()
+        self._sums: dict[str, str] = {}
+        os.makedirs(folder, exist_ok=True)
+
+    def path(self, unit: Unit, roots: list[str]) -> str:
+        words = '\0'.join((self.reader, unit.source, *unit.flags, '', *roots))
+        return os.path.join(self.folder, hashlib.sha256(words.encode()).hexdigest())
+
+    def sum_of(self, path: str) -> str:
+        if path not in self._sums:
+            try:
+                with open(path, 'rb') as file:
+                    self._sums[path] = hashlib.sha256(file.read()).hexdigest()
+            except OSError:
+                self._sums[path] = ''
+        return self._sums[path]
+
+    def stamp(self, path: str, roots: list[str]) -> str:
+        """What a file is known by: its sum in the application, its size and time elsewhere."""
+        if any(path.startswith(root) for root in roots):
+            return self.sum_of(path)
+        try:
+            status = os.stat(path)
+        except OSError:
+            return ''
+        return f'{status.st_size} {status.st_mtime_ns}'
+
+    def load(self, unit: Unit, roots: list[str]) -> Facts | None:
+        try:
+            with open(self.path(unit, roots), 'rb') as file:
+                stamps, facts = pickle.load(file)
+        except (OSError, EOFError, pickle.UnpicklingError, AttributeError, ValueError, ImportError):
+            return None
+        if any(self.stamp(path, roots) != stamp for path, stamp in stamps):
+            return None
+        assert isinstance(facts, Facts)
+        return facts
+
+    def keep(self, unit: Unit, roots: list[str], facts: Facts) -> None:
+        path = self.path(unit, roots)
+        stamps = [(file, self.stamp(file, roots)) for file in facts.files]
+        beside = f'{path}.{os.getpid()}'
+        with open(beside, 'wb') as file:
+            pickle.dump((stamps, facts), file, protocol=5)
+        os.replace(beside, path)

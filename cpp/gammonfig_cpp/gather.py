@@ -1,0 +1,75 @@
+"""The facts of all units: in parallel over all processors, from the cache where nothing has changed."""
+from __future__ import annotations
+
+import os
+import sys
+import time
+from concurrent.futures import ProcessPoolExecutor, as_completed
+from concurrent.futures.process import BrokenProcessPool
+from typing import Iterator
+
+from .errors import ReadError
+from .facts import Cache, read_unit
+from .model import Class, Facts
+from .units import Unit
+
+# The classes of libraries that this process has read: the next unit needn't read them again.
+_known: dict[str, Class] = {}
+
+
+def _read(unit: Unit, roots: list[str]) -> Facts:
+    return read_unit(unit, roots, _known)
+
+
+class Bar:
+    """Progress on standard error, where that is a terminal; else a line at the end of each tenth."""
+
+    def __init__(self, whole: int, quiet: bool) -> None:
+        self.whole, self.done, self.quiet, self.begun, self.tenths = whole, 0, quiet, time.time(), 0
+        self.live = sys.stderr.isatty()
+
+    def step(self, name: str) -> None:
+        self.done += 1
+        if self.quiet or not self.whole:
+            return
+        told = f'{self.done} of {self.whole} units read, {time.time() - self.begun:.0f} s'
+        if self.live:
+            filled = 30 * self.done // self.whole
+            end = '\n' if self.done == self.whole else ''
+            print(f'\r[{"#" * filled}{" " * (30 - filled)}] {told} {os.path.basename(name)[:30]:30}', end=end, file=sys.stderr, flush=True)
+        elif 10 * self.done // self.whole > self.tenths:
+            self.tenths = 10 * self.done // self.whole
+            print(told, file=sys.stderr, flush=True)
+
+
+def gather(units: list[Unit], roots: list[str], cache: Cache | None, jobs: int, quiet: bool) -> list[Facts]:
+    """The facts of each unit, in the order of the units."""
+    found: dict[Unit, Facts] = {}
+    if cache is not None:
+        for unit in units:
+            kept = cache.load(unit, roots)
+            if kept is not None:
+                found[unit] = kept
+    missing = [unit for unit in units if unit not in found]
+    bar = Bar(len(missing), quiet)
+    for unit, facts in _read_all(missing, roots, jobs):
+        found[unit] = facts
+        if cache is not None and not facts.errors:
+            cache.keep(unit, roots, facts)
+        bar.step(unit.source)
+    return [found[unit] for unit in units]
+
+
+def _read_all(units: list[Unit], roots: list[str], jobs: int) -> Iterator[tuple[Unit, Facts]]:
+    """The units with their facts, as they are done."""
+    if len(units) <= 1 or jobs <= 1:
+        yield from ((unit, _read(unit, roots)) for unit in units)
+        return
+    with ProcessPoolExecutor(min(jobs, len(units))) as pool:
+        waiting = {pool.submit(_read, unit, roots): unit for unit in units}
+        for done in as_completed(waiting):
+            try:
+                yield waiting[done], done.result()
+            except BrokenProcessPool as wrong:
+                raise ReadError(f'{waiting[done].source}: libclang broke down while it read a unit; '
+                                'memory may be short: --jobs 1 reads one at a time') from wrong

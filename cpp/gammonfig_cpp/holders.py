@@ -1,0 +1,60 @@
+"""Smart pointers and containers: what they destroy, and what is put into them."""
+from __future__ import annotations
+
+import re
+
+from .context import Context
+from .libclang import NAMES, VARIABLES, Cursor, K, strip
+
+PUTTING = {'append', 'push_back', 'prepend', 'insert', 'enqueue', 'push', 'emplace_back', 'operator=', 'operator+=', 'replace', 'push_front',
+           'emplace', 'swap', 'set_value', 'reset', 'try_emplace', 'insert_or_assign', 'emplace_front'}
+TAKING_OUT = {'clear', 'erase', 'pop_back', 'pop_front', 'removeAt', 'remove', 'removeFirst', 'removeLast', 'removeAll', 'removeOne',
+              'removeIf', 'resize', 'assign'}
+WEAK = ('QPointer', 'QWeakPointer', 'weak_ptr')
+OF_OWNERS = re.compile(r'(unique_ptr|shared_ptr|QSharedPointer|QScopedPointer)<')
+
+
+class Holders:
+    def __init__(self, context: Context) -> None:
+        self.context = context
+
+    def call(self, call: Cursor, holder: str, name: str, on: Cursor | None, given: list[Cursor]) -> None:
+        if on is None:
+            return
+        if name in ('release', 'take'):
+            self.context.bodies.release(on)
+        if self._destroys(holder, name, on):
+            self._destroy(call, on)
+        if given and (name in PUTTING or name.startswith('operator<<')):
+            self._put(on, given)
+
+    def _destroys(self, holder: str, name: str, on: Cursor) -> bool:
+        if holder in WEAK:
+            return False
+        if name == 'reset' or name == 'operator=' and holder in ('unique_ptr', 'QScopedPointer', 'shared_ptr', 'QSharedPointer'):
+            return True
+        if holder in ('QSharedPointer', 'shared_ptr', 'unique_ptr', 'QScopedPointer'):
+            return name == 'clear'
+        return name in TAKING_OUT and bool(OF_OWNERS.search(on.type.get_canonical().spelling))
+
+    def _destroy(self, call: Cursor, on: Cursor) -> None:
+        cls = self.context.classes.of(on.type)
+        if cls:
+            later = 'DeleteLater' in on.type.get_canonical().spelling
+            self.context.add('later' if later else 'delete', call, self.context.values.of(on)).cls = cls
+
+    def _put(self, on: Cursor, given: list[Cursor]) -> None:
+        context, target = self.context, strip(on)
+        named = target.referenced if target.kind in NAMES else None
+        for argument in given:
+            if context.callees.is_callable(argument) and named is not None and named.kind in VARIABLES:
+                context.facts.callables.append((str(context.variable_key(named)), context.callees.of(argument)))
+                continue
+            if not context.classes.of(argument.type):
+                continue
+            if named is not None and named.kind in VARIABLES:
+                with context.hinted(named.spelling):
+                    context.flow(context.variable_key(named), context.values.of(argument))
+            elif target.kind == K.CALL_EXPR:
+                inner = context.calls.object_of(target)
+                context.bodies.assign(inner if inner is not None else target, argument)

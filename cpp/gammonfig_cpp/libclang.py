@@ -1,0 +1,91 @@
+"""libclang's Python module, found where it is, and the names of it that this package uses.
+
+The module has no types, so a cursor and a type of C++ are `Any` here."""
+from __future__ import annotations
+
+import importlib
+from typing import Any
+
+from .errors import ReadError
+
+Cursor = Any
+CxxType = Any
+
+
+def load() -> Any:
+    """The module; where it or its library is missing, a sentence names the package."""
+    try:
+        cindex = importlib.import_module('clang.cindex')
+    except ImportError as wrong:
+        raise ReadError("Python's module clang.cindex isn't there: install Debian's package python3-clang") from wrong
+    try:
+        cindex.conf.lib
+    except cindex.LibclangError as wrong:
+        raise ReadError("libclang's library isn't there: install Debian's package libclang1") from wrong
+    return cindex
+
+
+cindex = load()
+K = cindex.CursorKind
+T = cindex.TypeKind
+
+RECORDS = (K.CLASS_DECL, K.STRUCT_DECL)
+FUNCTIONS = (K.FUNCTION_DECL, K.CXX_METHOD, K.CONSTRUCTOR, K.DESTRUCTOR, K.CONVERSION_FUNCTION, K.FUNCTION_TEMPLATE)
+VARIABLES = (K.VAR_DECL, K.FIELD_DECL, K.PARM_DECL)
+NAMES = (K.DECL_REF_EXPR, K.MEMBER_REF_EXPR)
+WRAPPERS = (K.UNEXPOSED_EXPR, K.PAREN_EXPR)
+REFERENCES = (K.TYPE_REF, K.NAMESPACE_REF, K.TEMPLATE_REF)
+CASTS = (K.CXX_STATIC_CAST_EXPR, K.CXX_DYNAMIC_CAST_EXPR, K.CXX_REINTERPRET_CAST_EXPR, K.CXX_CONST_CAST_EXPR, K.CSTYLE_CAST_EXPR,
+         K.CXX_FUNCTIONAL_CAST_EXPR)
+
+
+def strip(cursor: Cursor) -> Cursor:
+    """What an expression is below implicit casts, temporaries and parentheses."""
+    while cursor.kind in WRAPPERS:
+        inner = [k for k in cursor.get_children() if k.kind not in REFERENCES]
+        if len(inner) != 1:
+            return cursor
+        cursor = inner[0]
+    return cursor
+
+
+def bare(cursor: Cursor) -> Cursor:
+    """As `strip`, and below copies too: `f(v)` hands on `v` where it copies it."""
+    cursor = strip(cursor)
+    while cursor.kind == K.CALL_EXPR and cursor.referenced is not None:
+        named, given = cursor.referenced, list(cursor.get_arguments())
+        copies = named.kind == K.CONSTRUCTOR and len(given) == 1 and (named.is_copy_constructor() or named.is_move_constructor())
+        moves = named.spelling in ('move', 'forward', 'as_const', 'qAsConst') and len(given) == 1
+        if not copies and not moves:
+            return cursor
+        cursor = strip(given[0])
+    return cursor
+
+
+def expressions(cursor: Cursor) -> list[Cursor]:
+    return [k for k in cursor.get_children() if k.kind.is_expression()]
+
+
+def template_of(cursor: Cursor) -> Cursor | None:
+    """The template that a function or class is an instance of."""
+    found = cindex.conf.lib.clang_getSpecializedCursorTemplate(cursor)
+    return found if found is not None and found.kind != K.NO_DECL_FOUND else None
+
+
+def overloads(cursor: Cursor) -> list[Cursor]:
+    """The declarations that an overloaded name may be, in a template that isn't decided yet."""
+    lib = cindex.conf.lib
+    return [lib.clang_getOverloadedDecl(cursor, at) for at in range(lib.clang_getNumOverloadedDecls(cursor))]
+
+
+def is_written(cursor: Cursor) -> bool:
+    """Whether an argument stands in the text: a default one doesn't."""
+    return bool(cursor.location.line or strip(cursor).location.line)
+
+
+def first_text(cursor: Cursor) -> str | None:
+    """The first text literal in an expression, without its quotes."""
+    for inner in cursor.walk_preorder():
+        if inner.kind == K.STRING_LITERAL:
+            return str(inner.spelling).removeprefix('u').removeprefix('8').strip('"')
+    return None

@@ -1,0 +1,43 @@
+"""Puts the facts together to a program, in the order that the parts need."""
+from __future__ import annotations
+
+from dataclasses import dataclass
+
+from .bindings import Bindings
+from .calling import Calling
+from .effects import Effects
+from .model import Connect, Facts
+from .objects import Objects
+from .program import Program
+from .pruning import Pruning, unique_wires
+from .qtmodel import QtModel, Table
+from .recursion import fold
+from .targets import Targets
+from .whole import Whole
+from .wires import Wires
+
+
+@dataclass
+class Linked:
+    program: Program
+    whole: Whole
+    objects: Objects
+    understood: int
+    dropped: list[tuple[str, Connect]]
+
+
+def link(units: list[Facts], table: Table, roles: str, whole_program: bool) -> Linked:
+    whole = Whole(units)
+    objects = Objects(whole, roles)
+    program = Program(whole, objects)
+    calling = Calling(program, QtModel(whole, table))
+    targets = Targets(program, calling)
+    wires = Wires(program, calling, targets)
+    wires.all()
+    effects = Effects(program, calling, targets)
+    effects.all()
+    Bindings(program, effects).all()
+    fold(program)
+    program.wires = unique_wires(program.wires)
+    Pruning(program, whole_program).all()
+    return Linked(program, whole, objects, wires.understood, wires.dropped)

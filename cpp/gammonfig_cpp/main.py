@@ -1,0 +1,160 @@
+"""The command `read`: from a build's compile commands to a program, its places, and what wasn't understood."""
+from __future__ import annotations
+
+import argparse
+import os
+import sys
+import time
+
+from .errors import ReadError
+from .explaining import Explaining
+from .facts import Cache
+from .gather import gather
+from .linking import Linked, link
+from .model import Facts
+from .notes import Notes
+from .places import Places
+from .qtmodel import Table
+from .report import Teller, judge
+from .slicing import keep_slice
+from .units import units_of
+from .writing import Writing, Written
+
+HERE = os.path.dirname(os.path.abspath(__file__))
+STRICT = 3
+
+
+def arguments(words: list[str]) -> argparse.Namespace:
+    parser = argparse.ArgumentParser(prog='gammonfig read', description='Reads the C++ of a Qt application, and writes a program of the '
+                                     'class language, its places in C++ and what was not understood. docs/cpp.md tells more.')
+    parser.add_argument('out', nargs='?', metavar='OUT', help='with --verdict and without -p: a folder that was written before')
+    parser.add_argument('-p', metavar='DIR', help='the build, with compile_commands.json')
+    parser.add_argument('-o', metavar='OUT', help='where to write; gammonfig in the build if it is not given')
+    parser.add_argument('--root', action='append', metavar='DIR', help='a folder of the application\'s sources; the current one if none is given')
+    parser.add_argument('--roles', choices=('member', 'class', 'site'), default='member', help='what is told apart: the objects of each member '
+                        'that holds them, of each class, or of each place where they are made')
+    parser.add_argument('--table', metavar='FILE', default=os.path.join(os.path.dirname(HERE), 'qt.effects'), help='what Qt\'s functions do')
+    parser.add_argument('--only', metavar='REGEX', help='only the units whose path has this')
+    parser.add_argument('--whole', action='store_true', help='keep members that lead to nothing')
+    parser.add_argument('--slice', action='store_true', help='only what is on a circle or on a way to a deletion')
+    parser.add_argument('--keep-going', action='store_true', help='read on where clang tells errors')
+    parser.add_argument('--strict', action='store_true', help='status 3 where something that may hide a way was not understood')
+    parser.add_argument('--verdict', action='store_true', help='tell what is wrong, in lines of C++')
+    parser.add_argument('--json', action='store_true', help='the verdict as JSON')
+    parser.add_argument('--sarif', action='store_true', help='the verdict as SARIF')
+    parser.add_argument('--context', type=int, default=0, metavar='N', help='show N lines of C++ around each place')
+    parser.add_argument('--explain', metavar='NODE', help='why a class or a member of the program is there')
+    parser.add_argument('--jobs', type=int, default=os.cpu_count() or 1, metavar='N', help='how many units to read at once')
+    parser.add_argument('--cache', metavar='DIR', help='where the facts of units are kept')
+    parser.add_argument('--no-cache', action='store_true', help='read all units anew')
+    parser.add_argument('--quiet', action='store_true', help='tell no progress')
+    return parser.parse_args(words)
+
+
+def cache_folder() -> str:
+    home = os.environ.get('XDG_CACHE_HOME') or os.path.join(os.path.expanduser('~'), '.cache')
+    return os.path.join(home, 'gammonfig', 'cpp')
+
+
+def say(words: str) -> None:
+    print(words, file=sys.stderr, flush=True)
+
+
+def read_facts(options: argparse.Namespace, roots: list[str]) -> tuple[list[Facts], list[str]]:
+    """The facts of all units, and the errors of clang that were passed over."""
+    units = units_of(options.p, roots, options.only)
+    cache = None if options.no_cache else Cache(options.cache or cache_folder())
+    facts = gather(units, roots, cache, options.jobs, options.quiet)
+    errors = list(dict.fromkeys(e for f in facts for e in f.errors))
+    if errors and not options.keep_going:
+        for error in errors[:20]:
+            say(error)
+        raise ReadError(f'clang tells {len(errors)} error{"s" if len(errors) > 1 else ""} in the application\'s files: '
+                        'build it first, or read on with --keep-going')
+    return facts, errors
+
+
+def write_files(folder: str, files: dict[str, str]) -> None:
+    """Writes all files, or none: each beside its place first."""
+    try:
+        os.makedirs(folder, exist_ok=True)
+        for name, text in files.items():
+            with open(os.path.join(folder, f'.{name}.new'), 'w', encoding='utf-8') as file:
+                file.write(text)
+        for name in files:
+            os.replace(os.path.join(folder, f'.{name}.new'), os.path.join(folder, name))
+    except OSError as wrong:
+        raise ReadError(f'{folder}: this folder can\'t be written: {wrong.strerror}') from wrong
+
+
+def write_program(linked: Linked, root: str, options: argparse.Namespace) -> Written:
+    written = Writing(linked.program, root).write()
+    if written.too_much and not options.slice:
+        raise ReadError(f'the program is over a limit of the language: {"; ".join(written.too_much)}: '
+                        '--slice keeps what is on a circle or on a way to a deletion')
+    if options.slice:
+        keep_slice(linked.program)
+        written = Writing(linked.program, root).write()
+        if written.too_much:
+            raise ReadError(f'what is on a circle or on a way to a deletion is over a limit of the language: {"; ".join(written.too_much)}')
+    return written
+
+
+def read(options: argparse.Namespace, out: str, roots: list[str]) -> int:
+    """Reads and writes; the status."""
+    begun = time.time()
+    facts, errors = read_facts(options, roots)
+    linked = link(facts, Table.read(options.table), options.roles, options.whole)
+    written = write_program(linked, roots[0], options)
+    if options.explain:
+        print(Explaining(linked, written).text(options.explain), end='')
+        return 0
+    notes = Notes(linked, written, errors)
+    write_files(out, {'app.gf': written.text, 'app.places': written.places.text(), 'app.effects.md': notes.text()})
+    if not options.quiet:
+        connects = linked.understood + len(linked.dropped)
+        say(f'{len(facts)} units, {linked.understood} of {connects} connections understood, {notes.hiding()} unknowns, '
+            f'{time.time() - begun:.0f} s: {os.path.join(out, "app.gf")}')
+    return STRICT if options.strict and notes.hiding() else 0
+
+
+def tell(options: argparse.Namespace, out: str, root: str) -> int:
+    """Tells the verdict of what was written; its status."""
+    places = Places.read(os.path.join(out, 'app.places'), root)
+    verdict = judge(os.path.join(out, 'app.gf'), places)
+    teller = Teller(root, options.context)
+    form = teller.json if options.json else teller.sarif if options.sarif else teller.text
+    print(form(verdict), end='')
+    return verdict.status
+
+
+def run(words: list[str]) -> int:
+    options = arguments(words)
+    roots = [os.path.realpath(r) for r in options.root or ['.']]
+    for root in roots:
+        if not os.path.isdir(root):
+            raise ReadError(f'{root}: there is no such folder')
+    if options.p is None and options.verdict and options.out:
+        return tell(options, options.out, roots[0])
+    if options.out:
+        raise ReadError(f'{options.out}: a folder that was written is named with --verdict alone, and without -p')
+    if options.p is None:
+        raise ReadError('-p DIR names the build, with its compile_commands.json')
+    build = os.path.realpath(options.p if os.path.isdir(options.p) else os.path.dirname(options.p) or '.')
+    if not any(build == r or build.startswith(r + os.sep) for r in roots):
+        roots.append(build)
+    out = options.o or os.path.join(build, 'gammonfig')
+    status = read(options, out, roots)
+    if options.verdict and not options.explain:
+        return tell(options, out, roots[0]) or status
+    return status
+
+
+def main(words: list[str]) -> int:
+    try:
+        return run(words)
+    except ReadError as wrong:
+        say(f'gammonfig read: {wrong}')
+        return 2
+    except BrokenPipeError:
+        return 1

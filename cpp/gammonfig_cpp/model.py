@@ -1,0 +1,203 @@
+"""What is read of C++, as plain data: nothing here is decided, and nothing of libclang is kept."""
+from __future__ import annotations
+
+from dataclasses import dataclass, field
+
+
+@dataclass(frozen=True, slots=True)
+class Place:
+    file: str
+    line: int
+    column: int
+    words: str = ''
+
+
+@dataclass(frozen=True, slots=True)
+class Value:
+    """Which objects an expression may be.
+
+    `this`, `class` (any object of `cls`), `variable` and `result` (what the variable or function `key` may hold), `site` (what is
+    made at the place `key`), `cast` (those of parts[0] that are a `cls`), `any` (of the parts), `content` (what parts[0] holds as
+    a widget), `sender`, `member` (of each object of `cls`), `null` and `none`."""
+    kind: str
+    key: str = ''
+    cls: str = ''
+    parts: tuple[Value, ...] = ()
+
+
+NONE = Value('none')
+NULL = Value('null')
+
+
+@dataclass(frozen=True, slots=True)
+class Term:
+    """A value that is handed on: a parameter of the function, unchanged, a number, a text; or `unknown`."""
+    kind: str
+    index: int = 0
+    text: str = ''
+
+
+UNKNOWN = Term('unknown')
+
+
+@dataclass(frozen=True, slots=True)
+class Parameter:
+    """`sort` is `int` or `QString`; `type` is the canonical type without const and reference."""
+    name: str
+    sort: str
+    type: str
+
+
+@dataclass(frozen=True, slots=True)
+class Condition:
+    """`how` is `if`, `unless`, `else`, `while` or `blocked`."""
+    how: str
+    words: str
+    line: int
+
+    def told(self) -> str:
+        return f'{self.how} `{self.words}`'
+
+
+@dataclass(frozen=True, slots=True)
+class Named:
+    """What an argument of `connect` names: `text`, `name` (of a signal), `method`, `static`, `free`, `lambda`, `bound` (a method
+    of `on`), `parameter` (of the function that forwards it) or `unknown`."""
+    kind: str
+    key: str = ''
+    cls: str = ''
+    name: str = ''
+    on: Value = NONE
+
+
+@dataclass(slots=True)
+class Statement:
+    """A thing that a body does.
+
+    `call` and `library` (a function with sources, and one of Qt), `delete`, `scope` (a local object ends), `later`, `property`
+    (setProperty by name), `event` (sendEvent), `invoke`, `post`, `nested`, `assign` (a compared member is set), `field`, `read`,
+    `bind`, `observe` (of bindable properties), `close` (WA_DeleteOnClose)."""
+    kind: str
+    place: Place
+    on: Value = NONE
+    function: str = ''
+    name: str = ''
+    cls: str = ''
+    virtual: bool = False
+    constant: bool = False
+    inline: bool = False
+    blocked: bool = False
+    terms: tuple[Term, ...] = ()
+    conditions: tuple[Condition, ...] = ()
+    field: str = ''
+    named: Named | None = None
+    how: str = ''
+    given: str = ''
+
+
+@dataclass(slots=True)
+class Function:
+    """`kind` is `function`, `static`, `constructor`, `destructor` or `lambda`."""
+    key: str
+    name: str
+    shown: str
+    cls: str
+    kind: str
+    place: Place
+    end: int
+    parameters: list[Parameter] = field(default_factory=list)
+    statements: list[Statement] = field(default_factory=list)
+
+
+@dataclass(slots=True)
+class Method:
+    """`kind` is `method`, `signal`, `slot`, `invokable`, `constructor` or `destructor`."""
+    key: str
+    name: str
+    shown: str
+    kind: str
+    place: Place
+    virtual: bool
+    static: bool
+    constant: bool
+    pure: bool
+    parameters: list[Parameter]
+
+
+@dataclass(slots=True)
+class Class:
+    key: str
+    name: str
+    qualified: str
+    place: Place
+    inside: bool
+    defined: bool
+    bases: list[str] = field(default_factory=list)
+    methods: dict[str, Method] = field(default_factory=dict)
+    properties: list[str] = field(default_factory=list)
+
+
+@dataclass(frozen=True, slots=True)
+class Site:
+    """A place where an object is made: `hint` names the variable that it goes to, `within` the class or function around it."""
+    cls: str
+    place: Place
+    hint: str
+    within: str
+
+
+@dataclass(slots=True)
+class Connect:
+    sender: Value
+    sender_class: str
+    signal: Named
+    receiver: Value
+    receiver_class: str
+    slot: Named
+    how: str
+    place: Place
+    function: str
+    by: str
+
+
+@dataclass(frozen=True, slots=True)
+class Unknown:
+    """What wasn't understood: its kind, its words, and the function that has it."""
+    kind: str
+    what: str
+    place: Place
+    function: str
+
+
+@dataclass(frozen=True, slots=True)
+class Field:
+    """A bindable property: QProperty, Q_OBJECT_BINDABLE_PROPERTY and such; or a member that a setter compares."""
+    name: str
+    cls: str
+    kind: str
+    type: str
+    sort: str
+    place: Place
+
+
+@dataclass(slots=True)
+class Facts:
+    """What one unit says."""
+    source: str
+    classes: dict[str, Class] = field(default_factory=dict)
+    functions: dict[str, Function] = field(default_factory=dict)
+    sites: dict[str, Site] = field(default_factory=dict)
+    fields: dict[str, Field] = field(default_factory=dict)
+    flows: list[tuple[str, Value]] = field(default_factory=list)
+    connects: list[Connect] = field(default_factory=list)
+    owns: list[tuple[Value, Value, Place]] = field(default_factory=list)
+    contents: list[tuple[Value, Value]] = field(default_factory=list)
+    moved: list[Value] = field(default_factory=list)
+    callables: list[tuple[str, Named]] = field(default_factory=list)
+    object_names: list[tuple[Value, str]] = field(default_factory=list)
+    unknown: list[Unknown] = field(default_factory=list)
+    errors: list[str] = field(default_factory=list)
+    files: list[str] = field(default_factory=list)
+    named_slots: bool = False
+    disconnects: int = 0
+    seconds: float = 0.0

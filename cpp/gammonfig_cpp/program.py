@@ -1,0 +1,185 @@
+"""The program that comes of the facts: members of roles, what their bodies do, wires, owners and bindings."""
+from __future__ import annotations
+
+from collections import Counter
+from dataclasses import dataclass, field, replace
+
+from .model import Condition, Function, Parameter, Place, Term
+from .objects import FREE, Element, Objects
+from .whole import Whole
+
+Key = tuple[str, ...]
+MOST_PARAMETERS = 8
+
+
+@dataclass(slots=True)
+class Step:
+    """A statement: `emit`, `call`, `set` or `delete`, on `this` where `on` is None."""
+    kind: str
+    member: Key
+    on: Element | None = None
+    terms: tuple[Term, ...] = ()
+    place: Place | None = None
+    conditions: tuple[Condition, ...] = ()
+    words: str = ''
+
+    def same(self) -> tuple[object, ...]:
+        """What makes two steps one: where it stands plays no part."""
+        return self.kind, self.member, self.on, self.terms
+
+
+@dataclass(slots=True)
+class Member:
+    """A `signal`, `slot` or `property` of a role."""
+    key: Key
+    owner: Element
+    name: str
+    kind: str
+    shown: str
+    place: Place | None
+    parameters: list[Parameter] = field(default_factory=list)
+    steps: list[Step] = field(default_factory=list)
+    notify: Key | None = None
+    library: bool = False
+
+
+@dataclass(slots=True)
+class Wire:
+    sender: Element
+    signal: Key
+    receiver: Element
+    method: Key
+    how: str
+    place: Place | None
+    words: str = ''
+
+
+@dataclass(slots=True)
+class Bound:
+    """A binding: the property follows those that its functor reads."""
+    target: Key
+    sources: list[Key]
+    place: Place
+
+
+class Program:
+    def __init__(self, whole: Whole, objects: Objects) -> None:
+        self.whole, self.objects = whole, objects
+        self.members: dict[Key, Member] = {}
+        self.wires: list[Wire] = []
+        self.owns: list[tuple[Element, Element, Place]] = []
+        self.bound: list[Bound] = []
+        self.roles: set[Element] = set()
+        self.counts: Counter[str] = Counter()
+        self.silent: Counter[str] = Counter()
+        self.recursions: list[list[str]] = []
+
+    # Roles
+
+    def role(self, element: Element) -> Element:
+        found = self.objects.role(element)
+        self.roles.add(found)
+        if found.kind == 'site':
+            self.roles.add(Element('class', self.objects.cls(found)))
+        return found
+
+    def of_class(self, cls: str) -> Element:
+        return self.role(Element('class', cls))
+
+    def owner_of(self, function: Function) -> Element:
+        """The class that has a function as a slot: its own; and one for functions that have none."""
+        if function.cls in self.whole.classes and function.kind != 'static':
+            return self.of_class(function.cls)
+        return FREE
+
+    def is_this(self, element: Element, function: Function) -> bool:
+        return element == Element('class', function.cls)
+
+    # Members
+
+    def add(self, member: Member) -> Key:
+        member.parameters = member.parameters[:MOST_PARAMETERS]
+        self.members[member.key] = member
+        return member.key
+
+    def signal(self, usr: str) -> Key:
+        key = ('signal', usr)
+        if key not in self.members:
+            cls, method = self.whole.methods[usr]
+            self.add(Member(key, self.of_class(cls), method.name, 'signal', self._shown(cls, method.shown), method.place,
+                            list(method.parameters)))
+        return key
+
+    def _shown(self, cls: str, shown: str) -> str:
+        return f'{self.whole.classes[cls].qualified}::{shown}'
+
+    def emitter(self, usr: str) -> Key:
+        """The slot that emits a signal for others."""
+        key = ('emitter', usr)
+        if key not in self.members:
+            signal = self.members[self.signal(usr)]
+            terms = tuple(Term('parameter', at) for at in range(len(signal.parameters)))
+            self.add(Member(key, signal.owner, 'emit_' + signal.name, 'slot', f'emission of {signal.shown}', signal.place,
+                            list(signal.parameters), [Step('emit', signal.key, None, terms, signal.place)], library=True))
+        return key
+
+    def function(self, usr: str) -> Key:
+        key = ('function', usr)
+        if key not in self.members:
+            function = self.whole.functions[usr]
+            owner, name = self.owner_of(function), function.name
+            if owner == FREE and function.cls in self.whole.classes:
+                name = f'{self.whole.name(function.cls)}_{name}'
+            if function.kind == 'constructor':
+                name += '_made'
+            elif function.kind == 'destructor':
+                name = name.replace('~', '') + '_gone'
+            self.add(Member(key, owner, name, 'slot', function.shown, function.place, list(function.parameters)))
+        return key
+
+    def without_body(self, usr: str) -> Key:
+        """A function of the application whose body wasn't read."""
+        key = ('function', usr)
+        if key not in self.members:
+            cls, method = self.whole.methods[usr]
+            self.add(Member(key, self.of_class(cls), method.name, 'slot', self._shown(cls, method.shown) + ' (no body read)',
+                            method.place, list(method.parameters)))
+        return key
+
+    def property(self, key: Key, owner: Element, name: str, sort: str, notify: Key | None, place: Place | None) -> Key:
+        whole_key = ('property', *key)
+        if whole_key not in self.members:
+            self.add(Member(whole_key, owner, name, 'property', name, place, [Parameter('to', sort, sort)], notify=notify))
+        return whole_key
+
+    def posted(self, function: Function, place: Place) -> Key:
+        """A signal that stands for what an event loop is asked to call."""
+        key = ('posted', function.key, str(place.line), str(place.column))
+        if key not in self.members:
+            self.add(Member(key, self.owner_of(function), f'posted_{place.line}', 'signal', f'posted by {function.shown}', place))
+        return key
+
+    def relay(self, target: Key, parameters: list[Parameter]) -> Key:
+        """A slot of other parameters that calls a member: where a connection converts its arguments, or leaves out some."""
+        key = ('relay', *target, *(p.type for p in parameters))
+        member = self.members[target]
+        if key not in self.members:
+            terms = tuple(Term('parameter', at) if at < len(parameters) and same_type(p, parameters[at]) else Term('unknown')
+                          for at, p in enumerate(member.parameters))
+            step = Step('emit' if member.kind == 'signal' else 'call', target, None, terms, member.place)
+            given = [replace(p, name=p.name or f'a{at}') for at, p in enumerate(parameters)]
+            self.add(Member(key, member.owner, f'{member.name}_with', 'slot', member.shown, member.place, given, [step], library=True))
+        return key
+
+    def adapted(self, target: Key, parameters: list[Parameter]) -> Key:
+        """The member itself where it takes the first of a signal's parameters; else a relay."""
+        own = self.members[target].parameters
+        if len(own) <= len(parameters) and all(same_type(p, q) for p, q in zip(own, parameters)):
+            return target
+        return self.relay(target, parameters[:MOST_PARAMETERS])
+
+
+def same_type(one: Parameter, other: Parameter) -> bool:
+    """Whether a value is handed on as it is. Types that a template decides are taken to be those of the other."""
+    open_ended = any(word in p.type for p in (one, other) for word in ('auto', 'type-parameter', 'dependent'))
+    return one.sort == other.sort and (one.type == other.type or open_ended)

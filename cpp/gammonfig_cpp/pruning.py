@@ -1,0 +1,190 @@
+"""What is left out of the program: members that lead to nothing, and what only they need."""
+from __future__ import annotations
+
+from collections import defaultdict
+
+from .calling import owners_of
+from .objects import FREE, Element
+from .program import Key, Member, Program, Step, Wire
+
+# Widgets that are hardly a parent: where all that is known of a parent is QWidget, these aren't taken for it.
+LEAVES = set('QLabel QPushButton QToolButton QCheckBox QRadioButton QLineEdit QSpinBox QDoubleSpinBox QComboBox QSlider QProgressBar '
+             'QLCDNumber QDial QScrollBar QTimeEdit QDateEdit QDateTimeEdit QAction'.split())
+
+
+class Pruning:
+    def __init__(self, program: Program, whole_program: bool) -> None:
+        self.program, self.whole_program = program, whole_program
+        self.whole, self.objects = program.whole, program.objects
+        self.owners: dict[Element, set[Element]] = defaultdict(set)
+        for owner, child, _ in owners_of(program):
+            self.owners[owner].add(child)
+        self._closures: dict[Element, set[Element]] = {}
+
+    def closure(self, element: Element) -> set[Element]:
+        """The elements that may die with one."""
+        known = self._closures.get(element)
+        if known is None:
+            known, todo = {element}, [element]
+            while todo:
+                new = self._children(todo.pop()) - known
+                known |= new
+                todo += new
+            self._closures[element] = known
+        return known
+
+    def _children(self, element: Element) -> set[Element]:
+        if element == FREE:
+            return set()
+        cls, found = self.objects.cls(element), set(self.owners.get(element, ()))
+        for site, role in self.objects.role_of.items():
+            if role == element.key and element.kind == 'site':
+                found |= self.owners.get(Element('site', site), set())
+        for above in self.whole.above(cls):
+            if above == cls or element.kind == 'class' or self.whole.name(cls) not in LEAVES:
+                found |= self.owners.get(Element('class', above), set())
+        if element.kind == 'class':
+            for owner, children in self.owners.items():
+                if self.whole.is_a(self.objects.cls(owner), cls):
+                    found |= children
+        return found
+
+    def related(self, one: Element, other: Element) -> bool:
+        """Whether an object may be of both."""
+        if one == other or FREE in (one, other):
+            return one == other
+        a, b = self.objects.cls(one), self.objects.cls(other)
+        return (other.kind == 'class' and self.whole.is_a(a, b)) or (one.kind == 'class' and self.whole.is_a(b, a))
+
+    def all(self) -> None:
+        program = self.program
+        for member in program.members.values():
+            member.steps = unique(member.steps)
+        live = set(program.members)
+        while True:
+            dead = {key for key in live if not self._is_live(program.members[key], live)}
+            if not dead:
+                break
+            live -= dead
+            self._drop(live)
+        if not self.whole_program:
+            self._drop_loose(live)
+        program.members = {key: m for key, m in program.members.items() if key in live}
+        self._own()
+
+    def _is_live(self, member: Member, live: set[Key]) -> bool:
+        """Whether a member may lead to something."""
+        if member.kind == 'slot':
+            return bool(member.steps) or (self.whole_program and self._is_wired(member.key))
+        if member.kind == 'property':
+            return member.notify in live or any(member.key in b.sources or member.key == b.target for b in self.program.bound)
+        return self._is_heard(member.key) or (self.whole_program and member.key[0] == 'signal')
+
+    def _is_wired(self, key: Key) -> bool:
+        return any(w.method == key for w in self.program.wires)
+
+    def _is_heard(self, key: Key) -> bool:
+        return any(w.signal == key for w in self.program.wires)
+
+    def _drop(self, live: set[Key]) -> None:
+        """Takes out what leads to what is dead."""
+        program = self.program
+        before = len(program.wires)
+        program.wires = [w for w in program.wires if w.method in live and w.signal in live]
+        program.counts['connections to what leads to nothing'] += before - len(program.wires)
+        senders: dict[Key, set[Element]] = defaultdict(set)
+        for wire in program.wires:
+            senders[wire.signal].add(wire.sender)
+        acting = {program.members[key].owner for key in live if program.members[key].kind == 'slot'}
+        for key in live:
+            member = program.members[key]
+            member.steps = [s for s in member.steps if self._stays(s, member, live, senders, acting)]
+
+    def _stays(self, step: Step, member: Member, live: set[Key], senders: dict[Key, set[Element]], acting: set[Element]) -> bool:
+        if step.kind == 'delete':
+            element = step.on or member.owner
+            return element != FREE and (self.whole_program or self._hits(element, acting))
+        if step.member not in live:
+            return False
+        if step.kind != 'emit' or self.whole_program:
+            return True
+        return any(self.related(member.owner, s) for s in senders.get(step.member, ()))
+
+    def _hits(self, element: Element, acting: set[Element]) -> bool:
+        """Whether what dies may have a slot that runs, or somebody who listens."""
+        watched = any(w.signal[0] == 'signal' and self.whole.name(self.whole.class_of(w.signal[1])) == 'QObject' for w in self.program.wires)
+        return watched or any(self.related(x, a) for x in self.closure(element) for a in acting)
+
+    def _drop_loose(self, live: set[Key]) -> None:
+        """Takes out what nothing leads to, where it can't be the slot of a deletion either."""
+        ends = self._to_deletion(live)
+        while True:
+            used = self._used(live)
+            loose = {key for key in live if key not in used and key not in ends}
+            if not loose:
+                return
+            live -= loose
+            self.program.wires = [w for w in self.program.wires if w.signal in live and w.method in live]
+
+    def _used(self, live: set[Key]) -> set[Key]:
+        used: set[Key] = set()
+        for key in live:
+            member = self.program.members[key]
+            used |= {s.member for s in member.steps if s.member}
+            if member.notify is not None:
+                used.add(member.notify)
+        for wire in self.program.wires:
+            used |= {wire.method} | ({wire.signal} if wire.signal[0] == 'signal' else set())
+        for bound in self.program.bound:
+            used |= {bound.target, *bound.sources}
+        return used
+
+    def _to_deletion(self, live: set[Key]) -> set[Key]:
+        """The members that may lead to a deletion."""
+        before: dict[Key, set[Key]] = defaultdict(set)
+        for key in live:
+            member = self.program.members[key]
+            for step in member.steps:
+                before[step.member].add(key)
+            if member.notify is not None:
+                before[member.notify].add(key)
+        for wire in self.program.wires:
+            before[wire.method].add(wire.signal)
+        found = {key for key in live if any(s.kind == 'delete' for s in self.program.members[key].steps)}
+        todo = list(found)
+        while todo:
+            new = before[todo.pop()] - found
+            found |= new
+            todo += new
+        return found
+
+    def _own(self) -> None:
+        """The owners that matter: those of what may be deleted."""
+        program = self.program
+        targets = {s.on or m.owner for m in program.members.values() for s in m.steps if s.kind == 'delete'}
+        dying = {x for t in targets for x in self.closure(t)}
+        kept: dict[tuple[Element, Element], tuple[Element, Element, object]] = {}
+        acting = {m.owner for m in program.members.values()}
+        for owner, child, place in owners_of(program):
+            if not any(self.related(owner, d) for d in dying):
+                continue
+            if self.whole_program or any(self.related(x, a) for x in self.closure(child) for a in acting):
+                a, b = program.role(owner), program.role(child)
+                if (a, b) not in kept:
+                    kept[(a, b)] = (a, b, place)
+                    program.owns.append((a, b, place))
+
+
+def unique(steps: list[Step]) -> list[Step]:
+    """Each step once, where it stands first."""
+    found: dict[tuple[object, ...], Step] = {}
+    for step in steps:
+        found.setdefault(step.same(), step)
+    return list(found.values())
+
+
+def unique_wires(wires: list[Wire]) -> list[Wire]:
+    found: dict[tuple[object, ...], Wire] = {}
+    for wire in wires:
+        found.setdefault((wire.sender, wire.signal, wire.receiver, wire.method, wire.how), wire)
+    return list(found.values())

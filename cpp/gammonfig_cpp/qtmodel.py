@@ -1,0 +1,98 @@
+"""What Qt's functions do at once: from the table `qt.effects`, and from WRITE and NOTIFY of the properties in Qt's headers."""
+from __future__ import annotations
+
+import re
+from collections import defaultdict
+from dataclasses import dataclass, field
+
+from .errors import ReadError
+from .whole import Whole
+
+WORDS = ('emits', 'calls', 'posts', 'deletes')
+LINE = re.compile(r'(\w+)\.(~?\w+)\s+(.+)$')
+PART = re.compile(r'(emits|calls|posts|deletes)\s+((?:[\w:~]+\s*,\s*)*[\w:~]+)\s*')
+WIRE = re.compile(r'wire\s+(\w+)\.(\w+)\s*->\s*(\w+)\.(\w+)$')
+
+
+@dataclass
+class Entry:
+    """What one function does: names of signals, of virtual functions, of what is posted, and of what is deleted. A name with
+    `C::` before it is of any object of the class C."""
+    emits: list[str] = field(default_factory=list)
+    calls: list[str] = field(default_factory=list)
+    posts: list[str] = field(default_factory=list)
+    deletes: list[str] = field(default_factory=list)
+
+
+class Table:
+    def __init__(self) -> None:
+        self.entries: dict[tuple[str, str], Entry] = {}
+        self.wires: list[tuple[str, str, str, str]] = []
+        self.classes: set[str] = set()
+
+    @staticmethod
+    def read(path: str) -> Table:
+        table = Table()
+        try:
+            with open(path, encoding='utf-8') as file:
+                lines = file.read().splitlines()
+        except OSError as wrong:
+            raise ReadError(f'{path}: the table of what Qt does can\'t be read') from wrong
+        for number, line in enumerate(lines, 1):
+            words = line.split('#')[0].strip()
+            if words and not table._take(words):
+                raise ReadError(f'{path}:{number}: this is no line of the table of what Qt does: {words}')
+        table.classes = {cls for cls, _ in table.entries}
+        return table
+
+    def _take(self, words: str) -> bool:
+        wire = WIRE.match(words)
+        if wire:
+            self.wires.append((wire[1], wire[2], wire[3], wire[4]))
+            return True
+        found = LINE.match(words)
+        if not found or PART.sub('', found[3]).strip():
+            return False
+        entry = self.entries.setdefault((found[1], found[2]), Entry())
+        for word, names in PART.findall(found[3]):
+            getattr(entry, word).extend(name.strip() for name in names.split(','))
+        return True
+
+
+@dataclass(frozen=True)
+class Written:
+    """A property of Qt that a function writes: its name, and its notify signal's."""
+    name: str
+    notify: str
+
+
+class QtModel:
+    """What a function of Qt does, asked of the class of an object."""
+
+    def __init__(self, whole: Whole, table: Table) -> None:
+        self.whole, self.table = whole, table
+        self._written: dict[str, dict[str, list[Written]]] = {}
+
+    def written(self, cls: str) -> dict[str, list[Written]]:
+        """By the name of a WRITE function the properties that it writes and that notify."""
+        known = self._written.get(cls)
+        if known is None:
+            known = defaultdict(list)
+            for text in self.whole.classes[cls].properties:
+                name = re.match(r'.*?(\w+)\s+(?:READ|MEMBER|WRITE|BINDABLE)\b', text)
+                write, notify = re.search(r'\bWRITE (\w+)', text), re.search(r'\bNOTIFY (\w+)', text)
+                if write and notify and name:
+                    known[write[1]].append(Written(name[1], notify[1]))
+            self._written[cls] = known
+        return known
+
+    def entry(self, cls: str, name: str) -> tuple[str, Entry, list[Written]] | None:
+        """The class whose function it is, with what it does; None where nothing is known."""
+        for above in self.whole.above(cls):
+            if self.whole.is_inside(above) or above not in self.whole.classes:
+                continue
+            entry = self.table.entries.get((self.whole.name(above), name))
+            written = self.written(above).get(name, [])
+            if entry is not None or written:
+                return above, entry or Entry(), written
+        return None

@@ -1,0 +1,152 @@
+"""Functions of Qt that mean something of their own to the reader: connections, timers, deletions, owners, nested loops."""
+from __future__ import annotations
+
+from .context import Context
+from .libclang import NAMES, Cursor, K, T, expressions, first_text, is_written, strip
+from .model import Condition, Value
+
+NESTED = {'exec', 'processEvents', 'waitForFinished', 'waitForReadyRead', 'waitForConnected', 'waitForDisconnected', 'waitForBytesWritten',
+          'waitForStarted', 'waitForNewConnection', 'exec_'}
+DIALOGS = {('QMessageBox', n) for n in ('information', 'warning', 'critical', 'question', 'about', 'aboutQt')} | \
+    {('QFileDialog', n) for n in ('getOpenFileName', 'getOpenFileNames', 'getSaveFileName', 'getExistingDirectory', 'getOpenFileUrl',
+                                  'getSaveFileUrl')} | \
+    {('QInputDialog', n) for n in ('getText', 'getInt', 'getDouble', 'getItem', 'getMultiLineText')} | \
+    {('QColorDialog', 'getColor'), ('QFontDialog', 'getFont'), ('QApplication', 'aboutQt')}
+# Functions by which an object becomes the owner of an argument.
+TAKING = {'addWidget', 'insertWidget', 'setCentralWidget', 'setWidget', 'addTab', 'insertTab', 'addPage', 'setPage', 'setMenuBar',
+          'setStatusBar', 'addDockWidget', 'setLayout', 'addLayout', 'insertLayout', 'addToolBar', 'addSubWindow', 'setCellWidget',
+          'setItemWidget', 'setIndexWidget', 'setCornerWidget', 'addItem', 'addPermanentWidget', 'addRow', 'setTitleBarWidget', 'addMenu',
+          'setViewport', 'addScrollBarWidget', 'setMenuWidget', 'addAnimation', 'addState', 'setButton', 'replaceWidget'}
+# Calls after which Qt's own objects talk to each other, which isn't read.
+WIRING = {'setModel', 'setSourceModel', 'setSelectionModel', 'addMapping', 'setCompleter', 'setBuddy', 'setFocusProxy',
+          'installEventFilter', 'setMapping', 'setMenu', 'setDefaultAction', 'assignProperty', 'addTransition', 'setItemDelegate'}
+SPECIAL = {('QObject', 'connect'), ('QObject', 'disconnect'), ('QMetaObject', 'invokeMethod'), ('QTimer', 'singleShot'),
+           ('QObject', 'deleteLater'), ('QObject', 'blockSignals'), ('QObject', 'moveToThread'), ('QObject', 'setProperty'),
+           ('QCoreApplication', 'sendEvent'), ('QMetaObject', 'connectSlotsByName'), ('QMetaObject', 'disconnect'),
+           ('QSignalBlocker', 'unblock'), ('QSignalBlocker', 'reblock')}
+
+
+class Special:
+    def __init__(self, context: Context) -> None:
+        self.context = context
+
+    @staticmethod
+    def is_special(call: Cursor, parent: str, name: str) -> bool:
+        return (parent, name) in SPECIAL
+
+    def call(self, call: Cursor, parent: str, name: str, on: Value, given: list[Cursor]) -> None:
+        context, facts = self.context, self.context.facts
+        if name == 'connect':
+            receiver = context.this if on.kind == 'static' else on
+            context.connects.connect(call, given, receiver)
+        elif name == 'disconnect':
+            facts.disconnects += 1
+        elif name == 'invokeMethod':
+            context.connects.invoke(call, given)
+        elif name == 'singleShot':
+            context.connects.single_shot(call, given)
+        elif name == 'deleteLater':
+            context.add('later', call, on)
+        elif name == 'blockSignals':
+            self._block(call, on, given)
+        elif name == 'moveToThread':
+            facts.moved.append(on)
+        elif name == 'setProperty':
+            self._set_property(call, on, given)
+        elif name == 'sendEvent' and given:
+            context.add('event', call, context.values.of(given[0]))
+        elif name == 'connectSlotsByName':
+            facts.named_slots = True
+        context.calls.rest(call, callables=False)
+
+    def _block(self, call: Cursor, on: Value, given: list[Cursor]) -> None:
+        if given and self.context.text(given[0]) == 'true':
+            self.context.blocked.append((on, call.location.line))
+        else:
+            self.context.blocked = [b for b in self.context.blocked if b[0] != on]
+
+    def _set_property(self, call: Cursor, on: Value, given: list[Cursor]) -> None:
+        name = first_text(given[0]) if given else None
+        if name is None:
+            self.context.note('setProperty', call)
+            return
+        self.context.add('property', call, on).name = name
+
+    def constructed(self, call: Cursor, name: str, inside: bool, on: Value, given: list[Cursor]) -> None:
+        """An object of a class of Qt is made."""
+        if inside:
+            return
+        if name == 'QShortcut':
+            self.context.connects.connecting(call, given, on, 'activated')
+        elif name in ('QSignalBlocker', 'QMutexLocker') and given and name == 'QSignalBlocker':
+            blocked = self.context.values.of(given[0])
+            self.context.blocked.append((blocked, call.location.line))
+            self.context.conditions.append(Condition('blocked', self.context.text(given[0]), call.location.line))
+        elif name in ('QPropertyAnimation', 'QItemDelegate'):
+            self.context.note('property by name', call)
+
+    def owning(self, call: Cursor, parent: str, name: str, on: Value, given: list[Cursor]) -> None:
+        """What else a call of Qt says: owners, nested event loops, names of objects."""
+        context = self.context
+        outermost = context.function is not None and context.function.name == 'main'
+        if (name in NESTED or (parent, name) in DIALOGS) and not outermost:
+            context.note('nested event loop', call, f'{parent}::{name}')
+            context.add('nested', call).name = f'{parent}::{name}'
+        if name == 'setObjectName' and given:
+            text = first_text(given[0])
+            if text:
+                context.facts.object_names.append((on, text))
+        elif name == 'setAttribute' and given and 'WA_DeleteOnClose' in context.text(given[0]):
+            context.add('close', call, on)
+        elif name == 'setParent' and given:
+            context.facts.owns.append((context.values.of(given[0]), on, context.place(call)))
+        elif name in TAKING:
+            self._take(call, on, given)
+        if name in WIRING:
+            context.note('wiring of Qt', call, f'{parent}::{name}: {context.text(call, 60)}')
+
+    def _take(self, call: Cursor, on: Value, given: list[Cursor]) -> None:
+        for argument in given:
+            cls = self.context.classes.of(argument.type)
+            kind = argument.type.get_canonical().kind
+            if is_written(argument) and cls and kind == T.POINTER and self.context.classes.is_object(cls):
+                value = self.context.values.of(argument)
+                if value.kind not in ('null', 'none'):
+                    self.context.facts.owns.append((on, value, self.context.place(call)))
+                    self.context.facts.contents.append((on, value))
+
+    # Bindable properties
+
+    def bindable(self, call: Cursor, name: str, on: Cursor | None, given: list[Cursor]) -> None:
+        context = self.context
+        field = self._field(on)
+        functors = [key for key in map(context.callees.lambda_in, given) if key]
+        key = functors[0] if functors else ''
+        if name == 'setBinding':
+            statement = context.add('bind', call)
+            statement.field, statement.function = field, key
+        elif name in ('onValueChanged', 'subscribe', 'addNotifier'):
+            statement = context.add('observe', call)
+            statement.field, statement.function = field, key
+        elif name in ('operator=', 'setValue', 'setValueBypassingBindings', 'operator++', 'notify') and field:
+            statement = context.add('field', call)
+            statement.field = field
+            if given:
+                statement.terms = (context.values.term(given[0], None),)
+        elif name in ('value', 'operator()', 'operator->', 'operator*') or name.startswith('operator '):
+            if field:
+                context.add('read', call).field = field
+        elif name not in ('hasBinding', 'binding', 'takeBinding', 'makeBinding', 'valueBypassingBindings'):
+            context.note('bindable', call)
+
+    def _field(self, on: Cursor | None) -> str:
+        """The bindable property that a call is of: a member, or what a function gives (`B:`)."""
+        named = strip(on) if on is not None else None
+        if named is None or named.referenced is None:
+            return ''
+        if named.kind in NAMES:
+            return self.context.variable_key(named.referenced) or ''
+        if named.kind == K.CALL_EXPR and self.context.is_inside(named.referenced):
+            return 'B:' + self.context.function_key(named.referenced)
+        inner = expressions(named)
+        return self._field(inner[0]) if len(inner) == 1 else ''

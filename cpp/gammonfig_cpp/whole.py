@@ -1,0 +1,176 @@
+"""The facts of all units put together: one list of classes and functions, and what is above and below a class."""
+from __future__ import annotations
+
+import re
+from collections import Counter, defaultdict
+from typing import Iterable
+
+from .model import Class, Connect, Facts, Field, Function, Method, Named, Place, Site, Unknown, Value
+
+FOREIGN = 'no class'
+
+
+class Whole:
+    def __init__(self, units: Iterable[Facts]) -> None:
+        self.classes: dict[str, Class] = {}
+        self.functions: dict[str, Function] = {}
+        self.sites: dict[str, Site] = {}
+        self.fields: dict[str, Field] = {}
+        self.flows: dict[str, list[Value]] = {}
+        self.callables: dict[str, list[Named]] = defaultdict(list)
+        self.connects: list[Connect] = []
+        self.owns: list[tuple[Value, Value, Place]] = []
+        self.contents: list[tuple[Value, Value]] = []
+        self.moved: list[Value] = []
+        self.object_names: list[tuple[Value, str]] = []
+        self.unknown: list[Unknown] = []
+        self.named_slots = False
+        self.counts: Counter[str] = Counter()
+        self._seen: set[object] = set()
+        for facts in units:
+            self._add(facts)
+        self._index()
+
+    def _add(self, facts: Facts) -> None:
+        for key, cls in facts.classes.items():
+            known = self.classes.get(key)
+            if known is None or (cls.defined and not known.defined):
+                self.classes[key] = cls
+        for key, function in facts.functions.items():
+            known_function = self.functions.get(key)
+            if known_function is None or len(function.statements) > len(known_function.statements):
+                self.functions[key] = function
+        self.sites.update(facts.sites)
+        self.fields.update(facts.fields)
+        for key, value in facts.flows:
+            if self._is_new(('flow', key, value)):
+                self.flows.setdefault(key, []).append(value)
+        self._add_lists(facts)
+        self.named_slots = self.named_slots or facts.named_slots
+        self.counts['disconnects'] += facts.disconnects
+
+    def _add_lists(self, facts: Facts) -> None:
+        for connect in facts.connects:
+            if self._is_new(('connect', connect.place.file, connect.place.line, connect.place.column, connect.by, connect.slot)):
+                self.connects.append(connect)
+        self.owns += [o for o in facts.owns if self._is_new(('owns', o))]
+        self.contents += [c for c in facts.contents if self._is_new(('content', c))]
+        self.moved += [m for m in facts.moved if self._is_new(('moved', m))]
+        self.object_names += [n for n in facts.object_names if self._is_new(('name', n))]
+        self.unknown += [u for u in facts.unknown if self._is_new(('unknown', u))]
+        for key, named in facts.callables:
+            if self._is_new(('callable', key, named)):
+                self.callables[key].append(named)
+
+    def _is_new(self, thing: object) -> bool:
+        if thing in self._seen:
+            return False
+        self._seen.add(thing)
+        return True
+
+    def _index(self) -> None:
+        self._seen.clear()
+        self.by_name: dict[str, list[str]] = defaultdict(list)
+        self.derived: dict[str, set[str]] = defaultdict(set)
+        self.methods: dict[str, tuple[str, Method]] = {}
+        for key, cls in self.classes.items():
+            self.by_name[cls.name].append(key)
+            for base in cls.bases:
+                self.derived[base].add(key)
+            for usr, method in cls.methods.items():
+                self.methods[usr] = (key, method)
+        self._below: dict[str, list[str]] = {}
+        self._above: dict[str, list[str]] = {}
+
+    # The hierarchy
+
+    def below(self, key: str) -> list[str]:
+        """A class and those below it."""
+        known = self._below.get(key)
+        if known is None:
+            known, todo = [key], [key]
+            while todo:
+                for cls in sorted(self.derived.get(todo.pop(), ())):
+                    if cls not in known:
+                        known.append(cls)
+                        todo.append(cls)
+            self._below[key] = known
+        return known
+
+    def above(self, key: str) -> list[str]:
+        """A class and those above it, nearest first."""
+        known = self._above.get(key)
+        if known is None:
+            known, todo = [key], [key]
+            while todo:
+                cls = self.classes.get(todo.pop(0))
+                for base in cls.bases if cls is not None else ():
+                    if base not in known:
+                        known.append(base)
+                        todo.append(base)
+            self._above[key] = known
+        return known
+
+    def is_a(self, key: str, base: str) -> bool:
+        return base in self.above(key)
+
+    def name(self, key: str) -> str:
+        return self.classes[key].name if key in self.classes else FOREIGN
+
+    def is_inside(self, key: str) -> bool:
+        return key in self.classes and self.classes[key].inside
+
+    def is_named(self, key: str, name: str) -> bool:
+        """Whether a class is the one of this name, or below it."""
+        return any(self.name(a) == name for a in self.above(key))
+
+    # Methods
+
+    def method(self, usr: str) -> Method | None:
+        found = self.methods.get(usr)
+        return found[1] if found is not None else None
+
+    def class_of(self, usr: str) -> str:
+        found = self.methods.get(usr)
+        return found[0] if found is not None else ''
+
+    def is_signal(self, usr: str) -> bool:
+        method = self.method(usr)
+        return method is not None and method.kind == 'signal'
+
+    def overrider(self, cls: str, shown: str, name: str) -> str | None:
+        """The method that a virtual call reaches in an object of just this class."""
+        for above in self.above(cls):
+            for usr, method in self.classes[above].methods.items():
+                if method.shown == shown or (method.kind == 'destructor' and name.startswith('~')):
+                    return usr
+        return None
+
+    def signal(self, cls: str, name: str, types: str | None = None) -> str | None:
+        """A signal of a class or of those above it, by its name, and by its types where they are given and fit."""
+        found = None
+        for above in self.above(cls):
+            for usr, method in self.classes[above].methods.items():
+                if method.kind == 'signal' and method.name == name:
+                    if types is None or plain(method.shown) == plain(f'{name}({types})'):
+                        return usr
+                    found = found or usr
+        return found
+
+    def slot(self, classes: list[str], name: str, types: str) -> str | None:
+        """A method by its name and types, or by its name alone."""
+        named = None
+        for cls in classes:
+            for usr, method in self.classes[cls].methods.items():
+                if method.name == name and method.kind in ('slot', 'signal', 'invokable', 'method'):
+                    if plain(method.shown) == plain(f'{name}({types})'):
+                        return usr
+                    named = named or usr
+        return named
+
+
+def plain(signature: str) -> str:
+    """A signature without const, references and scopes, for comparing."""
+    signature = re.sub(r'\bconst\b|&|\b\w+::(?=\w)', '', signature)
+    signature = re.sub(r',?\s*QPrivateSignal', '', signature)
+    return re.sub(r'\s+', '', signature)

@@ -1,0 +1,191 @@
+"""Connections as wires, or the reason why one has none."""
+from __future__ import annotations
+
+import re
+from collections import defaultdict
+from dataclasses import replace
+
+from .calling import Calling
+from .model import Connect, Named, Parameter, Value
+from .objects import FREE, Element
+from .program import Key, Program, Wire
+from .targets import Target, Targets
+
+Source = tuple[Element, str]
+
+
+class Wires:
+    def __init__(self, program: Program, calling: Calling, targets: Targets) -> None:
+        self.program, self.calling, self.targets = program, calling, targets
+        self.whole, self.objects = program.whole, program.objects
+        self.understood = 0
+        self.dropped: list[tuple[str, Connect]] = []
+        self.of_threads: set[str] = set()
+        self.moved: set[Element] = set()
+
+    def all(self) -> None:
+        for value in self.whole.moved:
+            for element in self.objects.elements(value):
+                if element.kind == 'site':
+                    self.moved |= {element, self.program.role(element)}
+        self.of_threads = self._emitted_in_threads()
+        connects = self.whole.connects + self._by_names()
+        for connect in connects:
+            found = self._connection(connect)
+            if isinstance(found, str):
+                self.dropped.append((found, connect))
+            else:
+                self.understood += 1
+                self.program.wires += found
+        self.targets.watched = [w.sender for w in self.program.wires if w.signal[0] == 'signal'
+                                and self.whole.name(self.whole.class_of(w.signal[1])) == 'QObject']
+        self._of_qt()
+
+    # One connection
+
+    def _connection(self, connect: Connect) -> list[Wire] | str:
+        signals = self.targets.named(connect.signal)
+        if connect.signal.kind == 'parameter':
+            found = [self._connection(replace(connect, signal=s)) for s in signals]
+            wires = [w for f in found if not isinstance(f, str) for w in f]
+            return wires or 'the signal is a parameter that nothing is handed to'
+        if connect.signal.kind == 'unknown':
+            return 'the signal isn\'t understood'
+        sources = self._sources(connect)
+        if isinstance(sources, str):
+            return sources
+        if connect.slot.kind == 'unknown':
+            return 'the slot isn\'t understood'
+        targets = self.targets.of(connect.slot, connect.receiver, connect.receiver_class)
+        if not targets:
+            return f'no such slot: {connect.slot.name or connect.slot.key}'
+        return [w for s in sources for t in targets for w in self._wire(connect, s, t)]
+
+    def _sources(self, connect: Connect) -> list[Source] | str:
+        senders = sorted(self.objects.elements(connect.sender, connect.sender_class))
+        if not senders:
+            return 'the sender isn\'t understood'
+        sources: list[Source] = []
+        for element in senders:
+            found = self._source(element, connect.signal)
+            if isinstance(found, str):
+                return found
+            sources += found
+        return sources or f'no such signal: {connect.signal.name or connect.signal.key}'
+
+    def _source(self, element: Element, signal: Named) -> list[Source] | str:
+        whole, cls = self.whole, self.objects.cls(element)
+        if signal.kind == 'method':
+            if not whole.is_signal(signal.key):
+                return f'not a signal: {signal.name}'
+            return [(element if whole.is_a(cls, signal.cls) else Element('class', signal.cls), signal.key)]
+        found = re.match(r'\s*(\w+)\s*\((.*)\)\s*$', signal.name)
+        name, types = (found[1], found[2]) if found else (signal.name, None)
+        usr = whole.signal(cls, name, types)
+        if usr is not None:
+            return [(element, usr)]
+        out: list[Source] = []
+        for below in whole.below(cls)[1:] if element.kind == 'class' else ():
+            usr = whole.signal(below, name, types)
+            if usr is not None and whole.class_of(usr) == below:
+                out.append((Element('class', below), usr))
+        return out
+
+    def _wire(self, connect: Connect, source: Source, target: Target) -> list[Wire]:
+        element, usr = source
+        receiver, key = target
+        if key is None:
+            self.program.counts['connections to what does nothing'] += 1
+            return []
+        how = connect.how
+        if how == 'auto' and usr in self.of_threads:
+            how = 'queued'
+            self.program.counts['auto connections that are queued: a thread alone emits'] += 1
+        elif how == 'auto' and receiver != FREE and (element in self.moved) != (receiver in self.moved):
+            how = 'queued'
+            self.program.counts['auto connections that are queued: one end was moved to a thread'] += 1
+        signal = self.program.signal(usr)
+        return [Wire(self.program.role(element), signal, receiver, self.fitting(signal, key), how, connect.place)]
+
+    def fitting(self, signal: Key, key: Key) -> Key:
+        return self.program.adapted(key, self.parameters(signal))
+
+    def parameters(self, signal: Key) -> list[Parameter]:
+        """The parameters that a signal hands on. `destroyed` hands on none here: its object can't be used any more."""
+        member = self.program.members[signal]
+        of_object = signal[0] == 'signal' and self.whole.name(self.whole.class_of(signal[1])) == 'QObject'
+        return [] if of_object and member.name == 'destroyed' else member.parameters
+
+    # What connects without `connect`
+
+    def _by_names(self) -> list[Connect]:
+        """Slots called on_OBJECT_SIGNAL, which setupUi connects."""
+        whole = self.whole
+        uses = whole.named_slots or any(s.name in ('setupUi', 'connectSlotsByName') for f in whole.functions.values() for s in f.statements)
+        named: dict[str, set[str]] = defaultdict(set)
+        for value, text in whole.object_names:
+            for element in self.objects.elements(value):
+                if element.kind == 'site':
+                    named[element.key].add(text)
+        out: list[Connect] = []
+        for cls in [c for c in whole.classes.values() if c.inside] if uses else ():
+            for usr, method in cls.methods.items():
+                if method.kind == 'slot' and method.name.startswith('on_'):
+                    out += self._named_slot(cls.key, usr, named)
+        return out
+
+    def _named_slot(self, cls: str, usr: str, named: dict[str, set[str]]) -> list[Connect]:
+        whole, method = self.whole, self.whole.methods[usr][1]
+        types = method.shown[method.shown.index('(') + 1:-1]
+        out = []
+        for key, site in whole.sites.items():
+            for name in sorted(named[key] | {site.hint}):
+                if not name or not method.name.startswith(f'on_{name}_') or site.cls not in whole.classes:
+                    continue
+                signal = whole.signal(site.cls, method.name[len(name) + 4:], types or None)
+                if signal is not None:
+                    out.append(Connect(Value('site', key, site.cls), site.cls, Named('method', signal, whole.class_of(signal)),
+                                       Value('class', cls=cls), cls, Named('method', usr, cls, method.name), 'auto', method.place, '', 'name'))
+        return out
+
+    def _emitted_in_threads(self) -> set[str]:
+        """Signals that only run() of a QThread emits, or what only run() calls."""
+        whole, callers = self.whole, defaultdict(set)
+        for function in whole.functions.values():
+            for statement in function.statements:
+                if statement.kind == 'call':
+                    callers[statement.function].add(function.key)
+        inside = {k for k, f in whole.functions.items() if f.name == 'run' and f.cls and whole.is_named(f.cls, 'QThread')}
+        while True:
+            more = {k for k in whole.functions if k not in inside and k not in self.objects.outside and callers[k] and callers[k] <= inside}
+            if not more:
+                break
+            inside |= more
+        emitted: set[str] = set()
+        elsewhere: set[str] = set()
+        for function in whole.functions.values():
+            for statement in function.statements:
+                if statement.kind in ('call', 'library') and whole.is_signal(statement.function):
+                    (emitted if function.key in inside else elsewhere).add(statement.function)
+        return emitted - elsewhere
+
+    def _of_qt(self) -> None:
+        """What Qt connects by itself, where somebody listens to where it leads."""
+        whole = self.whole
+        for _ in range(3):
+            heard = {w.signal for w in self.program.wires}
+            for sender, signal, receiver, other in self.calling.qt.table.wires:
+                for a in whole.by_name.get(sender, ()):
+                    for b in whole.by_name.get(receiver, ()):
+                        one, two = whole.signal(a, signal), whole.signal(b, other)
+                        present = self.calling.is_present(a) and self.calling.is_present(b)
+                        if one is None or two is None or not present or ('signal', two) not in heard:
+                            continue
+                        self._add_of_qt(a, one, b, two)
+
+    def _add_of_qt(self, a: str, one: str, b: str, two: str) -> None:
+        program = self.program
+        wire = Wire(program.of_class(a), program.signal(one), program.of_class(b),
+                    self.fitting(program.signal(one), program.signal(two)), 'direct', None, 'Qt connects them by itself')
+        if wire not in program.wires:
+            program.wires.append(wire)
