@@ -58,6 +58,8 @@ class Front:
         if len(given) == 2 and (given[0] == "help" or given[1] in ("--help", "-h")):
             command = words.command_of(given[0] if given[1] in ("--help", "-h") else given[1])
             return self.write(pages().command_help(command)) if command else self.usage(given)
+        if given[:1] == ["read"]:
+            return self.read(given[1:])
         try:
             call = words.parse(given)
         except words.NoCommand:
@@ -107,6 +109,13 @@ class Front:
             say("this is no command: " + " ".join(map(texts.shown, given)))
         write_to(2, (pages().usage(command) if command else pages().help_text()).encode())
         raise Ended(1)
+
+    def read(self, given: list[str]) -> None:
+        """Reads C++, by the program that takes these words apart itself."""
+        reader = f"{self.root}/{words.READER}"
+        if not os.access(reader, os.X_OK):
+            raise Fault(f"this {NAME} has no reader of C++: use a checkout of the sources")
+        os.execv(reader, [reader, *given])
 
     # ---- commands
 

@@ -6,7 +6,7 @@ from __future__ import annotations
 
 import textwrap
 
-from words import COMMANDS, DONE, FRONT, REFUSED, USAGE, Command
+from words import COMMANDS, DONE, FRONT, READER, REFUSED, USAGE, Command
 
 WIDTH = 120
 ABOUT = """gammonfig: a runtime of signals and slots with a connection checker, after Qt 6.
@@ -63,7 +63,7 @@ def command_help(command: Command) -> str:
     made = f"{form(command)}\n{command.told[0].upper()}{command.told[1:]}.\n"
     if command.options:
         made += "\n" + rows((it.shown(), it.told) for it in command.options)
-    if command.program != FRONT:
+    if command.program not in (FRONT, READER):
         held = "JSON, any number of them" if command.many else ", ".join(f"{'a'} {it}" for it in command.texts)
         made += f"\nTexts: {held}, a file each; `-` is standard input. Without files they come\nfrom standard input, with a line `%%` between two of them.\n"
     made += f"\n{command.more}" if command.more else ""

@@ -7,6 +7,8 @@ MOST_NESTED = 256
 PROGRAM, TOOLS, VIEWER = "gammonfig", "qt_tools", "trace_view"
 # The front's own work, for which no program is run.
 FRONT = ""
+# What reads C++: a program of its own in this file, which takes its words apart itself.
+READER = "cpp/read"
 
 
 class Option:
@@ -81,6 +83,15 @@ COMMANDS = [
              Option("--strict", "the exit status is 3 where anything was left out"),
              Option("--effects", "what slots do, a slot a line: `Dialog.accept() sets result deletes preview`", "FILE", text="effects")),
             ("JSON",), many=True, statuses=((0, "classes are written"), USAGE, REFUSED, (3, "with `--strict`: something was left out")), page="docs/import.md", more=EFFECTS),
+    Command("read", READER, "what is wrong with a Qt application, in lines of its C++", "read --verdict -p build",
+            (Option("-p", "the folder with compile_commands.json", "BUILD"), Option("-o", "where to write", "OUT"),
+             Option("--root", "a folder of the application's sources", "DIR", repeats=True),
+             Option("--verdict", "tells the findings; without it the program is only written"), Option("--json", "as JSON"), Option("--sarif", "as SARIF"),
+             Option("--context", "with N lines of C++ around each place", "N"), Option("--explain", "why a class or a member is there", "NODE"),
+             Option("--roles", "what is told apart: objects by `member`, `class` or `site`", "ROLES"), Option("--only", "the units whose path has this", "REGEX"),
+             Option("--lean", "without members that lead to nothing"), Option("--slice", "what is on a circle or on a way to a deletion alone"),
+             Option("--keep-going", "reads on where clang tells errors"), Option("--strict", "the exit status is 3 where something wasn't understood")),
+            statuses=((0, "no findings"), (2, "the C++ can't be read, or the words are wrong"), (3, "there are findings")), page="docs/cpp.md"),
     Command("prove", FRONT, "proves and builds the programs, in one build", "prove", statuses=DONE, page="docs/commands.md"),
     Command("status", FRONT, "which programs stand, where, and how large they are", "status", statuses=DONE, page="docs/commands.md"),
     Command("install", FRONT, "copies the proved programs, the wrapper, the pages and completions below a folder", "install ~/.local", texts=("PREFIX",),

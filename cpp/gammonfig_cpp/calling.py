@@ -50,9 +50,9 @@ class Calling:
         steps, known = [], False
         for element, usr in self.reached(statement.function, shown, statement.name, found, statement.virtual):
             target = self.target(element, usr, statement.name)
+            known = known or target is not None or self.is_known(element, usr, statement.name)
             if target is None:
                 continue
-            known = True
             on = None if this and self.program.is_this(element, function) else program.role(element)
             steps.append(Step('call', target, on, statement.terms, statement.place, statement.conditions))
         return steps, known
@@ -80,7 +80,12 @@ class Calling:
         if self.qt.entry(self.objects.cls(element), name) is None:
             return None
         method = whole.method(usr)
-        return self.library(element, name, list(method.parameters) if method is not None else [])
+        key = self.library(element, name, list(method.parameters) if method is not None else [])
+        return key if self.program.members[key].steps else None
+
+    def is_known(self, element: Element, usr: str, name: str) -> bool:
+        """Whether it is known what a function of Qt does, be it nothing."""
+        return not self.whole.is_inside(self.whole.class_of(usr)) and self.qt.entry(self.objects.cls(element), name) is not None
 
     # Functions of Qt
 

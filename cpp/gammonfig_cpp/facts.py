@@ -19,6 +19,9 @@ from .units import ANNOTATIONS, Unit, is_generated
 from .values import Values
 
 ERROR = 3
+# The modules that facts depend on.
+READERS = ('bodies', 'calls', 'classes', 'comparing', 'connects', 'context', 'facts', 'holders', 'libclang', 'model', 'naming_callees',
+           'special', 'units', 'values')
 
 
 def read_unit(unit: Unit, roots: list[str], known: dict[str, Class]) -> Facts:
@@ -71,10 +74,9 @@ class Cache:
         self.folder = folder
         here = os.path.dirname(os.path.abspath(model.__file__))
         whole = hashlib.sha256()
-        for name in sorted(os.listdir(here)):
-            if name.endswith('.py'):
-                with open(os.path.join(here, name), 'rb') as file:
-                    whole.update(file.read())
+        for name in READERS:
+            with open(os.path.join(here, name + '.py'), 'rb') as file:
+                whole.update(file.read())
         self.reader = whole.hexdigest()
         self._sums: dict[str, str] = {}
         os.makedirs(folder, exist_ok=True)

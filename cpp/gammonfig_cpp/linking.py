@@ -26,7 +26,7 @@ class Linked:
     dropped: list[tuple[str, Connect]]
 
 
-def link(units: list[Facts], table: Table, roles: str, whole_program: bool) -> Linked:
+def link(units: list[Facts], table: Table, roles: str, lean: bool) -> Linked:
     whole = Whole(units)
     objects = Objects(whole, roles)
     program = Program(whole, objects)
@@ -39,5 +39,5 @@ def link(units: list[Facts], table: Table, roles: str, whole_program: bool) -> L
     Bindings(program, effects).all()
     fold(program)
     program.wires = unique_wires(program.wires)
-    Pruning(program, whole_program).all()
+    Pruning(program, lean).all()
     return Linked(program, whole, objects, wires.understood, wires.dropped)

@@ -35,7 +35,7 @@ def arguments(words: list[str]) -> argparse.Namespace:
                         'that holds them, of each class, or of each place where they are made')
     parser.add_argument('--table', metavar='FILE', default=os.path.join(os.path.dirname(HERE), 'qt.effects'), help='what Qt\'s functions do')
     parser.add_argument('--only', metavar='REGEX', help='only the units whose path has this')
-    parser.add_argument('--whole', action='store_true', help='keep members that lead to nothing')
+    parser.add_argument('--lean', action='store_true', help='leave out members that lead to nothing, though something leads to them')
     parser.add_argument('--slice', action='store_true', help='only what is on a circle or on a way to a deletion')
     parser.add_argument('--keep-going', action='store_true', help='read on where clang tells errors')
     parser.add_argument('--strict', action='store_true', help='status 3 where something that may hide a way was not understood')
@@ -87,25 +87,32 @@ def write_files(folder: str, files: dict[str, str]) -> None:
         raise ReadError(f'{folder}: this folder can\'t be written: {wrong.strerror}') from wrong
 
 
-def write_program(linked: Linked, root: str, options: argparse.Namespace) -> Written:
-    written = Writing(linked.program, root).write()
-    if written.too_much and not options.slice:
-        raise ReadError(f'the program is over a limit of the language: {"; ".join(written.too_much)}: '
-                        '--slice keeps what is on a circle or on a way to a deletion')
-    if options.slice:
+def write_program(facts: list[Facts], root: str, options: argparse.Namespace) -> tuple[Linked, Written]:
+    """The program; over the language's limits without members that lead to nothing, and then only as a slice."""
+    table = Table.read(options.table)
+    linked, written = _written(facts, table, root, options.roles, options.lean or options.slice, options.slice)
+    if written.too_much and not options.lean and not options.slice:
+        say(f'the whole program is over a limit of the language ({"; ".join(written.too_much)}): members that lead to nothing are left out')
+        linked, written = _written(facts, table, root, options.roles, True, False)
+    if written.too_much:
+        rest = 'what is on a circle or on a way to a deletion' if options.slice else 'the program'
+        offer = '' if options.slice else ': --slice keeps what is on a circle or on a way to a deletion'
+        raise ReadError(f'{rest} is over a limit of the language: {"; ".join(written.too_much)}{offer}')
+    return linked, written
+
+
+def _written(facts: list[Facts], table: Table, root: str, roles: str, lean: bool, is_slice: bool) -> tuple[Linked, Written]:
+    linked = link(facts, table, roles, lean)
+    if is_slice:
         keep_slice(linked.program)
-        written = Writing(linked.program, root).write()
-        if written.too_much:
-            raise ReadError(f'what is on a circle or on a way to a deletion is over a limit of the language: {"; ".join(written.too_much)}')
-    return written
+    return linked, Writing(linked.program, root).write()
 
 
 def read(options: argparse.Namespace, out: str, roots: list[str]) -> int:
     """Reads and writes; the status."""
     begun = time.time()
     facts, errors = read_facts(options, roots)
-    linked = link(facts, Table.read(options.table), options.roles, options.whole)
-    written = write_program(linked, roots[0], options)
+    linked, written = write_program(facts, roots[0], options)
     if options.explain:
         print(Explaining(linked, written).text(options.explain), end='')
         return 0

@@ -13,8 +13,8 @@ LEAVES = set('QLabel QPushButton QToolButton QCheckBox QRadioButton QLineEdit QS
 
 
 class Pruning:
-    def __init__(self, program: Program, whole_program: bool) -> None:
-        self.program, self.whole_program = program, whole_program
+    def __init__(self, program: Program, lean: bool) -> None:
+        self.program, self.lean = program, lean
         self.whole, self.objects = program.whole, program.objects
         self.owners: dict[Element, set[Element]] = defaultdict(set)
         for owner, child, _ in owners_of(program):
@@ -60,6 +60,23 @@ class Pruning:
         program = self.program
         for member in program.members.values():
             member.steps = unique(member.steps)
+        if self.lean:
+            self._only_what_leads_on()
+        else:
+            self._only_what_is_connected()
+        self._own()
+
+    def _only_what_is_connected(self) -> None:
+        """Takes out what leads to nothing and what nothing leads to."""
+        program = self.program
+        live = set(program.members)
+        used = self._used(live)
+        program.members = {k: m for k, m in program.members.items()
+                           if k in used or m.steps or m.notify is not None or (m.kind == 'signal' and self._is_heard(k))}
+
+    def _only_what_leads_on(self) -> None:
+        """Takes out what leads to nothing, though something may lead to it."""
+        program = self.program
         live = set(program.members)
         while True:
             dead = {key for key in live if not self._is_live(program.members[key], live)}
@@ -67,21 +84,16 @@ class Pruning:
                 break
             live -= dead
             self._drop(live)
-        if not self.whole_program:
-            self._drop_loose(live)
+        self._drop_loose(live)
         program.members = {key: m for key, m in program.members.items() if key in live}
-        self._own()
 
     def _is_live(self, member: Member, live: set[Key]) -> bool:
         """Whether a member may lead to something."""
         if member.kind == 'slot':
-            return bool(member.steps) or (self.whole_program and self._is_wired(member.key))
+            return bool(member.steps)
         if member.kind == 'property':
             return member.notify in live or any(member.key in b.sources or member.key == b.target for b in self.program.bound)
-        return self._is_heard(member.key) or (self.whole_program and member.key[0] == 'signal')
-
-    def _is_wired(self, key: Key) -> bool:
-        return any(w.method == key for w in self.program.wires)
+        return self._is_heard(member.key)
 
     def _is_heard(self, key: Key) -> bool:
         return any(w.signal == key for w in self.program.wires)
@@ -103,10 +115,10 @@ class Pruning:
     def _stays(self, step: Step, member: Member, live: set[Key], senders: dict[Key, set[Element]], acting: set[Element]) -> bool:
         if step.kind == 'delete':
             element = step.on or member.owner
-            return element != FREE and (self.whole_program or self._hits(element, acting))
+            return element != FREE and self._hits(element, acting)
         if step.member not in live:
             return False
-        if step.kind != 'emit' or self.whole_program:
+        if step.kind != 'emit':
             return True
         return any(self.related(member.owner, s) for s in senders.get(step.member, ()))
 
@@ -134,7 +146,7 @@ class Pruning:
             if member.notify is not None:
                 used.add(member.notify)
         for wire in self.program.wires:
-            used |= {wire.method} | ({wire.signal} if wire.signal[0] == 'signal' else set())
+            used |= {wire.method} | ({wire.signal} if not self.lean or wire.signal[0] == 'signal' else set())
         for bound in self.program.bound:
             used |= {bound.target, *bound.sources}
         return used
@@ -168,7 +180,7 @@ class Pruning:
         for owner, child, place in owners_of(program):
             if not any(self.related(owner, d) for d in dying):
                 continue
-            if self.whole_program or any(self.related(x, a) for x in self.closure(child) for a in acting):
+            if not self.lean or any(self.related(x, a) for x in self.closure(child) for a in acting):
                 a, b = program.role(owner), program.role(child)
                 if (a, b) not in kept:
                     kept[(a, b)] = (a, b, place)

@@ -68,13 +68,13 @@ def keep_slice(program: Program) -> None:
     program.wires = [w for w in program.wires if w.signal in keep and w.method in keep]
     program.bound = [b for b in program.bound if b.target in keep and any(s in keep for s in b.sources)]
     owners = {m.owner for m in program.members.values()}
-    pruning = Pruning(program, False)
+    pruning = Pruning(program, True)
     program.owns = [o for o in program.owns if any(pruning.related(x, a) for x in pruning.closure(o[1]) for a in owners)]
 
 
 def _deadly(program: Program, graph: Graph) -> set[Key]:
     """The members on a way from a slot to a deletion with which an object of its own class may die."""
-    pruning, keep = Pruning(program, False), set[Key]()
+    pruning, keep = Pruning(program, True), set[Key]()
     before: dict[Node, set[Node]] = defaultdict(set)
     for node, to in graph.edges.items():
         for other in to:

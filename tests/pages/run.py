@@ -38,6 +38,9 @@ def told(place, count):
         holds = holds and all(it.shown() in found[1] for it in command.options) and f"./gammonfig {command.example}" in found[1] and command.example.split()[0] == command.word
         count.check(holds and os.path.isfile(f"{built.ROOT}/{command.page}"), lambda: f"{command.word} --help: {found}")
         count.check(f"  ./gammonfig {command.example}" in place.run(["--help"])[1], lambda: f"{command.word} isn't in the help")
+        if command.program == words.READER:
+            # It takes its words apart itself.
+            continue
         found = place.run([command.word, "--none"])
         count.check(found[:2] == (1, "usage\n") and f"usage: ./gammonfig {command.word}" in found[2], lambda: f"{command.word} --none: {found}")
     for given in ["help", "none"], ["help", "run", "run"], ["completion"], ["completion", "fish"], ["prove", "run"], ["status", "run"]:
