@@ -7,7 +7,7 @@ from .classes import BINDABLE, CONTAINERS, SMART
 from .context import Context
 from .holders import Holders
 from .libclang import FUNCTIONS, NAMES, RECORDS, VARIABLES, Cursor, K, T, bare, expressions, is_written, overloads, strip
-from .model import NONE, Named, Statement, Value
+from .model import NONE, Forward, Named, Statement, Value
 from .special import Special
 
 # Classes of values, whose functions do nothing that others see.
@@ -109,7 +109,7 @@ class Calls:
         elif parent is None or parent.kind != K.CLASS_TEMPLATE:
             statement.on = Value('free')
         statement.terms = context.values.terms(given, context.classes.parameters(list(called.get_arguments())))
-        self.pass_arguments(called, given)
+        self.pass_arguments(called, given, call)
         return statement
 
     def _through_variable(self, call: Cursor) -> None:
@@ -239,28 +239,39 @@ class Calls:
 
     # Arguments
 
-    def pass_arguments(self, called: Cursor, given: list[Cursor]) -> None:
+    def pass_arguments(self, called: Cursor, given: list[Cursor], call: Cursor | None = None) -> None:
         """What the arguments may be, the parameters may hold."""
         context, key = self.context, self.context.function_key(called)
         formals = list(called.get_arguments())
+        named = [self._handed(argument) for argument in given]
         for at, argument in enumerate(given):
-            slot = f'P:{key}:{at}'
-            if context.callees.is_callable(argument):
-                named = context.callees.of(argument)
-                if named.kind != 'unknown':
-                    context.facts.callables.append((slot, named))
-            elif strip(argument).kind in (K.DECL_REF_EXPR, K.CALL_EXPR, K.UNARY_OPERATOR) and not context.classes.of(argument.type):
-                named = context.callees.of(argument)
-                if named.kind in ('parameter', 'lambda', 'method', 'text'):
-                    context.facts.callables.append((slot, named))
+            slot, one = f'P:{key}:{at}', named[at]
+            if one is not None:
+                context.facts.callables.append((slot, one))
             cls = context.classes.of(argument.type)
             if not cls:
                 continue
             context.flow(slot, context.values.of(argument), cls)
             if at < len(formals) and self._goes_back(formals[at]):
-                named_variable = strip(argument).referenced
-                if named_variable is not None and named_variable.kind in (K.VAR_DECL, K.FIELD_DECL):
-                    context.flow(context.variable_key(named_variable), Value('variable', slot, cls))
+                variable = strip(argument).referenced
+                if variable is not None and variable.kind in (K.VAR_DECL, K.FIELD_DECL):
+                    context.flow(context.variable_key(variable), Value('variable', slot, cls))
+        if any(named) and call is not None:
+            values = tuple(context.values.of(argument) for argument in given)
+            caller = context.function.key if context.function else ''
+            context.facts.forwards.append(Forward(key, context.place(call, 160), caller, values, tuple(named)))
+
+    def _handed(self, argument: Cursor) -> Named | None:
+        """What a function, a pointer to a member or a lambda among the arguments names."""
+        callees = self.context.callees
+        if callees.is_callable(argument):
+            named = callees.of(argument)
+            return named if named.kind != 'unknown' else None
+        plain = strip(argument).kind in (K.DECL_REF_EXPR, K.CALL_EXPR, K.UNARY_OPERATOR)
+        if plain and not self.context.classes.of(argument.type):
+            named = callees.of(argument)
+            return named if named.kind in ('parameter', 'lambda', 'method', 'text') else None
+        return None
 
     @staticmethod
     def _goes_back(formal: Cursor) -> bool:
@@ -287,6 +298,7 @@ class Calls:
         if parent.kind not in RECORDS or parent.spelling in SMART | CONTAINERS:
             return
         cls, given = context.classes.note(parent), list(call.get_arguments())
+        called = self._declared_constructor(called)
         inside = context.is_inside(called)
         if inside:
             self._to_function(call, called, on, given).virtual = False
@@ -301,6 +313,24 @@ class Calls:
         if owner.kind not in ('null', 'none') and on.kind in ('site', 'this'):
             context.facts.owns.append((owner, on, context.place(call)))
         self.special.constructed(call, context.facts.classes[cls].name, inside, on, given)
+
+    @staticmethod
+    def _declared_constructor(called: Cursor) -> Cursor:
+        """The constructor of a base that a class takes over by `using Base::Base`."""
+        for _ in range(4):
+            parent = called.semantic_parent
+            definition = parent.get_definition() or parent
+            kids = list(definition.get_children())
+            if any(k.kind == K.CONSTRUCTOR and k.get_usr() == called.get_usr() for k in kids):
+                return called
+            types = called.displayname.split('(', 1)[-1]
+            bases = [k.type.get_canonical().get_declaration() for k in kids if k.kind == K.CXX_BASE_SPECIFIER]
+            found = [k for b in bases for k in (b.get_definition() or b).get_children()
+                     if k.kind == K.CONSTRUCTOR and k.displayname.split('(', 1)[-1] == types]
+            if not found or types == ')':
+                return called
+            called = found[0]
+        return called
 
     def functors(self, call: Cursor, name: str, given: list[Cursor]) -> None:
         """A lambda handed to a function of a library: called at once as far as is known, unless it is known to be later."""

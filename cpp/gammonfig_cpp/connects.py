@@ -47,26 +47,20 @@ class Connects:
             return
         sender, signal = context.values.of(given[0]), context.callees.of(given[1])
         own = context.function.cls if context.function else ''
-        receiver, receiver_class, rest = NONE, own, given[3:]
-        if len(given) > 3 and (self.is_object(given[2]) or self._is_template_object(given[2])):
+        receiver, receiver_class = NONE, own
+        slot = context.callees.of(given[2]) if len(given) == 3 or context.callees.is_callable(given[2]) else None
+        if slot is None:
             receiver, receiver_class = context.values.of(given[2]), self._class(given[2]) or own
-            slot, rest = context.callees.of(given[3]), given[4:]
-            how = self.how(rest[0]) if rest else 'auto'
+            slot = context.callees.of(given[3])
+            how = self.how(given[4]) if len(given) > 4 else 'auto'
         else:
-            slot = context.callees.of(given[2])
-            how = self.how(rest[0]) if rest else 'auto'
+            how = self.how(given[3]) if len(given) > 3 else 'auto'
             if slot.kind == 'text':
                 receiver = this
             else:
                 how = 'direct'
         self._add(call, Connect(sender, self._class(given[0]), signal, receiver, receiver_class, slot, how, context.place(call, 160),
                                 context.function.key if context.function else '', 'connect'))
-
-    @staticmethod
-    def _is_template_object(cursor: Cursor) -> bool:
-        """Whether an argument is of a type that a template's arguments decide, and no lambda."""
-        return bool(cursor.type.get_canonical().kind in (T.DEPENDENT if hasattr(T, 'DEPENDENT') else T.UNEXPOSED, T.UNEXPOSED)
-                    and strip(cursor).kind != K.LAMBDA_EXPR)
 
     def _add(self, call: Cursor, connect: Connect) -> None:
         self.context.facts.connects.append(connect)

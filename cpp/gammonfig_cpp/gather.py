@@ -18,7 +18,14 @@ _known: dict[str, Class] = {}
 
 
 def _read(unit: Unit, roots: list[str]) -> Facts:
-    return read_unit(unit, roots, _known)
+    """The facts of a unit. Where the reader itself breaks down over it, that is an error of the unit, and not of all."""
+    sys.setrecursionlimit(20000)
+    try:
+        return read_unit(unit, roots, _known)
+    except Exception as wrong:  # whatever libclang's module may raise
+        if os.environ.get('GAMMONFIG_TRACE'):
+            raise
+        return Facts(unit.source, errors=[f'{unit.source}: the reader broke down over this file: {type(wrong).__name__}: {wrong}'])
 
 
 class Bar:

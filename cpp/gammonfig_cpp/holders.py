@@ -23,7 +23,9 @@ class Holders:
             return
         if name in ('release', 'take'):
             self.context.bodies.release(on)
-        if self._destroys(holder, name, on):
+        function = self.context.function
+        first = name == 'operator=' and function is not None and function.kind == 'constructor'
+        if self._destroys(holder, name, on) and not first:
             self._destroy(call, on)
         if given and (name in PUTTING or name.startswith('operator<<')):
             self._put(on, given)

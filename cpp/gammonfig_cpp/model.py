@@ -161,6 +161,16 @@ class Connect:
 
 
 @dataclass(frozen=True, slots=True)
+class Forward:
+    """A call that hands functions over: what it hands to each parameter, as objects and as what is named."""
+    function: str
+    place: Place
+    caller: str
+    values: tuple[Value, ...]
+    named: tuple[Named | None, ...]
+
+
+@dataclass(frozen=True, slots=True)
 class Unknown:
     """What wasn't understood: its kind, its words, and the function that has it."""
     kind: str
@@ -194,6 +204,7 @@ class Facts:
     contents: list[tuple[Value, Value]] = field(default_factory=list)
     moved: list[Value] = field(default_factory=list)
     callables: list[tuple[str, Named]] = field(default_factory=list)
+    forwards: list[Forward] = field(default_factory=list)
     object_names: list[tuple[Value, str]] = field(default_factory=list)
     unknown: list[Unknown] = field(default_factory=list)
     errors: list[str] = field(default_factory=list)

@@ -23,6 +23,7 @@ class Objects:
     def __init__(self, whole: Whole, roles: str) -> None:
         self.whole, self.roles = whole, roles
         self.outside = self._called_from_outside()
+        self.senders = self._senders()
         self.may: dict[str, frozenset[Element]] = {}
         self.held: dict[Element, set[Element]] = defaultdict(set)
         self._solve()
@@ -48,6 +49,30 @@ class Objects:
         whole, method = self.whole, self.whole.method(key)
         return method is not None and any(not whole.is_inside(a) and any(m.shown == method.shown for m in whole.classes[a].methods.values())
                                           for a in whole.above(whole.class_of(key))[1:])
+
+    def _senders(self) -> dict[str, list[tuple[Value, str]]]:
+        """By a slot the senders that are connected to it, where it is known by its name or as a member."""
+        found: dict[str, list[tuple[Value, str]]] = defaultdict(list)
+        for connect in self.whole.connects:
+            slot, sender = connect.slot, (connect.sender, connect.sender_class)
+            if slot.kind in ('method', 'bound'):
+                found[slot.key].append(sender)
+            elif slot.kind == 'text':
+                name = slot.name.split('(')[0].strip()
+                for usr, (_, method) in self.whole.methods.items():
+                    if method.name == name and self.whole.is_inside(self.whole.methods[usr][0]):
+                        found[usr].append(sender)
+        return found
+
+    def _sender(self, value: Value) -> set[Element]:
+        """What sender() may be in a slot: the senders that are connected to it, if they are of the class."""
+        found: set[Element] = set()
+        for sender, cls in self.senders.get(value.key, ()):
+            if sender.kind == 'sender':
+                return self._class(value.cls)
+            found |= self.resolve(sender) or self._class(cls)
+        fit = {e for e in found if self.whole.is_a(self.cls(e), value.cls)}
+        return fit if fit and len(fit) == len(found) else self._class(value.cls)
 
     def _solve(self) -> None:
         for _ in range(30):
@@ -80,8 +105,10 @@ class Objects:
         if kind == 'site':
             site = self.whole.sites.get(value.key)
             return {Element('site', value.key)} if site is not None and site.cls in self.whole.classes else set()
-        if kind in ('this', 'class', 'sender', 'member', 'static'):
+        if kind in ('this', 'class', 'member', 'static'):
             return self._class(value.cls)
+        if kind == 'sender':
+            return self._sender(value)
         if kind == 'variable':
             return self._variable(value, final)
         if kind == 'result':
@@ -146,12 +173,13 @@ class Objects:
         return {e for e in found if not value.cls or self.whole.is_a(self.cls(e), value.cls)
                 or self.whole.is_a(value.cls, self.cls(e))} or self._class(value.cls)
 
-    def is_null(self, value: Value) -> bool:
+    def is_null(self, value: Value, seen: frozenset[str] = frozenset()) -> bool:
         """Whether all that is known of a value is that it may be null."""
-        flows = self.whole.flows
-        if value.kind in ('null', 'variable', 'result'):
-            return value.kind == 'null' or value.key in flows or 'R:' + value.key in flows
-        return value.kind in ('any', 'cast') and all(self.is_null(part) for part in value.parts)
+        if value.kind in ('variable', 'result'):
+            key = value.key if value.kind == 'variable' else 'R:' + value.key
+            flows = self.whole.flows.get(key)
+            return key in seen or (flows is not None and all(self.is_null(f, seen | {key}) for f in flows))
+        return value.kind == 'null' or (value.kind in ('any', 'cast') and all(self.is_null(part, seen) for part in value.parts))
 
     def elements(self, value: Value, fallback: str = '') -> set[Element]:
         """The elements of a value, where those of a class cover the places below it."""

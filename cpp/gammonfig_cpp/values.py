@@ -127,7 +127,7 @@ class Values:
         if self.context.is_inside(called):
             return None
         if name == 'sender' and parent == 'QObject':
-            return Value('sender', cls=cls)
+            return Value('sender', self.context.function.key if self.context.function else '', cls)
         if name in HELD:
             holder = self.of(on, depth + 1) if on is not None else self.context.this
             return Value('content', cls=cls, parts=(holder,))

@@ -5,7 +5,7 @@ import re
 from collections import Counter, defaultdict
 from typing import Iterable
 
-from .model import Class, Connect, Facts, Field, Function, Method, Named, Place, Site, Unknown, Value
+from .model import Class, Connect, Facts, Field, Forward, Function, Method, Named, Place, Site, Unknown, Value
 
 FOREIGN = 'no class'
 
@@ -18,6 +18,7 @@ class Whole:
         self.fields: dict[str, Field] = {}
         self.flows: dict[str, list[Value]] = {}
         self.callables: dict[str, list[Named]] = defaultdict(list)
+        self.forwards: dict[str, list[Forward]] = defaultdict(list)
         self.connects: list[Connect] = []
         self.owns: list[tuple[Value, Value, Place]] = []
         self.contents: list[tuple[Value, Value]] = []
@@ -58,6 +59,9 @@ class Whole:
         self.moved += [m for m in facts.moved if self._is_new(('moved', m))]
         self.object_names += [n for n in facts.object_names if self._is_new(('name', n))]
         self.unknown += [u for u in facts.unknown if self._is_new(('unknown', u))]
+        for forward in facts.forwards:
+            if self._is_new(('forward', forward)):
+                self.forwards[forward.function].append(forward)
         for key, named in facts.callables:
             if self._is_new(('callable', key, named)):
                 self.callables[key].append(named)

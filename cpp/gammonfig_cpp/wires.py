@@ -6,12 +6,32 @@ from collections import defaultdict
 from dataclasses import replace
 
 from .calling import Calling
-from .model import Connect, Named, Parameter, Value
+from .model import Connect, Forward, Named, Parameter, Value
 from .objects import FREE, Element
 from .program import Key, Program, Wire
 from .targets import Target, Targets
 
 Source = tuple[Element, str]
+
+
+def handed(connect: Connect, call: Forward) -> Connect:
+    """A connection of a helper's parameters as one of what a call hands to them."""
+    before = f'P:{call.function}:'
+
+    def at(key: str) -> int | None:
+        return int(key[len(before):]) if key.startswith(before) and key[len(before):].isdigit() else None
+
+    def named(one: Named) -> Named:
+        index = at(one.key) if one.kind == 'parameter' else None
+        found = call.named[index] if index is not None and index < len(call.named) else None
+        return found or one
+
+    def value(one: Value) -> Value:
+        index = at(one.key) if one.kind == 'variable' else None
+        return call.values[index] if index is not None and index < len(call.values) else one
+
+    return replace(connect, sender=value(connect.sender), signal=named(connect.signal), receiver=value(connect.receiver),
+                   slot=named(connect.slot), place=call.place, function=call.caller)
 
 
 class Wires:
@@ -31,7 +51,7 @@ class Wires:
         self.of_threads = self._emitted_in_threads()
         connects = self.whole.connects + self._by_names()
         for connect in connects:
-            found = self._connection(connect)
+            found = self._forwarded(connect)
             if isinstance(found, str):
                 self.dropped.append((found, connect))
             else:
@@ -42,6 +62,21 @@ class Wires:
         self._of_qt()
 
     # One connection
+
+    def _forwarded(self, connect: Connect, depth: int = 0) -> list[Wire] | str:
+        """The wires of a connection; where a helper makes it of what it is handed, those of each call of the helper."""
+        keys = [n.key for n in (connect.signal, connect.slot) if n.kind == 'parameter' and n.key.startswith('P:')]
+        calls = self.whole.forwards.get(keys[0][2:].rsplit(':', 1)[0], []) if keys and depth < 4 else []
+        if not calls:
+            return self._connection(connect)
+        wires, reason = list[Wire](), ''
+        for call in calls:
+            found = self._forwarded(handed(connect, call), depth + 1)
+            if isinstance(found, str):
+                reason = found
+            else:
+                wires += found
+        return wires if wires or not reason else reason
 
     def _connection(self, connect: Connect) -> list[Wire] | str:
         signals = self.targets.named(connect.signal)
