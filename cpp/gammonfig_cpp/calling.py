@@ -3,7 +3,7 @@ from __future__ import annotations
 
 from .model import Function, Parameter, Place, Statement, Term, Value
 from .objects import Element
-from .program import Key, Member, Program, Step
+from .program import Key, Member, Program, Step, Wire
 from .qtmodel import Entry, QtModel, Written
 
 
@@ -118,9 +118,24 @@ class Calling:
         for function in entry.calls:
             for target_element, target in self.callbacks(element, function):
                 steps.append(Step('call', target, target_element, words=f'{name} calls {function}'))
+        for posted in entry.posts:
+            steps += self._posts(element, posted)
         for deleted in entry.deletes:
             steps += self._deletes(element, deleted)
         return steps
+
+    def _posts(self, element: Element, name: str) -> list[Step]:
+        """What a function of Qt lets the event loop do later: a signal that is emitted, or a function that is called."""
+        program = self.program
+        usr = self.whole.signal(self.objects.cls(element), name)
+        targets = [(program.role(element), program.emitter(usr))] if usr is not None and '::' not in name else \
+            self.callbacks(element, name)
+        if not targets:
+            return []
+        key = program.posted_by_qt(element, name.replace('::', '_'))
+        for on, target in targets:
+            program.wires.append(Wire(element, key, on, program.adapted(target, []), 'queued', None, f'Qt posts {name}'))
+        return [Step('emit', key)]
 
     def _write(self, cls: str, one: Written, usr: str, parameters: list[Parameter]) -> Step | None:
         """A property of Qt is set: it compares first, and tells what it was given."""

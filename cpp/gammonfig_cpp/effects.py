@@ -34,6 +34,8 @@ class Effects:
         steps: list[Step] = []
         for statement in function.statements:
             kind = self._kinds.get(statement.kind)
+            if statement.kind == 'nested':
+                self.program.modal.setdefault(self.program.function(function.key), statement.place)
             if statement.kind in ('bind', 'observe'):
                 self.bindable.append((statement, function))
             if kind is not None:

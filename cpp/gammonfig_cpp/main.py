@@ -15,9 +15,10 @@ from .model import Facts
 from .notes import Notes
 from .places import Places
 from .qtmodel import Table
-from .report import Teller, judge
+from .report import Teller, judge, warnings_of
 from .slicing import keep_slice
 from .units import units_of
+from .watching import Watching
 from .writing import Writing, Written
 
 HERE = os.path.dirname(os.path.abspath(__file__))
@@ -117,7 +118,8 @@ def read(options: argparse.Namespace, out: str, roots: list[str]) -> int:
         print(Explaining(linked, written).text(options.explain), end='')
         return 0
     notes = Notes(linked, written, errors)
-    write_files(out, {'app.gf': written.text, 'app.places': written.places.text(), 'app.effects.md': notes.text()})
+    write_files(out, {'app.gf': written.text, 'app.places': written.places.text(), 'app.effects.md': notes.text(),
+                      'app.warnings.json': Watching(linked.program, written.names, written.places).text()})
     if not options.quiet:
         connects = linked.understood + len(linked.dropped)
         say(f'{len(facts)} units, {linked.understood} of {connects} connections understood, {notes.hiding()} unknowns, '
@@ -129,6 +131,7 @@ def tell(options: argparse.Namespace, out: str, root: str) -> int:
     """Tells the verdict of what was written; its status."""
     places = Places.read(os.path.join(out, 'app.places'), root)
     verdict = judge(os.path.join(out, 'app.gf'), places)
+    verdict.findings += warnings_of(os.path.join(out, 'app.warnings.json'), verdict)
     teller = Teller(root, options.context)
     form = teller.json if options.json else teller.sarif if options.sarif else teller.text
     print(form(verdict), end='')

@@ -73,6 +73,8 @@ class Program:
         self.counts: Counter[str] = Counter()
         self.silent: Counter[str] = Counter()
         self.recursions: list[list[str]] = []
+        # Slots that run an event loop of their own.
+        self.modal: dict[Key, Place] = {}
 
     # Roles
 
@@ -157,6 +159,13 @@ class Program:
         key = ('posted', function.key, str(place.line), str(place.column))
         if key not in self.members:
             self.add(Member(key, self.owner_of(function), f'posted_{place.line}', 'signal', f'posted by {function.shown}', place))
+        return key
+
+    def posted_by_qt(self, owner: Element, name: str) -> Key:
+        """A signal that stands for what a function of Qt posts."""
+        key = ('posted', owner.kind, owner.key, name)
+        if key not in self.members:
+            self.add(Member(key, owner, f'posted_{name}', 'signal', f'posted by {name}', None, library=True))
         return key
 
     def relay(self, target: Key, parameters: list[Parameter]) -> Key:

@@ -39,6 +39,7 @@ class Finding:
     message: str
     help: str
     chain: list[StepTold] = field(default_factory=list)
+    severity: str = 'error'
 
 
 @dataclass
@@ -92,6 +93,26 @@ def finding_of(told: dict[str, Any], places: Places) -> Finding:
     return Finding(spot, str(told['rule']), int(told['number']), str(told['message']), str(told.get('help') or ''), chain)
 
 
+def warnings_of(path: str, verdict: Verdict) -> list[Finding]:
+    """What the reader warned of, but for rules that the verdict has itself."""
+    try:
+        with open(path, encoding='utf-8') as file:
+            found = json.load(file)['findings']
+    except (OSError, ValueError, KeyError) as wrong:
+        raise ReadError(f'{path}: the warnings can\'t be read') from wrong
+    own = {f.rule for f in verdict.findings}
+    return [warning_of(f) for f in found if f['rule'] not in own]
+
+
+def warning_of(told: dict[str, Any]) -> Finding:
+    def spot(of: dict[str, Any]) -> Spot:
+        return Spot(str(of.get('file', '')), int(of.get('line', 0)), int(of.get('column', 0)), str(of.get('words', '')),
+                    tuple(of.get('conditions', ())))
+
+    chain = [StepTold(spot(s), str(s['from']), str(s['to']), str(s['by']), str(s['message'])) for s in told['chain']]
+    return Finding(spot(told), str(told['rule']), 0, str(told['message']), '', chain, 'warning')
+
+
 class Teller:
     """Tells a verdict. `context` is how many lines of C++ are shown around each place."""
 
@@ -101,7 +122,7 @@ class Teller:
     def text(self, verdict: Verdict) -> str:
         lines: list[str] = []
         for finding in verdict.findings:
-            lines.append(f'{self._head(finding.spot)}: error: {finding.message} [{finding.rule}]')
+            lines.append(f'{self._head(finding.spot)}: {finding.severity}: {finding.message} [{finding.rule}]')
             lines += self._around(finding.spot)
             for step in finding.chain:
                 lines += self._step(step)
@@ -117,10 +138,10 @@ class Teller:
     def _head(spot: Spot) -> str:
         if spot.file:
             return f'{spot.file}:{spot.line}:{spot.column}'
-        return f'app.gf:{spot.program[0]}:{spot.program[1]}' if spot.program else 'Qt'
+        return f'app.gf:{spot.program[0]}:{spot.program[1]}' if spot.program else '(Qt)'
 
     def _step(self, step: StepTold) -> list[str]:
-        what = f'`{step.from_}` leads to `{step.to}`'
+        what = f'`{step.from_}` leads {"later " if step.by == "queued" else ""}to `{step.to}`'
         if step.spot.file:
             words = f': `{step.spot.words}`' if step.spot.words else ''
             conditions = ''.join(f', {c}' for c in step.spot.conditions)
@@ -155,7 +176,7 @@ class Teller:
         findings: list[dict[str, object]] = []
         for finding in verdict.findings:
             chain = [self._spot(s.spot) | {'from': s.from_, 'to': s.to, 'by': s.by, 'message': s.message} for s in finding.chain]
-            told: dict[str, object] = {'rule': finding.rule, 'number': finding.number, 'message': finding.message}
+            told: dict[str, object] = {'rule': finding.rule, 'number': finding.number, 'severity': finding.severity, 'message': finding.message}
             told |= ({'help': finding.help} if finding.help else {}) | self._spot(finding.spot) | {'chain': chain}
             findings.append(told)
         return json.dumps({'findings': findings, 'more': verdict.more, 'accepted': verdict.accepted}, indent=1, ensure_ascii=False) + '\n'
@@ -176,7 +197,7 @@ class Teller:
         results = []
         for finding in verdict.findings:
             steps = [{'location': self._location(s.spot, self._step(s)[0].split(': note: ', 1)[-1])} for s in finding.chain]
-            result: dict[str, object] = {'ruleId': finding.rule, 'level': 'error', 'message': {'text': finding.message},
+            result: dict[str, object] = {'ruleId': finding.rule, 'level': finding.severity, 'message': {'text': finding.message},
                                          'locations': [self._location(finding.spot, finding.message)]}
             if steps:
                 result['codeFlows'] = [{'threadFlows': [{'locations': steps}]}]

@@ -3,63 +3,16 @@ from __future__ import annotations
 
 from collections import defaultdict
 
+from .graph import Graph, Node
 from .graphs import components
 from .naming import Naming
-from .objects import Element
 from .program import Key, Program
 from .pruning import Pruning
-
-Node = tuple[Element, Key]
-
-
-class Graph:
-    """The edges that the check draws: a member as the objects of one class have it is a node."""
-
-    def __init__(self, program: Program) -> None:
-        self.program, self.names = program, Naming(program)
-        self.at: dict[Element, list[Key]] = defaultdict(list)
-        for key, member in program.members.items():
-            for role in [member.owner, *self.names.below[member.owner]]:
-                self.at[role].append(key)
-        self.edges: dict[Node, set[Node]] = {(r, k): set() for r, keys in self.at.items() for k in keys}
-        self.dying: dict[Node, set[Element]] = defaultdict(set)
-        for role, key in self.edges:
-            self._member(role, key)
-        self._wires()
-
-    def roles(self, role: Element) -> list[Element]:
-        return [role, *self.names.below[role]]
-
-    def _member(self, role: Element, key: Key) -> None:
-        member, to = self.program.members[key], self.edges[(role, key)]
-        if member.notify is not None:
-            to.add((role, member.notify))
-        for step in member.steps:
-            on = self.roles(step.on) if step.on is not None else [role]
-            if step.kind == 'delete':
-                self.dying[(role, key)] |= set(on)
-                continue
-            owner = self.program.members[step.member].owner
-            fit = [r for r in on if (r, step.member) in self.edges] or self.roles(owner)
-            to |= {(r, step.member) for r in fit}
-
-    def _wires(self) -> None:
-        for wire in self.program.wires:
-            if wire.how != 'queued':
-                for sender in self.roles(wire.sender):
-                    node = (sender, wire.signal)
-                    if node in self.edges:
-                        self.edges[node] |= {(r, wire.method) for r in self.roles(wire.receiver) if (r, wire.method) in self.edges}
-        for bound in self.program.bound:
-            for source in bound.sources:
-                for role in self.roles(self.program.members[source].owner):
-                    if (role, source) in self.edges:
-                        self.edges[(role, source)] |= {(r, bound.target) for r in self.roles(self.program.members[bound.target].owner)}
 
 
 def keep_slice(program: Program) -> None:
     """Keeps what is on a circle, or on a way from a slot to the death of an object of its own class."""
-    graph = Graph(program)
+    graph = Graph(program, Naming(program))
     keep = {key for found in components(graph.edges) for _, key in found}
     keep |= _deadly(program, graph)
     program.members = {k: m for k, m in program.members.items() if k in keep}

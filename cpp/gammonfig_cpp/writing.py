@@ -162,7 +162,7 @@ class Writing:
         if member.kind == 'signal':
             self.out(f'    signal {name}({formals});', member.place)
             return
-        about = f'  // {member.shown}' if member.library and member.place is None else ''
+        about = f'  // {member.shown}' if member.library and member.place is None else '  //@ modal' if key in self.program.modal else ''
         if not member.steps:
             self.out(f'    slot {name}({formals}) {{ }}{about}', member.place)
             return

@@ -1,0 +1,95 @@
+"""The edges that the check draws of a program, each with the place that draws it."""
+from __future__ import annotations
+
+from collections import defaultdict
+from dataclasses import dataclass
+
+from .model import Condition, Place
+from .naming import Naming
+from .objects import Element
+from .program import Key, Program
+
+Node = tuple[Element, Key]
+
+
+@dataclass(frozen=True)
+class Why:
+    """What draws an edge: a place with its conditions, and whether an event loop stands between."""
+    place: Place | None
+    conditions: tuple[Condition, ...] = ()
+    queued: bool = False
+
+
+class Graph:
+    """A member as the objects of one class have it is a node. Queued wires are edges where that is asked for."""
+
+    def __init__(self, program: Program, names: Naming, queued: bool = False) -> None:
+        self.program, self.names, self.queued = program, names, queued
+        self.at: dict[Element, list[Key]] = defaultdict(list)
+        for key, member in program.members.items():
+            for role in [member.owner, *self.names.below[member.owner]]:
+                self.at[role].append(key)
+        self.edges: dict[Node, dict[Node, Why]] = {(r, k): {} for r, keys in self.at.items() for k in keys}
+        self.dying: dict[Node, set[Element]] = defaultdict(set)
+        for role, key in self.edges:
+            self._member(role, key)
+        self._wires()
+
+    def roles(self, role: Element) -> list[Element]:
+        return [role, *self.names.below[role]]
+
+    def _add(self, node: Node, to: Node, why: Why) -> None:
+        if to in self.edges:
+            self.edges[node].setdefault(to, why)
+
+    def _member(self, role: Element, key: Key) -> None:
+        member = self.program.members[key]
+        if member.notify is not None:
+            self._add((role, key), (role, member.notify), Why(member.place))
+        for step in member.steps:
+            on = self.roles(step.on) if step.on is not None else [role]
+            if step.kind == 'delete':
+                self.dying[(role, key)] |= set(on)
+                continue
+            owner = self.program.members[step.member].owner
+            fit = [r for r in on if (r, step.member) in self.edges] or self.roles(owner)
+            for target in fit:
+                self._add((role, key), (target, step.member), Why(step.place, step.conditions))
+
+    def _wires(self) -> None:
+        for wire in self.program.wires:
+            if wire.how == 'queued' and not self.queued:
+                continue
+            for sender in self.roles(wire.sender):
+                for receiver in self.roles(wire.receiver) if (sender, wire.signal) in self.edges else ():
+                    self._add((sender, wire.signal), (receiver, wire.method), Why(wire.place, (), wire.how == 'queued'))
+        for bound in self.program.bound:
+            for source in bound.sources:
+                for role in self.roles(self.program.members[source].owner) if source in self.program.members else ():
+                    for target in self.roles(self.program.members[bound.target].owner):
+                        self._add((role, source), (target, bound.target), Why(bound.place))
+
+    def name(self, node: Node) -> str:
+        """A node as the verdict names it."""
+        member = self.program.members[node[1]]
+        sorts = ','.join(p.sort for p in member.parameters)
+        signature = '' if member.kind == 'property' else f'({sorts})'
+        return f'{self.names.classes[node[0]]}.{self.names.names[node[1]]}{signature}'
+
+    def way(self, starts: list[Node], goal: Node, within: set[Node] | None = None) -> list[Node] | None:
+        """A shortest way from one of the starts to a goal."""
+        before: dict[Node, Node | None] = {n: None for n in starts}
+        todo = list(starts)
+        for node in todo:
+            if node == goal:
+                way: list[Node] = []
+                at: Node | None = node
+                while at is not None:
+                    way.append(at)
+                    at = before[at]
+                return way[::-1]
+            for other in self.edges[node]:
+                if other not in before and (within is None or other in within):
+                    before[other] = node
+                    todo.append(other)
+        return None

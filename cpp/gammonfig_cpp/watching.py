@@ -1,0 +1,92 @@
+"""What the reader itself warns of, beside the verdict: circles through an event loop, and slots that run one.
+
+No check proves these: the language says nothing of what an event loop does next."""
+from __future__ import annotations
+
+import json
+
+from .graph import Graph, Node, Why
+from .graphs import components
+from .naming import Naming
+from .places import Places
+from .program import Program
+
+# What a user does is kept from a window while a modal dialog is open, so it is no way back into a slot that opens one.
+BY_HAND = ('QWidget', 'QAction', 'QShortcut', 'QGuiApplication', 'QGraphicsItem')
+
+
+class Watching:
+    def __init__(self, program: Program, names: Naming, places: Places) -> None:
+        self.program, self.places = program, places
+        self.graph = Graph(program, names, queued=True)
+
+    def text(self) -> str:
+        """The warnings, as the findings of a verdict in JSON."""
+        return json.dumps({'findings': self._queued_cycles() + self._re_entries()}, indent=1, ensure_ascii=False) + '\n'
+
+    def _told(self, why: Why) -> dict[str, object]:
+        if why.place is None or not why.place.file:
+            return {}
+        told: dict[str, object] = {'file': self.places.relative(why.place.file), 'line': why.place.line, 'column': why.place.column,
+                                   'words': why.place.words}
+        return told | ({'conditions': [c.told() for c in why.conditions]} if why.conditions else {})
+
+    def _chain(self, way: list[Node]) -> list[dict[str, object]]:
+        chain = []
+        for one, two in zip(way, way[1:]):
+            why = self.graph.edges[one][two]
+            names = {'from': self.graph.name(one), 'to': self.graph.name(two), 'by': 'queued' if why.queued else 'direct',
+                     'message': f'`{self.graph.name(one)}` leads {"later " if why.queued else ""}to `{self.graph.name(two)}`'}
+            chain.append(self._told(why) | names)
+        return chain
+
+    def _finding(self, rule: str, message: str, way: list[Node]) -> dict[str, object]:
+        chain = self._chain(way)
+        first: dict[str, object] = next((s for s in chain if 'file' in s), {})
+        spot = {k: first[k] for k in ('file', 'line', 'column', 'words') if k in first}
+        return {'rule': rule, 'number': 0, 'severity': 'warning', 'message': message, **spot, 'chain': chain}
+
+    def _queued_cycles(self) -> list[dict[str, object]]:
+        """A shortest circle with a queued step of each set of members that lead to one another."""
+        found = []
+        for members in components({n: list(to) for n, to in self.graph.edges.items()}):
+            best: list[Node] | None = None
+            for one in sorted(members):
+                for two, why in self.graph.edges[one].items():
+                    way = self.graph.way([two], one, members) if why.queued and two in members else None
+                    if way is not None and (best is None or len(way) + 1 < len(best)):
+                        best = [one, *way]
+            if best is not None:
+                name = self.graph.name(best[0])
+                found.append(self._finding('queued-cycle', f'`{name}` may lead back to itself through an event loop, and so go on '
+                                           'as long as that runs', best))
+        return found
+
+    def _re_entries(self) -> list[dict[str, object]]:
+        """Slots that run an event loop, in which they may be called again."""
+        starts, found = self._by_the_loop(), []
+        for node in self.graph.edges:
+            place = self.program.modal.get(node[1])
+            if place is None or node[0] != self.program.members[node[1]].owner:
+                continue
+            way = self.graph.way([n for n in starts if n != node], node)
+            if way is not None:
+                told = self._finding('re-entry', f'`{self.graph.name(node)}` runs an event loop, in which it may be called again', way)
+                spot = {'file': self.places.relative(place.file), 'line': place.line, 'column': place.column, 'words': place.words}
+                found.append(told | spot)
+        return found
+
+    def _by_the_loop(self) -> list[Node]:
+        """Signals that an event loop brings about: of Qt's classes, that no statement emits, and no user by hand; and posted ones."""
+        whole, objects = self.program.whole, self.program.objects
+        emitted = {s.member for m in self.program.members.values() if not m.library for s in m.steps}
+        starts = []
+        for node in self.graph.edges:
+            member = self.program.members[node[1]]
+            if member.kind != 'signal' or node[1] in emitted and member.key[0] != 'posted':
+                continue
+            cls = whole.class_of(node[1][1]) if node[1][0] == 'signal' else ''
+            by_hand = any(whole.is_named(cls, name) for name in BY_HAND) if cls else False
+            if node[1][0] == 'posted' or (cls and not whole.is_inside(cls) and not by_hand and objects.cls(node[0]) in whole.classes):
+                starts.append(node)
+        return starts
