@@ -7,7 +7,7 @@ from .classes import BINDABLE, CONTAINERS, SMART
 from .context import Context
 from .holders import Holders
 from .libclang import FUNCTIONS, NAMES, RECORDS, VARIABLES, Cursor, K, T, bare, expressions, is_written, overloads, strip
-from .model import NONE, Forward, Named, Statement, Value
+from .model import NONE, Condition, Forward, Named, Statement, Value
 from .special import Special
 
 # Classes of values, whose functions do nothing that others see.
@@ -154,6 +154,8 @@ class Calls:
         called, given = call.referenced, list(call.get_arguments())
         name, parent = called.spelling, called.semantic_parent.spelling
         on, inside = self.object_of(call), self.context.is_inside(called)
+        if name == 'operator=' and on is not None and given:
+            self.context.bodies.comparing.assignment(call, on, given[-1])
         if name == 'operator()' and self._call_operator(call, on, inside, parent):
             self.rest(call)
         elif parent in SMART | CONTAINERS:
@@ -185,9 +187,10 @@ class Calls:
         return function.statements[-1] if function is not None and function.statements else None
 
     def _block(self, statement: Statement | None) -> None:
-        """Marks what a blocked object does."""
-        if statement is not None and any(value == statement.on for value, _ in self.context.blocked):
-            statement.blocked = True
+        """Tells of what an object does whose signals are blocked: that isn't believed, but it is a condition."""
+        for value, words in self.context.blocked:
+            if statement is not None and value == statement.on:
+                statement.conditions += (Condition('blocked by', words, statement.place.line),)
 
     def _call_operator(self, call: Cursor, on: Cursor | None, inside: bool, parent: str) -> bool:
         """A call of a function object; whether that is all of it."""
@@ -233,7 +236,9 @@ class Calls:
         self._block(statement)
         if called.semantic_parent.kind in RECORDS and context.classes.is_object(statement.cls):
             self.special.owning(call, called.semantic_parent.spelling, called.spelling, value, given)
-        if not self.context.connects.by_library(call, called.semantic_parent.spelling, called.spelling, value, given):
+        if called.spelling.startswith('operator'):
+            self.holders.keep(on, given)
+        elif not self.context.connects.by_library(call, called.semantic_parent.spelling, called.spelling, value, given):
             self.functors(call, called.spelling, given)
         self.rest(call, callables=False)
 

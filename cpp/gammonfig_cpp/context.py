@@ -33,7 +33,7 @@ class Context:
         self.facts = Facts(source)
         self.function: Function | None = None
         self.conditions: list[Condition] = []
-        self.blocked: list[tuple[Value, int]] = []
+        self.blocked: list[tuple[Value, str]] = []
         self.hint = self.outer = ''
         self.parameters: dict[tuple[str, int], str] = {}
         self.changed: set[str] = set()

@@ -8,6 +8,7 @@ from .calling import Calling
 from .model import Field, Function, Named, Statement, Value
 from .objects import Element
 from .program import Key, Program, Step, Wire
+from .qtmodel import KNOWN
 from .targets import Targets
 
 
@@ -110,10 +111,7 @@ class Effects:
             return self._emission(statement, function)
         steps, known = self.calling.call_steps(statement, function, True)
         name = f'{self.whole.name(statement.cls)}::{statement.name}'
-        if statement.blocked and all(self.program.members[s.member].library for s in steps):
-            self.program.counts['calls on objects whose signals are blocked'] += len(steps)
-            return []
-        if not known and not statement.constant:
+        if not known and not statement.constant and statement.name not in KNOWN:
             self.program.silent[name] += 1
         return steps
 
@@ -123,8 +121,7 @@ class Effects:
         program.counts['emissions'] += 1
         if statement.how == 'told' and self._fits(statement, function) and self.notify.get(statement.field) == usr:
             return []
-        if statement.blocked or self.whole.name(cls) == 'QObject':
-            program.counts['emissions of blocked objects'] += int(statement.blocked)
+        if self.whole.name(cls) == 'QObject':
             return []
         on, place, conditions = statement.on, statement.place, statement.conditions
         if on.kind == 'this' and function.cls in self.whole.classes and self.whole.is_a(function.cls, cls):

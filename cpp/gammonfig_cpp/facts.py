@@ -19,9 +19,11 @@ from .units import ANNOTATIONS, Unit, is_generated
 from .values import Values
 
 ERROR = 3
+# Headers that clang has of its own.
+OF_CLANG = ('stddef.h', 'stdarg.h', 'float.h', 'limits.h', 'stdint.h')
 # The modules that facts depend on.
 READERS = ('bodies', 'calls', 'classes', 'comparing', 'connects', 'context', 'facts', 'holders', 'libclang', 'model', 'naming_callees',
-           'special', 'units', 'values')
+           'qtmodel', 'special', 'units', 'values')
 
 
 def read_unit(unit: Unit, roots: list[str], known: dict[str, Class]) -> Facts:
@@ -63,6 +65,8 @@ def errors_of(tree: object, context: Context) -> list[str]:
             missing = what.split("'")[1] if "'" in what else what
             generated = missing.startswith('ui_') or is_generated(missing)
             what = f'{"build first: " if generated else ""}{missing} isn\'t there'
+            if missing in OF_CLANG:
+                what += ': install Debian\'s package libclang-common-14-dev, or that of your version'
         told.append(f'{name}:{found.location.line}:{found.location.column}: {what}')
     return list(dict.fromkeys(told))
 

@@ -4,7 +4,8 @@ from __future__ import annotations
 import re
 
 from .context import Context
-from .libclang import NAMES, VARIABLES, Cursor, K, strip
+from .libclang import NAMES, VARIABLES, Cursor, K, bare, strip
+from .model import Named
 
 PUTTING = {'append', 'push_back', 'prepend', 'insert', 'enqueue', 'push', 'emplace_back', 'operator=', 'operator+=', 'replace', 'push_front',
            'emplace', 'swap', 'set_value', 'reset', 'try_emplace', 'insert_or_assign', 'emplace_front'}
@@ -44,6 +45,19 @@ class Holders:
         if cls:
             later = 'DeleteLater' in on.type.get_canonical().spelling
             self.context.add('later' if later else 'delete', call, self.context.values.of(on)).cls = cls
+
+    def keep(self, on: Cursor | None, given: list[Cursor]) -> None:
+        """A function object is kept in a variable."""
+        target = strip(on) if on is not None else None
+        named = target.referenced if target is not None and target.kind in NAMES else None
+        if named is None or named.kind not in VARIABLES or not given:
+            return
+        value = bare(given[-1])
+        if value.kind == K.LAMBDA_EXPR or (value.kind == K.CALL_EXPR and value.referenced is not None
+                                           and value.referenced.kind == K.CONSTRUCTOR):
+            key = self.context.callees.lambda_in(given[-1])
+            if key is not None:
+                self.context.facts.callables.append((str(self.context.variable_key(named)), Named('lambda', key)))
 
     def _put(self, on: Cursor, given: list[Cursor]) -> None:
         context, target = self.context, strip(on)

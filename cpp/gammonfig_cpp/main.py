@@ -109,11 +109,20 @@ def _written(facts: list[Facts], table: Table, root: str, roles: str, lean: bool
     return linked, Writing(linked.program, root).write()
 
 
+def refuse_twice(linked: Linked, written: Written, options: argparse.Namespace) -> None:
+    """A class of one name in two programs of a build would be taken for one class."""
+    for name, (one, other) in sorted(linked.whole.twice.items()):
+        first, second = (f'{written.places.relative(p.file)}:{p.line}' for p in (one, other))
+        if not options.keep_going:
+            raise ReadError(f'{name} is declared in {first} and in {second}: read each program of the build alone, with --root or --only')
+
+
 def read(options: argparse.Namespace, out: str, roots: list[str]) -> int:
     """Reads and writes; the status."""
     begun = time.time()
     facts, errors = read_facts(options, roots)
     linked, written = write_program(facts, roots[0], options)
+    refuse_twice(linked, written, options)
     if options.explain:
         print(Explaining(linked, written).text(options.explain), end='')
         return 0

@@ -50,7 +50,7 @@ class Parameter:
 
 @dataclass(frozen=True, slots=True)
 class Condition:
-    """`how` is `if`, `unless`, `else`, `while` or `blocked`."""
+    """`how` is `if`, `unless` or `blocked by`."""
     how: str
     words: str
     line: int
@@ -86,7 +86,6 @@ class Statement:
     virtual: bool = False
     constant: bool = False
     inline: bool = False
-    blocked: bool = False
     terms: tuple[Term, ...] = ()
     conditions: tuple[Condition, ...] = ()
     field: str = ''

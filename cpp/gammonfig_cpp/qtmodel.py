@@ -8,7 +8,13 @@ from dataclasses import dataclass, field
 from .errors import ReadError
 from .whole import Whole
 
-WORDS = ('emits', 'calls', 'posts', 'deletes')
+# Functions by which an object becomes the owner of an argument.
+TAKING = {'addWidget', 'insertWidget', 'setCentralWidget', 'setWidget', 'addTab', 'insertTab', 'addPage', 'setPage', 'setMenuBar',
+          'setStatusBar', 'addDockWidget', 'setLayout', 'addLayout', 'insertLayout', 'addToolBar', 'addSubWindow', 'setCellWidget',
+          'setItemWidget', 'setIndexWidget', 'setCornerWidget', 'addItem', 'addPermanentWidget', 'addRow', 'setTitleBarWidget', 'addMenu',
+          'setViewport', 'addScrollBarWidget', 'setMenuWidget', 'addAnimation', 'addState', 'setButton', 'replaceWidget'}
+# Functions of which the reader knows what they mean, beside the table.
+KNOWN = TAKING | {'addAction', 'setParent', 'setObjectName', 'setAttribute', 'callOnTimeout'}
 LINE = re.compile(r'(\w+)\.(~?\w+)\s+(.+)$')
 PART = re.compile(r'(emits|calls|posts|deletes)\s+((?:[\w:~]+\s*,\s*)*[\w:~]+)\s*')
 WIRE = re.compile(r'wire\s+(\w+)\.(\w+)\s*->\s*(\w+)\.(\w+)$')

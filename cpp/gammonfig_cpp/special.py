@@ -3,7 +3,8 @@ from __future__ import annotations
 
 from .context import Context
 from .libclang import NAMES, Cursor, K, T, expressions, first_text, is_written, strip
-from .model import Condition, Value
+from .model import Value
+from .qtmodel import TAKING
 
 NESTED = {'exec', 'processEvents', 'waitForFinished', 'waitForReadyRead', 'waitForConnected', 'waitForDisconnected', 'waitForBytesWritten',
           'waitForStarted', 'waitForNewConnection', 'exec_'}
@@ -12,11 +13,6 @@ DIALOGS = {('QMessageBox', n) for n in ('information', 'warning', 'critical', 'q
                                   'getSaveFileUrl')} | \
     {('QInputDialog', n) for n in ('getText', 'getInt', 'getDouble', 'getItem', 'getMultiLineText')} | \
     {('QColorDialog', 'getColor'), ('QFontDialog', 'getFont'), ('QApplication', 'aboutQt')}
-# Functions by which an object becomes the owner of an argument.
-TAKING = {'addWidget', 'insertWidget', 'setCentralWidget', 'setWidget', 'addTab', 'insertTab', 'addPage', 'setPage', 'setMenuBar',
-          'setStatusBar', 'addDockWidget', 'setLayout', 'addLayout', 'insertLayout', 'addToolBar', 'addSubWindow', 'setCellWidget',
-          'setItemWidget', 'setIndexWidget', 'setCornerWidget', 'addItem', 'addPermanentWidget', 'addRow', 'setTitleBarWidget', 'addMenu',
-          'setViewport', 'addScrollBarWidget', 'setMenuWidget', 'addAnimation', 'addState', 'setButton', 'replaceWidget'}
 # Calls after which Qt's own objects talk to each other, which isn't read.
 WIRING = {'setModel', 'setSourceModel', 'setSelectionModel', 'addMapping', 'setCompleter', 'setBuddy', 'setFocusProxy',
           'installEventFilter', 'setMapping', 'setMenu', 'setDefaultAction', 'assignProperty', 'addTransition', 'setItemDelegate'}
@@ -61,7 +57,7 @@ class Special:
 
     def _block(self, call: Cursor, on: Value, given: list[Cursor]) -> None:
         if given and self.context.text(given[0]) == 'true':
-            self.context.blocked.append((on, call.location.line))
+            self.context.blocked.append((on, self.context.text(call)))
         else:
             self.context.blocked = [b for b in self.context.blocked if b[0] != on]
 
@@ -78,10 +74,8 @@ class Special:
             return
         if name == 'QShortcut':
             self.context.connects.connecting(call, given, on, 'activated')
-        elif name in ('QSignalBlocker', 'QMutexLocker') and given and name == 'QSignalBlocker':
-            blocked = self.context.values.of(given[0])
-            self.context.blocked.append((blocked, call.location.line))
-            self.context.conditions.append(Condition('blocked', self.context.text(given[0]), call.location.line))
+        elif name == 'QSignalBlocker' and given:
+            self.context.blocked.append((self.context.values.of(given[0]), self.context.text(call)))
         elif name in ('QPropertyAnimation', 'QItemDelegate'):
             self.context.note('property by name', call)
 

@@ -26,6 +26,8 @@ class Whole:
         self.object_names: list[tuple[Value, str]] = []
         self.unknown: list[Unknown] = []
         self.named_slots = False
+        # Classes with two declarations, which two programs of one build may have.
+        self.twice: dict[str, tuple[Place, Place]] = {}
         self.counts: Counter[str] = Counter()
         self._seen: set[object] = set()
         for facts in units:
@@ -35,6 +37,10 @@ class Whole:
     def _add(self, facts: Facts) -> None:
         for key, cls in facts.classes.items():
             known = self.classes.get(key)
+            if known is not None and known.defined and cls.defined and cls.inside:
+                one, other = sorted([known.place, cls.place], key=lambda p: (p.file, p.line))
+                if (one.file, one.line) != (other.file, other.line):
+                    self.twice.setdefault(cls.qualified, (one, other))
             if known is None or (cls.defined and not known.defined):
                 self.classes[key] = cls
         for key, function in facts.functions.items():

@@ -1,0 +1,38 @@
+// What deletes, and what only looks like it.
+#include <QtCore>
+#include <memory>
+#include <vector>
+
+class Part : public QObject {
+    Q_OBJECT
+public:
+    explicit Part(QObject *parent = nullptr) : QObject(parent) {}
+    ~Part() override { emit parting(); }
+    void work() { emit worked(); }
+signals:
+    void worked();
+    void parting();
+};
+
+class Machine : public QObject {
+    Q_OBJECT
+public:
+    Machine() : m_plain(new Part(this)) { connect(m_plain, &Part::worked, this, &Machine::byDelete); }
+    void byDelete() { delete m_plain; }
+    void byReset() { m_unique.reset(); }
+    void byAssignment() { m_unique = std::make_unique<Part>(); }
+    void byScoped() { m_scoped.reset(new Part); }
+    void byClear() { m_many.clear(); }
+    void byAll() { qDeleteAll(m_list); }
+    void byScope() { std::unique_ptr<Part> taken = std::move(m_unique); taken->work(); }
+    void later() { m_plain->deleteLater(); }
+    std::unique_ptr<Part> given() { std::unique_ptr<Part> made = std::make_unique<Part>(); return made; }
+    void fresh() { Part *made = new Part; made->work(); delete made; }
+    void itself() { delete this; }
+private:
+    Part *m_plain;
+    std::unique_ptr<Part> m_unique;
+    QScopedPointer<Part> m_scoped;
+    std::vector<std::unique_ptr<Part>> m_many;
+    QList<Part *> m_list { new Part };
+};

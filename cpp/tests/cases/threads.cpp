@@ -1,0 +1,45 @@
+// What another thread or an event loop does later.
+#include <QtCore>
+
+class Worker : public QObject {
+    Q_OBJECT
+public slots:
+    void work() { emit done(); }
+signals:
+    void done();
+};
+
+class Loop : public QThread {
+    Q_OBJECT
+public:
+    void run() override { emit stepped(); helper(); }
+private:
+    void helper() { emit helped(); }
+signals:
+    void stepped();
+    void helped();
+};
+
+class Master : public QObject {
+    Q_OBJECT
+public:
+    Master() : m_worker(new Worker) {
+        m_worker->moveToThread(&m_thread);
+        connect(this, &Master::wanted, m_worker, &Worker::work);
+        connect(m_worker, &Worker::done, this, &Master::next);
+        connect(&m_loop, &Loop::stepped, this, &Master::next);
+        connect(&m_loop, &Loop::helped, this, &Master::next, Qt::DirectConnection);
+    }
+    void posts() { QTimer::singleShot(0, this, &Master::next); }
+    void postsLambda() { QTimer::singleShot(10, this, [this] { next(); }); }
+    void invokes() { QMetaObject::invokeMethod(this, "next", Qt::QueuedConnection); }
+    void invokesNow() { QMetaObject::invokeMethod(this, &Master::next); }
+public slots:
+    void next() { emit wanted(); }
+signals:
+    void wanted();
+private:
+    QThread m_thread;
+    Loop m_loop;
+    Worker *m_worker;
+};

@@ -1,0 +1,29 @@
+// Qt's own classes, by a table and by their headers.
+#include <QtWidgets>
+
+class Form : public QWidget {
+    Q_OBJECT
+public:
+    Form() {
+        auto *layout = new QVBoxLayout(this);
+        layout->addWidget(m_spin);
+        layout->addWidget(m_slider);
+        connect(m_spin, &QSpinBox::valueChanged, m_slider, &QSlider::setValue);
+        connect(m_slider, &QSlider::valueChanged, m_spin, &QSpinBox::setValue);
+        QAction *act = m_menu->addAction("go", this, &Form::go);
+        connect(act, &QAction::triggered, this, &Form::go);
+        connect(m_button, &QPushButton::clicked, this, &QWidget::close);
+        connect(m_button, &QPushButton::clicked, m_button, &QObject::deleteLater);
+        m_button->setFlat(true);
+    }
+    void go() { m_button->click(); m_box->setChecked(true); }
+    void closeEvent(QCloseEvent *) override { emit closing(); }
+signals:
+    void closing();
+private:
+    QSpinBox *m_spin = new QSpinBox;
+    QSlider *m_slider = new QSlider;
+    QMenu *m_menu = new QMenu(this);
+    QPushButton *m_button = new QPushButton(this);
+    QCheckBox *m_box = new QCheckBox(this);
+};

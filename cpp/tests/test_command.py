@@ -1,0 +1,155 @@
+"""The command itself: what it writes, what it tells, and its answers to bad input."""
+import json
+import os
+import pathlib
+import re
+import stat
+import subprocess
+
+import pytest
+from reading import CASES, HERE, flags
+
+READ = os.path.join(os.path.dirname(HERE), 'read')
+TABLE = ['--table', os.path.join(CASES, 'qt.effects')]
+SOURCE = '''#include <QObject>
+class Dial : public QObject {
+    Q_OBJECT
+public:
+    void turn(int to) { emit turned(to); }
+signals:
+    void turned(int to);
+};
+class Desk : public QObject {
+    Q_OBJECT
+public:
+    Desk() { connect(m_dial, &Dial::turned, m_dial, &Dial::turn); connect(m_dial, &Dial::turned, this, &Desk::end); }
+    void end() { if (m_dial) delete this; }
+private:
+    Dial *m_dial = new Dial;
+};
+'''
+
+
+def project(folder: pathlib.Path, text: str = SOURCE) -> pathlib.Path:
+    (folder / 'a.cpp').write_text(text)
+    entry = {'directory': str(folder), 'file': 'a.cpp', 'arguments': ['c++', *flags('Qt6Core'), '-c', 'a.cpp']}
+    (folder / 'compile_commands.json').write_text(json.dumps([entry]))
+    return folder
+
+
+def run(folder: pathlib.Path, *words: str, **more: str) -> 'subprocess.CompletedProcess[str]':
+    return subprocess.run([READ, *words], cwd=folder, capture_output=True, text=True, check=False,
+                          env={**os.environ, 'XDG_CACHE_HOME': str(folder / 'cache'), **more})
+
+
+@pytest.fixture(scope='module')
+def written(tmp_path_factory: pytest.TempPathFactory) -> pathlib.Path:
+    folder = project(tmp_path_factory.mktemp('project'))
+    done = run(folder, '-p', '.', '-o', 'out', *TABLE)
+    assert done.returncode == 0, done.stderr
+    assert '2 of 2 connections understood' in done.stderr
+    return folder
+
+
+def test_what_is_written(written: pathlib.Path) -> None:
+    assert sorted(os.listdir(written / 'out')) == ['app.effects.md', 'app.gf', 'app.places', 'app.warnings.json']
+    text = (written / 'out/app.gf').read_text()
+    assert 'wire Dial turned(int) -> Dial turn(int) auto;' in text
+    places = (written / 'out/app.places').read_text()
+    assert re.search(r'^\d+\t9\ta\.cpp\t13\t30\tdelete this\tif `m_dial`$', places, re.M)
+
+
+def test_a_second_run_reads_nothing_anew(written: pathlib.Path) -> None:
+    done = run(written, '-p', '.', '-o', 'out', *TABLE)
+    assert done.returncode == 0 and 'units read' not in done.stderr
+
+
+def test_explain(written: pathlib.Path) -> None:
+    told = run(written, '-p', '.', '--explain', 'Desk.end', '--quiet', *TABLE).stdout
+    assert 'deletes this: a.cpp:13: delete this, if `m_dial`' in told
+    told = run(written, '-p', '.', '--explain', 'Dial', '--quiet', *TABLE).stdout
+    assert 'made at a.cpp:15: new Dial' in told and 'may be in m_dial of Desk' in told
+
+
+VERDICT = {'findings': [{'rule': 'destroy-path', 'number': 75, 'message': 'm', 'help': 'h', 'file': 'x', 'line': 1, 'column': 1, 'chain': [
+    {'from': 'Desk.end()', 'to': '~Desk', 'by': 'statement', 'message': 's', 'file': 'x', 'line': 0, 'column': 9}]}], 'more': 0, 'accepted': 0}
+
+
+def checker(folder: pathlib.Path, line: int) -> str:
+    """A program in the place of the checker, which gives a verdict that is known."""
+    verdict = json.loads(json.dumps(VERDICT))
+    verdict['findings'][0]['chain'][0]['line'] = line
+    path = folder / 'checker'
+    path.write_text(f"#!/bin/sh\ncat > /dev/null\ncat << 'TXT'\n{json.dumps(verdict)}\nTXT\nexit 3\n")
+    path.chmod(path.stat().st_mode | stat.S_IXUSR)
+    return str(path)
+
+
+def line_of(written: pathlib.Path, words: str) -> int:
+    lines = (written / 'out/app.gf').read_text().split('\n')
+    return next(n for n, line in enumerate(lines, 1) if words in line)
+
+
+def test_a_verdict_in_lines_of_cpp(written: pathlib.Path) -> None:
+    named = checker(written, line_of(written, 'delete this;'))
+    done = run(written, '--verdict', 'out', '--context', '1', GAMMONFIG=named)
+    assert done.returncode == 3
+    assert 'a.cpp:13:30: note: `Desk.end()` leads to `~Desk`: `delete this`, if `m_dial`' in done.stdout
+    assert '>    13 |     void end() { if (m_dial) delete this; }' in done.stdout
+    told = json.loads(run(written, '--verdict', 'out', '--json', GAMMONFIG=named).stdout)
+    step = told['findings'][0]['chain'][0]
+    assert (step['file'], step['line'], step['conditions']) == ('a.cpp', 13, ['if `m_dial`'])
+
+
+def test_a_verdict_as_sarif(written: pathlib.Path) -> None:
+    named = checker(written, line_of(written, 'delete this;'))
+    told = json.loads(run(written, '--verdict', 'out', '--sarif', GAMMONFIG=named).stdout)
+    result = told['runs'][0]['results'][0]
+    step = result['codeFlows'][0]['threadFlows'][0]['locations'][0]['location']
+    assert step['physicalLocation']['artifactLocation'] == {'uri': 'a.cpp', 'uriBaseId': '%SRCROOT%'}
+    assert step['physicalLocation']['region']['startLine'] == 13
+
+
+def refused(done: 'subprocess.CompletedProcess[str]', sentence: str, folder: pathlib.Path) -> None:
+    assert done.returncode == 2, done.stderr
+    assert sentence in done.stderr and 'Traceback' not in done.stderr
+    assert not (folder / 'out').exists(), 'nothing is written'
+
+
+def test_a_header_that_is_not_there(tmp_path: pathlib.Path) -> None:
+    project(tmp_path, '#include "ui_main.h"\n' + SOURCE)
+    refused(run(tmp_path, '-p', '.', '-o', 'out', *TABLE), "build first: ui_main.h isn't there", tmp_path)
+    done = run(tmp_path, '-p', '.', '-o', 'out', '--keep-going', *TABLE)
+    assert done.returncode == 0 and 'ui_main.h' in (tmp_path / 'out/app.effects.md').read_text()
+    assert run(tmp_path, '-p', '.', '-o', 'out', '--keep-going', '--strict', *TABLE).returncode == 3
+
+
+def test_a_unit_that_does_not_parse(tmp_path: pathlib.Path) -> None:
+    project(tmp_path, SOURCE + 'void f() { nothing(; }\n')
+    refused(run(tmp_path, '-p', '.', '-o', 'out', *TABLE), 'a.cpp:17:', tmp_path)
+
+
+def test_a_class_twice(tmp_path: pathlib.Path) -> None:
+    project(tmp_path)
+    other = {'directory': str(tmp_path), 'file': 'b.cpp', 'arguments': ['c++', *flags('Qt6Core'), '-c', 'b.cpp']}
+    (tmp_path / 'b.cpp').write_text('\n' + SOURCE)
+    entries = json.loads((tmp_path / 'compile_commands.json').read_text())
+    (tmp_path / 'compile_commands.json').write_text(json.dumps([*entries, other]))
+    refused(run(tmp_path, '-p', '.', '-o', 'out', *TABLE), 'Desk is declared in a.cpp:9 and in b.cpp:10', tmp_path)
+
+
+def test_other_bad_input(tmp_path: pathlib.Path) -> None:
+    refused(run(tmp_path, '-p', 'nowhere', '-o', 'out'), 'there are no compile commands', tmp_path)
+    refused(run(tmp_path, '-o', 'out'), '-p DIR names the build', tmp_path)
+    refused(run(tmp_path, '-p', '.', '--root', 'nowhere', '-o', 'out'), 'there is no such folder', tmp_path)
+    project(tmp_path)
+    refused(run(tmp_path, '-p', '.', '-o', 'out', '--table', 'nowhere'), 'the table of what Qt does', tmp_path)
+    (tmp_path / 'file').write_text('')
+    assert "can't be written" in run(tmp_path, '-p', '.', '-o', 'file/out', *TABLE).stderr
+
+
+def test_no_libclang(tmp_path: pathlib.Path) -> None:
+    (tmp_path / 'sh').symlink_to('/bin/sh')
+    for name in ('dirname', 'readlink'):
+        (tmp_path / name).symlink_to(os.popen(f'command -v {name}').read().strip())
+    refused(run(tmp_path, '-p', '.', '-o', 'out', PATH=str(tmp_path)), 'python3-clang', tmp_path)

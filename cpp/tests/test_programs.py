@@ -1,0 +1,51 @@
+"""The small programs of `programs/`, each with a fault that is known, and their repaired twins: the fault is found at its line, and
+nothing in the twin."""
+import functools
+import json
+import os
+import pathlib
+import subprocess
+import sys
+import tempfile
+from typing import Any
+
+import pytest
+from reading import HERE
+
+PROGRAMS = os.path.join(HERE, 'programs')
+NAMES = sorted(n for n in os.listdir(PROGRAMS) if os.path.exists(os.path.join(PROGRAMS, n, 'expected.json'))) \
+    if os.path.isdir(PROGRAMS) else []
+READ = os.path.join(os.path.dirname(HERE), 'read')
+
+
+@functools.cache
+def prepared() -> str:
+    """A folder with the compile commands of all programs."""
+    folder = tempfile.mkdtemp(prefix='gammonfig-programs')
+    subprocess.run([sys.executable, os.path.join(PROGRAMS, 'programs_check.py'), '--prepare', '--folder', folder], check=True,
+                   stdout=subprocess.DEVNULL)
+    return folder
+
+
+def findings(name: str, variant: str, out: pathlib.Path) -> list[dict[str, Any]]:
+    root = os.path.join(PROGRAMS, name, variant)
+    done = subprocess.run([READ, '-p', os.path.join(prepared(), name, variant), '--root', root, '-o', str(out), '--verdict', '--json',
+                           '--no-cache', '--quiet'], capture_output=True, text=True, check=False)
+    assert done.returncode in (0, 3), done.stderr
+    found: list[dict[str, Any]] = json.loads(done.stdout)['findings']
+    return found
+
+
+@pytest.mark.parametrize('name', NAMES)
+def test_the_fault_is_found_at_its_line(name: str, tmp_path: pathlib.Path) -> None:
+    with open(os.path.join(PROGRAMS, name, 'expected.json'), encoding='utf-8') as file:
+        expected = json.load(file)
+    found = findings(name, 'faulty', tmp_path / 'out')
+    places = {(f['rule'], spot.get('file'), spot.get('line')) for f in found for spot in [f, *f['chain']]}
+    wanted = {(rule, expected['file'], expected['line']) for rule in expected['rules']}
+    assert places & wanted, found
+
+
+@pytest.mark.parametrize('name', NAMES)
+def test_the_twin_is_clean(name: str, tmp_path: pathlib.Path) -> None:
+    assert findings(name, 'repaired', tmp_path / 'out') == []

@@ -1,0 +1,157 @@
+"""What is read of each form that C++ has for it."""
+from reading import case
+
+
+def test_each_form_of_connect_is_a_wire() -> None:
+    wires = case('connects').wires()
+    for slot in ('byMember()', 'byOverload(int)', 'byCast(QString)', 'byText(int)', 'byShortText()', 'fewer(int)', 'again(int)',
+                 'lambda_55()', 'lambda_57(int)', 'bound()', 'held()', 'byTemplate()', 'byHelper()'):
+        assert sum(f'-> Receiver {slot} auto;' in w for w in wires) == 1, slot
+
+
+def test_types_of_connections() -> None:
+    wires = case('connects').wires()
+    assert 'wire Sender plain() -> Receiver queued_() queued;' in wires
+    assert 'wire Sender plain() -> Receiver lambda_56() direct;' in wires, 'a functor without a context is called directly'
+    assert 'wire Sender plain() -> Functions noArguments() direct;' in wires
+
+
+def test_a_converted_argument_is_not_handed_on() -> None:
+    found = case('connects')
+    assert 'wire Sender real(int) -> Receiver converted_with(int) auto;' in found.wires()
+    assert found.body('converted_with') == ['call this.converted(0);']
+
+
+def test_a_connection_that_is_not_understood_is_listed() -> None:
+    found = case('connects').linked
+    assert [(why, c.place.line) for why, c in found.dropped] == [("the signal isn't understood", 66)]
+    assert found.understood == 17
+
+
+def test_a_helper_is_read_at_its_calls() -> None:
+    assert case('connects').place('wire Sender plain() -> Receiver byHelper()').split('\t')[2:4] == ['connects.cpp', '65']
+
+
+def test_setters_that_compare_are_properties() -> None:
+    found = case('setters')
+    for setter, name in (('setLevel', 'level'), ('setName', 'name'), ('setMuted', 'muted'), ('setDepth', 'depth')):
+        assert found.body(setter) == [f'set this.{name} = to;']
+    assert '    property int level notify levelChanged(int);' in found.text
+    assert '    property int muted notify mutedChanged();' in found.text
+
+
+def test_setters_that_do_not_compare_emit() -> None:
+    found = case('setters')
+    assert found.body('setAlways') == ['emit alwaysChanged(to);']
+    assert found.body('setOther') == ['emit otherChanged(0);'], 'another value is kept than the one that was compared'
+    assert found.body('setClamped') == ['emit clampedChanged(0);'], 'the parameter is changed first'
+    assert found.body('setInner') == ['emit innerChanged(to);'], 'a further condition stands before the emission'
+
+
+def test_values_that_are_handed_on() -> None:
+    assert case('setters').body('run') == ['call this.to_Kept.setLevel(given);', 'call this.to_Kept.setAlways(7);',
+                                           'call this.to_Kept.setName("");', 'call this.to_Kept.setOther(0);',
+                                           'call this.to_Kept.setLevel(0);']
+    assert case('bodies').body('hands') == ['call this.takes(value, words);', 'call this.takes(0, "");']
+
+
+def test_deletions() -> None:
+    found = case('deletions')
+    for slot, role in (('byDelete', 'Part_m_plain'), ('byReset', 'Part_m_unique'), ('byAssignment', 'Part_m_unique'),
+                       ('byScoped', 'Part_m_scoped'), ('byAll', 'Part_m_list'), ('byScope', 'Part_m_unique'), ('byClear', 'Part')):
+        assert f'delete this.to_{role};' in found.body(slot), slot
+        assert f'call this.to_{role}.Part_gone();' in found.body(slot), slot
+    assert found.body('itself') == ['delete this;']
+
+
+def test_what_is_no_deletion() -> None:
+    found = case('deletions')
+    assert 'slot later(' not in found.text, 'a later deletion brings about nothing at once'
+    assert 'slot given(' not in found.text, 'what is returned is given away'
+    assert not any(s.startswith('delete') for s in found.body('fresh')), 'what the function made itself is no object of others'
+
+
+def test_owners() -> None:
+    text = case('deletions').text
+    for role in ('Part_m_unique', 'Part_m_plain', 'Part_m_scoped'):
+        assert f'owns Machine {role};' in text
+
+
+def test_a_role_for_each_member() -> None:
+    found = case('roles')
+    expected = {'pokeLeft': 'Cell_left.poke', 'pokeBase': 'Loud.poke_2', 'pokeOwn': 'Loud.poke', 'pokeListed': 'Cell_right.poke',
+                'pokeMade': 'Cell_45.poke', 'pokeCast': 'Loud.poke_2', 'pokeSingle': 'Cell_cell.poke', 'pass': 'Cell_left.poke'}
+    for slot, target in expected.items():
+        assert f'call this.to_{target}();' in found.body(slot), slot
+    assert 'slot pokeNull' not in found.text, 'what is null alone is no object'
+
+
+def test_sender_is_what_is_connected() -> None:
+    assert case('roles').body('answer') == ['call this.to_Cell_left.poke();']
+
+
+def test_a_role_for_each_class_or_place() -> None:
+    by_class, by_site = case('roles', 'class'), case('roles', 'site')
+    assert by_class.body('pokeLeft') == ['call this.to_Cell.poke();', 'call this.to_Loud.poke_2();']
+    assert 'Cell_left' not in by_class.text
+    assert by_site.body('pokeLeft') == ['call this.to_Cell_left.poke();']
+
+
+def test_conditions_stand_beside_statements() -> None:
+    found = case('bodies')
+    lines = [line.split('\t') for line in found.written.places.text().split('\n')]
+    conditions = {line[5]: line[6:] for line in lines if len(line) > 6}
+    assert conditions['high()'] == ['if `value > 3`']
+    assert conditions['low()'] == ['unless `value > 3`']
+    assert conditions['other()'] == ['unless `value == 0`']
+    assert conditions['given->high()'] == ['blocked by `blocker(given)`']
+    assert conditions['given->low()'] == ['blocked by `given->blockSignals(true)`']
+
+
+def test_recursion_is_folded_and_listed() -> None:
+    found = case('bodies')
+    assert found.body('one') == found.body('two') == ['emit high();', 'emit low();']
+    assert ['Body::one()', 'Body::two()'] in found.linked.program.recursions
+
+
+def test_lambdas_that_are_called() -> None:
+    found = case('bodies')
+    assert found.body('calledHere') == ['call this.lambda_20();']
+    assert found.body('sorted') == ['call this.lambda_21(0, 0);']
+    assert any(u.kind == 'functor' for u in found.linked.whole.unknown)
+
+
+def test_nested_event_loops_are_marked() -> None:
+    assert [p.line for p in case('bodies').linked.program.modal.values()] == [22]
+
+
+def test_threads_and_event_loops_make_queued_wires() -> None:
+    wires = case('threads').wires()
+    for wire in ('Master wanted() -> Worker work()', 'Worker done() -> Master next()', 'Loop stepped() -> Master next()',
+                 'Master posted_33() -> Master next()', 'Master posted_34() -> Master lambda_34()', 'Master posted_35() -> Master next()'):
+        assert f'wire {wire} queued;' in wires, wire
+    assert 'wire Loop helped() -> Master next() direct;' in wires
+    assert case('threads').body('invokesNow') == ['call this.to_Master.next();']
+
+
+def test_bindings() -> None:
+    text = case('bindings').text
+    assert '    property int m_width notify widthChanged();' in text
+    assert 'binding binding_8 Box.m_area (Box s0) = s0.m_width;' in text
+    assert 'wire Box m_area_changed() -> Box lambda_9() direct;' in text
+    assert case('bindings').body('grow') == ['set this.m_width = 0;']
+
+
+def test_classes_of_qt() -> None:
+    found = case('widgets')
+    assert found.body('setValue', 'QSlider') == ['set this.value = a1;'], 'WRITE and NOTIFY come from the header'
+    assert found.body('click', 'QPushButton') == ['emit pressed();', 'emit released();', 'emit clicked(0);', 'emit toggled(0);']
+    assert found.body('close', 'Form') == ['call this.to_Form.closeEvent("");'], 'Qt calls a virtual function back'
+    assert 'wire QAction triggered(int) -> Form go() auto;' in found.wires(), 'addAction connects'
+    assert found.linked.program.silent == {'QPushButton::setFlat': 1}
+
+
+def test_members_that_lead_to_nothing() -> None:
+    whole, lean = case('connects'), case('connects', lean=True)
+    assert 'slot byMember()' in whole.text
+    assert lean.wires() == [], 'no slot of this program leads to anything'
