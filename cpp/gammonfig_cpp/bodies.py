@@ -4,7 +4,7 @@ from __future__ import annotations
 from .classes import OWNING
 from .comparing import Comparing
 from .context import Context
-from .libclang import FUNCTIONS, NAMES, RECORDS, VARIABLES, Cursor, K, T, bare, expressions, strip
+from .libclang import FUNCTIONS, NAMES, RECORDS, VARIABLES, Cursor, K, T, bare, cindex, expressions, strip
 from .model import Condition, Function, Value
 
 # What Q_OBJECT declares and defines.
@@ -202,7 +202,8 @@ class Bodies:
         site = context.site(key, cursor, cls, cursor.spelling)
         context.calls.initial(first, site)
         function = context.function
-        if function is not None and key.startswith('V:') and context.classes.is_object(cls) and function.name != 'main':
+        is_local = key.startswith('V:') and cursor.storage_class != cindex.StorageClass.STATIC
+        if function is not None and is_local and context.classes.is_object(cls) and function.name != 'main':
             context.add('scope', cursor, site).cls = cls
 
     # Statements

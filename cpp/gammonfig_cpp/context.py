@@ -19,6 +19,10 @@ if TYPE_CHECKING:
     from .values import Values
 
 
+# The macro is empty, so no cursor has it.
+EMIT = re.compile(r'\b(emit|Q_EMIT)\s+$')
+
+
 class Context:
     """The reader of one unit. Its parts hang on it, so that each of them may call the others."""
     classes: Classes
@@ -85,6 +89,8 @@ class Context:
         if start.file is None or start.file.name != location.file.name:
             start = location
         words = self.text(cursor, limit) if limit else ''
+        if words and cursor.kind == K.CALL_EXPR and EMIT.search(self.bytes_between(start.file.name, max(0, start.offset - 8), start.offset)):
+            words = 'emit ' + words
         return Place(self.path(location.file.name)[0], start.line, start.column, words)
 
     def declared(self, cursor: Cursor) -> Place:

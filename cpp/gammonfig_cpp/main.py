@@ -15,7 +15,7 @@ from .model import Facts
 from .notes import Notes
 from .places import Places
 from .qtmodel import Table
-from .report import Teller, judge, warnings_of
+from .report import Teller, add_warnings, judge
 from .slicing import keep_slice
 from .units import units_of
 from .watching import Watching
@@ -140,7 +140,7 @@ def tell(options: argparse.Namespace, out: str, root: str) -> int:
     """Tells the verdict of what was written; its status."""
     places = Places.read(os.path.join(out, 'app.places'), root)
     verdict = judge(os.path.join(out, 'app.gf'), places)
-    verdict.findings += warnings_of(os.path.join(out, 'app.warnings.json'), verdict)
+    add_warnings(os.path.join(out, 'app.warnings.json'), verdict)
     teller = Teller(root, options.context)
     form = teller.json if options.json else teller.sarif if options.sarif else teller.text
     print(form(verdict), end='')

@@ -40,6 +40,7 @@ class Finding:
     help: str
     chain: list[StepTold] = field(default_factory=list)
     severity: str = 'error'
+    note: str = ''
 
 
 @dataclass
@@ -93,15 +94,24 @@ def finding_of(told: dict[str, Any], places: Places) -> Finding:
     return Finding(spot, str(told['rule']), int(told['number']), str(told['message']), str(told.get('help') or ''), chain)
 
 
-def warnings_of(path: str, verdict: Verdict) -> list[Finding]:
-    """What the reader warned of, but for rules that the verdict has itself."""
+RESTS = ('each step hands on the value that it was given, and only a change is told: this comes to rest, where the setters '
+         'that were read as properties compare; that is not proved')
+
+
+def add_warnings(path: str, verdict: Verdict) -> None:
+    """Adds what the reader warned of, but for rules that the verdict has itself; and tells of circles that come to rest."""
     try:
         with open(path, encoding='utf-8') as file:
-            found = json.load(file)['findings']
+            told = json.load(file)
+        found, resting = told['findings'], [set(names) for names in told['resting']]
     except (OSError, ValueError, KeyError) as wrong:
         raise ReadError(f'{path}: the warnings can\'t be read') from wrong
     own = {f.rule for f in verdict.findings}
-    return [warning_of(f) for f in found if f['rule'] not in own]
+    for finding in verdict.findings:
+        names = {s.from_ for s in finding.chain}
+        if finding.rule == 'cycle' and any(names <= known for known in resting):
+            finding.note = RESTS
+    verdict.findings += [warning_of(f) for f in found if f['rule'] not in own]
 
 
 def warning_of(told: dict[str, Any]) -> Finding:
@@ -126,7 +136,9 @@ class Teller:
             lines += self._around(finding.spot)
             for step in finding.chain:
                 lines += self._step(step)
-            if finding.help:
+            if finding.note:
+                lines.append(f'  note: {finding.note}')
+            elif finding.help:
                 lines.append(f'  help: {finding.help}')
         count = len(verdict.findings) + verdict.more
         lines.append(f'{count} finding{"" if count == 1 else "s"}' if count else 'nothing is found')
@@ -177,7 +189,7 @@ class Teller:
         for finding in verdict.findings:
             chain = [self._spot(s.spot) | {'from': s.from_, 'to': s.to, 'by': s.by, 'message': s.message} for s in finding.chain]
             told: dict[str, object] = {'rule': finding.rule, 'number': finding.number, 'severity': finding.severity, 'message': finding.message}
-            told |= ({'help': finding.help} if finding.help else {}) | self._spot(finding.spot) | {'chain': chain}
+            told |= ({'help': finding.help} if finding.help else {}) | ({'note': finding.note} if finding.note else {}) | self._spot(finding.spot) | {'chain': chain}
             findings.append(told)
         return json.dumps({'findings': findings, 'more': verdict.more, 'accepted': verdict.accepted}, indent=1, ensure_ascii=False) + '\n'
 

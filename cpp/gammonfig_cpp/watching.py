@@ -10,6 +10,7 @@ from .graphs import components
 from .naming import Naming
 from .places import Places
 from .program import Program
+from .settling import Settling
 
 # What a user does is kept from a window while a modal dialog is open, so it is no way back into a slot that opens one.
 BY_HAND = ('QWidget', 'QAction', 'QShortcut', 'QGuiApplication', 'QGraphicsItem')
@@ -22,7 +23,8 @@ class Watching:
 
     def text(self) -> str:
         """The warnings, as the findings of a verdict in JSON."""
-        return json.dumps({'findings': self._queued_cycles() + self._re_entries()}, indent=1, ensure_ascii=False) + '\n'
+        resting = Settling(self.program, Graph(self.program, self.graph.names)).sets()
+        return json.dumps({'findings': self._queued_cycles() + self._re_entries(), 'resting': resting}, indent=1, ensure_ascii=False) + '\n'
 
     def _told(self, why: Why) -> dict[str, object]:
         if why.place is None or not why.place.file:

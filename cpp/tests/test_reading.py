@@ -101,11 +101,11 @@ def test_conditions_stand_beside_statements() -> None:
     found = case('bodies')
     lines = [line.split('\t') for line in found.written.places.text().split('\n')]
     conditions = {line[5]: line[6:] for line in lines if len(line) > 6}
-    assert conditions['high()'] == ['if `value > 3`']
-    assert conditions['low()'] == ['unless `value > 3`']
-    assert conditions['other()'] == ['unless `value == 0`']
-    assert conditions['given->high()'] == ['blocked by `blocker(given)`']
-    assert conditions['given->low()'] == ['blocked by `given->blockSignals(true)`']
+    assert conditions['emit high()'] == ['if `value > 3`']
+    assert conditions['emit low()'] == ['unless `value > 3`']
+    assert conditions['emit other()'] == ['unless `value == 0`']
+    assert conditions['emit given->high()'] == ['blocked by `blocker(given)`']
+    assert conditions['emit given->low()'] == ['blocked by `given->blockSignals(true)`']
 
 
 def test_recursion_is_folded_and_listed() -> None:
