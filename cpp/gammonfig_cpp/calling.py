@@ -115,6 +115,8 @@ class Calling:
         for signal in entry.emits:
             if signal not in told:
                 steps += self._emit(cls, signal)
+        for signal in entry.inside:
+            steps += self._inside(element, signal)
         for function in entry.calls:
             for target_element, target in self.callbacks(element, function):
                 steps.append(Step('call', target, target_element, words=f'{name} calls {function}'))
@@ -165,6 +167,22 @@ class Calling:
             if found is not None and not whole.is_inside(key) and self.is_present(key):
                 steps.append(Step('call', program.emitter(found), program.of_class(key)))
         return steps
+
+    def _inside(self, element: Element, name: str) -> list[Step]:
+        """A signal of an object in this one: of those that it owns, and of any of the class where one is connected of which it isn't
+        known where it is made."""
+        whole, program = self.whole, self.program
+        if '::' not in name:
+            return []
+        class_name, signal = name.split('::')
+        steps = []
+        for key in whole.by_name.get(class_name, ()):
+            usr = whole.signal(key, signal)
+            inner = [o for o in sorted(self.owned(element)) if whole.is_a(self.objects.cls(o), key)]
+            if any(w.sender == Element('class', key) for w in program.wires):
+                inner.append(Element('class', key))
+            steps += [Step('call', program.emitter(usr), program.role(o)) for o in inner if usr is not None]
+        return list({s.same(): s for s in steps}.values())
 
     def _deletes(self, element: Element, name: str) -> list[Step]:
         """What a function of Qt deletes: the object itself, or what it owns of a class."""

@@ -110,6 +110,9 @@ class Effects:
         if self.whole.is_signal(statement.function):
             return self._emission(statement, function)
         steps, known = self.calling.call_steps(statement, function, True)
+        found = self.calling.qt.entry(statement.cls, statement.name) if statement.cls in self.whole.classes else None
+        if found is not None and found[1].modal and function.name != 'main':
+            self.program.modal.setdefault(self.program.function(function.key), statement.place)
         name = f'{self.whole.name(statement.cls)}::{statement.name}'
         if not known and not statement.constant and statement.name not in KNOWN:
             self.program.silent[name] += 1

@@ -16,18 +16,27 @@ TAKING = {'addWidget', 'insertWidget', 'setCentralWidget', 'setWidget', 'addTab'
 # Functions of which the reader knows what they mean, beside the table.
 KNOWN = TAKING | {'addAction', 'setParent', 'setObjectName', 'setAttribute', 'callOnTimeout'}
 LINE = re.compile(r'(\w+)\.(~?\w+)\s+(.+)$')
-PART = re.compile(r'(emits|calls|posts|deletes)\s+((?:[\w:~]+\s*,\s*)*[\w:~]+)\s*')
+CLAUSES = ('emits', 'inside', 'rarely', 'calls', 'posts', 'deletes', 'later', 'owns', 'takes')
 WIRE = re.compile(r'wire\s+(\w+)\.(\w+)\s*->\s*(\w+)\.(\w+)$')
 
 
 @dataclass
 class Entry:
-    """What one function does: names of signals, of virtual functions, of what is posted, and of what is deleted. A name with
-    `C::` before it is of any object of the class C."""
+    """What one function does: names of signals, of those of objects in this one, of virtual functions, of what is posted, of what is
+    deleted; and whether it runs an event loop. A name with `C::` before it is of any object of the class C."""
     emits: list[str] = field(default_factory=list)
+    inside: list[str] = field(default_factory=list)
     calls: list[str] = field(default_factory=list)
     posts: list[str] = field(default_factory=list)
     deletes: list[str] = field(default_factory=list)
+    modal: bool = False
+
+    def add(self, clause: str, names: list[str]) -> None:
+        """A clause of a line. What is deleted later brings about nothing at once; owners are known from the calls."""
+        to = {'emits': self.emits, 'rarely': self.emits, 'inside': self.inside, 'calls': self.calls, 'posts': self.posts,
+              'deletes': self.deletes}.get(clause)
+        if to is not None:
+            to.extend(n for n in names if n not in to)
 
 
 class Table:
@@ -57,12 +66,34 @@ class Table:
             self.wires.append((wire[1], wire[2], wire[3], wire[4]))
             return True
         found = LINE.match(words)
-        if not found or PART.sub('', found[3]).strip():
+        clauses = clauses_of(found[3]) if found else None
+        if not found or clauses is None:
             return False
         entry = self.entries.setdefault((found[1], found[2]), Entry())
-        for word, names in PART.findall(found[3]):
-            getattr(entry, word).extend(name.strip() for name in names.split(','))
+        for clause, names in clauses:
+            entry.modal = entry.modal or clause == 'modal'
+            entry.add(clause, names)
         return True
+
+
+def clauses_of(words: str) -> list[tuple[str, list[str]]] | None:
+    """The clauses of a line: a word with names, or `modal` alone."""
+    found: list[tuple[str, list[str]]] = []
+    is_open = False
+    for word in re.findall(r'[\w:~]+|\S', words):
+        if word == ',' and found and found[-1][1] and not is_open:
+            is_open = True
+        elif word in CLAUSES or word == 'modal':
+            if is_open or (found and found[-1][0] != 'modal' and not found[-1][1]):
+                return None
+            found.append((word, []))
+        elif re.fullmatch(r'[\w:~]+', word) and found and found[-1][0] != 'modal' and (is_open or not found[-1][1]):
+            found[-1][1].append(word)
+            is_open = False
+        else:
+            return None
+    complete = bool(found) and not is_open and (found[-1][0] == 'modal' or bool(found[-1][1]))
+    return found if complete else None
 
 
 @dataclass(frozen=True)
