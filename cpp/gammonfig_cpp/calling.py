@@ -224,7 +224,7 @@ class Calling:
         if '::' in name:
             class_name, name = name.split('::')
             return [t for key in whole.by_name.get(class_name, ()) for t in self.callbacks(Element('class', key), name)]
-        cls, seen = self.objects.cls(element), set()
+        cls, seen = self.objects.cls(element), set[str]()
         for below in [cls] if element.kind == 'site' else whole.below(cls):
             for above in whole.above(below):
                 hit = [u for u, m in whole.classes[above].methods.items() if m.name == name]
@@ -234,8 +234,16 @@ class Calling:
                         on = self.program.role(element) if element.kind == 'site' else self.program.of_class(above)
                         out.append((on, self.program.function(usr)))
                 if hit:
+                    out += self._of_qt(element, name, hit[0]) if below == cls and not whole.is_inside(above) else []
                     break
         return out
+
+    def _of_qt(self, element: Element, name: str, usr: str) -> list[tuple[Element, Key]]:
+        """Qt's own virtual function, where the table has a line for it."""
+        if self.qt.entry(self.objects.cls(element), name) is None:
+            return []
+        key = self.library(element, name, list(self.whole.methods[usr][1].parameters))
+        return [(self.program.role(element), key)]
 
     def destructors(self, element: Element) -> list[Key]:
         """The destructors with a body that run when an object dies."""

@@ -6,8 +6,7 @@ from .libclang import NAMES, Cursor, K, T, expressions, first_text, is_written, 
 from .model import Value
 from .qtmodel import TAKING
 
-NESTED = {'exec', 'processEvents', 'waitForFinished', 'waitForReadyRead', 'waitForConnected', 'waitForDisconnected', 'waitForBytesWritten',
-          'waitForStarted', 'waitForNewConnection', 'exec_'}
+NESTED = {'exec', 'processEvents', 'exec_'}
 DIALOGS = {('QMessageBox', n) for n in ('information', 'warning', 'critical', 'question', 'about', 'aboutQt')} | \
     {('QFileDialog', n) for n in ('getOpenFileName', 'getOpenFileNames', 'getSaveFileName', 'getExistingDirectory', 'getOpenFileUrl',
                                   'getSaveFileUrl')} | \

@@ -148,6 +148,9 @@ def test_classes_of_qt() -> None:
     assert found.body('click', 'QPushButton') == ['emit pressed();', 'emit released();', 'emit clicked(0);', 'emit toggled(0);']
     assert found.body('close', 'Form') == ['call this.to_Form.closeEvent("");'], 'Qt calls a virtual function back'
     assert 'wire QAction triggered(int) -> Form go() auto;' in found.wires(), 'addAction connects'
+    assert found.body('ok') == ['call this.accept();']
+    assert found.body('accept') == ['call this.to_Ask.done(0);'], 'a virtual function of Qt has a line of its own'
+    assert found.body('done') == ['emit accepted();', 'emit finished(0);', 'emit rejected();']
     assert found.linked.program.silent == {'QPushButton::setFlat': 1}
 
 

@@ -74,10 +74,13 @@ def test_a_table() -> None:
     assert table.entries[('QAbstractButton', 'setChecked')].emits == ['toggled', 'QButtonGroup::buttonToggled']
     assert table.entries[('QWidget', 'close')].calls == ['closeEvent']
     assert table.entries[('QTimer', 'start')].posts == ['timeout']
+    assert table.entries[('QDialog', 'done')].emits == ['accepted', 'finished', 'rejected']
+    assert table.entries[('QMenu', 'exec')].modal and not table.entries[('QDialog', 'done')].modal
     assert table.wires == [('QAction', 'triggered', 'QMenu', 'triggered')]
 
 
-@pytest.mark.parametrize('line', ['QAction.trigger', 'QAction emits x', 'QAction.trigger emit x', 'QAction.trigger emits', 'wire A.b C.d'])
+@pytest.mark.parametrize('line', ['QAction.trigger', 'QAction emits x', 'QAction.trigger emit x', 'QAction.trigger emits', 'QAction.trigger emits a b',
+                                  'QAction.trigger emits a,', 'QAction.trigger modal a', 'QAction.trigger emits modal', 'wire A.b C.d'])
 def test_a_bad_table(tmp_path: pathlib.Path, line: str) -> None:
     (tmp_path / 't').write_text('# first\n' + line + '\n')
     with pytest.raises(ReadError, match=':2: this is no line'):

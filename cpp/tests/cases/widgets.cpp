@@ -27,3 +27,9 @@ private:
     QPushButton *m_button = new QPushButton(this);
     QCheckBox *m_box = new QCheckBox(this);
 };
+
+class Ask : public QDialog {
+    Q_OBJECT
+public:
+    void ok() { accept(); }
+};
