@@ -101,6 +101,9 @@ class Program:
 
     def add(self, member: Member) -> Key:
         member.parameters = member.parameters[:MOST_PARAMETERS]
+        if member.owner.kind == 'class' and self.whole.name(member.owner.key) == 'QObject' and member.key[0] != 'signal':
+            # QObject is no class that a program declares.
+            member.owner = FREE
         self.members[member.key] = member
         return member.key
 

@@ -34,6 +34,7 @@ class Writing:
         self.paths: dict[tuple[Element, Element], str] = {}
         self.references: dict[Element, list[Element]] = {}
         self.hubs: list[Element] = []
+        self.hub = free_name('Hub', {n.rstrip('0123456789') for n in self.names.classes.values()})
         self.declared: dict[Element, set[str]] = defaultdict(set)
         self.lines_of: dict[Key, int] = {}
 
@@ -88,13 +89,13 @@ class Writing:
                 if len(own) > MOST_REFERENCES:
                     if target not in self.hubs:
                         self.hubs.append(target)
-                    name = f'hub{self.hubs.index(target) // MOST_REFERENCES}.{name}'
+                    name = f'{self.hub.lower()}{self.hubs.index(target) // MOST_REFERENCES}.{name}'
                 self.paths[(role, target)] = name
 
     def _hub_classes(self) -> None:
         """Classes that hold references for those that have too many of their own."""
         for at in range(0, len(self.hubs), MOST_REFERENCES):
-            self.out(f'class Hub{at // MOST_REFERENCES} {{')
+            self.out(f'class {self.hub}{at // MOST_REFERENCES} {{')
             for target in self.hubs[at:at + MOST_REFERENCES]:
                 self.out(f'    property {self.names.classes[target]}* to_{self.names.classes[target]};')
             self.out('}')
