@@ -71,24 +71,33 @@ class Watching:
             place = self.program.modal.get(node[1])
             if place is None or node[0] != self.program.members[node[1]].owner:
                 continue
-            way = self.graph.way([n for n in starts if n != node], node)
+            way = self.graph.way([n for n in starts if n != node], node) or self._back(node)
             if way is not None:
                 told = self._finding('re-entry', f'`{self.graph.name(node)}` runs an event loop, in which it may be called again', way)
                 spot = {'file': self.places.relative(place.file), 'line': place.line, 'column': place.column, 'words': place.words}
                 found.append(told | spot)
         return found
 
+    def _back(self, node: Node) -> list[Node] | None:
+        """A way from a slot back to it by what is posted."""
+        for first in self.graph.edges[node]:
+            way = self.graph.way([first], node)
+            if way is not None and any(self.graph.edges[a][b].queued for a, b in zip(way, way[1:])):
+                return way
+        return None
+
     def _by_the_loop(self) -> list[Node]:
-        """Signals that an event loop brings about: of Qt's classes, that no statement emits, and no user by hand; and posted ones."""
+        """Signals that an event loop brings about: of Qt's classes, that no statement emits, and no user by hand; and what Qt posts."""
         whole, objects = self.program.whole, self.program.objects
         emitted = {s.member for m in self.program.members.values() if not m.library for s in m.steps}
         starts = []
         for node in self.graph.edges:
-            member = self.program.members[node[1]]
-            if member.kind != 'signal' or node[1] in emitted and member.key[0] != 'posted':
+            key = node[1]
+            by_qt = key[0] == 'posted' and self.program.members[key].library
+            if self.program.members[key].kind != 'signal' or (key in emitted and not by_qt):
                 continue
-            cls = whole.class_of(node[1][1]) if node[1][0] == 'signal' else ''
+            cls = whole.class_of(key[1]) if key[0] == 'signal' else ''
             by_hand = any(whole.is_named(cls, name) for name in BY_HAND) if cls else False
-            if node[1][0] == 'posted' or (cls and not whole.is_inside(cls) and not by_hand and objects.cls(node[0]) in whole.classes):
+            if by_qt or (cls and not whole.is_inside(cls) and not by_hand and objects.cls(node[0]) in whole.classes):
                 starts.append(node)
         return starts
