@@ -3,10 +3,10 @@ nothing in the twin."""
 import functools
 import json
 import os
-import pathlib
 import subprocess
 import sys
 import tempfile
+from concurrent.futures import ThreadPoolExecutor
 from typing import Any
 
 import pytest
@@ -27,25 +27,40 @@ def prepared() -> str:
     return folder
 
 
-def findings(name: str, variant: str, out: pathlib.Path) -> list[dict[str, Any]]:
-    root = os.path.join(PROGRAMS, name, variant)
-    done = subprocess.run([READ, '-p', os.path.join(prepared(), name, variant), '--root', root, '-o', str(out), '--verdict', '--json',
-                           '--no-cache', '--quiet'], capture_output=True, text=True, check=False)
+def read(program: tuple[str, str]) -> 'subprocess.CompletedProcess[str]':
+    """Reads one program, and judges it."""
+    name, variant = program
+    build = os.path.join(prepared(), name, variant)
+    return subprocess.run([READ, '-p', build, '--root', os.path.join(PROGRAMS, name, variant), '--verdict', '--json', '--no-cache',
+                           '--quiet'], capture_output=True, text=True, check=False)
+
+
+@functools.cache
+def all_read() -> dict[tuple[str, str], 'subprocess.CompletedProcess[str]']:
+    """All programs, several at once."""
+    prepared()
+    programs = [(name, variant) for name in NAMES for variant in ('faulty', 'repaired')]
+    with ThreadPoolExecutor(os.cpu_count() or 1) as pool:
+        return dict(zip(programs, pool.map(read, programs)))
+
+
+def findings(name: str, variant: str) -> list[dict[str, Any]]:
+    done = all_read()[(name, variant)]
     assert done.returncode in (0, 3), done.stderr
     found: list[dict[str, Any]] = json.loads(done.stdout)['findings']
     return found
 
 
 @pytest.mark.parametrize('name', NAMES)
-def test_the_fault_is_found_at_its_line(name: str, tmp_path: pathlib.Path) -> None:
+def test_the_fault_is_found_at_its_line(name: str) -> None:
     with open(os.path.join(PROGRAMS, name, 'expected.json'), encoding='utf-8') as file:
         expected = json.load(file)
-    found = findings(name, 'faulty', tmp_path / 'out')
+    found = findings(name, 'faulty')
     places = {(f['rule'], spot.get('file'), spot.get('line')) for f in found for spot in [f, *f['chain']]}
     wanted = {(rule, expected['file'], expected['line']) for rule in expected['rules']}
     assert places & wanted, found
 
 
 @pytest.mark.parametrize('name', NAMES)
-def test_the_twin_is_clean(name: str, tmp_path: pathlib.Path) -> None:
-    assert findings(name, 'repaired', tmp_path / 'out') == []
+def test_the_twin_is_clean(name: str) -> None:
+    assert findings(name, 'repaired') == []
