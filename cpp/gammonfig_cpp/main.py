@@ -88,13 +88,13 @@ def write_files(folder: str, files: dict[str, str]) -> None:
         raise ReadError(f'{folder}: this folder can\'t be written: {wrong.strerror}') from wrong
 
 
-def write_program(facts: list[Facts], root: str, options: argparse.Namespace) -> tuple[Linked, Written]:
+def write_program(facts: list[Facts], roots: list[str], options: argparse.Namespace) -> tuple[Linked, Written]:
     """The program; over the language's limits without members that lead to nothing, and then only as a slice."""
     table = Table.read(options.table)
-    linked, written = _written(facts, table, root, options.roles, options.lean or options.slice, options.slice)
+    linked, written = _written(facts, table, roots, options.roles, options.lean or options.slice, options.slice)
     if written.too_much and not options.lean and not options.slice:
         say(f'the whole program is over a limit of the language ({"; ".join(written.too_much)}): members that lead to nothing are left out')
-        linked, written = _written(facts, table, root, options.roles, True, False)
+        linked, written = _written(facts, table, roots, options.roles, True, False)
     if written.too_much:
         rest = 'what is on a circle or on a way to a deletion' if options.slice else 'the program'
         offer = '' if options.slice else ': --slice keeps what is on a circle or on a way to a deletion'
@@ -102,11 +102,11 @@ def write_program(facts: list[Facts], root: str, options: argparse.Namespace) ->
     return linked, written
 
 
-def _written(facts: list[Facts], table: Table, root: str, roles: str, lean: bool, is_slice: bool) -> tuple[Linked, Written]:
+def _written(facts: list[Facts], table: Table, roots: list[str], roles: str, lean: bool, is_slice: bool) -> tuple[Linked, Written]:
     linked = link(facts, table, roles, lean)
     if is_slice:
         keep_slice(linked.program)
-    return linked, Writing(linked.program, root).write()
+    return linked, Writing(linked.program, *roots).write()
 
 
 def refuse_twice(linked: Linked, written: Written, options: argparse.Namespace) -> None:
@@ -121,7 +121,7 @@ def read(options: argparse.Namespace, out: str, roots: list[str]) -> int:
     """Reads and writes; the status."""
     begun = time.time()
     facts, errors = read_facts(options, roots)
-    linked, written = write_program(facts, roots[0], options)
+    linked, written = write_program(facts, roots, options)
     refuse_twice(linked, written, options)
     if options.explain:
         print(Explaining(linked, written).text(options.explain), end='')

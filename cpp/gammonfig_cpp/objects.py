@@ -116,7 +116,7 @@ class Objects:
         if kind == 'cast':
             return self._cast(value, final)
         if kind == 'content':
-            return self._content(value)
+            return self._content(value, final)
         found: set[Element] = set()
         for part in value.parts if kind == 'any' else ():
             found |= self.resolve(part, final)
@@ -158,7 +158,7 @@ class Objects:
                 found |= target
         return found or (target if final else set())
 
-    def _content(self, value: Value) -> set[Element]:
+    def _content(self, value: Value, final: bool) -> set[Element]:
         found: set[Element] = set()
         for element in self.resolve(value.parts[0], True):
             cls = self.cls(element)
@@ -170,8 +170,8 @@ class Objects:
                     if self.whole.is_a(self.cls(other), cls):
                         held |= self.held[other]
             found |= held
-        return {e for e in found if not value.cls or self.whole.is_a(self.cls(e), value.cls)
-                or self.whole.is_a(value.cls, self.cls(e))} or self._class(value.cls)
+        fit = {e for e in found if not value.cls or self.whole.is_a(self.cls(e), value.cls) or self.whole.is_a(value.cls, self.cls(e))}
+        return fit if fit or not final else self._class(value.cls)
 
     def is_null(self, value: Value, seen: frozenset[str] = frozenset()) -> bool:
         """Whether all that is known of a value is that it may be null."""

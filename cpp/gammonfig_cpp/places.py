@@ -17,15 +17,21 @@ def clean(words: str) -> str:
 
 @dataclass
 class Places:
+    """Places below `root` or one of the other `roots`: what stands in Qt's headers has none."""
     root: str
+    roots: tuple[str, ...] = ()
     found: dict[tuple[int, int], tuple[Place, tuple[str, ...]]] = field(default_factory=dict)
 
     def relative(self, file: str) -> str:
         """A file as seen from the checkout, where it lies in it."""
         return os.path.relpath(file, self.root) if file.startswith(self.root + os.sep) else file
 
+    def has(self, file: str) -> bool:
+        """Whether a file is one of the application's."""
+        return any(file.startswith(r + os.sep) for r in (self.root, *self.roots))
+
     def add(self, line: int, column: int, place: Place | None, conditions: tuple[Condition, ...] = ()) -> None:
-        if place is not None and place.file:
+        if place is not None and self.has(place.file):
             self.found[(line, column)] = (place, tuple(c.told() for c in conditions))
 
     def at(self, line: int, column: int) -> tuple[Place, tuple[str, ...]] | None:

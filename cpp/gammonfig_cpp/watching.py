@@ -13,7 +13,7 @@ from .program import Program
 from .settling import Settling
 
 # What a user does is kept from a window while a modal dialog is open, so it is no way back into a slot that opens one.
-BY_HAND = ('QWidget', 'QAction', 'QShortcut', 'QGuiApplication', 'QGraphicsItem')
+BY_HAND = ('QWidget', 'QAction', 'QShortcut', 'QGuiApplication', 'QGraphicsItem', 'QSystemTrayIcon')
 
 
 class Watching:
@@ -27,10 +27,11 @@ class Watching:
         return json.dumps({'findings': self._queued_cycles() + self._re_entries(), 'resting': resting}, indent=1, ensure_ascii=False) + '\n'
 
     def _told(self, why: Why) -> dict[str, object]:
-        if why.place is None or not why.place.file:
+        place = why.place
+        if place is None or not self.places.has(place.file):
             return {}
-        told: dict[str, object] = {'file': self.places.relative(why.place.file), 'line': why.place.line, 'column': why.place.column,
-                                   'words': why.place.words}
+        told: dict[str, object] = {'file': self.places.relative(place.file), 'line': place.line, 'column': place.column,
+                                   'words': place.words}
         return told | ({'conditions': [c.told() for c in why.conditions]} if why.conditions else {})
 
     def _chain(self, way: list[Node]) -> list[dict[str, object]]:

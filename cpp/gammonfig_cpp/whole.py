@@ -8,6 +8,8 @@ from typing import Iterable
 from .model import Class, Connect, Facts, Field, Forward, Function, Method, Named, Place, Site, Unknown, Value
 
 FOREIGN = 'no class'
+# What Q_IMPORT_PLUGIN declares in each file that has it.
+OF_MACROS = re.compile(r'Static\w+PluginInstance$')
 
 
 class Whole:
@@ -37,7 +39,7 @@ class Whole:
     def _add(self, facts: Facts) -> None:
         for key, cls in facts.classes.items():
             known = self.classes.get(key)
-            if known is not None and known.defined and cls.defined and cls.inside:
+            if known is not None and known.defined and cls.defined and cls.inside and not OF_MACROS.match(cls.name):
                 one, other = sorted([known.place, cls.place], key=lambda p: (p.file, p.line))
                 if (one.file, one.line) != (other.file, other.line):
                     self.twice.setdefault(cls.qualified, (one, other))

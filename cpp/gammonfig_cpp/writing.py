@@ -25,9 +25,9 @@ class Written:
 
 
 class Writing:
-    def __init__(self, program: Program, root: str) -> None:
+    def __init__(self, program: Program, root: str, *roots: str) -> None:
         self.program, self.names = program, Naming(program)
-        self.places = Places(root)
+        self.places = Places(root, roots)
         self.lines: list[str] = []
         self.counts: dict[str, int] = defaultdict(int)
         self.too_much: list[str] = []
