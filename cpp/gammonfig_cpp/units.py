@@ -16,9 +16,13 @@ ANNOTATIONS = ('-DQT_ANNOTATE_ACCESS_SPECIFIER(x)=__attribute__((annotate(#x)))'
                '-DQT_ANNOTATE_CLASS2(type,a1,a2)=static_assert(sizeof(#a1 " " #a2),#type);',
                '-DQ_CLANG_EXTRACT', '-Wno-everything', '-ferror-limit=0')
 APART = ('-isystem', '-include', '-I', '-D', '-U', '-iquote', '-idirafter', '-isysroot')
-JOINED = ('-I', '-D', '-U', '-std', '-isystem', '-iquote', '-f', '-m')
+JOINED = ('-I', '-D', '-U', '-std', '-isystem', '-iquote')
 PATHS = ('-I', '-isystem', '-iquote', '-idirafter')
-LEFT_OUT = ('-fno-fat', '-flto', '-fmodules-ts', '-fdeps', '-fconcepts', '-mno-direct-extern')
+# Flags that decide what a text means; all others are a compiler's own, and clang may not know them.
+MEANING = re.compile(r'-f(PIC|PIE|pic|pie|(no-)?exceptions|(no-)?rtti|short-enums|(no-)?char8_t|(un)?signed-char|ms-extensions|openmp)$'
+                     r'|-m(32|64|sse[\d.]*|ssse3|avx\w*|fma|f16c|bmi2?)$')
+# The names by which clang knows the newest standards.
+STANDARDS = {'++23': '++2b', '++26': '++2b'}
 SOURCES = ('.cpp', '.cc', '.cxx', '.C', '.c++', '.mm')
 
 
@@ -51,13 +55,21 @@ def flags_of(words: list[str], folder: str) -> tuple[str, ...]:
             at += 1
         elif word in ('-o', '-c', '-MF', '-MT', '-MQ', '-arch', '-x'):
             at += 0 if word == '-c' else 1
-        elif word.startswith(JOINED) and not word.startswith(LEFT_OUT):
+        elif word.startswith(JOINED):
             option = next((p for p in PATHS if word.startswith(p)), '')
-            flags.append(option + whole(word[len(option):]) if option else word)
+            flags.append(option + whole(word[len(option):]) if option else standard(word))
+        elif MEANING.match(word):
+            flags.append(word)
         at += 1
     if not any(f.startswith('-std') for f in flags):
         flags.append('-std=gnu++17')
     return tuple(flags)
+
+
+def standard(word: str) -> str:
+    """A standard by the name that clang has for it."""
+    newest = next((known for name, known in STANDARDS.items() if word.startswith('-std=') and word.endswith(name)), None)
+    return word[:-4] + newest if newest else word
 
 
 def commands_file(given: str) -> str:
@@ -85,10 +97,23 @@ def entries_of(path: str) -> list[dict[str, object]]:
 def words_of(entry: dict[str, object], path: str) -> list[str]:
     arguments, command = entry.get('arguments'), entry.get('command')
     if isinstance(arguments, list):
-        return [str(a) for a in arguments]
-    if isinstance(command, str):
-        return shlex.split(command)
-    raise ReadError(f'{path}: the entry of {entry["file"]} has no command')
+        words = [str(a) for a in arguments]
+    elif isinstance(command, str):
+        words = shlex.split(command)
+    else:
+        raise ReadError(f'{path}: the entry of {entry["file"]} has no command')
+    return [w for word in words for w in from_file(word, os.path.join(os.path.dirname(os.path.abspath(path)), str(entry['directory'])))]
+
+
+def from_file(word: str, folder: str) -> list[str]:
+    """A word, or those of the file that `@FILE` names."""
+    if word.startswith('@'):
+        try:
+            with open(os.path.join(folder, word[1:]), encoding='utf-8') as file:
+                return shlex.split(file.read())
+        except OSError:
+            return []
+    return [word]
 
 
 def units_of(given: str, roots: list[str], only: str | None = None) -> list[Unit]:

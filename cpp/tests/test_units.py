@@ -18,12 +18,23 @@ def build(folder: pathlib.Path, entries: object) -> str:
 
 
 def test_flags_that_matter_are_kept() -> None:
-    words = 'c++ -DX=1 -D Y -Iinclude -I /abs -isystem sys -std=c++20 -O2 -Wall -fPIC -o a.o -c a.cpp'.split()
+    words = 'c++ -DX=1 -D Y -Iinclude -I /abs -isystem sys -std=c++20 -O2 -Wall -fPIC -fno-such-thing -mtune=x -o a.o -c a.cpp'.split()
     assert flags_of(words, '/b') == ('-DX=1', '-D', 'Y', '-I/b/include', '-I', '/abs', '-isystem', '/b/sys', '-std=c++20', '-fPIC')
 
 
 def test_a_standard_is_added() -> None:
     assert flags_of(['c++', '-c', 'a.cpp'], '/b') == ('-std=gnu++17',)
+
+
+def test_the_newest_standard_has_another_name() -> None:
+    assert flags_of(['c++', '-std=gnu++23'], '/b') == ('-std=gnu++2b',)
+
+
+def test_words_in_a_file(tmp_path: pathlib.Path) -> None:
+    (tmp_path / 'flags').write_text('-DX="a b" -Iinc')
+    entry = {'directory': str(tmp_path), 'command': 'c++ @flags -c a.cpp', 'file': 'a.cpp'}
+    units = units_of(build(tmp_path, [entry]), [os.path.realpath(tmp_path)])
+    assert units[0].flags == ('-DX=a b', f'-I{tmp_path}/inc', '-std=gnu++17')
 
 
 def test_units_are_those_of_the_root(tmp_path: pathlib.Path) -> None:
