@@ -11,7 +11,9 @@ class Calling:
     def __init__(self, program: Program, qt: QtModel) -> None:
         self.program, self.qt = program, qt
         self.whole, self.objects = program.whole, program.objects
-        self._owned: dict[Element, set[Element]] | None = None
+        self._children: dict[Element, set[Element]] | None = None
+        self._owned: dict[Element, set[Element]] = {}
+        self._connected: set[Element] | None = None
 
     # Targets
 
@@ -179,7 +181,7 @@ class Calling:
         for key in whole.by_name.get(class_name, ()):
             usr = whole.signal(key, signal)
             inner = [o for o in sorted(self.owned(element)) if whole.is_a(self.objects.cls(o), key)]
-            if any(w.sender == Element('class', key) for w in program.wires):
+            if self.is_connected(Element('class', key)):
                 inner.append(Element('class', key))
             steps += [Step('call', program.emitter(usr), program.role(o)) for o in inner if usr is not None]
         return list({s.same(): s for s in steps}.values())
@@ -201,20 +203,34 @@ class Calling:
 
     def owned(self, element: Element) -> set[Element]:
         """What an object may own, directly or not."""
-        if self._owned is None:
-            self._owned = {}
+        known = self._owned.get(element)
+        if known is None:
+            known, todo = set(), [element]
+            while todo:
+                new = self._owned_by(todo.pop()) - known
+                known |= new
+                todo += new
+            self._owned[element] = known
+        return known
+
+    def _owned_by(self, element: Element) -> set[Element]:
+        """What an object may own itself: as an object of its role, or of a class of the application."""
+        if self._children is None:
+            self._children = {}
             for owner, child, _ in owners_of(self.program):
-                self._owned.setdefault(owner, set()).add(child)
-        found: set[Element] = set()
-        todo = [element]
-        while todo:
-            at = todo.pop()
-            for owner, children in self._owned.items():
-                covers = owner.kind == 'class' and self.whole.is_a(self.objects.cls(at), owner.key) and self.whole.is_inside(owner.key)
-                if owner == at or covers or self.program.objects.role(owner) == at:
-                    todo += children - found
-                    found |= children
+                for one in {owner, self.objects.role(owner)}:
+                    self._children.setdefault(one, set()).add(child)
+        found = set(self._children.get(element, ()))
+        for above in self.whole.above(self.objects.cls(element)):
+            if self.whole.is_inside(above):
+                found |= self._children.get(Element('class', above), set())
         return found
+
+    def is_connected(self, element: Element) -> bool:
+        """Whether something is connected to an object of which it isn't known where it is made."""
+        if self._connected is None:
+            self._connected = {w.sender for w in self.program.wires}
+        return element in self._connected
 
     def callbacks(self, element: Element, name: str) -> list[tuple[Element, Key]]:
         """The application's functions that Qt calls back by a virtual function's name."""

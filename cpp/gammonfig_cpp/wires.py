@@ -42,6 +42,7 @@ class Wires:
         self.dropped: list[tuple[str, Connect]] = []
         self.of_threads: set[str] = set()
         self.moved: set[Element] = set()
+        self.of_qt: set[tuple[Element, Key, Element, Key]] = set()
 
     def all(self) -> None:
         for value in self.whole.moved:
@@ -222,5 +223,7 @@ class Wires:
         program = self.program
         wire = Wire(program.of_class(a), program.signal(one), program.of_class(b),
                     self.fitting(program.signal(one), program.signal(two)), 'direct', None, 'Qt connects them by itself')
-        if wire not in program.wires:
+        known = (wire.sender, wire.signal, wire.receiver, wire.method)
+        if known not in self.of_qt:
+            self.of_qt.add(known)
             program.wires.append(wire)
