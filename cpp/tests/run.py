@@ -60,7 +60,15 @@ def tests(path: str, words: list[str]) -> tuple[int, int]:
     return counts.get('passed', 0), failed if failed or done.returncode == 0 else 1
 
 
+def checker() -> None:
+    """Names the checker for the tests, where none is named and the gate has built it."""
+    built = os.path.join(os.path.dirname(os.path.dirname(HERE)), 'crates', 'qt_tools', 'out', 'qt_tools')
+    if 'GAMMONFIG' not in os.environ and os.access(built, os.X_OK):
+        os.environ['GAMMONFIG'] = built
+
+
 def main() -> int:
+    checker()
     if missing():
         install()
     lacks, path = missing(), python()
