@@ -1,14 +1,7 @@
-pub mod Basics
-pub mod Keys
-pub mod Rises
+pub mod Counts
+pub mod Added
 pub mod Numbers
-pub mod Marks
-pub mod Views
+pub mod Stale
 pub mod Lost
-pub mod Broken
-pub mod Gained
-pub mod Kept
-pub mod Laws
 pub mod Asked
-pub mod Noted
-mod Standing
+pub mod Standing

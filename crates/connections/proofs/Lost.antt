@@ -1,138 +1,174 @@
--- What follows where some connections with the same ends are removed.
-use Rattle.std.proofs.Common.{◌≡◌, ℕ, ◌+◌, Bool, true, false, List, length, is_some, refl, arith, ◌&&◌, ap, sym, subst, ◌∙◌, not, eqb, filter, count_by, Contains}
-use Rattle.std.specs.List.{list_any}
-use Rattle.std.proofs.lemmas.Bool.{false≢true, and_parts, eqb-true, eq-eqb}
+-- What is left of the connections, where some are gone.
+use Rattle.std.proofs.Common.{◌≡◌, ℕ, Bool, true, false, cond, List, [], ◌∷◌, Option, None, Some, option_map, refl, arith, ◌&&◌, ap, sym, ◌∙◌, not, eqb, filter, count_by}
+use Rattle.std.specs.List.{cons_option}
+use Rattle.std.specs.Global.{Vec}
+use Rattle.std.proofs.lemmas.List.Sums.{sum_by-cons}
+use Rattle.slab.specs.Slab.{Slab, get}
 use Rattle.connections.specs.declared.connection.Connection.{Connection}
-use Rattle.connections.specs.declared.link.Link.{Link}
-use Rattle.connections.specs.declared.place.Place.{Place}
-use Rattle.connections.specs.Connected.{is_of, without}
-use Rattle.connections.specs.code.Rising.{RisingBy}
-use Rattle.connections.specs.code.Links.{link_number, shown, is_live, is_held, marked_by, Breaks}
-use Rattle.connections.specs.code.Store.{same_pair, Ends, ends_of, has_ends, is_picked, shown_in, Tied}
-use Rattle.connections.proofs.Basics.{filter-all, filter-both, count-filter, count-members, length-without, Contains-filter, Contains-filtered, any-member}
-use Rattle.connections.proofs.Keys.{pair-same, ends-same}
-use Rattle.connections.proofs.Marks.{Rising-breaks, Rises-shown, shown-breaks, shown-marked, length-shown, held-shown}
-use Rattle.connections.proofs.Rises.{find-unique}
-use Rattle.connections.proofs.Views.{shown_in-without, is_of-self}
+use Rattle.connections.specs.declared.cell.Cell.{Cell}
+use Rattle.connections.specs.declared.place.CellPlace.{CellPlace}
+use Rattle.connections.specs.declared.lists.Lists.{Lists}
+use Rattle.connections.specs.declared.removing.Removal.{Removal}
+use Rattle.connections.specs.Connected.{without, is_of, touches}
+use Rattle.connections.specs.code.Cells.{fits, retired, swept, counted, Retires, Sweeps, Marked}
+use Rattle.connections.specs.code.Places.{connection_in, live_at, live, Indexes}
+use Rattle.connections.specs.code.Lists.{all_of, of_signal, of_object, any_connection, shown_in, Tied}
+use Rattle.connections.proofs.Counts.{count_same}
 
--- it is not of another signal
-picked-of : (e : Ends) (ns : List ℕ) (c : Connection) → is_picked e ns c ≡ true → is_of e.0 e.1 c ≡ true
-picked-of e ns c h =
-    let ends = (and_parts (list_any (λ n. eqb c.number n) ns) (has_ends e c) h).1 in
-    let most = (and_parts (is_of e.0 e.1 c && eqb c.receiver e.2) (eqb c.method e.3) ends).0 in
-    (and_parts (is_of e.0 e.1 c) (eqb c.receiver e.2) most).0
+-- a connection, unless it passes a test
+abbrev pub kept : (Connection → Bool) → Option Connection → Option Connection
+kept test None = None
+kept test (Some c) = cond (test c) None (Some c)
 
-of-pair : (s g t h : ℕ) (c : Connection) → is_of s g c ≡ true → is_of t h c ≡ true → same_pair (s, g) (t, h) ≡ true
-of-pair s g t h c i j =
-    let a = and_parts (eqb c.sender s) (eqb c.signal g) i in
-    let b = and_parts (eqb c.sender t) (eqb c.signal h) j in
-    let first : s ≡ t = sym (eqb-true c.sender s a.0) ∙ eqb-true c.sender t b.0 in
-    let second : g ≡ h = sym (eqb-true c.signal g a.1) ∙ eqb-true c.signal h b.1 in
-    ap (λ v. v && eqb g h) (eq-eqb s t first) ∙ eq-eqb g h second
-
-and-picked : (e : Ends) (ns : List ℕ) (c : Connection) → (is_of e.0 e.1 c && is_picked e ns c) ≡ is_picked e ns c
-and-picked e ns c = by_tests (is_of e.0 e.1 c) (list_any (λ n. eqb c.number n) ns) (eqb c.receiver e.2) (eqb c.method e.3)
+kept-cons : (test : Connection → Bool) (c : Option Connection) (cs : List Connection) → cons_option (kept test c) (without test cs) ≡ without test (cons_option c cs)
+kept-cons test None cs = refl
+kept-cons test (Some c) cs = by_test (test c)
   where
-    by_tests : (o a r m : Bool) → (o && (a && ((o && r) && m))) ≡ (a && ((o && r) && m))
-    by_tests true a r m = refl
-    by_tests false true r m = refl
-    by_tests false false r m = refl
+    by_test : (b : Bool) → cons_option (cond b None (Some c)) (without test cs) ≡ cond (not b) (c ∷ without test cs) (without test cs)
+    by_test true = refl
+    by_test false = refl
 
-module _ (links links' : ℕ → ℕ → List Link) (numbers : Ends → List ℕ) (places : List Place) (marks last : ℕ) (e : Ends) (ns : List ℕ)
-    (b : Breaks e.2 e.3 ns (links e.0 e.1) (links' e.0 e.1))
-    (others : (s g : ℕ) → same_pair (e.0, e.1) (s, g) ≡ false → links' s g ≡ links s g)
-    (t : Tied links numbers places marks last) where
-  shown-lost : (s g : ℕ) → shown s g (links' s g) ≡ without (is_picked e ns) (shown s g (links s g))
-  shown-lost s g = by_pair (same_pair (e.0, e.1) (s, g)) refl
-    where
-      unpicked : same_pair (e.0, e.1) (s, g) ≡ false → (c : Connection) → Contains (shown s g (links s g)) c → not (is_picked e ns c) ≡ true
-      unpicked h c m = by_test (is_picked e ns c) refl
-        where
-          mine : is_of s g c ≡ true
-          mine = let P : List Connection → Type 0 = λ cs. Contains cs c in (Contains-filtered (is_of s g) (shown_in links places) c (subst P (t.exact s g) m)).1
-
-          by_test : (v : Bool) → is_picked e ns c ≡ v → not v ≡ true
-          by_test true i = absurd (false≢true (sym h ∙ of-pair e.0 e.1 s g c (picked-of e ns c i) mine))
-          by_test false i = refl
-
-      by_pair : (v : Bool) → same_pair (e.0, e.1) (s, g) ≡ v → shown s g (links' s g) ≡ without (is_picked e ns) (shown s g (links s g))
-      by_pair true h =
-          let P : ℕ × ℕ → Type 0 = λ q. shown q.0 q.1 (links' q.0 q.1) ≡ without (is_picked e ns) (shown q.0 q.1 (links q.0 q.1)) in
-          subst P (pair-same (e.0, e.1) (s, g) h) (shown-breaks e.0 e.1 e.2 e.3 ns (links e.0 e.1) (links' e.0 e.1) b)
-      by_pair false h =
-          ap (shown s g) (others s g h) ∙ sym (filter-all (λ c. not (is_picked e ns c)) (shown s g (links s g)) (unpicked h))
-
-  pub rise-lost : (s g : ℕ) → RisingBy link_number 0 (links' s g) last
-  rise-lost s g = by_pair (same_pair (e.0, e.1) (s, g)) refl
-    where
-      by_pair : (v : Bool) → same_pair (e.0, e.1) (s, g) ≡ v → RisingBy link_number 0 (links' s g) last
-      by_pair true h =
-          let P : ℕ × ℕ → Type 0 = λ q. RisingBy link_number 0 (links' q.0 q.1) last in
-          subst P (pair-same (e.0, e.1) (s, g) h) (Rising-breaks e.2 e.3 ns 0 last (links e.0 e.1) (links' e.0 e.1) b (t.rise e.0 e.1))
-      by_pair false h =
-          let P : List Link → Type 0 = λ xs. RisingBy link_number 0 xs last in
-          subst P (sym (others s g h)) (t.rise s g)
-
-  pub shows-lost : shown_in links' places ≡ without (is_picked e ns) (shown_in links places)
-  shows-lost = shown_in-without links links' (is_picked e ns) last places shown-lost (λ s g. Rises-shown s g 0 last (links s g) (t.rise s g))
-
-  pub exact-lost : (s g : ℕ) → shown s g (links' s g) ≡ filter (is_of s g) (shown_in links' places)
-  exact-lost s g =
-      shown-lost s g
-      ∙ ap (without (is_picked e ns)) (t.exact s g)
-      ∙ filter-both (λ c. not (is_picked e ns c)) (is_of s g) (shown_in links places)
-      ∙ ap (filter (is_of s g)) (sym shows-lost)
-
-  pub counts-lost : (count : ℕ) → count + count_by is_live (marked_by e.2 e.3 ns (links e.0 e.1)) ≡ count_by is_live (links e.0 e.1) → count ≡ count_by (is_picked e ns) (shown_in links places)
-  counts-lost count h =
-      let left : length (without (is_picked e ns) (shown e.0 e.1 (links e.0 e.1))) ≡ count_by is_live (marked_by e.2 e.3 ns (links e.0 e.1)) =
-      ap length (sym (shown-marked e.0 e.1 e.2 e.3 ns (links e.0 e.1))) ∙ length-shown e.0 e.1 (marked_by e.2 e.3 ns (links e.0 e.1)) in
-      let here : count ≡ count_by (is_picked e ns) (shown e.0 e.1 (links e.0 e.1)) =
-      omega (arith, h, left, length-shown e.0 e.1 (links e.0 e.1), length-without (is_picked e ns) (shown e.0 e.1 (links e.0 e.1))) in
-      here
-      ∙ ap (count_by (is_picked e ns)) (t.exact e.0 e.1)
-      ∙ count-filter (is_picked e ns) (is_of e.0 e.1) (shown_in links places)
-      ∙ count-members (λ c. is_of e.0 e.1 c && is_picked e ns c) (is_picked e ns) (shown_in links places) (λ c m. and-picked e ns c)
-
-  pub Tied-lost : (numbers' : Ends → List ℕ) (count : ℕ)
-      → count + count_by is_live (marked_by e.2 e.3 ns (links e.0 e.1)) ≡ count_by is_live (links e.0 e.1)
-      → ((c : Connection) → Contains (shown_in links' places) c → Contains (numbers (ends_of c)) c.number → Contains (numbers' (ends_of c)) c.number)
-      → Tied links' numbers' places (marks + count) last
-  Tied-lost numbers' count h left =
-      let counted : count ≡ count_by (is_picked e ns) (shown_in links places) = counts-lost count h in
-      let lengths : length (shown_in links' places) ≡ length (without (is_picked e ns) (shown_in links places)) = ap length shows-lost in
-      record {
-        rising = t.rising;
-        rise = rise-lost;
-        exact = exact-lost;
-        numbered = λ c m.
-            let P : List Connection → Type 0 = λ cs. Contains cs c in
-            let was : Contains (shown_in links places) c = (Contains-filtered (λ d. not (is_picked e ns d)) (shown_in links places) c (subst P shows-lost m)).0 in
-            left c m (t.numbered c was);
-        room = omega (arith, counted, lengths, t.room, length-without (is_picked e ns) (shown_in links places));
-      }
-
-  -- a connection that is left is among the links of its sender and signal
-  pub held-lost : (c : Connection) → ends_of c ≡ e → Contains (shown_in links' places) c → is_held (links' e.0 e.1) c.number ≡ true
-  held-lost c same m =
-      let P : List Connection → Type 0 = λ cs. Contains cs c in
-      let mine : Contains (shown c.sender c.signal (links' c.sender c.signal)) c =
-      subst P (sym (exact-lost c.sender c.signal)) (Contains-filter (is_of c.sender c.signal) (shown_in links' places) c m (is_of-self c)) in
-      let found = find-unique 0 last (shown c.sender c.signal (links' c.sender c.signal)) c (Rises-shown c.sender c.signal 0 last (links' c.sender c.signal) (rise-lost c.sender c.signal)) mine in
-      let H : Ends → Type 0 = λ q. is_held (links' q.0 q.1) c.number ≡ true in
-      subst H same (held-shown c.sender c.signal c.number (links' c.sender c.signal) ∙ ap is_some found)
-
--- where the numbers are all that are under the ends, each connection with the ends is picked
-pub picked-all : (links : ℕ → ℕ → List Link) (numbers : Ends → List ℕ) (places : List Place) (marks last : ℕ) (e : Ends) → Tied links numbers places marks last → (c : Connection) → Contains (shown_in links places) c → is_picked e (numbers e) c ≡ has_ends e c
-picked-all links numbers places marks last e t c m = by_ends (has_ends e c) refl
+-- two filters commute
+filter_both : (p q : Connection → Bool) (cs : List Connection) → filter p (filter q cs) ≡ filter q (filter p cs)
+filter_both p q [] = refl
+filter_both p q (c ∷ cs) = by_tests (p c) (q c) refl refl (filter_both p q cs)
   where
-    by_any : (v : Bool) → (v && false) ≡ false
-    by_any true = refl
-    by_any false = refl
+    by_tests : (a b : Bool) → p c ≡ a → q c ≡ b → filter p (filter q cs) ≡ filter q (filter p cs) → filter p (filter q (c ∷ cs)) ≡ filter q (filter p (c ∷ cs))
+    by_tests true true e f h = grind (arith, h)
+    by_tests true false e f h = grind (arith, h)
+    by_tests false true e f h = grind (arith, h)
+    by_tests false false e f h = grind (arith, h)
 
-    by_ends : (v : Bool) → has_ends e c ≡ v → (list_any (λ n. eqb c.number n) (numbers e) && has_ends e c) ≡ has_ends e c
-    by_ends true h =
-        let P : Ends → Type 0 = λ q. Contains (numbers q) c.number in
-        let among : Contains (numbers e) c.number = subst P (ends-same (ends_of c) e h) (t.numbered c m) in
-        ap (λ v. v && has_ends e c) (any-member (λ n. eqb c.number n) (numbers e) c.number among (eq-eqb c.number c.number refl))
-    by_ends false h = ap (λ v. list_any (λ n. eqb c.number n) (numbers e) && v) h ∙ by_any (list_any (λ n. eqb c.number n) (numbers e)) ∙ sym h
+count_filter : (p q : Connection → Bool) (cs : List Connection) → count_by p (filter q cs) ≡ count_by (λ c. q c && p c) cs
+count_filter p q [] = refl
+count_filter p q (c ∷ cs) = by_test (q c) refl (count_filter p q cs)
+  where
+    by_test : (b : Bool) → q c ≡ b → count_by p (filter q cs) ≡ count_by (λ d. q d && p d) cs → count_by p (cond b (c ∷ filter q cs) (filter q cs)) ≡ count_by (λ d. q d && p d) (c ∷ cs)
+    by_test true e h =
+        let one : (cond {A = ℕ} (q c && p c) 1 0) ≡ (cond {A = ℕ} (p c) 1 0) = ap (λ b. cond {A = ℕ} (b && p c) 1 0) e in
+        omega (arith, one, h, sum_by-cons (λ z. cond (p z) 1 0) c (filter q cs), sum_by-cons (λ d. cond (q d && p d) 1 0) c cs)
+    by_test false e h =
+        let one : (cond {A = ℕ} (q c && p c) 1 0) ≡ 0 = ap (λ b. cond {A = ℕ} (b && p c) 1 0) e in
+        omega (arith, one, h, sum_by-cons (λ d. cond (q d && p d) 1 0) c cs)
+
+-- each cell shows what it showed, unless that is gone
+pub record Loses (gone : Connection → Bool) (old new : Slab Cell) : Type 0 where
+  pub shows : (k number : ℕ) → connection_in number (get new k) ≡ kept gone (connection_in number (get old k))
+  pub was : (k : ℕ) (cell : Cell) → get new k ≡ Some cell → cell.live ≡ true → get old k ≡ Some cell
+  pub counts : (test : Connection → Bool) (k : ℕ) → counted test (get new k) ≡ counted (λ c. not (gone c) && test c) (get old k)
+
+module _ (gone : Connection → Bool) (old new : Slab Cell) (h : Loses gone old new) where
+  live-lost : (places : List CellPlace) → live new places ≡ without gone (live old places)
+  live-lost [] = refl
+  live-lost (p ∷ places) =
+      ap (λ c. cons_option c (live new places)) (h.shows p.key p.number)
+      ∙ ap (cons_option (kept gone (live_at old p))) (live-lost places)
+      ∙ kept-cons gone (live_at old p) (live old places)
+
+  Indexes-lost : (whole : List Connection) (last : ℕ) (test : Connection → Bool) (places : List CellPlace) → Indexes old whole last test places → Indexes new (without gone whole) last test places
+  Indexes-lost whole last test places i = record {
+    rising = i.rising;
+    exact = live-lost places ∙ ap (without gone) i.exact ∙ filter_both (λ c. not (gone c)) test whole;
+    covers = record { place = λ k cell at alive passes. i.covers.place k cell (h.was k cell at alive) alive passes };
+  }
+
+  module _ (lists : Lists) where
+    pub shown-lost : shown_in new lists ≡ without gone (shown_in old lists)
+    shown-lost = live-lost (all_of lists)
+
+    pub Tied-lost : (marked more : Vec ℕ) (last : ℕ) → Marked new more → Tied old lists marked last → Tied new lists more last
+    Tied-lost marked more last m t = record {
+      leads = record {
+        all = rw shown-lost (Indexes-lost (shown_in old lists) last any_connection (all_of lists) t.leads.all);
+        by_signal = λ s g. rw shown-lost (Indexes-lost (shown_in old lists) last (is_of s g) (of_signal lists s g) (t.leads.by_signal s g));
+        by_object = λ o. rw shown-lost (Indexes-lost (shown_in old lists) last (touches o) (of_object lists o) (t.leads.by_object o));
+      };
+      marks = m;
+      many = λ test.
+          count_same (counted test) (counted (λ c. not (gone c) && test c)) old.slots new.slots refl refl (h.counts test)
+          ∙ t.many (λ c. not (gone c) && test c)
+          ∙ sym (count_filter test (λ c. not (gone c)) (shown_in old lists))
+          ∙ ap (count_by test) (sym shown-lost);
+    }
+
+-- a cell that was retired shows what it showed, unless it was to be removed
+shown-retired : (removal : Removal) (number : ℕ) (x : Option Cell) → connection_in number (option_map (retired removal) x) ≡ kept (fits removal) (connection_in number x)
+shown-retired removal number None = refl
+shown-retired removal number (Some cell) = by_tests cell.live (eqb cell.connection.number number)
+  where
+    by_fit : (f : Bool) → cond (not f && true) (Some cell.connection) None ≡ cond f None (Some cell.connection)
+    by_fit true = refl
+    by_fit false = refl
+
+    by_fit_no : (f : Bool) → cond (not f && false) (Some cell.connection) None ≡ None
+    by_fit_no true = refl
+    by_fit_no false = refl
+
+    by_tests : (a b : Bool) → cond ((a && not (fits removal cell.connection)) && b) (Some cell.connection) None ≡ kept (fits removal) (cond (a && b) (Some cell.connection) None)
+    by_tests true true = by_fit (fits removal cell.connection)
+    by_tests true false = by_fit_no (fits removal cell.connection)
+    by_tests false b = refl
+
+-- what a retired cell was
+retired-was : (removal : Removal) (x : Option Cell) (cell : Cell) → option_map (retired removal) x ≡ Some cell → cell.live ≡ true → x ≡ Some cell
+retired-was removal None cell e h = grind arith
+retired-was removal (Some old) cell e h = by_live old.live (fits removal old.connection) refl refl
+  where
+    by_live : (a f : Bool) → old.live ≡ a → fits removal old.connection ≡ f → Some old ≡ Some cell
+    by_live true false i j = grind (arith, retired)
+    by_live true true i j = grind (arith, retired)
+    by_live false f i j = grind (arith, retired)
+
+counted-retired : (removal : Removal) (test : Connection → Bool) (x : Option Cell) → counted test (option_map (retired removal) x) ≡ counted (λ c. not (fits removal c) && test c) x
+counted-retired removal test None = refl
+counted-retired removal test (Some cell) = by_live cell.live
+  where
+    by_live : (a : Bool) → ((a && not (fits removal cell.connection)) && test cell.connection) ≡ (a && (not (fits removal cell.connection) && test cell.connection))
+    by_live true = refl
+    by_live false = refl
+
+pub Loses-retired : (removal : Removal) (old new : Slab Cell) → Retires removal old new → Loses (fits removal) old new
+Loses-retired removal old new e = record {
+  shows = λ k number. ap (connection_in number) (e k) ∙ shown-retired removal number (get old k);
+  was = λ k cell at alive. retired-was removal (get old k) cell (sym (e k) ∙ at) alive;
+  counts = λ test k. ap (counted test) (e k) ∙ counted-retired removal test (get old k);
+}
+
+kept-none : (c : Option Connection) → kept (λ _. false) c ≡ c
+kept-none None = refl
+kept-none (Some c) = refl
+
+pub without-none : (cs : List Connection) → without (λ _. false) cs ≡ cs
+without-none [] = refl
+without-none (c ∷ cs) = ap (λ ys. c ∷ ys) (without-none cs)
+
+shown-swept : (number : ℕ) (x : Option Cell) → connection_in number (swept x) ≡ connection_in number x
+shown-swept number None = refl
+shown-swept number (Some cell) = by_live cell.live refl
+  where
+    by_live : (a : Bool) → cell.live ≡ a → connection_in number (swept (Some cell)) ≡ connection_in number (Some cell)
+    by_live true h = rw h refl
+    by_live false h = rw h refl
+
+swept-was : (x : Option Cell) (cell : Cell) → swept x ≡ Some cell → x ≡ Some cell
+swept-was None cell e = e
+swept-was (Some old) cell e = by_live old.live refl
+  where
+    by_live : (a : Bool) → old.live ≡ a → Some old ≡ Some cell
+    by_live true h = grind (arith, swept)
+    by_live false h = grind (arith, swept)
+
+counted-swept : (test : Connection → Bool) (x : Option Cell) → counted test (swept x) ≡ counted test x
+counted-swept test None = refl
+counted-swept test (Some cell) = by_live cell.live refl
+  where
+    by_live : (a : Bool) → cell.live ≡ a → counted test (swept (Some cell)) ≡ counted test (Some cell)
+    by_live true h = rw h refl
+    by_live false h = rw h refl
+
+pub Loses-swept : (old new : Slab Cell) → Sweeps old new → Loses (λ _. false) old new
+Loses-swept old new e = record {
+  shows = λ k number. ap (connection_in number) (e k) ∙ shown-swept number (get old k) ∙ sym (kept-none (connection_in number (get old k)));
+  was = λ k cell at alive. swept-was (get old k) cell (sym (e k) ∙ at);
+  counts = λ test k. ap (counted test) (e k) ∙ counted-swept test (get old k);
+}

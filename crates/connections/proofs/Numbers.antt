@@ -1,121 +1,92 @@
--- Numbers that rise along a list.
-use Rattle.std.proofs.Common.{◌≡◌, ◌≢◌, ⊎_elim, ℕ, zero, suc, ◌<◌, ◌≤◌, Bool, true, false, cond, List, [], ◌∷◌, ◌++◌, length, None, Some, refl, arith, ◌||◌, ap, ◌∙◌, get_or, slice_get, filter, find}
-use Rattle.std.specs.List.{list_any}
+-- Numbers that rise along a list of places.
+use Rattle.std.proofs.Common.{◌≡◌, ⊎_elim, ℕ, zero, suc, ◌<◌, ◌≤◌, Bool, true, false, cond, List, [], ◌∷◌, length, Option, None, Some, refl, arith, ◌&&◌, ap, sym, ◌∙◌, eqb, nat_lt, get_or, take, drop, min}
+use Rattle.std.specs.List.{Contains, find, cons_option}
 use Rattle.std.specs.List.Sorted.{IsNonDecreasingBy}
-use Rattle.std.proofs.lemmas.Bool.{cases_lt}
-use Rattle.connections.specs.code.Rising.{RisingBy, SplitsBy}
-use Rattle.connections.specs.code.Links.{passes, passing}
+use Rattle.std.proofs.lemmas.Bool.{cases_lt, le-ltb, eqb-true}
+use Rattle.connections.specs.declared.connection.Connection.{Connection}
+use Rattle.connections.specs.declared.cell.Cell.{Cell}
+use Rattle.connections.specs.declared.place.CellPlace.{CellPlace}
+use Rattle.slab.specs.Slab.{Slab, get}
+use Rattle.connections.specs.code.Places.{live, connection_in, Rising, SplitsAt}
+
+pub Rising-at : (low last : ℕ) (places : List CellPlace) (k : ℕ) (d : CellPlace) → Rising low places last → k < length places → low < (get_or places k d).number
+Rising-at low last [] k d r h = omega arith
+Rising-at low last (p ∷ places) zero d r h = r.0
+Rising-at low last (p ∷ places) (suc k) d r h = omega (arith, r.0, Rising-at p.number last places k d r.1 (omega arith))
+
+pub Rising-order : (low last : ℕ) (places : List CellPlace) (i j : ℕ) (d : CellPlace) → Rising low places last → i < j → j < length places → (get_or places i d).number < (get_or places j d).number
+Rising-order low last [] i j d r h k = omega arith
+Rising-order low last (p ∷ places) zero zero d r h k = omega arith
+Rising-order low last (p ∷ places) zero (suc j) d r h k = Rising-at p.number last places j d r.1 (omega arith)
+Rising-order low last (p ∷ places) (suc i) zero d r h k = omega arith
+Rising-order low last (p ∷ places) (suc i) (suc j) d r h k = Rising-order p.number last places i j d r.1 (omega arith) (omega arith)
+
+pub Rising-sorted : (last : ℕ) (places : List CellPlace) → Rising 0 places last → IsNonDecreasingBy (λ p. p.number) places
+Rising-sorted last places r = λ i j d h k. ⊎_elim
+    (λ (less : i < j). omega (arith, Rising-order 0 last places i j d r less k))
+    (λ (same : j ≤ i). let e : i ≡ j = omega arith in rw e (omega arith))
+    (cases_lt i j)
+
+-- an element is among the one at its place
+pub found_at : (places : List CellPlace) (i : ℕ) (p : CellPlace) → i < length places → get_or places i p ≡ p → Contains (take 1 (drop i places)) p
+found_at [] i p h e = absurd (omega (arith, h))
+found_at (q ∷ places) zero p h e = (0, omega arith, e)
+found_at (q ∷ places) (suc i) p h e = found_at places i p (omega arith) e
+
+-- the place of a number is the first whose number is at least that
+pub found_first : (last : ℕ) (places : List CellPlace) (number i : ℕ) (p : CellPlace) → Rising 0 places last → SplitsAt places number i → Contains places p → p.number ≡ number → Contains (take 1 (drop i places)) p
+found_first last places number i p r s (k, within, at) same =
+    let here : (get_or places k p).number ≡ number = ap (λ (q : CellPlace). q.number) at ∙ same in
+    ⊎_elim
+    (λ (less : k < i). absurd (omega (arith, here, s.below k p less)))
+    (λ (more : i ≤ k). ⊎_elim
+    (λ (less : i < k). absurd (omega (arith, here, s.above i p (omega arith) (omega (arith, less, within)), Rising-order 0 last places i k p r less within)))
+    (λ (other : k ≤ i). let e : i ≡ k = omega arith in rw e (found_at places k p within at))
+    (cases_lt i k))
+    (cases_lt k i)
+
+find-cons : (above number : ℕ) (x : Option Cell) (cs : List Connection) → number < above → find (λ c. nat_lt above c.number) (cons_option (connection_in number x) cs) ≡ find (λ c. nat_lt above c.number) cs
+find-cons above number None cs h = refl
+find-cons above number (Some cell) cs h = by_tests cell.live (eqb cell.connection.number number) refl
+  where
+    by_tests : (a b : Bool) → eqb cell.connection.number number ≡ b → find (λ c. nat_lt above c.number) (cons_option (cond (a && b) (Some cell.connection) None) cs) ≡ find (λ c. nat_lt above c.number) cs
+    by_tests true true e = ap (λ b. cond b (Some cell.connection) (find (λ c. nat_lt above c.number) cs)) (le-ltb above cell.connection.number (omega (arith, h, eqb-true _ _ e)))
+    by_tests true false e = refl
+    by_tests false b e = refl
+
+-- places of lower numbers show nothing that is numbered above
+pub find-skip : (cells : Slab Cell) (places : List CellPlace) (i above : ℕ) → ((k : ℕ) (d : CellPlace) → k < i → (get_or places k d).number < above) → find (λ c. nat_lt above c.number) (live cells (drop i places)) ≡ find (λ c. nat_lt above c.number) (live cells places)
+find-skip cells [] zero above h = refl
+find-skip cells [] (suc i) above h = refl
+find-skip cells (p ∷ places) zero above h = refl
+find-skip cells (p ∷ places) (suc i) above h =
+    find-skip cells places i above (λ k d less. h (suc k) d (omega (arith, less)))
+    ∙ sym (find-cons above p.number (get cells p.key) (live cells places) (h zero p (omega arith)))
+
+pub take_one : (places : List CellPlace) (n : ℕ) → n ≡ min (length places) 1 → take n places ≡ take 1 places
+take_one [] zero e = refl
+take_one [] (suc n) e = refl
+take_one (p ∷ places) n e = let one : n ≡ 1 = omega arith in rw one refl
 
 -- what is at a place doesn't depend on what would be past the end
-pub any_default : {X : Type 0} (xs : List X) (i : ℕ) (d e : X) → i < length xs → get_or xs i d ≡ get_or xs i e
+any_default : (places : List CellPlace) (i : ℕ) (d e : CellPlace) → i < length places → get_or places i d ≡ get_or places i e
 any_default [] i d e h = absurd (omega (arith, h))
-any_default (q ∷ xs) zero d e h = refl
-any_default (q ∷ xs) (suc i) d e h = any_default xs i d e (omega (arith, h))
+any_default (q ∷ places) zero d e h = refl
+any_default (q ∷ places) (suc i) d e h = any_default places i d e (omega arith)
 
-module _ {X : Type 0} (number : X → ℕ) where
-  pub Rising-low : (low last : ℕ) (xs : List X) → RisingBy number low xs last → low ≤ last
-  Rising-low low last [] r = r
-  Rising-low low last (x ∷ xs) r = omega (arith, r.0, Rising-low (number x) last xs r.1)
+-- the numbers before a place are below its number, and those from it on aren't
+pub splits_at : (last : ℕ) (places : List CellPlace) (number i : ℕ) (e : CellPlace) → Rising 0 places last → i < length places → (get_or places i e).number ≡ number → SplitsAt places number i
+splits_at last places number i e r h same =
+    let here : (d : CellPlace) → (get_or places i d).number ≡ number = λ d. ap (λ (q : CellPlace). q.number) (any_default places i d e h) ∙ same in
+    record {
+      below = λ k d w. omega (arith, here d, Rising-order 0 last places k i d r w h);
+      above = λ k d w g. omega (arith, here d, Rising-sorted last places r i k d w g);
+    }
 
-  pub Rising-lower : (low less last : ℕ) (xs : List X) → less ≤ low → RisingBy number low xs last → RisingBy number less xs last
-  Rising-lower low less last [] h r = omega (arith, h, r)
-  Rising-lower low less last (x ∷ xs) h r = (omega (arith, h, r.0), r.1)
-
-  pub Rising-later : (low last more : ℕ) (xs : List X) → RisingBy number low xs last → last ≤ more → RisingBy number low xs more
-  Rising-later low last more [] r h = omega (arith, r, h)
-  Rising-later low last more (x ∷ xs) r h = (r.0, Rising-later (number x) last more xs r.1 h)
-
-  pub Rising-push : (low last : ℕ) (xs : List X) (x : X) → RisingBy number low xs last → last < number x → RisingBy number low (xs ++ x ∷ []) (number x)
-  Rising-push low last [] x r h = (omega (arith, r, h), omega arith)
-  Rising-push low last (y ∷ xs) x r h = (r.0, Rising-push (number y) last xs x r.1 h)
-
-  pub Rising-filter : (test : X → Bool) (low last : ℕ) (xs : List X) → RisingBy number low xs last → RisingBy number low (filter test xs) last
-  Rising-filter test low last [] r = r
-  Rising-filter test low last (x ∷ xs) r = by_test (test x) (Rising-filter test (number x) last xs r.1)
-    where
-      by_test : (b : Bool) → RisingBy number (number x) (filter test xs) last → RisingBy number low (cond b (x ∷ filter test xs) (filter test xs)) last
-      by_test true h = (r.0, h)
-      by_test false h = Rising-lower (number x) low last (filter test xs) (omega (arith, r.0)) h
-
-  pub Rising-at : (low last : ℕ) (xs : List X) (k : ℕ) (d : X) → RisingBy number low xs last → k < length xs → low < number (get_or xs k d)
-  Rising-at low last [] k d r h = absurd (omega (arith, h))
-  Rising-at low last (x ∷ xs) zero d r h = r.0
-  Rising-at low last (x ∷ xs) (suc k) d r h = omega (arith, r.0, Rising-at (number x) last xs k d r.1 (omega (arith, h)))
-
-  pub Rising-order : (low last : ℕ) (xs : List X) (i j : ℕ) (d : X) → RisingBy number low xs last → i < j → j < length xs → number (get_or xs i d) < number (get_or xs j d)
-  Rising-order low last [] i j d r h k = absurd (omega (arith, k))
-  Rising-order low last (x ∷ xs) zero zero d r h k = absurd (omega (arith, h))
-  Rising-order low last (x ∷ xs) zero (suc j) d r h k = Rising-at (number x) last xs j d r.1 (omega (arith, k))
-  Rising-order low last (x ∷ xs) (suc i) zero d r h k = absurd (omega (arith, h))
-  Rising-order low last (x ∷ xs) (suc i) (suc j) d r h k = Rising-order (number x) last xs i j d r.1 (omega (arith, h)) (omega (arith, k))
-
-  pub Rising-sorted : (last : ℕ) (xs : List X) → RisingBy number 0 xs last → IsNonDecreasingBy number xs
-  Rising-sorted last xs r = λ i j d h k. ⊎_elim
-      (λ (less : i < j). omega (arith, Rising-order 0 last xs i j d r less k))
-      (λ (same : j ≤ i). let e : i ≡ j = omega arith in rw e (omega arith))
-      (cases_lt i j)
-
-  -- the numbers before a place are below its number, and those from it on aren't
-  pub splits_at : (last : ℕ) (xs : List X) (n i : ℕ) (e : X) → RisingBy number 0 xs last → i < length xs → number (get_or xs i e) ≡ n → SplitsBy number xs n i
-  splits_at last xs n i e r h same =
-      let here : (d : X) → number (get_or xs i d) ≡ n = λ d. ap number (any_default xs i d e h) ∙ same in
-      record {
-        below = λ k d w. omega (arith, here d, Rising-order 0 last xs k i d r w h);
-        above = λ k d w g. omega (arith, here d, Rising-sorted last xs r i k d w g);
-      }
-
-  -- no number is below the first
-  pub splits_first : (last : ℕ) (first : X) (rest : List X) (n : ℕ) → RisingBy number 0 (first ∷ rest) last → n ≤ number first → SplitsBy number (first ∷ rest) n 0
-  splits_first last first rest n r h =
-      record {
-        below = λ k d less. absurd (omega (arith, less));
-        above = λ k d w within. omega (arith, h, Rising-sorted last (first ∷ rest) r 0 k d w within);
-      }
-
-  -- the same behind the first
-  pub splits_rest : (x : X) (xs : List X) (n i : ℕ) → SplitsBy number (x ∷ xs) n (suc i) → SplitsBy number xs n i
-  splits_rest x xs n i s = record {
-    below = λ k d less. s.below (suc k) d (omega (arith, less));
-    above = λ k d w within. s.above (suc k) d (omega (arith, w)) (omega (arith, within));
-  }
-
-  -- a test that only items of one number pass
-  module _ (test : X → Bool) (n : ℕ) (only : (x : X) → test x ≡ true → number x ≡ n) where
-    fails : (x : X) → number x ≢ n → test x ≡ false
-    fails x h = by_test (test x) refl
-      where
-        by_test : (b : Bool) → test x ≡ b → b ≡ false
-        by_test true e = absurd (h (only x e))
-        by_test false e = refl
-
-    pub none-above : (low last : ℕ) (xs : List X) → n ≤ low → RisingBy number low xs last → list_any test xs ≡ false
-    none-above low last [] h r = refl
-    none-above low last (x ∷ xs) h r =
-        ap (λ b. b || list_any test xs) (fails x (λ e. absurd (omega (arith, e, h, r.0))))
-        ∙ none-above (number x) last xs (omega (arith, h, r.0)) r.1
-
-    -- whether one passes, seen where the numbers split
-    pub any-split : (low last : ℕ) (xs : List X) (i : ℕ) → RisingBy number low xs last → SplitsBy number xs n i → list_any test xs ≡ passes test (slice_get xs i)
-    any-split low last [] i r s = refl
-    any-split low last (x ∷ xs) zero r s = by_test (test x) (none-above (number x) last xs (s.above 0 x (omega arith) (omega arith)) r.1)
-      where
-        by_test : (b : Bool) → list_any test xs ≡ false → (b || list_any test xs) ≡ b
-        by_test true h = refl
-        by_test false h = h
-    any-split low last (x ∷ xs) (suc i) r s =
-        ap (λ b. b || list_any test xs) (fails x (λ e. absurd (omega (arith, e, s.below 0 x (omega arith)))))
-        ∙ any-split (number x) last xs i r.1 (splits_rest x xs n i s)
-
-    pub find-none_above : (low last : ℕ) (xs : List X) → n ≤ low → RisingBy number low xs last → find test xs ≡ None
-    find-none_above low last [] h r = refl
-    find-none_above low last (x ∷ xs) h r =
-        ap (λ b. cond b (Some x) (find test xs)) (fails x (λ e. absurd (omega (arith, e, h, r.0))))
-        ∙ find-none_above (number x) last xs (omega (arith, h, r.0)) r.1
-
-    -- the one that passes, found where the numbers split
-    pub find-split : (low last : ℕ) (xs : List X) (i : ℕ) → RisingBy number low xs last → SplitsBy number xs n i → find test xs ≡ passing test (slice_get xs i)
-    find-split low last [] i r s = refl
-    find-split low last (x ∷ xs) zero r s = ap (cond (test x) (Some x)) (find-none_above (number x) last xs (s.above 0 x (omega arith) (omega arith)) r.1)
-    find-split low last (x ∷ xs) (suc i) r s =
-        ap (λ b. cond b (Some x) (find test xs)) (fails x (λ e. absurd (omega (arith, e, s.below 0 x (omega arith)))))
-        ∙ find-split (number x) last xs i r.1 (splits_rest x xs n i s)
+-- no number is below the first
+pub splits_first : (last : ℕ) (first : CellPlace) (rest : List CellPlace) (number : ℕ) → Rising 0 (first ∷ rest) last → number ≤ first.number → SplitsAt (first ∷ rest) number 0
+splits_first last first rest number r h =
+    record {
+      below = λ k d less. absurd (omega (arith, less));
+      above = λ k d w within. omega (arith, h, Rising-sorted last (first ∷ rest) r 0 k d w within);
+    }

@@ -1,58 +1,89 @@
 -- Keys that stand at an index, and what a write there changes.
-use Rattle.std.proofs.Common.{◌≡◌, ℕ, Bool, true, false, cond, [], ◌∷◌, ◌++◌, Option, Some, refl, sym, ap, ◌∙◌, slice_get, Result, Ok, Err, OnOk, OnErr}
+use Rattle.std.proofs.Common.{◌≡◌, ℕ, ◌<◌, Bool, true, false, cond, [], ◌∷◌, ◌++◌, Option, Some, refl, sym, ap, subst, ◌∙◌, slice_get, Result, Ok, Err, OnOk, OnErr, IsSomeAnd, inl}
 use Rattle.std.specs.Cmp.{IsEquivalence}
 use Rattle.std.specs.Option.{option_map}
-use Rattle.indexmap.specs.IndexMap.{IndexMap, get, with_value_at, IsUnique}
+use Rattle.std.specs.Vec.{vec_len, vec_capacity}
+use Rattle.indexmap.specs.IndexMap.{IndexMap, get, get_by, with_value_at, IsUnique}
 use Rattle.indexmap.proofs.CallerLemmas.{updates-with_value_at}
-use Rattle.connections.specs.declared.listed.Listed.{Listed}
-use Rattle.connections.specs.code.Listed.{items_of, list_of, AddsItem, KeepsItems, KeepsOthers, IsFoundAt, StandsAt}
+use Rattle.slab.specs.Slab.{Slab}
+use Rattle.connections.specs.declared.cell.Cell.{Cell}
+use Rattle.connections.specs.declared.place.Places.{Places}
+use Rattle.connections.specs.declared.place.CellPlace.{CellPlace}
+use Rattle.connections.specs.code.Places.{Tidies}
+use Rattle.connections.specs.code.Groups.{items_of, list_of, HasRoom, Pushes, SameGroups, KeepsRoom, KeepsOtherRoom, TidiesGroups, StandsAt}
 
-module _ {K T S : Type 0} (eq : K → K → Bool) (m : IndexMap K (Listed T) S) (i : ℕ) (key : K) where
-  -- among keys of which no two are the same, the key stands where it is found
-  pub stands-found : IsEquivalence eq → IsUnique eq m → IsFoundAt eq m i key → StandsAt eq m i key
-  stands-found laws unique f = record {
-    found = f.found;
-    listed = f.listed;
-    entry = f.entry;
-    there = f.there;
-    self = laws.refl key;
-    written = λ w q.
-        (updates-with_value_at m i w laws unique f.found f.listed f.entry).0 q
-        ∙ ap (λ b. cond b (Some w) (get eq m q)) (sym (laws.congr key f.found q f.same));
-  }
+abbrev has_room : Places → Type 0
+has_room places = vec_len places.items < vec_capacity places.items
 
-  module _ (s : StandsAt eq m i key) where
-    -- what stands at the index is the key's list
-    pub list-there : (k : K) (v : Listed T) → slice_get m.entries i ≡ Some (k, v) → get eq m key ≡ Some v
-    list-there k v at =
-        let second : Option (K × Listed T) → Option (Listed T) = option_map (λ e. e.1) in
-        s.there ∙ ap second (sym s.entry ∙ at)
+-- keys that are the same have the same
+pub get-same : {K S : Type 0} (eq : K → K → Bool) (m : IndexMap K Places S) (p q : K) → IsEquivalence eq → eq p q ≡ true → get eq m p ≡ get eq m q
+get-same eq m p q laws same = λ j. get_by (λ x. laws.congr p q x same j) m
 
-    pub list-written : (w : Listed T) → get eq (with_value_at m i w) key ≡ Some w
-    list-written w = s.written w key ∙ ap (λ b. cond b (Some w) (get eq m key)) s.self
+module _ {K S : Type 0} (eq : K → K → Bool) (m : IndexMap K Places S) (i : ℕ) (key : K) (laws : IsEquivalence eq) (unique : IsUnique eq m) (s : StandsAt eq m i key) where
+  key-same : (q : K) → eq key q ≡ eq s.found q
+  key-same q = sym (laws.congr s.found key q s.same)
 
-    pub others-written : (w : Listed T) → KeepsOthers eq m (with_value_at m i w) key
-    others-written w q h = s.written w q ∙ ap (λ b. cond b (Some w) (get eq m q)) h
+  -- what is written at the index is the list of each key that is the same
+  written : (w : Places) (q : K) → get eq (with_value_at m i w) q ≡ cond (eq key q) (Some w) (get eq m q)
+  written w q =
+      (updates-with_value_at m i w laws unique s.found s.places s.entry).0 q
+      ∙ ap (λ b. cond b (Some w) (get eq m q)) (sym (key-same q))
 
-    module _ (k : K) (v w : Listed T) (at : slice_get m.entries i ≡ Some (k, v)) where
-      pub adds-written : (item : T) → w.items.items ≡ v.items.items ++ item ∷ [] → AddsItem eq m (with_value_at m i w) key item
-      adds-written item more q = ap items_of (s.written w q) ∙ by_key (eq key q)
-        where
-          by_key : (b : Bool) → items_of (cond b (Some w) (get eq m q)) ≡ cond b (list_of eq m key ++ item ∷ []) (list_of eq m q)
-          by_key true = more ∙ ap (λ o. items_of o ++ item ∷ []) (sym (list-there k v at))
-          by_key false = refl
+  -- and so is what stands there
+  list-there : (q k : K) (v : Places) → eq key q ≡ true → slice_get m.entries i ≡ Some (k, v) → get eq m q ≡ Some v
+  list-there q k v same at =
+      let second : Option (K × Places) → Option Places = option_map (λ e. e.1) in
+      sym (get-same eq m s.found q laws (sym (key-same q) ∙ same)) ∙ s.there ∙ ap second (sym s.entry ∙ at)
 
-      pub keeps-written : w.items.items ≡ v.items.items → KeepsItems eq m (with_value_at m i w) key
-      keeps-written same q = ap items_of (s.written w q) ∙ by_key (eq key q)
-        where
-          by_key : (b : Bool) → items_of (cond b (Some w) (get eq m q)) ≡ cond b (list_of eq m key) (list_of eq m q)
-          by_key true = same ∙ ap items_of (sym (list-there k v at))
-          by_key false = refl
+  list-written : (w : Places) → get eq (with_value_at m i w) key ≡ Some w
+  list-written w = written w key ∙ ap (λ b. cond b (Some w) (get eq m key)) (laws.refl key)
+
+  pub room-written : (w : Places) → has_room w → HasRoom eq (with_value_at m i w) key
+  room-written w h = let P : Option Places → Type 0 = λ x. IsSomeAnd x has_room in subst P (sym (list-written w)) h
+
+  pub room-there : (k : K) (v : Places) → slice_get m.entries i ≡ Some (k, v) → HasRoom eq m key → has_room v
+  room-there k v at h = let P : Option Places → Type 0 = λ x. IsSomeAnd x has_room in subst P (list-there key k v (laws.refl key) at) h
+
+  pub others-written : (w : Places) → KeepsOtherRoom eq m (with_value_at m i w) key
+  others-written w q h room =
+      let P : Option Places → Type 0 = λ x. IsSomeAnd x has_room in
+      subst P (sym (written w q ∙ ap (λ b. cond b (Some w) (get eq m q)) h)) room
+
+  pub rooms-written : (w : Places) → has_room w → KeepsRoom eq m (with_value_at m i w)
+  rooms-written w h q room = let P : Option Places → Type 0 = λ x. IsSomeAnd x has_room in subst P (sym (written w q)) (by_key (eq key q))
+    where
+      by_key : (b : Bool) → IsSomeAnd (cond b (Some w) (get eq m q)) has_room
+      by_key true = h
+      by_key false = room
+
+  module _ (k : K) (v w : Places) (at : slice_get m.entries i ≡ Some (k, v)) where
+    pub pushes-written : (place : CellPlace) → w.items.items ≡ v.items.items ++ place ∷ [] → Pushes eq m (with_value_at m i w) key place
+    pushes-written place more q = ap items_of (written w q) ∙ by_key (eq key q) refl
+      where
+        by_key : (b : Bool) → eq key q ≡ b → items_of (cond b (Some w) (get eq m q)) ≡ cond b (list_of eq m q ++ place ∷ []) (list_of eq m q)
+        by_key true e = more ∙ ap (λ o. items_of o ++ place ∷ []) (sym (list-there q k v e at))
+        by_key false e = refl
+
+    pub keeps-written : w.items.items ≡ v.items.items → SameGroups eq m (with_value_at m i w)
+    keeps-written same q = ap items_of (written w q) ∙ by_key (eq key q) refl
+      where
+        by_key : (b : Bool) → eq key q ≡ b → items_of (cond b (Some w) (get eq m q)) ≡ list_of eq m q
+        by_key true e = same ∙ ap items_of (sym (list-there q k v e at))
+        by_key false e = refl
+
+    pub tidies-written : (cells : Slab Cell) → Tidies cells v.items.items w.items.items → TidiesGroups eq cells m (with_value_at m i w)
+    tidies-written cells t q =
+        let P : Option Places → Type 0 = λ x. Tidies cells (list_of eq m q) (items_of x) in
+        subst P (sym (written w q)) (by_key (eq key q) refl)
+      where
+        by_key : (b : Bool) → eq key q ≡ b → Tidies cells (list_of eq m q) (items_of (cond b (Some w) (get eq m q)))
+        by_key true e = let Q : Option Places → Type 0 = λ x. Tidies cells (items_of x) w.items.items in subst Q (sym (list-there q k v e at)) t
+        by_key false e = inl refl
 
 pub on_ok_then : {X E P Q : Type 0} (r : Result X E) → (P → Q) → OnOk r P → OnOk r Q
 on_ok_then (Ok x) f p = f p
 on_ok_then (Err e) f p = tt
 
-pub on_err_then : {X E P Q : Type 0} (r : Result X E) → (P → Q) → OnErr r P → OnErr r Q
-on_err_then (Ok x) f p = tt
-on_err_then (Err e) f p = f p
+pub on_err_always : {X E P : Type 0} (r : Result X E) → P → OnErr r P
+on_err_always (Ok x) p = tt
+on_err_always (Err e) p = p

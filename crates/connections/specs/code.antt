@@ -1,4 +1,5 @@
-pub mod Rising
-pub mod Links
-pub mod Listed
-pub mod Store
+pub mod Cells
+pub mod Places
+pub mod Groups
+pub mod Lists
+pub mod Rooms

@@ -1,92 +1,54 @@
-//! A new connection, in each list that it belongs to.
+//! A new connection, in a cell and in each list that it belongs to.
 
-ghost use Rattle.std.specs.Prelude.{◌≡◌, ◌⊎◌, true, OnOk, OnErr};
-ghost use Rattle.connections.specs.code.Links.{connection_of};
-ghost use Rattle.connections.specs.code.Listed.{AddsItem, KeepsOthers, SameItems};
-ghost use Rattle.connections.specs.code.Store.{Gains, Grows, IsNoted, Stays, ends_in, has_pair, same_ends};
+ghost use Rattle.std.specs.Prelude.{◌≡◌, ◌+◌, ◌≤◌, ◌∷◌, [], ◌++◌, OnOk};
+ghost use Rattle.std.specs.Vec.{vec_capacity};
+ghost use Rattle.slab.specs.Slab.{slab_len, HasRoomFor};
+ghost use Rattle.connections.specs.code.Lists.{all_of};
+ghost use Rattle.connections.specs.code.Rooms.{HasRooms, IsKept, Adds, placed_at, PushesBySignal, PushesByObject};
 
-use crate::link::Link;
-use crate::listed::{Listed, add_item, add_near, index_near, insert_first, push_at};
-use crate::lists::{Lists, ends_between};
-use crate::place::Place;
-use basic_types::ObjectId;
-use indexmap::IndexMap;
+use crate::cell::Cell;
+use crate::connection::Connection;
+use crate::lists::Lists;
+use crate::place::CellPlace;
+use slab::Slab;
 use std::alloc::{AllocError, Global};
 
-/// Adds a link of a sender and signal, whose number is the next one. Without memory nothing changes that is seen.
-pub fn add(
+/// Makes room for one more connection, and for a mark of each, or changes nothing that is seen.
+pub fn make_rooms(
     alloc: Global,
+    cells: &mut Slab<Cell>,
     lists: &mut Lists,
-    objects: &mut IndexMap<usize, Listed<(usize, usize, usize, usize)>>,
-    sender: ObjectId,
-    signal: usize,
-    link: Link,
+    marked: &mut Vec<usize>,
+    c: &Connection,
 ) -> Result<(), AllocError>
-    requires { link.live ≡ true }
-    ensures made { OnOk result
-        (Gains (ends_in objects.old) (ends_in objects.new) (connection_of sender signal link) lists.old lists.new) }
-    ensures err { OnErr result (Stays (ends_in objects.old) (ends_in objects.new) lists.old lists.new) }
+    ensures cell { OnOk result (HasRoomFor cells.new 1) }
+    ensures mark { OnOk result (slab_len cells.new + 1 ≤ vec_capacity marked.new) }
+    ensures lists { OnOk result (HasRooms lists.new c.now) }
+    ensures kept { IsKept cells.old lists.old marked.old cells.new lists.new marked.new }
 {
-    let number = link.number;
-    let ends = ends_between(sender, signal, link.receiver, link.method);
-    lists.all.reserve(1)?;
-    note(
-        alloc,
-        &mut lists.pairs,
-        &mut lists.near_pair,
-        objects,
-        ends,
-        number,
-    )?;
-    add_near(
-        alloc,
-        &mut lists.groups,
-        &mut lists.near_group,
-        (ends.0, ends.1),
-        link,
-    )?;
-    lists.all.push_reserved(Place {
-        number,
-        sender,
-        signal,
+    cells.reserve(1)?;
+    marked.reserve(cells.capacity().saturating_sub(marked.len()))?;
+    lists.make_room(alloc, c)
+}
+
+/// Puts a connection, for which there is room, into a cell and into its lists: the cell's key.
+pub fn put(cells: &mut Slab<Cell>, lists: &mut Lists, c: Connection) -> usize
+    requires cell { HasRoomFor cells.old 1 }
+    requires lists { HasRooms lists.old c }
+    ensures cell { Adds cells.old cells.new result c }
+    ensures len { slab_len cells.new ≡ slab_len cells.old + 1 }
+    ensures all { all_of lists.new ≡ all_of lists.old ++ placed_at c result ∷ [] }
+    ensures signals { PushesBySignal lists.old lists.new c (placed_at c result) }
+    ensures objects { PushesByObject lists.old lists.new c (placed_at c result) }
+{
+    let key = cells.insert_reserved(Cell {
+        connection: c,
+        live: true,
     });
-    Ok(())
-}
-
-/// Notes a number under the ends of its connection, and ends that are new under both their objects.
-fn note(
-    alloc: Global,
-    pairs: &mut IndexMap<(usize, usize, usize, usize), Listed<u64>>,
-    near: &mut usize,
-    objects: &mut IndexMap<usize, Listed<(usize, usize, usize, usize)>>,
-    ends: (usize, usize, usize, usize),
-    number: u64,
-) -> Result<(), AllocError>
-    ensures added { OnOk result (AddsItem same_ends pairs.old pairs.new ends number) }
-    ensures err { OnErr result (SameItems same_ends pairs.old pairs.new) }
-    ensures others { KeepsOthers same_ends pairs.old pairs.new ends }
-    ensures noted { has_pair pairs.new ends ≡ true → (has_pair pairs.old ends ≡ true) ⊎ IsNoted (ends_in objects.new) ends }
-    ensures grown { Grows (ends_in objects.old) (ends_in objects.new) }
-{
-    if let Some(index) = index_near(pairs, *near, ends) {
-        *near = index;
-        return push_at(pairs, index, number);
-    }
-    note_ends(alloc, objects, ends)?;
-    insert_first(alloc, pairs, ends, number)?;
-    Ok(())
-}
-
-/// Notes ends under both their objects.
-fn note_ends(
-    alloc: Global,
-    objects: &mut IndexMap<usize, Listed<(usize, usize, usize, usize)>>,
-    ends: (usize, usize, usize, usize),
-) -> Result<(), AllocError>
-    ensures noted { OnOk result (IsNoted (ends_in objects.new) ends) }
-    ensures grown { Grows (ends_in objects.old) (ends_in objects.new) }
-{
-    add_item(alloc, objects, ends.0, ends)?;
-    add_item(alloc, objects, ends.2, ends)?;
-    Ok(())
+    let place = CellPlace {
+        number: c.number,
+        key,
+    };
+    lists.push(&c, place);
+    key
 }

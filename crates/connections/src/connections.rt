@@ -1,54 +1,39 @@
-ghost use Rattle.std.specs.Prelude.{◌≡◌, ◌↔◌, ℕ, ◌+◌, ◌^◌, ◌<◌, ◌-◌, ◌≤◌, ◌&&◌, true, Err, [], ◌∷◌, ◌++◌, IsTrue, IsOk, OnOk, OnErr, count_by};
-ghost use Rattle.std.specs.List.{find, list_any};
+ghost use Rattle.std.specs.Prelude.{◌≡◌, ◌↔◌, ℕ, ◌+◌, ◌^◌, ◌<◌, ◌-◌, ◌≤◌, ◌&&◌, Err, [], ◌∷◌, ◌++◌, length, IsTrue, IsOk, OnOk, OnErr, count_by};
+ghost use Rattle.std.specs.List.{find};
 ghost use Rattle.connections.specs.Connected.{unconnected, joins, is_later, is_due, is_numbered, touches, are_connected, connected_by, removed_in, not_above, Rises};
-ghost use Rattle.connections.specs.code.Links.{connection_of, is_due as is_due_link};
-ghost use Rattle.connections.specs.code.Store.{EachRises, fits, links_in, numbers_in};
+ghost use Rattle.connections.specs.code.Cells.{fits};
 ghost use Rattle.connections.specs.declared.fault.ConnectFault.TheVariants.{Exists};
 
-use crate::adding::add;
+use crate::adding::{make_rooms, put};
+use crate::cell::Cell;
 use crate::connection::Connection;
 use crate::fault::{ConnectFault, DisconnectFault};
-use crate::groups::{links_near, links_of};
 use crate::hint::SignalHint;
-use crate::link::Link;
-use crate::listed::{Listed, items_near};
-use crate::lists::{Lists, ends_between};
+use crate::lists::Lists;
 use crate::removing::{Removal, remove};
 use crate::search::{lead_to_any, next_above};
-use crate::sweeping::sweep;
+use crate::sweeping::{sweep, tidy};
 use basic_types::{Kind, ObjectId};
-use indexmap::IndexMap;
+use slab::Slab;
 use std::alloc::{AllocError, Global};
 use std::marker::Model;
 
 /// The connections that were made and not removed, in the order in which they were made, and the last number given.
 ///
-/// Each stands among the links of its sender and signal, where an emission reads it. Beside these there is the place of
-/// each, in the order of the numbers, the numbers of those with the same ends, and for each object the ends that lead
-/// from or to it. So an emission costs what is connected to its signal, and a disconnect what it breaks, and not what is
-/// connected in all, and both look up few keys. A connection that is removed is marked, and its place stays until the
-/// next [`Connections::sweep`]; emissions below may stand on its number. Lists and keys are tidied once more than half of
-/// what they hold is left over. Only `new`, which takes no memory yet, and `connect` ever take memory.
+/// Each has a cell, to which lists lead: one of all, one for each sender and signal, one for each object. A list holds
+/// numbers and keys of cells, and what it holds leads to the connection of that number alone: a removed one is marked, and
+/// no list has to be searched for it, nor when its cell is emptied and used again. So an emission costs what is connected
+/// to its signal, and a disconnect the less of what is connected to the signal and to the receiver. Cells of removed
+/// connections are taken until the next [`Connections::sweep`]. Lists and keys are tidied once more than half of what they
+/// hold leads nowhere. Only `new`, which takes no memory yet, and `connect` ever take memory.
+#[derive(Drop)]
 pub struct Connections {
     alloc: Global,
+    cells: Slab<Cell>,
     lists: Lists,
-    objects: IndexMap<usize, Listed<(usize, usize, usize, usize)>>,
-    marked: usize,
-    stale: usize,
+    marked: Vec<usize>,
+    emptied: usize,
     last: u64,
-}
-
-impl Drop for Connections {
-    fn drop(self) {
-        let Connections {
-            alloc: _,
-            lists: _,
-            objects: _,
-            marked: _,
-            stale: _,
-            last: _,
-        } = self;
-    }
 }
 
 impl Model for Connections {
@@ -56,14 +41,15 @@ impl Model for Connections {
 
     ghost Value = { Held };
 
-    ghost use Rattle.connections.specs.code.Store.{connections_in, ends_in, Whole};
+    ghost use Rattle.std.specs.Vec.{vec_len};
+    ghost use Rattle.connections.specs.code.Lists.{shown_in, Tied};
 
     ghost view = { λ c. record {
-      connected = record { connections = connections_in c.lists; last = c.last };
-      marked = c.marked;
+      connected = record { connections = shown_in c.cells c.lists; last = c.last };
+      marked = vec_len c.marked;
     } };
 
-    ghost invariant = { λ c. Whole c.lists (ends_in c.objects) c.marked c.last };
+    ghost invariant = { λ c. Tied c.cells c.lists c.marked c.last };
 }
 
 impl Connections {
@@ -74,10 +60,10 @@ impl Connections {
     {
         Connections {
             alloc,
+            cells: Slab::new(alloc),
             lists: Lists::new(alloc),
-            objects: IndexMap::new(alloc),
-            marked: 0,
-            stale: 0,
+            marked: Vec::new(alloc),
+            emptied: 0,
             last: 0,
         }
     }
@@ -89,11 +75,18 @@ impl Connections {
         self.last
     }
 
-    /// How many connections were removed since the last sweep: they are marked, and their places are still taken.
+    /// How many connections were removed since the last sweep: they are marked, and their cells are still taken.
     pub fn marked(&self) -> usize
         ensures { result ≡ self.now.marked }
     {
-        self.marked
+        self.marked.len()
+    }
+
+    /// How many cells are taken: one by each connection, and one by each that is marked.
+    pub fn cells(&self) -> usize
+        ensures { result ≡ self.now.marked + length self.now.connected.connections }
+    {
+        self.cells.len()
     }
 
     /// The numbers rise in the order of the connections, from 1 on, and none is above the last one given.
@@ -108,8 +101,8 @@ impl Connections {
     pub fn next_after(&self, sender: ObjectId, signal: usize, number: u64) -> Option<Connection>
         ensures { result ≡ find (is_later sender signal number) self.now.connected.connections }
     {
-        let links = links_of(&self.lists.groups, sender, signal);
-        next_above(links, sender, signal, number)
+        let places = self.lists.of_signal(sender, signal);
+        next_above(&self.cells, places, number)
     }
 
     /// The connection that an emission uses next: the first of its sender and signal that was made later than the last
@@ -126,8 +119,8 @@ impl Connections {
     ) -> Option<Connection>
         ensures { result ≡ find (is_due sender signal used made) self.now.connected.connections }
     {
-        let links = links_near(&self.lists.groups, sender, signal, hint);
-        let next = next_above(links, sender, signal, used);
+        let places = self.lists.of_signal_near(sender, signal, hint);
+        let next = next_above(&self.cells, places, used);
         not_above(next, made)
     }
 
@@ -141,7 +134,9 @@ impl Connections {
     ) -> bool
         ensures { result ≡ are_connected sender signal receiver method self.now.connected }
     {
-        have_ends(&self.lists, ends_between(sender, signal, receiver, method))
+        let places = self.lists.of_either(sender, signal, receiver);
+        let same = Removal::Between(sender, signal, receiver, method);
+        lead_to_any(&self.cells, places, &same)
     }
 
     /// Makes a connection with the next number, unless a `unique` one exists; without memory nothing changes.
@@ -167,39 +162,37 @@ impl Connections {
         if unique && self.are_connected(sender, signal, receiver, method) {
             return Err(ConnectFault::Exists);
         }
-        let link = Link {
+        let connection = Connection {
             number: self.last + 1,
+            sender,
+            signal,
             receiver,
             method,
             kind,
             single,
-            live: true,
         };
-        self.append(sender, signal, link)?;
+        self.append(connection)?;
         Ok(())
     }
 
-    /// Adds a link of a sender and signal, which has the next number.
-    fn append(&mut self, sender: ObjectId, signal: usize, link: Link) -> Result<(), AllocError>
-        requires number { link.number ≡ self.old.connected.last + 1 }
-        requires live { link.live ≡ true }
+    /// Adds a connection that has the next number.
+    fn append(&mut self, connection: Connection) -> Result<(), AllocError>
+        requires number { connection.number ≡ self.old.connected.last + 1 }
         ensures made { OnOk result
-            (self.new.connected.connections
-            ≡ self.old.connected.connections ++ connection_of sender signal link ∷ []) }
+            (self.new.connected.connections ≡ self.old.connected.connections ++ connection ∷ []) }
         ensures numbered { OnOk result (self.new.connected.last ≡ self.old.connected.last + 1) }
         ensures marked { self.new.marked ≡ self.old.marked }
         ensures err { OnErr result (self.new ≡ self.old) }
     {
-        let number = link.number;
-        add(
+        make_rooms(
             self.alloc,
+            &mut self.cells,
             &mut self.lists,
-            &mut self.objects,
-            sender,
-            signal,
-            link,
+            &mut self.marked,
+            &connection,
         )?;
-        self.last = number;
+        put(&mut self.cells, &mut self.lists, connection);
+        self.last = connection.number;
         Ok(())
     }
 
@@ -243,31 +236,18 @@ impl Connections {
         ensures removed { self.new ≡ removed_in (fits removal) self.old }
         ensures count { result ≡ count_by (fits removal) self.old.connected.connections }
     {
-        let count = remove(&mut self.lists, &self.objects, &removal);
-        self.marked += count;
-        count
+        remove(&mut self.cells, &mut self.lists, &mut self.marked, &removal)
     }
 
-    /// Forgets the marks, and in time gives back what the connections that were removed take up. No emission may go on
-    /// that stands on one of them.
+    /// Gives back the cells of the connections that were removed. No emission may go on that stands on one of them.
     pub fn sweep(&mut self)
         ensures connected { self.new.connected ≡ self.old.connected }
         ensures marked { self.new.marked ≡ 0 }
     {
-        let stale = self.stale.saturating_add(self.marked);
-        self.stale = sweep(&mut self.lists, &mut self.objects, stale);
-        self.marked = 0;
+        let emptied = self.emptied.saturating_add(self.marked.len());
+        sweep(&mut self.cells, &mut self.marked);
+        self.emptied = tidy(&self.cells, &mut self.lists, emptied);
     }
-}
-
-/// Whether there is a connection with these ends.
-fn have_ends(lists: &Lists, ends: (usize, usize, usize, usize)) -> bool
-    requires { EachRises (links_in lists.now.groups) }
-    ensures { result ≡ list_any (λ n. list_any (is_due_link n ends.2 ends.3) (links_in lists.now.groups ends.0 ends.1)) (numbers_in lists.now.pairs ends) }
-{
-    let numbers = items_near(&lists.pairs, lists.near_pair, ends);
-    let links = items_near(&lists.groups, lists.near_group, (ends.0, ends.1));
-    lead_to_any(links, numbers, ends.2, ends.3)
 }
 
 /// The connection, unless it was made later than the one of this number.

@@ -2,16 +2,13 @@
 #![tactic(auto)]
 
 mod adding;
+mod cell;
 mod connection;
 mod connections;
 mod fault;
 mod groups;
 mod hint;
-mod link;
-mod listed;
 mod lists;
-mod marking;
-mod pairs;
 mod place;
 mod removing;
 mod search;

@@ -1,21 +1,22 @@
-//! Which connections are removed, and how the lists follow.
+//! Which connections are removed, and the marks that a removal leaves.
 
-ghost use Rattle.std.specs.Prelude.{◌≡◌, ℕ, ◌&&◌, List, [], ◌∷◌};
-ghost use Rattle.connections.specs.Connected.{is_numbered};
-ghost use Rattle.connections.specs.code.Store.{Bounded, EachRises, Ends, Removes, connections_in, ends_in, ends_of, fits, has_ends, has_some_of, is_picked, links_in, meets, shown_at};
-ghost use Rattle.connections.specs.code.Links.{find_numbered, place_number};
-ghost use Rattle.connections.specs.code.Rising.{AreRisingBy};
+ghost use Rattle.std.specs.Prelude.{◌≡◌, ℕ, ◌+◌, ◌≤◌, if◌then◌else◌, eqb};
+ghost use Rattle.std.specs.Option.{option_map};
+ghost use Rattle.std.specs.Vec.{vec_len};
+ghost use Rattle.slab.specs.Slab.{Slab as ASlab, get};
+ghost use Rattle.connections.specs.declared.cell.Cell.{Cell as ACell};
+ghost use Rattle.connections.specs.code.Cells.{fits, Retires, RetiresAt, Marked, LeadToEach, is_due};
+ghost use Rattle.connections.specs.code.Places.{AreRising};
+ghost use Rattle.connections.specs.code.Lists.{all_of, ListsLead, LeadTo, TidiesLists};
 
+use crate::cell::Cell;
 use crate::connection::Connection;
-use crate::groups::links_of;
-use crate::link::Link;
-use crate::listed::{Listed, items_of};
-use crate::lists::{Lists, ends_between};
-use crate::pairs::{break_all, break_links, forget_number};
-use crate::place::{Place, place_numbered};
-use crate::search::find_numbered;
+use crate::lists::Lists;
+use crate::place::CellPlace;
+use crate::search::place_of_number;
+use crate::sweeping::forget;
 use basic_types::ObjectId;
-use indexmap::IndexMap;
+use slab::Slab;
 
 /// Which connections are to be removed.
 #[derive(Clone, Copy)]
@@ -28,120 +29,94 @@ pub enum Removal {
     Numbered(u64),
 }
 
-/// Removes the connections that are to be removed: so many.
+impl Removal {
+    /// Whether the connection is one of these.
+    pub fn fits(&self, c: &Connection) -> bool
+        ensures { result ≡ fits self.now c.now }
+    {
+        match self {
+            Removal::Between(sender, signal, receiver, method) => {
+                c.joins(*sender, *signal, *receiver, *method)
+            }
+            Removal::Touching(object) => c.touches(*object),
+            Removal::Numbered(number) => c.number == *number,
+        }
+    }
+}
+
+/// Removes the connections that are to be removed, and marks each: so many. Their cells stay.
 pub fn remove(
+    cells: &mut Slab<Cell>,
     lists: &mut Lists,
-    objects: &IndexMap<usize, Listed<(usize, usize, usize, usize)>>,
+    marked: &mut Vec<usize>,
     removal: &Removal,
 ) -> usize
-    requires { Bounded lists.old (ends_in objects.now) }
-    ensures { Removes (ends_in objects.now) (fits removal.now) result lists.old lists.new }
+    requires led { (last : ℕ) × ListsLead cells.old lists.old last }
+    requires marked { Marked cells.old marked.old }
+    ensures cells { Retires removal.now cells.old cells.new }
+    ensures lists { TidiesLists cells.new lists.old lists.new }
+    ensures marked { Marked cells.new marked.new }
+    ensures count { vec_len marked.new ≡ vec_len marked.old + result }
+{
+    let before = marked.len();
+    mark_all(cells, marked, places_for(lists, removal), removal);
+    forget(cells, lists, &marked[before..]);
+    marked.len() - before
+}
+
+/// Places that lead to each connection that is to be removed.
+fn places_for<'a>(lists: &'a Lists, removal: &Removal) -> &'a [CellPlace]
+    requires { AreRising (all_of lists.now) }
+    ensures { LeadTo lists.now (fits removal.now) result.now }
 {
     match removal {
-        Removal::Between(sender, signal, receiver, method) => {
-            break_ends(lists, ends_between(*sender, *signal, *receiver, *method))
+        Removal::Between(sender, signal, receiver, _) => {
+            lists.of_either(*sender, *signal, *receiver)
         }
-        Removal::Touching(object) => {
-            let each = items_of(objects, object.number());
-            break_each(lists, each, object.number())
+        Removal::Touching(object) => lists.of_object(*object),
+        Removal::Numbered(number) => place_of_number(&lists.all.items, *number),
+    }
+}
+
+/// Marks the cells of the connections that are to be removed, where these places lead to all of them.
+fn mark_all(
+    cells: &mut Slab<Cell>,
+    marked: &mut Vec<usize>,
+    places: &[CellPlace],
+    removal: &Removal,
+)
+    requires marked { Marked cells.old marked.old }
+    requires covers { LeadToEach cells.old (fits removal.now) places.now }
+    ensures cells { Retires removal.now cells.old cells.new }
+    ensures marked { Marked cells.new marked.new }
+    ensures more { vec_len marked.old ≤ vec_len marked.new }
+{
+    for place in places {
+        mark_one(cells, marked, place.key, removal);
+    }
+}
+
+/// Removes the connection in a cell and marks it, if it is to be removed.
+#[tactic(auto, using(crate::proofs::Counts::counts))]
+fn mark_one(cells: &mut Slab<Cell>, marked: &mut Vec<usize>, key: usize, removal: &Removal)
+    requires { Marked cells.old marked.old }
+    ensures cells { RetiresAt key removal.now cells.old cells.new }
+    ensures marked { Marked cells.new marked.new }
+    ensures more { vec_len marked.old ≤ vec_len marked.new }
+{
+    if is_due(cells, key, removal) {
+        marked.push_reserved(key);
+        if let Some(cell) = cells.get_mut(key) {
+            cell.live = false;
         }
-        Removal::Numbered(number) => break_numbered(lists, *number),
     }
 }
 
-/// Removes the connections with these ends: so many.
-fn break_ends(lists: &mut Lists, ends: (usize, usize, usize, usize)) -> usize
-    requires { EachRises (links_in lists.old.groups) }
-    ensures { (each : ℕ → List Ends) → Removes each (has_ends ends) result lists.old lists.new }
+fn is_due(cells: &Slab<Cell>, key: usize, removal: &Removal) -> bool
+    ensures { result ≡ is_due removal.now (get cells.now key) }
 {
-    break_all(
-        &mut lists.groups,
-        &mut lists.near_group,
-        &mut lists.pairs,
-        &mut lists.near_pair,
-        ends,
-    )
-}
-
-/// Removes the connections with some of these ends, as far as they lead from or to the object: so many.
-fn break_each(lists: &mut Lists, each: &[(usize, usize, usize, usize)], object: usize) -> usize
-    requires { (ends : ℕ → List Ends) × Bounded lists.old ends }
-    ensures { (ends : ℕ → List Ends) → Removes ends (has_some_of object each.now) result lists.old lists.new }
-{
-    let mut count: usize = 0;
-    for ends in each {
-        count += break_meeting(lists, *ends, object);
+    match cells.get(key) {
+        None => false,
+        Some(cell) => cell.live && removal.fits(&cell.connection),
     }
-    count
-}
-
-/// Removes the connections with these ends, if they lead from or to the object: so many.
-fn break_meeting(lists: &mut Lists, ends: (usize, usize, usize, usize), object: usize) -> usize
-    requires { EachRises (links_in lists.old.groups) }
-    ensures { (each : ℕ → List Ends) → Removes each (λ c. meets object ends && has_ends ends c) result lists.old lists.new }
-{
-    if meets(object, ends) {
-        break_ends(lists, ends)
-    } else {
-        0
-    }
-}
-
-/// Whether ends lead from or to the object.
-fn meets(object: usize, ends: (usize, usize, usize, usize)) -> bool
-    ensures { result ≡ meets object ends }
-{
-    ends.0 == object || ends.2 == object
-}
-
-/// Removes the connection of this number, if it is there: so many.
-fn break_numbered(lists: &mut Lists, number: u64) -> usize
-    requires places { AreRisingBy place_number lists.old.all.items }
-    requires links { EachRises (links_in lists.old.groups) }
-    ensures { (each : ℕ → List Ends) → Removes each (is_numbered number) result lists.old lists.new }
-{
-    match held_numbered(lists, number) {
-        None => 0,
-        Some(c) => break_connection(lists, &c),
-    }
-}
-
-/// Removes a connection that is there: so many.
-fn break_connection(lists: &mut Lists, c: &Connection) -> usize
-    requires { EachRises (links_in lists.old.groups) }
-    ensures { (each : ℕ → List Ends) → Removes each (is_picked (ends_of c.now) (c.now.number ∷ [])) result lists.old lists.new }
-{
-    let ends = ends_between(c.sender, c.signal, c.receiver, c.method);
-    break_one(lists, ends, c.number)
-}
-
-/// Removes the connection of this number, if it has these ends: so many.
-fn break_one(lists: &mut Lists, ends: (usize, usize, usize, usize), number: u64) -> usize
-    requires { EachRises (links_in lists.old.groups) }
-    ensures { (each : ℕ → List Ends) → Removes each (is_picked ends (number ∷ [])) result lists.old lists.new }
-{
-    let count = break_links(&mut lists.groups, &mut lists.near_group, ends, &[number]);
-    forget_number(&lists.groups, &mut lists.pairs, ends);
-    count
-}
-
-/// The connection of this number.
-fn held_numbered(lists: &Lists, number: u64) -> Option<Connection>
-    requires places { AreRisingBy place_number lists.now.all.items }
-    requires links { EachRises (links_in lists.now.groups) }
-    ensures { result ≡ find_numbered number (connections_in lists.now) }
-{
-    match place_numbered(&lists.all, number) {
-        None => None,
-        Some(place) => held_at(&lists.groups, &place),
-    }
-}
-
-/// The connection of a place.
-fn held_at(groups: &IndexMap<(usize, usize), Listed<Link>>, place: &Place) -> Option<Connection>
-    requires { EachRises (links_in groups.now) }
-    ensures { result ≡ shown_at (links_in groups.now) place.now }
-{
-    let links = links_of(groups, place.sender, place.signal);
-    find_numbered(links, place.sender, place.signal, place.number)
 }

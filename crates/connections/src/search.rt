@@ -1,135 +1,101 @@
-//! Searches among links, whose numbers rise.
+//! Searches in lists of places, whose numbers rise.
 
-ghost use Rattle.std.specs.Prelude.{◌≡◌, ◌<◌, ◌≤◌, length, IfSome, slice_get};
-ghost use Rattle.std.specs.List.{list_any};
-ghost use Rattle.connections.specs.code.Links.{AreRising, IsRestFrom, first_above, find_numbered, link_number, shown, shown_numbered, is_due, passes};
-ghost use Rattle.connections.specs.code.Rising.{SplitsBy};
+ghost use Rattle.std.specs.Prelude.{◌≡◌, ℕ, ◌<◌, ◌≤◌, length, eqb, nat_lt, drop, IfSome};
+ghost use Rattle.std.specs.List.{Contains, find, list_any};
+ghost use Rattle.connections.specs.code.Cells.{fits};
+ghost use Rattle.connections.specs.code.Places.{live, first_above, AreRising, SplitsAt, IsRestFrom, HoldNumbered};
+ghost use Rattle.connections.specs.declared.place.CellPlace.{CellPlace as ACellPlace};
 
+use crate::cell::{Cell, live_at};
 use crate::connection::Connection;
-use crate::link::Link;
-use basic_types::ObjectId;
+use crate::place::CellPlace;
+use crate::removing::Removal;
+use slab::Slab;
 
-/// How many links have lower numbers.
-pub fn from_number(links: &[Link], number: u64) -> usize
-    ensures within { result ≤ length links.now }
-    ensures split { AreRising links.now → SplitsBy link_number links.now number result }
+/// How many places have lower numbers.
+fn from_number(places: &[CellPlace], number: u64) -> usize
+    requires { AreRising places.now }
+    ensures within { result ≤ length places.now }
+    ensures split { SplitsAt places.now number result }
 {
-    match guess(links, number) {
-        Some(at) => at,
-        None => links.partition_point(|link| link.number < number),
+    match guess(places, number) {
+        Some(place) => place,
+        None => places.partition_point(|p| p.number < number),
     }
 }
 
-/// How many links have lower numbers, where that needs no search: none does, or the link of this number stands where it
-/// does among links whose numbers follow one another, as those of connections that were made one after the other do.
-fn guess(links: &[Link], number: u64) -> Option<usize>
-    ensures within { IfSome result (λ at. at < length links.now) }
-    ensures split { AreRising links.now → IfSome result (λ at. SplitsBy link_number links.now number at) }
+/// How many places have lower numbers, where that needs no search: none does, or the place of this number stands where it
+/// does among places whose numbers follow one another, as those of connections that were made one after the other do.
+fn guess(places: &[CellPlace], number: u64) -> Option<usize>
+    requires { AreRising places.now }
+    ensures { IfSome result (λ at. (at < length places.now) × SplitsAt places.now number at) }
 {
-    let (first, _) = links.split_first()?;
+    let (first, _) = places.split_first()?;
     if number <= first.number {
         return Some(0);
     }
     let ahead = number - first.number;
-    if ahead >= links.len() as u64 {
+    if ahead >= places.len() as u64 {
         return None;
     }
     let at = ahead as usize;
-    if links[at].number == number {
+    if places[at].number == number {
         Some(at)
     } else {
         None
     }
 }
 
-/// The links of at least this number.
-fn links_from(links: &[Link], number: u64) -> &[Link]
-    requires { AreRising links.now }
-    ensures { IsRestFrom number links.now result.now }
+/// The places of at least this number.
+fn places_from(places: &[CellPlace], number: u64) -> &[CellPlace]
+    requires { AreRising places.now }
+    ensures { IsRestFrom number places.now result.now }
 {
-    &links[from_number(links, number)..]
+    &places[from_number(places, number)..]
 }
 
-/// The first connection of a sender and signal that is numbered above `number`, where these are its links.
-pub fn next_above(
-    links: &[Link],
-    sender: ObjectId,
-    signal: usize,
-    number: u64,
-) -> Option<Connection>
-    requires { AreRising links.now }
-    ensures { result ≡ first_above number (shown sender signal links.now) }
+/// The place of this number, if there is one.
+pub fn place_of_number(places: &[CellPlace], number: u64) -> &[CellPlace]
+    requires { AreRising places.now }
+    ensures held { HoldNumbered number places.now result.now }
+    ensures one { length result.now ≤ 1 }
 {
-    first_above(links_from(links, number), sender, signal, number)
+    let rest = places_from(places, number);
+    &rest[..rest.len().min(1)]
 }
 
-/// The same in any order of the links.
-fn first_above(links: &[Link], sender: ObjectId, signal: usize, number: u64) -> Option<Connection>
-    ensures { result ≡ first_above number (shown sender signal links.now) }
+/// The first connection of the places that is numbered above `number`.
+pub fn next_above(cells: &Slab<Cell>, places: &[CellPlace], number: u64) -> Option<Connection>
+    requires { AreRising places.now }
+    ensures { result ≡ first_above number (live cells.now places.now) }
 {
-    for link in links {
-        if number < link.number && link.live {
-            return Some(link.connection(sender, signal));
+    first_above(cells, places_from(places, number), number)
+}
+
+/// The same in any order of the places.
+fn first_above(cells: &Slab<Cell>, places: &[CellPlace], number: u64) -> Option<Connection>
+    ensures { result ≡ first_above number (live cells.now places.now) }
+{
+    for place in places {
+        if number < place.number {
+            if let Some(c) = live_at(cells, place) {
+                return Some(c);
+            }
         }
     }
     None
 }
 
-/// The connection of this number of a sender and signal, where these are its links.
-pub fn find_numbered(
-    links: &[Link],
-    sender: ObjectId,
-    signal: usize,
-    number: u64,
-) -> Option<Connection>
-    ensures { AreRising links.now → result ≡ find_numbered number (shown sender signal links.now) }
+/// Whether one of the places leads to a connection that would be removed.
+pub fn lead_to_any(cells: &Slab<Cell>, places: &[CellPlace], removal: &Removal) -> bool
+    ensures { result ≡ list_any (fits removal.now) (live cells.now places.now) }
 {
-    numbered_at(links, from_number(links, number), sender, signal, number)
-}
-
-/// The connection of the link at an index, if that is there and has this number.
-fn numbered_at(
-    links: &[Link],
-    at: usize,
-    sender: ObjectId,
-    signal: usize,
-    number: u64,
-) -> Option<Connection>
-    ensures { result ≡ shown_numbered sender signal number (slice_get links.now at) }
-{
-    match links.get(at) {
-        Some(link) if link.live && link.number == number => Some(link.connection(sender, signal)),
-        _ => None,
-    }
-}
-
-/// Whether the link of one of these numbers is there and leads to this method of the receiver.
-pub fn lead_to_any(links: &[Link], numbers: &[u64], receiver: usize, method: usize) -> bool
-    requires { AreRising links.now }
-    ensures { result ≡ list_any (λ n. list_any (is_due n receiver method) links.now) numbers.now }
-{
-    for number in numbers {
-        if leads(links, *number, receiver, method) {
-            return true;
+    for place in places {
+        if let Some(c) = live_at(cells, place) {
+            if removal.fits(&c) {
+                return true;
+            }
         }
     }
     false
-}
-
-/// Whether the link of this number is there and leads to this method of the receiver.
-fn leads(links: &[Link], number: u64, receiver: usize, method: usize) -> bool
-    requires { AreRising links.now }
-    ensures { result ≡ list_any (is_due number receiver method) links.now }
-{
-    is_due_at(links, from_number(links, number), number, receiver, method)
-}
-
-/// Whether the link at an index is there, has this number and leads to this method of the receiver.
-pub fn is_due_at(links: &[Link], at: usize, number: u64, receiver: usize, method: usize) -> bool
-    ensures { result ≡ passes (is_due number receiver method) (slice_get links.now at) }
-{
-    match links.get(at) {
-        None => false,
-        Some(link) => link.is_due(number, receiver, method),
-    }
 }

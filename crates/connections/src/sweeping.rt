@@ -1,135 +1,91 @@
-//! Removed connections leave the list of all, and in time keys with no connections are dropped.
+//! Removed connections leave the lists, and in a sweep their cells.
 
-ghost use Rattle.std.specs.Prelude.{◌≡◌, ℕ, List, filter, if◌then◌else◌, eqb};
-ghost use Rattle.connections.specs.code.Store.{EachRises, Ends, KeepsPaired, Stays, ends_in, has_pair, is_shown, links_in};
+ghost use Rattle.std.specs.Prelude.{◌≡◌, ℕ, ◌≤◌};
+ghost use Rattle.std.specs.Vec.{vec_len};
+ghost use Rattle.slab.specs.Slab.{get, slab_len};
+ghost use Rattle.connections.specs.code.Cells.{Marked, HoldDead, Sweeps, SweepsAt, is_dead};
+ghost use Rattle.connections.specs.code.Lists.{TidiesLists};
 
-use crate::link::Link;
-use crate::listed::{Listed, drop_idle, give_back, items_near};
+use crate::cell::Cell;
+use crate::groups::{forget_places, tidy_groups};
 use crate::lists::Lists;
-use crate::pairs::is_held;
-use crate::place::Place;
-use indexmap::IndexMap;
+use slab::Slab;
 
-/// The places of this many removed connections wait, so that few are not tidied time and again.
+/// So many cells are emptied before the lists are tidied, so that few are not tidied time and again.
 const FEW: usize = 64;
 
-/// The keys of this many pairs that have no connections stay, since most that were connected once are so again.
-const SPARE: usize = 512;
-
-/// Tidies the lists, where the places of so many connections that were removed are among all: how many are left.
-pub fn sweep(
-    lists: &mut Lists,
-    objects: &mut IndexMap<usize, Listed<(usize, usize, usize, usize)>>,
-    stale: usize,
-) -> usize
-    ensures { Stays (ends_in objects.old) (ends_in objects.new) lists.old lists.new }
+/// The places of the connections in these cells, which were removed, lead nowhere any more.
+pub fn forget(cells: &Slab<Cell>, lists: &mut Lists, keys: &[usize])
+    ensures { TidiesLists cells.now lists.old lists.new }
 {
-    let left = tidy_places(lists, stale);
-    tidy_keys(lists, objects);
-    left
+    for key in keys {
+        forget_one(cells, lists, *key);
+    }
 }
 
-/// Once more than half of the places are stale, these leave: how many are left.
-fn tidy_places(lists: &mut Lists, stale: usize) -> usize
-    ensures { (each : ℕ → List Ends) → Stays each each lists.old lists.new }
+/// The place of the connection in a cell, which was removed, leads nowhere any more. Those under its objects stay until the
+/// lists are tidied.
+fn forget_one(cells: &Slab<Cell>, lists: &mut Lists, key: usize)
+    ensures { TidiesLists cells.now lists.old lists.new }
 {
-    if stale <= FEW || stale <= lists.all.len() / 2 {
-        return stale;
+    if let Some(cell) = cells.get(key) {
+        let pair = (cell.connection.sender.number(), cell.connection.signal);
+        lists.all.forget(1, cells);
+        forget_places(&mut lists.by_signal, lists.near_signal, pair, 1, cells);
     }
-    keep_shown(&lists.groups, lists.near_group, &mut lists.all);
+}
+
+/// Empties each cell whose connection was removed.
+pub fn sweep(cells: &mut Slab<Cell>, marked: &mut Vec<usize>)
+    requires { Marked cells.old marked.old }
+    ensures marked { Marked cells.new marked.new }
+    ensures none { vec_len marked.new ≡ 0 }
+    ensures cells { Sweeps cells.old cells.new }
+{
+    sweep_keys(cells, marked);
+    marked.clear();
+}
+
+/// Empties the cells of these keys whose connections were removed.
+fn sweep_keys(cells: &mut Slab<Cell>, keys: &[usize])
+    requires { HoldDead cells.old keys.now }
+    ensures cells { Sweeps cells.old cells.new }
+    ensures len { slab_len cells.new ≤ slab_len cells.old }
+{
+    for key in keys {
+        sweep_one(cells, *key);
+    }
+}
+
+/// Empties the cell of this key, if its connection was removed.
+fn sweep_one(cells: &mut Slab<Cell>, key: usize)
+    ensures cells { SweepsAt key cells.old cells.new }
+    ensures len { slab_len cells.new ≤ slab_len cells.old }
+{
+    if is_dead(cells, key) {
+        cells.try_remove(key);
+    }
+}
+
+/// Whether the connection in a cell was removed.
+fn is_dead(cells: &Slab<Cell>, key: usize) -> bool
+    ensures { result ≡ is_dead (get cells.now key) }
+{
+    match cells.get(key) {
+        None => false,
+        Some(cell) => !cell.live,
+    }
+}
+
+/// Tidies the lists, once so many cells were emptied since they were tidied last that there are fewer left: how many were
+/// emptied since.
+pub fn tidy(cells: &Slab<Cell>, lists: &mut Lists, emptied: usize) -> usize
+    ensures { TidiesLists cells.now lists.old lists.new }
+{
+    if emptied <= cells.len().saturating_add(FEW) {
+        return emptied;
+    }
+    tidy_groups(&mut lists.by_signal, cells);
+    tidy_groups(&mut lists.by_object, cells);
     0
-}
-
-/// Keeps the places of the connections that are there.
-fn keep_shown(groups: &IndexMap<(usize, usize), Listed<Link>>, near: usize, all: &mut Vec<Place>)
-    ensures { EachRises (links_in groups.now) → all.new.items ≡ filter (is_shown (links_in groups.now)) all.old.items }
-{
-    all.retain(|place| is_shown(groups, near, place));
-    give_back(all);
-}
-
-/// Whether the connection of a place is there. Its sender and signal are looked for at the index `near` first.
-fn is_shown(groups: &IndexMap<(usize, usize), Listed<Link>>, near: usize, place: &Place) -> bool
-    ensures { EachRises (links_in groups.now) → result ≡ is_shown (links_in groups.now) place.now }
-{
-    let pair = (place.sender.number(), place.signal);
-    is_held(items_near(groups, near, pair), place.number)
-}
-
-/// Once many pairs have no connections, their keys are dropped, and those of signals and objects with none.
-fn tidy_keys(lists: &mut Lists, objects: &mut IndexMap<usize, Listed<(usize, usize, usize, usize)>>)
-    ensures { Stays (ends_in objects.old) (ends_in objects.new) lists.old lists.new }
-{
-    if lists.pairs.len() / 2 > lists.all.len().saturating_add(SPARE) {
-        drop_keys(lists, objects);
-    }
-}
-
-fn drop_keys(lists: &mut Lists, objects: &mut IndexMap<usize, Listed<(usize, usize, usize, usize)>>)
-    ensures { Stays (ends_in objects.old) (ends_in objects.new) lists.old lists.new }
-{
-    drop_idle(&mut lists.groups);
-    drop_idle(&mut lists.pairs);
-    keep_paired(&lists.pairs, objects);
-    drop_idle(objects);
-}
-
-/// Of the ends of each object, those stay that have a list of numbers.
-fn keep_paired(
-    pairs: &IndexMap<(usize, usize, usize, usize), Listed<u64>>,
-    objects: &mut IndexMap<usize, Listed<(usize, usize, usize, usize)>>,
-)
-    ensures { (object : ℕ) → KeepsPaired (has_pair pairs.now) (ends_in objects.old object) (ends_in objects.new object) }
-{
-    for index in 0..objects.len() {
-        keep_paired_at(pairs, objects, index);
-    }
-}
-
-fn keep_paired_at(
-    pairs: &IndexMap<(usize, usize, usize, usize), Listed<u64>>,
-    objects: &mut IndexMap<usize, Listed<(usize, usize, usize, usize)>>,
-    index: usize,
-)
-    ensures { (object : ℕ) → KeepsPaired (has_pair pairs.now) (ends_in objects.old object) (ends_in objects.new object) }
-{
-    match key_at(objects, index) {
-        None => {}
-        Some(object) => keep_paired_of(pairs, objects, object),
-    }
-}
-
-/// The object at an index.
-fn key_at(
-    objects: &IndexMap<usize, Listed<(usize, usize, usize, usize)>>,
-    index: usize,
-) -> Option<usize> {
-    match objects.get_index(index) {
-        None => None,
-        Some((object, _)) => Some(*object),
-    }
-}
-
-fn keep_paired_of(
-    pairs: &IndexMap<(usize, usize, usize, usize), Listed<u64>>,
-    objects: &mut IndexMap<usize, Listed<(usize, usize, usize, usize)>>,
-    object: usize,
-)
-    ensures { (q : ℕ) → KeepsPaired (has_pair pairs.now) (if eqb object q then ends_in objects.old object else ends_in objects.old q) (ends_in objects.new q) }
-{
-    match objects.get_mut(&object) {
-        None => {}
-        Some(each) => keep_known(pairs, &mut each.items),
-    }
-}
-
-/// Keeps the ends that have a list of numbers.
-fn keep_known(
-    pairs: &IndexMap<(usize, usize, usize, usize), Listed<u64>>,
-    each: &mut Vec<(usize, usize, usize, usize)>,
-)
-    ensures { each.new.items ≡ filter (has_pair pairs.now) each.old.items }
-{
-    each.retain(|ends| pairs.contains_key(ends));
-    give_back(each);
 }

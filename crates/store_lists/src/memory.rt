@@ -42,7 +42,7 @@ const TIMES: u64 = 1_000_000;
 const SWEPT_AFTER: u64 = 500;
 
 /// Connects and disconnects one pair of objects, one after the other, and sweeps at times: how many connections were made,
-/// and for how many of them that were removed a cell was held.
+/// and how many cells were taken.
 pub fn connected_in_turn(alloc: Global) -> Holding {
     let (sender, receiver) = (ObjectId::new(0), ObjectId::new(1));
     let mut connections = Connections::new(alloc);
@@ -52,7 +52,7 @@ pub fn connected_in_turn(alloc: Global) -> Holding {
             let _ = connections.connect(sender, 4, receiver, 5, Kind::Auto, true, false);
         }
         let _ = connections.disconnect(sender, 4, receiver, 5);
-        most = connections.marked().max(most);
+        most = connections.cells().max(most);
         if time % SWEPT_AFTER == SWEPT_AFTER - 1 {
             connections.sweep();
         }
@@ -60,6 +60,6 @@ pub fn connected_in_turn(alloc: Global) -> Holding {
     Holding {
         made: connections.last() as usize,
         most,
-        left: connections.marked(),
+        left: connections.cells(),
     }
 }

@@ -1,27 +1,36 @@
-use Rattle.std.proofs.Common.{◌≡◌, sym, ◌∙◌, ap, ◌∷◌, [], ◌++◌, ◌+◌, subst, ℕ, List}
+use Rattle.std.proofs.Common.{◌≡◌, ℕ, List, sym, ◌∙◌, ap, ◌∷◌, [], ◌++◌, arith, ◌+◌, ◌<◌}
 use Rattle.connections.specs.Connected.{Held}
+use Rattle.std.specs.Vec.{vec_len}
+use Rattle.connections.specs.code.Lists.{shown_in}
 use Rattle.connections.specs.declared.connection.Connection.{Connection}
-use Rattle.connections.proofs.Kept.{on_err}
-use Rattle.connections.specs.code.Links.{connection_of}
-use Rattle.connections.specs.code.Store.{ends_in, Whole}
+use Rattle.connections.proofs.Standing.{on_err_always}
+use Rattle.connections.proofs.Added.{Tied-kept, Tied-put, shown-put, shown-kept}
 use Rattle.connections.proofs.connections.Connections.append.Goals as goal
 
 pub invariant_of-self : goal.invariant_of-self
-invariant_of-self c = c.in_err-add.ensures.err.whole c.self.inside.marked c.self.inside.last c.self.invariant
+invariant_of-self c =
+    Tied-kept c.self.inside.cells c.make_rooms.new.cells c.self.inside.lists c.make_rooms.new.lists c.self.inside.marked c.make_rooms.new.marked c.make_rooms.ensures.kept c.self.inside.last c.self.invariant
 
 pub invariant_of-self-2 : goal.invariant_of-self-2
 invariant_of-self-2 c =
-    let n : c.args.link.number ≡ c.self.inside.last + 1 = c.requires.number ∙ ap (λ (h : Held). h.connected.last + 1) (sym c.self.view_is) in
-    let P : ℕ → Type 0 = λ k. Whole c.add.new.lists (ends_in c.add.new.objects) c.self.inside.marked k in
-    subst P (sym n) (c.in_ok-add.ensures.made.whole c.self.inside.marked c.self.inside.last n c.self.invariant)
-
-pub returns-in_err-add-clause-err : goal.returns-in_err-add-clause-err
-returns-in_err-add-clause-err c =
-    let with : List Connection → Held = λ cs. record { connected = record { connections = cs; last = c.self.inside.last }; marked = c.self.inside.marked } in
-    on_err c.from_residual.result (ap with (c.in_err-add.ensures.err.shows c.self.inside.marked c.self.inside.last c.self.invariant) ∙ c.self.view_is)
+    let kept = Tied-kept c.self.inside.cells c.make_rooms.new.cells c.self.inside.lists c.make_rooms.new.lists c.self.inside.marked c.make_rooms.new.marked c.make_rooms.ensures.kept c.self.inside.last c.self.invariant in
+    let n : c.args.connection.number ≡ c.self.inside.last + 1 = c.requires.number ∙ ap (λ (h : Held). h.connected.last + 1) (sym c.self.view_is) in
+    let above : c.self.inside.last < c.args.connection.number = omega (arith, n) in
+    Tied-put c.make_rooms.new.cells c.put.new.cells c.make_rooms.new.lists c.put.new.lists c.self.inside.last c.put.result c.args.connection c.put.ensures.cell above c.put.ensures.all c.put.ensures.signals c.put.ensures.objects kept.leads c.make_rooms.new.marked c.put.ensures.len c.in_ok-make_rooms.ensures.mark kept
 
 pub returns-clause-made : goal.returns-clause-made
 returns-clause-made c =
-    let n : c.args.link.number ≡ c.self.inside.last + 1 = c.requires.number ∙ ap (λ (h : Held). h.connected.last + 1) (sym c.self.view_is) in
-    c.in_ok-add.ensures.made.shows c.self.inside.marked c.self.inside.last n c.self.invariant
-    ∙ ap (λ (h : Held). h.connected.connections ++ connection_of c.args.sender c.args.signal c.args.link ∷ []) c.self.view_is
+    let kept = Tied-kept c.self.inside.cells c.make_rooms.new.cells c.self.inside.lists c.make_rooms.new.lists c.self.inside.marked c.make_rooms.new.marked c.make_rooms.ensures.kept c.self.inside.last c.self.invariant in
+    let n : c.args.connection.number ≡ c.self.inside.last + 1 = c.requires.number ∙ ap (λ (h : Held). h.connected.last + 1) (sym c.self.view_is) in
+    let above : c.self.inside.last < c.args.connection.number = omega (arith, n) in
+    shown-put c.make_rooms.new.cells c.put.new.cells c.make_rooms.new.lists c.put.new.lists c.self.inside.last c.put.result c.args.connection c.put.ensures.cell above c.put.ensures.all c.put.ensures.signals c.put.ensures.objects kept.leads
+    ∙ ap (λ cs. cs ++ c.args.connection ∷ []) (shown-kept c.self.inside.cells c.make_rooms.new.cells c.self.inside.lists c.make_rooms.new.lists c.self.inside.marked c.make_rooms.new.marked c.make_rooms.ensures.kept)
+    ∙ ap (λ (h : Held). h.connected.connections ++ c.args.connection ∷ []) c.self.view_is
+
+pub returns-in_err-make_rooms-clause-err : goal.returns-in_err-make_rooms-clause-err
+returns-in_err-make_rooms-clause-err c =
+    let with : List Connection → ℕ → Held = λ cs n. record { connected = record { connections = cs; last = c.self.inside.last }; marked = n } in
+    on_err_always c.from_residual.result
+    (ap (λ (cs : List Connection). with cs (vec_len c.make_rooms.new.marked)) (shown-kept c.self.inside.cells c.make_rooms.new.cells c.self.inside.lists c.make_rooms.new.lists c.self.inside.marked c.make_rooms.new.marked c.make_rooms.ensures.kept)
+    ∙ ap (λ (n : ℕ). with (shown_in c.self.inside.cells c.self.inside.lists) n) c.make_rooms.ensures.kept.many_marked
+    ∙ c.self.view_is)

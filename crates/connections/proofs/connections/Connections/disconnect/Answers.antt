@@ -1,6 +1,6 @@
 use Rattle.std.proofs.Common.{◌≡◌, ◌∙◌, sym, rules, arith, true, false}
 use Rattle.connections.specs.Connected.{joins, are_connected}
-use Rattle.connections.proofs.Laws.{none-counted, some-counted, none-removed}
+use Rattle.connections.proofs.Asked.{none-counted, some-counted, none-removed}
 use Rattle.connections.proofs.connections.Connections.disconnect.Goals as goal
 
 pub returns-then-count-eq0-clause-err : goal.returns-then-count-eq0-clause-err

@@ -1,20 +1,17 @@
-use Rattle.std.proofs.Common.{◌∙◌, ap, sym, nat_lt, List}
+use Rattle.std.proofs.Common.{◌∙◌, ap}
 use Rattle.std.specs.List.{find}
-use Rattle.connections.specs.declared.link.Link.{Link}
-use Rattle.connections.specs.Connected.{Held, is_of, is_later}
-use Rattle.connections.specs.code.Links.{shown, first_above}
-use Rattle.connections.specs.code.Store.{connections_in}
-use Rattle.connections.proofs.Laws.{find_both}
+use Rattle.connections.specs.Connected.{Held, is_later}
+use Rattle.connections.specs.code.Places.{live, first_above}
+use Rattle.connections.proofs.Asked.{find-of_signal}
 use Rattle.connections.proofs.connections.Connections.next_after.Goals as goal
 
 pub next_above-requires : goal.next_above-requires
 next_above-requires c =
-    (c.self.inside.last, rw c.links_of-links.ensures (c.self.invariant.tied.rise c.args.sender c.args.signal))
+    (c.self.inside.last, rw c.of_signal-places.ensures (c.self.invariant.leads.by_signal c.args.sender c.args.signal).rising)
 
 pub returns : goal.returns
 returns c =
     c.next_above.ensures
-    ∙ ap (λ (ls : List Link). first_above c.args.number (shown c.args.sender c.args.signal ls)) c.links_of-links.ensures
-    ∙ ap (first_above c.args.number) (c.self.invariant.tied.exact c.args.sender c.args.signal)
-    ∙ sym (find_both (is_of c.args.sender c.args.signal) (λ d. nat_lt c.args.number d.number) (connections_in c.self.inside.lists))
+    ∙ ap (λ ps. first_above c.args.number (live c.self.inside.cells ps)) c.of_signal-places.ensures
+    ∙ find-of_signal c.self.inside.cells c.self.inside.lists c.self.inside.last c.args.sender c.args.signal c.args.number c.self.invariant.leads
     ∙ ap (λ (h : Held). find (λ x. is_later c.args.sender c.args.signal c.args.number x) h.connected.connections) c.self.view_is
