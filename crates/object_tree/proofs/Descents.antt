@@ -1,7 +1,9 @@
 -- A walk down from an object: the objects that it has passed, and those that it has found and not passed yet.
-use Rattle.std.proofs.Common.{◌≡◌, ◌⊎◌, ⊎_elim, inl, inr, ℕ, suc, ◌+◌, ◌-◌, ◌<◌, ◌≤◌, eqb, Bool, true, false, ◌||◌, ◌&&◌, not, List, [], ◌∷◌, ◌++◌, length, Option, None, Some, refl, sym, ap, ◌∙◌, subst, arith, append-nil}
+use Rattle.std.proofs.Common.{◌≡◌, ◌⊎◌, ⊎_elim, inl, inr, ℕ, zero, suc, ◌+◌, ◌-◌, ◌<◌, ◌≤◌, eqb, Bool, true, false, ◌||◌, ◌&&◌, not, List, [], ◌∷◌, ◌++◌, length, take, drop, get_or, Option, None, Some, refl, sym, ap, ◌∙◌, subst, arith, append-nil}
 use Rattle.std.specs.Prelude.{slice_get, IsSome}
+use Rattle.std.proofs.Math.ListN.{drop_of_length-le}
 use Rattle.std.proofs.lemmas.Bool.{eqb-true, eq-eqb}
+use Rattle.std.proofs.lemmas.List.{drop_more, take_more}
 use Rattle.std.proofs.lemmas.Option.{slice_get_within, same_Some}
 use Rattle.object_tree.specs.declared.life.Life.{Life}
 use Rattle.object_tree.specs.declared.object.Object.{Object}
@@ -113,7 +115,7 @@ pub record Walked (objects : List Object) (o : ℕ) (done todo : List ℕ) : Typ
   pub origin : (k : ℕ) → is_among k (done ++ todo) ≡ true → (k ≡ o) ⊎ ((p : ℕ) × (parent_of objects k ≡ Some p) × (is_among p done ≡ true))
 
 module _ (objects : List Object) (o : ℕ) where
-  pub walk-begins : Walked objects o [] (o ∷ [])
+  walk-begins : Walked objects o [] (o ∷ [])
   walk-begins = record {
     distinct = refl;
     sound = λ k e. subst (λ (j : ℕ). Above objects o j) (of_one k o e) itself;
@@ -123,7 +125,7 @@ module _ (objects : List Object) (o : ℕ) where
   }
 
   -- all are passed
-  pub walk-ends : (done : List ℕ) → Walked objects o done [] → AreBelow objects o done
+  walk-ends : (done : List ℕ) → Walked objects o done [] → AreBelow objects o done
   walk-ends done w = record { distinct = left-distinct done [] w.distinct; all = λ k. (λ e. w.sound k (in_left k done [] e), λ above. complete above) }
     where
       whole : (k : ℕ) → is_among k (done ++ []) ≡ true → is_among k done ≡ true
@@ -179,7 +181,7 @@ module _ (objects : List Object) (forest : Forest objects) (o : ℕ) (done rest 
       (w.origin k e)
 
   -- one more is passed, and its children are found
-  pub walk-on : Walked objects o (done ++ x ∷ []) (rest ++ children_of objects x)
+  walk-on : Walked objects o (done ++ x ∷ []) (rest ++ children_of objects x)
   walk-on = record {
     distinct = both-distinct (done ++ x ∷ []) (rest ++ children_of objects x)
         (both-distinct done (x ∷ []) (left-distinct done (rest ++ x ∷ []) w.distinct) refl (λ k d n. apart k done (rest ++ x ∷ []) w.distinct d (in_right k rest (x ∷ []) n)))
@@ -214,6 +216,103 @@ module _ (objects : List Object) (forest : Forest objects) (o : ℕ) (done rest 
         (λ (c : is_among k (children_of objects x) ≡ true). inr (x, child-among objects forest x k c, in_right x done (x ∷ []) (the_one x)))
         (was k e);
   }
+
+-- ---- what is found stands in one list, of which so many are passed
+
+take-over : (i : ℕ) (xs ys : List ℕ) → i ≤ length xs → take i (xs ++ ys) ≡ take i xs
+take-over zero [] [] h = refl
+take-over zero [] (y ∷ ys) h = refl
+take-over zero (x ∷ xs) ys h = refl
+take-over (suc i) [] ys h = absurd (omega (arith, h))
+take-over (suc i) (x ∷ xs) ys h = ap (λ (ks : List ℕ). x ∷ ks) (take-over i xs ys (omega (arith, h)))
+
+drop-over : (i : ℕ) (xs ys : List ℕ) → i ≤ length xs → drop i (xs ++ ys) ≡ drop i xs ++ ys
+drop-over zero [] [] h = refl
+drop-over zero [] (y ∷ ys) h = refl
+drop-over zero (x ∷ xs) ys h = refl
+drop-over (suc i) [] ys h = absurd (omega (arith, h))
+drop-over (suc i) (x ∷ xs) ys h = drop-over i xs ys (omega (arith, h))
+
+pub length-taken : (i : ℕ) (xs : List ℕ) → i ≤ length xs → length (take i xs) ≡ i
+length-taken zero [] h = refl
+length-taken zero (x ∷ xs) h = refl
+length-taken (suc i) [] h = absurd (omega (arith, h))
+length-taken (suc i) (x ∷ xs) h = ap suc (length-taken i xs (omega (arith, h)))
+
+take-past : (i : ℕ) (xs : List ℕ) → length xs ≤ i → take i xs ≡ xs
+take-past zero [] h = refl
+take-past (suc i) [] h = refl
+take-past zero (x ∷ xs) h = absurd (omega (arith, h))
+take-past (suc i) (x ∷ xs) h = ap (λ (ks : List ℕ). x ∷ ks) (take-past i xs (omega (arith, h)))
+
+abbrev pub WalkedUpto : List Object → ℕ → ℕ → List ℕ → Type 0
+WalkedUpto objects o passed found = Walked objects o (take passed found) (drop passed found)
+
+module _ (objects : List Object) (o : ℕ) where
+  pub walk-starts : WalkedUpto objects o 0 (o ∷ [])
+  walk-starts = walk-begins objects o
+
+  pub walk-stops : (passed : ℕ) (found : List ℕ) → length found ≤ passed → WalkedUpto objects o passed found → AreBelow objects o found
+  walk-stops passed found past w =
+      walk-ends objects o found
+      (subst (λ (ks : List ℕ). Walked objects o ks []) (take-past passed found past)
+      (subst (λ (ks : List ℕ). Walked objects o (take passed found) ks) (drop_of_length-le found past) w))
+
+module _ (objects : List Object) (o : ℕ) (done rest : List ℕ) (x : ℕ) where
+  swap : (k : ℕ) → is_among k (x ∷ rest) ≡ true → is_among k (rest ++ x ∷ []) ≡ true
+  swap k e = ⊎_elim
+      (λ (n : is_among k (x ∷ []) ≡ true). in_right k rest (x ∷ []) n)
+      (λ (r : is_among k rest ≡ true). in_left k rest (x ∷ []) r)
+      (either k (x ∷ []) rest e)
+
+  swap-back : (k : ℕ) → is_among k (rest ++ x ∷ []) ≡ true → is_among k (x ∷ rest) ≡ true
+  swap-back k e = ⊎_elim
+      (λ (r : is_among k rest ≡ true). in_right k (x ∷ []) rest r)
+      (λ (n : is_among k (x ∷ []) ≡ true). in_left k (x ∷ []) rest n)
+      (either k rest (x ∷ []) e)
+
+  there-too : (k : ℕ) → is_among k (done ++ (x ∷ rest)) ≡ true → is_among k (done ++ (rest ++ x ∷ [])) ≡ true
+  there-too k e = ⊎_elim
+      (λ (d : is_among k done ≡ true). in_left k done (rest ++ x ∷ []) d)
+      (λ (t : is_among k (x ∷ rest) ≡ true). in_right k done (rest ++ x ∷ []) (swap k t))
+      (either k done (x ∷ rest) e)
+
+  back-too : (k : ℕ) → is_among k (done ++ (rest ++ x ∷ [])) ≡ true → is_among k (done ++ (x ∷ rest)) ≡ true
+  back-too k e = ⊎_elim
+      (λ (d : is_among k done ≡ true). in_left k done (x ∷ rest) d)
+      (λ (t : is_among k (rest ++ x ∷ []) ≡ true). in_right k done (x ∷ rest) (swap-back k t))
+      (either k done (rest ++ x ∷ []) e)
+
+  -- whichever is passed next
+  turned : Walked objects o done (x ∷ rest) → Walked objects o done (rest ++ x ∷ [])
+  turned w =
+      let first = begins x rest (right-distinct done (x ∷ rest) w.distinct) in
+      record {
+        distinct = both-distinct done (rest ++ x ∷ []) (left-distinct done (x ∷ rest) w.distinct)
+            (both-distinct rest (x ∷ []) first.rest refl (λ k r n.
+            let none : is_among x rest ≡ false = first.none in
+            let here : is_among x rest ≡ true = subst (λ (j : ℕ). is_among j rest ≡ true) (sym (of_one k x n)) r in
+            cc (none, here)))
+            (λ k d t. apart k done (x ∷ rest) w.distinct d (swap-back k t));
+        sound = λ k e. w.sound k (back-too k e);
+        root = there-too o w.root;
+        closed = λ k c e up. there-too c (w.closed k c e up);
+        origin = λ k e. w.origin k (back-too k e);
+      }
+
+-- one more is passed, and its children come behind all
+pub walk-next : (objects : List Object) (forest : Forest objects) (o passed : ℕ) (found : List ℕ) (x : ℕ) → passed < length found → x ≡ get_or found passed x → WalkedUpto objects o passed found → WalkedUpto objects o (passed + 1) (found ++ children_of objects x)
+walk-next objects forest o passed found x below is w =
+    let done : List ℕ = take passed found in
+    let left : List ℕ = drop (passed + 1) found in
+    let children : List ℕ = children_of objects x in
+    let fits : passed + 1 ≤ length found = omega (arith, below) in
+    let cut : drop passed found ≡ x ∷ left = drop_more found passed x below ∙ ap (λ (y : ℕ). y ∷ left) (sym is) in
+    let more : take (passed + 1) (found ++ children) ≡ done ++ x ∷ [] =
+    take-over (passed + 1) found children fits ∙ take_more found passed x below ∙ ap (λ (y : ℕ). done ++ y ∷ []) (sym is) in
+    let next = walk-on objects forest o done left x (turned objects o done left x (subst (λ (ks : List ℕ). Walked objects o done ks) cut w)) in
+    subst (λ (ks : List ℕ). Walked objects o ks (drop (passed + 1) (found ++ children))) (sym more)
+    (subst (λ (ks : List ℕ). Walked objects o (done ++ x ∷ []) ks) (sym (drop-over (passed + 1) found children fits)) next)
 
 module _ (objects : List Object) (o : ℕ) where
   -- no more are passed than were created

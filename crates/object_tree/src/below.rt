@@ -10,7 +10,8 @@ use crate::objects::Objects;
 use basic_types::ObjectId;
 use std::alloc::{AllocError, Global};
 
-/// A living object and its living descendants, reached through living objects.
+/// A living object and its living descendants, reached through living objects: each one's children come behind those that
+/// are found already.
 pub fn below(
     alloc: Global,
     objects: &Objects,
@@ -21,11 +22,12 @@ pub fn below(
     ensures { IfOk result (λ found. AreBelow objects.now object found.items) }
 {
     let mut found = Vec::new(alloc);
-    let mut left = Vec::new(alloc);
-    left.push(object)?;
-    'walk: while let Some(next) = left.pop() {
-        found.push(next)?;
-        push_children(objects, next, &mut left)?;
+    found.push(object)?;
+    let mut passed = 0;
+    while passed < found.len() {
+        let next = found[passed];
+        push_children(objects, next, &mut found)?;
+        passed += 1;
     }
     Ok(found)
 }
