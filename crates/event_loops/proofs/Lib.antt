@@ -5,6 +5,6 @@ pub mod Numbers
 pub mod Waiting
 pub mod Rehoming
 pub mod Gathering
-pub mod Marked
 pub mod Sets
 pub mod Told
+pub mod Counted

@@ -8,47 +8,44 @@ use Rattle.event_loops.specs.declared.item.Item.{Item}
 use Rattle.event_loops.specs.Queues.{Loop, Queues, change, is_before, is_for, without_first, none_for, with_items, with_item, posted_to, taken_before, dropped, with_loop}
 use Rattle.event_loops.specs.Rings.{place_of_first}
 use Rattle.event_loops.specs.Numbers.{has_number, count_under, IsNumbered}
+use Rattle.event_loops.specs.code.Counts.{count_where}
 use Rattle.event_loops.proofs.Places.{without_first-nowhere, without_first-place, place_of-within}
 
--- how many of a loop's items have the number
-abbrev pub count_in : ℕ → List Posted → ℕ
-count_in number items = count_by (has_number number) items
-
-pub count_under-cons : (number : ℕ) (l : Loop) (loops : List Loop) → count_under number (l ∷ loops) ≡ count_in number l.items + count_under number loops
-count_under-cons number l loops = sum_by-cons (λ (m : Loop). count_in number m.items) l loops
+pub count_where-cons : (test : Posted → Bool) (l : Loop) (loops : List Loop) → count_where test (l ∷ loops) ≡ count_by test l.items + count_where test loops
+count_where-cons test l loops = sum_by-cons (λ (m : Loop). count_by test m.items) l loops
 
 -- ---- items are left out
 
 -- a change of a list that leaves items out
-record Thins (f : List Posted → List Posted) : Type 0 where
-  fewer : (number : ℕ) (items : List Posted) → count_in number (f items) ≤ count_in number items
+pub record Thins (f : List Posted → List Posted) : Type 0 where
+  pub fewer : (counted : Posted → Bool) (items : List Posted) → count_by counted (f items) ≤ count_by counted items
 
-thins-none_for : (object : ℕ) → Thins (none_for object)
+pub thins-none_for : (object : ℕ) → Thins (none_for object)
 thins-none_for object = record {
-  fewer = λ number items. omega (arith, sum_by-filter_both (λ p. not (is_for object p.item)) (λ p. not (not (is_for object p.item))) (λ _. refl) (λ p. cond (has_number number p) 1 0) items);
+  fewer = λ counted items. omega (arith, sum_by-filter_both (λ p. not (is_for object p.item)) (λ p. not (not (is_for object p.item))) (λ _. refl) (λ p. cond (counted p) 1 0) items);
 }
 
-thins-without_first : (test : Posted → Bool) → Thins (without_first test)
-thins-without_first test = record { fewer = λ number items. fewer_at number items (place_of_first test items) refl }
+pub thins-without_first : (test : Posted → Bool) → Thins (without_first test)
+thins-without_first test = record { fewer = λ counted items. fewer_at counted items (place_of_first test items) refl }
   where
-    fewer_at : (number : ℕ) (items : List Posted) (place : Option ℕ) → place_of_first test items ≡ place → count_in number (without_first test items) ≤ count_in number items
-    fewer_at number items None e = rw (without_first-nowhere test items e) (omega arith)
-    fewer_at number [] (Some k) e = omega arith
-    fewer_at number (p ∷ items) (Some k) e =
+    fewer_at : (counted : Posted → Bool) (items : List Posted) (place : Option ℕ) → place_of_first test items ≡ place → count_by counted (without_first test items) ≤ count_by counted items
+    fewer_at counted items None e = rw (without_first-nowhere test items e) (omega arith)
+    fewer_at counted [] (Some k) e = omega arith
+    fewer_at counted (p ∷ items) (Some k) e =
         rw (without_first-place test (p ∷ items) k e)
-        (omega (arith, sum_by-remove (λ q. cond (has_number number q) 1 0) (p ∷ items) k p (place_of-within test (p ∷ items) k e)))
+        (omega (arith, sum_by-remove (λ q. cond (counted q) 1 0) (p ∷ items) k p (place_of-within test (p ∷ items) k e)))
 
-count-change : {f : List Posted → List Posted} → Thins f → (number home : ℕ) (loops : List Loop) → count_under number (change home (with_items f) loops) ≤ count_under number loops
-count-change t number home [] = omega arith
-count-change {f} t number zero (l ∷ loops) =
-    omega (arith, t.fewer number l.items, count_under-cons number l loops, count_under-cons number (with_items f l) loops)
-count-change {f} t number (suc home) (l ∷ loops) =
-    omega (arith, count-change t number home loops, count_under-cons number l loops, count_under-cons number l (change home (with_items f) loops))
+pub count_where-change : {f : List Posted → List Posted} → Thins f → (counted : Posted → Bool) (home : ℕ) (loops : List Loop) → count_where counted (change home (with_items f) loops) ≤ count_where counted loops
+count_where-change t counted home [] = omega arith
+count_where-change {f} t counted zero (l ∷ loops) =
+    omega (arith, t.fewer counted l.items, count_where-cons counted l loops, count_where-cons counted (with_items f l) loops)
+count_where-change {f} t counted (suc home) (l ∷ loops) =
+    omega (arith, count_where-change t counted home loops, count_where-cons counted l loops, count_where-cons counted l (change home (with_items f) loops))
 
-count-map : {f : List Posted → List Posted} → Thins f → (number : ℕ) (loops : List Loop) → count_under number (map (with_items f) loops) ≤ count_under number loops
-count-map t number [] = omega arith
-count-map {f} t number (l ∷ loops) =
-    omega (arith, t.fewer number l.items, count-map t number loops, count_under-cons number l loops, count_under-cons number (with_items f l) (map (with_items f) loops))
+pub count_where-map : {f : List Posted → List Posted} → Thins f → (counted : Posted → Bool) (loops : List Loop) → count_where counted (map (with_items f) loops) ≤ count_where counted loops
+count_where-map t counted [] = omega arith
+count_where-map {f} t counted (l ∷ loops) =
+    omega (arith, t.fewer counted l.items, count_where-map t counted loops, count_where-cons counted l loops, count_where-cons counted (with_items f l) (map (with_items f) loops))
 
 -- with fewer items, each of which has its number
 pub fewer_numbered : (s : Queues) (loops : List Loop) → ((number : ℕ) → count_under number loops ≤ count_under number s.loops) → IsNumbered s → IsNumbered (record s { loops = loops })
@@ -60,27 +57,27 @@ fewer_numbered s loops fewer n = record {
 
 pub IsNumbered-taken : (home number : ℕ) (s : Queues) → IsNumbered s → IsNumbered (taken_before home number s)
 IsNumbered-taken home number s n =
-    fewer_numbered s _ (λ k. count-change (thins-without_first (is_before number)) k home s.loops) n
+    fewer_numbered s _ (λ k. count_where-change (thins-without_first (is_before number)) (has_number k) home s.loops) n
 
 pub IsNumbered-dropped : (object : ℕ) (s : Queues) → IsNumbered s → IsNumbered (dropped object s)
 IsNumbered-dropped object s n =
-    fewer_numbered s _ (λ k. count-map (thins-none_for object) k s.loops) n
+    fewer_numbered s _ (λ k. count_where-map (thins-none_for object) (has_number k) s.loops) n
 
 -- ---- a loop more
 
 pub IsNumbered-with_loop : (name : List ℕ) (s : Queues) → IsNumbered s → IsNumbered (with_loop name s)
 IsNumbered-with_loop name s n =
     fewer_numbered s _
-    (λ k. omega (arith, sum_by_push (λ (l : Loop). count_in k l.items) s.loops (record { name = name; items = [] }))) n
+    (λ k. omega (arith, sum_by_push (λ (l : Loop). count_by (has_number k) l.items) s.loops (record { name = name; items = [] }))) n
 
 -- ---- an item more
 
-count-posted : (number home : ℕ) (p : Posted) (loops : List Loop) → count_under number (change home (with_item p) loops) ≤ count_under number loops + cond (has_number number p) 1 0
-count-posted number home p [] = omega arith
-count-posted number zero p (l ∷ loops) =
-    omega (arith, sum_by_push (λ q. cond (has_number number q) 1 0) l.items p, count_under-cons number l loops, count_under-cons number (with_item p l) loops)
-count-posted number (suc home) p (l ∷ loops) =
-    omega (arith, count-posted number home p loops, count_under-cons number l loops, count_under-cons number l (change home (with_item p) loops))
+pub count-posted : (counted : Posted → Bool) (home : ℕ) (p : Posted) (loops : List Loop) → count_where counted (change home (with_item p) loops) ≤ count_where counted loops + cond (counted p) 1 0
+count-posted counted home p [] = omega arith
+count-posted counted zero p (l ∷ loops) =
+    omega (arith, sum_by_push (λ q. cond (counted q) 1 0) l.items p, count_where-cons counted l loops, count_where-cons counted (with_item p l) loops)
+count-posted counted (suc home) p (l ∷ loops) =
+    omega (arith, count-posted counted home p loops, count_where-cons counted l loops, count_where-cons counted l (change home (with_item p) loops))
 
 at_most_one : (b : Bool) → cond {A = ℕ} b 1 0 ≤ 1
 at_most_one true = omega arith
@@ -105,7 +102,7 @@ IsNumbered-posted home item s room n = record {
     p = record { number = s.posted + 1; item = item }
 
     upto : (number : ℕ) → count_under number (change home (with_item p) s.loops) ≤ count_under number s.loops + cond {A = ℕ} (has_number number p) 1 0
-    upto number = count-posted number home p s.loops
+    upto number = count-posted (has_number number) home p s.loops
 
     -- under the new number nothing waited
     none : (number : ℕ) → s.posted + 1 ≡ number → count_under number s.loops ≤ 0

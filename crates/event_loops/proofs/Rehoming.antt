@@ -1,5 +1,5 @@
 -- Items that move to another loop: what waits then, and under which numbers.
-use Rattle.std.proofs.Common.{◌≡◌, ℕ, zero, suc, ◌+◌, ◌≤◌, Bool, true, false, not, ◌||◌, ◌&&◌, List, [], ◌∷◌, ◌++◌, map, filter, Option, None, Some, is_some, append-nil, inl, inr, refl, arith, ap, sym, ◌∙◌, if◌then◌else◌, eqb, cond}
+use Rattle.std.proofs.Common.{◌≡◌, ℕ, zero, suc, ◌+◌, ◌≤◌, Bool, true, false, not, ◌||◌, ◌&&◌, List, [], ◌∷◌, ◌++◌, map, filter, Option, None, Some, is_some, append-nil, inl, inr, refl, arith, ap, sym, ◌∙◌, if◌then◌else◌, eqb, cond, count_by}
 use Rattle.std.specs.List.{list_all, list_any}
 use Rattle.std.proofs.Math.Path.{fun_ext}
 use Rattle.std.proofs.lemmas.Bool.{and_from, and_parts, cases_Bool, ne_eqb, false≢true}
@@ -12,10 +12,11 @@ use Rattle.event_loops.specs.Queues.{Loop, Queues, receiver_of, items_at, all_it
 use Rattle.event_loops.specs.code.Sure.{AllAt}
 use Rattle.event_loops.specs.Rings.{goes, those_going, those_staying, without_going, gathered}
 use Rattle.event_loops.specs.Marks.{waits, is_above, waiting, visible}
-use Rattle.event_loops.specs.Numbers.{has_number, count_under, IsNumbered}
+use Rattle.event_loops.specs.Numbers.{has_number, IsNumbered}
+use Rattle.event_loops.specs.code.Counts.{count_where}
 use Rattle.event_loops.proofs.Entries.{put-same}
 use Rattle.event_loops.proofs.Waiting.{same_cons, visible-change, items_at-visible}
-use Rattle.event_loops.proofs.Numbers.{count_in, count_under-cons, fewer_numbered}
+use Rattle.event_loops.proofs.Numbers.{count_where-cons, fewer_numbered}
 
 -- the same items pass two tests, in whatever order they are asked
 filters-swap : (p q : Posted → Bool) (xs : List Posted) → filter p (filter q xs) ≡ filter q (filter p xs)
@@ -88,59 +89,6 @@ gathered-rehomed objects going is home s =
     let alike : going ≡ (λ o. list_any (λ k. eqb o k) objects) = fun_ext is in
     ap (λ (g : ℕ → Bool). gathered g home s.loops) alike ∙ gathered-over (λ o. list_any (λ k. eqb o k) objects) home s.loops
 
--- ---- where nothing waits for an object that moves
-module _ (since : ℕ → Option ℕ) (objects : List ℕ) (none : list_any (λ o. is_some (since o)) objects ≡ false) where
-  abbrev moves : ℕ → Bool
-  moves o = list_any (λ k. eqb o k) objects
-
-  -- what waits is for none of them
-  not-for : (o : ℕ) (os : List ℕ) → list_any (λ k. is_some (since k)) os ≡ false → is_some (since o) ≡ true → list_any (λ k. eqb o k) os ≡ false
-  not-for o [] away there = refl
-  not-for o (k ∷ os) away there = elim (cases_Bool (is_some (since k))) [
-    | inl t ↦ absurd (false≢true (sym away ∙ ap (λ (b : Bool). b || list_any (λ j. is_some (since j)) os) t))
-    | inr f ↦
-        let other : eqb o k ≡ false = ne_eqb o k (λ e. false≢true (sym f ∙ ap (λ (j : ℕ). is_some (since j)) (sym e) ∙ there)) in
-        let rest : list_any (λ j. is_some (since j)) os ≡ false = sym (ap (λ (b : Bool). b || list_any (λ j. is_some (since j)) os) f) ∙ away in
-        ap (λ (b : Bool). b || list_any (λ j. eqb o j) os) other ∙ not-for o os rest there
-  ]
-
-  marked : (there : Option ℕ) (number : ℕ) → is_above there number ≡ true → is_some there ≡ true
-  marked None number h = h
-  marked (Some n) number h = refl
-
-  stays : (p : Posted) → waits since p ≡ true → goes moves p ≡ false
-  stays p h = not-for (receiver_of p.item) objects none (marked (since (receiver_of p.item)) p.number h)
-
-  none-go : (items : List Posted) → those_going moves (waiting since items) ≡ []
-  none-go [] = refl
-  none-go (p ∷ items) = by_test (waits since p) refl (none-go items)
-    where
-      by_test : (b : Bool) → waits since p ≡ b → those_going moves (waiting since items) ≡ [] → those_going moves (if b then p ∷ waiting since items else waiting since items) ≡ []
-      by_test true told rest = ap (λ (b : Bool). if b then p ∷ those_going moves (waiting since items) else those_going moves (waiting since items)) (stays p told) ∙ rest
-      by_test false told rest = rest
-
-  all-stay : (items : List Posted) → those_staying moves (waiting since items) ≡ waiting since items
-  all-stay [] = refl
-  all-stay (p ∷ items) = by_test (waits since p) refl (all-stay items)
-    where
-      by_test : (b : Bool) → waits since p ≡ b → those_staying moves (waiting since items) ≡ waiting since items → those_staying moves (if b then p ∷ waiting since items else waiting since items) ≡ (if b then p ∷ waiting since items else waiting since items)
-      by_test true told rest = ap (λ (b : Bool). if not b then p ∷ those_staying moves (waiting since items) else those_staying moves (waiting since items)) (stays p told) ∙ ap (λ ps. p ∷ ps) rest
-      by_test false told rest = rest
-
-  loops-stay : (loops : List Loop) → map (without_going moves) (visible since loops) ≡ visible since loops
-  loops-stay [] = refl
-  loops-stay (l ∷ loops) = same_cons _ _ (ap (λ items. record l { items = items }) (all-stay l.items)) (loops-stay loops)
-
-  pub nothing-moves : (home posted : ℕ) (loops : List Loop) → (rehomed objects home (record { loops = visible since loops; posted = posted })).loops ≡ visible since loops
-  nothing-moves home posted loops =
-      let shown : List Loop = visible since loops in
-      let elsewhere : those_going moves (items_elsewhere home shown) ≡ [] =
-      ap (those_going moves) (sym (elsewhere-visible since home loops)) ∙ none-go (items_elsewhere home loops) in
-      ap (λ items. change home (with_items (λ _. items_at shown home ++ items)) (map (without_going moves) shown)) elsewhere
-      ∙ ap (λ items. change home (with_items (λ _. items)) (map (without_going moves) shown)) (append-nil (items_at shown home))
-      ∙ ap (change home (with_items (λ _. items_at shown home))) (loops-stay loops)
-      ∙ put-same home shown
-
 -- ---- what each item passes
 
 all-filter : (q test : Posted → Bool) (items : List Posted) → list_all q items ≡ true → list_all q (filter test items) ≡ true
@@ -177,38 +125,86 @@ module _ (q : Posted → Bool) where
       list_all-append q (items_at loops home) (those_going going (items_elsewhere home loops)) ∙ and_from _ _ (h home) moved in
       all-put (items_at loops home ++ those_going going (items_elsewhere home loops)) all home (map (without_going going) (change home (with_items emptied) loops)) (all-staying going (change home (with_items emptied) loops) rest)
 
--- ---- how many wait under a number
+-- ---- two tests that agree on each item
+module _ (g h : ℕ → Bool) (alike : Posted → Bool) (same : (p : Posted) → alike p ≡ true → goes g p ≡ goes h p) where
+  going-alike : (items : List Posted) → list_all alike items ≡ true → those_going g items ≡ those_going h items
+  going-alike [] all = refl
+  going-alike (p ∷ items) all =
+      let parts = and_parts (alike p) (list_all alike items) all in
+      ap (λ (b : Bool). if b then p ∷ those_going g items else those_going g items) (same p parts.0)
+      ∙ ap (λ ps. if goes h p then p ∷ ps else ps) (going-alike items parts.1)
 
-module _ (number : ℕ) where
-  count-append : (xs ys : List Posted) → count_in number (xs ++ ys) ≡ count_in number xs + count_in number ys
-  count-append xs ys = sum_by-append (λ p. cond (has_number number p) 1 0) xs ys
+  staying-alike : (items : List Posted) → list_all alike items ≡ true → those_staying g items ≡ those_staying h items
+  staying-alike [] all = refl
+  staying-alike (p ∷ items) all =
+      let parts = and_parts (alike p) (list_all alike items) all in
+      ap (λ (b : Bool). if not b then p ∷ those_staying g items else those_staying g items) (same p parts.0)
+      ∙ ap (λ ps. if not (goes h p) then p ∷ ps else ps) (staying-alike items parts.1)
 
-  count-put : (items : List Posted) (home : ℕ) (loops : List Loop) → count_under number (change home (with_items (λ _. items)) loops) ≤ count_under number loops + count_in number items
+  loops-alike : (loops : List Loop) → AllAt alike loops → map (without_going g) loops ≡ map (without_going h) loops
+  loops-alike [] all = refl
+  loops-alike (l ∷ loops) all = same_cons _ _ (ap (λ items. record l { items = items }) (staying-alike l.items (all zero))) (loops-alike loops (λ home. all (suc home)))
+
+  pub gathered-alike : (home : ℕ) (loops : List Loop) → AllAt alike loops → gathered g home loops ≡ gathered h home loops
+  gathered-alike home loops all =
+      let rest : AllAt alike (change home (with_items emptied) loops) = all-put alike [] refl home loops all in
+      ap (λ items. change home (with_items (λ _. items_at loops home ++ items)) (map (without_going g) (change home (with_items emptied) loops)))
+      (going-alike (items_elsewhere home loops) (all-all_items alike (change home (with_items emptied) loops) rest))
+      ∙ ap (change home (with_items (λ _. items_at loops home ++ those_going h (items_elsewhere home loops)))) (loops-alike (change home (with_items emptied) loops) rest)
+
+-- ---- where nothing goes
+none-go : (items : List Posted) → those_going (λ _. false) items ≡ []
+none-go [] = refl
+none-go (p ∷ items) = none-go items
+
+all-stay : (items : List Posted) → those_staying (λ _. false) items ≡ items
+all-stay [] = refl
+all-stay (p ∷ items) = ap (λ ps. p ∷ ps) (all-stay items)
+
+loops-stay : (loops : List Loop) → map (without_going (λ _. false)) loops ≡ loops
+loops-stay [] = refl
+loops-stay (l ∷ loops) = same_cons _ _ (ap (λ items. record l { items = items }) (all-stay l.items)) (loops-stay loops)
+
+pub nothing-gathered : (home : ℕ) (loops : List Loop) → gathered (λ _. false) home loops ≡ loops
+nothing-gathered home loops =
+    gathered-over (λ _. false) home loops
+    ∙ ap (λ items. change home (with_items (λ _. items_at loops home ++ items)) (map (without_going (λ _. false)) loops)) (none-go (items_elsewhere home loops))
+    ∙ ap (λ items. change home (with_items (λ _. items)) (map (without_going (λ _. false)) loops)) (append-nil (items_at loops home))
+    ∙ ap (change home (with_items (λ _. items_at loops home))) (loops-stay loops)
+    ∙ put-same home loops
+
+-- ---- how many of them pass a test
+
+module _ (counted : Posted → Bool) where
+  count-append : (xs ys : List Posted) → count_by counted (xs ++ ys) ≡ count_by counted xs + count_by counted ys
+  count-append xs ys = sum_by-append (λ p. cond (counted p) 1 0) xs ys
+
+  count-put : (items : List Posted) (home : ℕ) (loops : List Loop) → count_where counted (change home (with_items (λ _. items)) loops) ≤ count_where counted loops + count_by counted items
   count-put items home [] = omega arith
   count-put items zero (l ∷ loops) =
-      omega (arith, count_under-cons number l loops, count_under-cons number (with_items (λ _. items) l) loops)
+      omega (arith, count_where-cons counted l loops, count_where-cons counted (with_items (λ _. items) l) loops)
   count-put items (suc home) (l ∷ loops) =
-      omega (arith, count-put items home loops, count_under-cons number l loops, count_under-cons number l (change home (with_items (λ _. items)) loops))
+      omega (arith, count-put items home loops, count_where-cons counted l loops, count_where-cons counted l (change home (with_items (λ _. items)) loops))
 
   -- the items of one loop, and the others
-  count-apart : (home : ℕ) (loops : List Loop) → count_under number (change home (with_items emptied) loops) + count_in number (items_at loops home) ≡ count_under number loops
+  count-apart : (home : ℕ) (loops : List Loop) → count_where counted (change home (with_items emptied) loops) + count_by counted (items_at loops home) ≡ count_where counted loops
   count-apart home [] = omega arith
   count-apart zero (l ∷ loops) =
-      omega (arith, count_under-cons number l loops, count_under-cons number (with_items emptied l) loops)
+      omega (arith, count_where-cons counted l loops, count_where-cons counted (with_items emptied l) loops)
   count-apart (suc home) (l ∷ loops) =
-      omega (arith, count-apart home loops, count_under-cons number l loops, count_under-cons number l (change home (with_items emptied) loops))
+      omega (arith, count-apart home loops, count_where-cons counted l loops, count_where-cons counted l (change home (with_items emptied) loops))
 
   -- those that go, and those that stay
-  count-parted : (going : ℕ → Bool) (loops : List Loop) → count_under number (map (without_going going) loops) + count_in number (those_going going (all_items loops)) ≡ count_under number loops
+  count-parted : (going : ℕ → Bool) (loops : List Loop) → count_where counted (map (without_going going) loops) + count_by counted (those_going going (all_items loops)) ≡ count_where counted loops
   count-parted going [] = omega arith
   count-parted going (l ∷ loops) =
-      let here : count_in number (those_going going l.items) + count_in number (those_staying going l.items) ≡ count_in number l.items =
-      sum_by-filter_both (goes going) (λ p. not (goes going p)) (λ _. refl) (λ p. cond (has_number number p) 1 0) l.items in
-      let all : count_in number (those_going going (l.items ++ all_items loops)) ≡ count_in number (those_going going l.items) + count_in number (those_going going (all_items loops)) =
-      ap (count_in number) (filter-append (goes going) l.items (all_items loops)) ∙ count-append (those_going going l.items) (those_going going (all_items loops)) in
-      omega (arith, here, all, count-parted going loops, count_under-cons number l loops, count_under-cons number (without_going going l) (map (without_going going) loops))
+      let here : count_by counted (those_going going l.items) + count_by counted (those_staying going l.items) ≡ count_by counted l.items =
+      sum_by-filter_both (goes going) (λ p. not (goes going p)) (λ _. refl) (λ p. cond (counted p) 1 0) l.items in
+      let all : count_by counted (those_going going (l.items ++ all_items loops)) ≡ count_by counted (those_going going l.items) + count_by counted (those_going going (all_items loops)) =
+      ap (count_by counted) (filter-append (goes going) l.items (all_items loops)) ∙ count-append (those_going going l.items) (those_going going (all_items loops)) in
+      omega (arith, here, all, count-parted going loops, count_where-cons counted l loops, count_where-cons counted (without_going going l) (map (without_going going) loops))
 
-  count-gathered : (going : ℕ → Bool) (home : ℕ) (loops : List Loop) → count_under number (gathered going home loops) ≤ count_under number loops
+  pub count-gathered : (going : ℕ → Bool) (home : ℕ) (loops : List Loop) → count_where counted (gathered going home loops) ≤ count_where counted loops
   count-gathered going home loops =
       let own = items_at loops home in
       let moved = those_going going (items_elsewhere home loops) in
@@ -221,4 +217,4 @@ module _ (number : ℕ) where
       )
 
 pub IsNumbered-gathered : (going : ℕ → Bool) (home : ℕ) (s : Queues) → IsNumbered s → IsNumbered (record s { loops = gathered going home s.loops })
-IsNumbered-gathered going home s n = fewer_numbered s _ (λ k. count-gathered k going home s.loops) n
+IsNumbered-gathered going home s n = fewer_numbered s _ (λ k. count-gathered (has_number k) going home s.loops) n

@@ -1,6 +1,7 @@
 -- Which of the items in the rings wait.
-use Rattle.std.specs.Prelude.{◌≡◌, ℕ, ◌≤◌, eqb, nat_lt, nat_le, ◌&&◌, Bool, true, false, List, [], ◌∷◌, map, filter, slice_get, Option, Some, None, if◌then◌else◌, unwrap_or}
+use Rattle.std.specs.Prelude.{◌≡◌, ℕ, ◌≤◌, eqb, nat_lt, nat_le, ◌&&◌, Bool, true, false, List, [], ◌∷◌, map, filter, Option, Some, None, if◌then◌else◌, unwrap_or}
 use Rattle.std.specs.List.{list_all}
+use Rattle.indexmap.specs.IndexMap.{get}
 use Rattle.event_loops.specs.declared.item.Posted.{Posted}
 use Rattle.event_loops.specs.declared.marks.Mark.{Mark}
 use Rattle.event_loops.specs.declared.marks.Marks.{Marks}
@@ -10,18 +11,13 @@ abbrev pub since_in : Option Mark → Option ℕ
 since_in None = None
 since_in (Some mark) = Some mark.since
 
--- the mark at a place, if there is one
-abbrev pub mark_at : Option (Option Mark) → Option Mark
-mark_at None = None
-mark_at (Some mark) = mark
-
 -- an object's mark, by its number
-abbrev pub mark_of : List (Option Mark) → ℕ → Option Mark
-mark_of marks object = mark_at (slice_get marks object)
+abbrev pub mark_of : Marks → ℕ → Option Mark
+mark_of marks object = get eqb marks.by_object object
 
 -- the items for an object wait that were posted after so many, or none
 abbrev pub since_of : Marks → ℕ → Option ℕ
-since_of marks object = since_in (mark_of marks.by_object.items object)
+since_of marks object = since_in (mark_of marks object)
 
 abbrev pub is_above : Option ℕ → ℕ → Bool
 is_above None number = false
@@ -56,6 +52,10 @@ taken_due since number items = trimmed since (without_first (is_due since number
 -- the same items wait
 abbrev pub WaitAlike : (ℕ → Option ℕ) → (ℕ → Option ℕ) → Type 0
 WaitAlike old new = (q : ℕ) → new q ≡ old q
+
+-- .. where an object's mark was written
+abbrev pub KeepsWaiting : ℕ → (ℕ → Option ℕ) → (ℕ → Option ℕ) → Type 0
+KeepsWaiting object old new = (q : ℕ) → new q ≡ (if eqb object q then old object else old q)
 
 -- an object has a mark, and what is posted after so many items waits for it
 abbrev pub Notes : ℕ → ℕ → (ℕ → Option ℕ) → (ℕ → Option ℕ) → Type 0

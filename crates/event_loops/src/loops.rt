@@ -9,7 +9,7 @@ ghost use Rattle.event_loops.specs.declared.fault.PostFault.TheVariants.{NoLoop}
 use crate::fault::{AddFault, PostFault};
 use crate::item::{Item, Posted};
 use crate::marks::Marks;
-use crate::moving::{numbers_of, rehome_at};
+use crate::moving::{rehome_at, waiting_among};
 use crate::rings::{forget, peek_at, post_at, take_at};
 use basic_types::{LoopId, Name, ObjectId};
 use indexmap::IndexMap;
@@ -159,7 +159,9 @@ impl Loops {
         ensures taken { result ≡ find (is_before number) (items_at self.old.loops home) }
         ensures rest { self.new ≡ taken_before home number self.old }
     {
-        take_at(&mut self.queues, &self.marks, home.number(), number)
+        let taken = take_at(&mut self.queues, &self.marks, home.number(), number);
+        self.marks.count_taken(&taken);
+        taken
     }
 
     /// Moves the items that wait for these objects to the end of a loop, where they keep their numbers and their order; those
@@ -173,12 +175,15 @@ impl Loops {
         if home.number() >= self.queues.len() {
             return Err(PostFault::NoLoop);
         }
-        if !self.marks.awaits_any(objects) {
+        if self.marks.is_empty() {
             return Ok(());
         }
-        let going = numbers_of(self.alloc, objects)?;
+        let going = waiting_among(self.alloc, &self.marks, objects)?;
+        if going.is_empty() {
+            return Ok(());
+        }
         rehome_at(&mut self.queues, &going, home.number(), self.alloc)?;
-        self.marks.rehome(objects, home);
+        self.marks.rehome(going.as_slice(), home);
         Ok(())
     }
 

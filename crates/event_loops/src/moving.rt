@@ -1,26 +1,35 @@
 //! Items that move to another loop with their objects.
 
-ghost use Rattle.std.specs.Prelude.{◌≡◌, ◌+◌, ◌<◌, ◌≤◌, ◌++◌, ℕ, eqb, length, map, take, drop, IfOk, IfSome, OnOk, OnErr};
+ghost use Rattle.std.specs.Prelude.{◌≡◌, ◌+◌, ◌<◌, ◌≤◌, ◌++◌, ◌&&◌, ℕ, eqb, nat_lt, length, map, take, drop, IfOk, IfSome, OnOk, OnErr};
 ghost use Rattle.std.specs.List.{list_any};
 ghost use Rattle.std.specs.VecDeque.{deque_len, deque_capacity};
 ghost use Rattle.indexmap.specs.IndexSet.{contains};
 ghost use Rattle.event_loops.specs.Queues.{all_items, items_at, change, with_items};
 ghost use Rattle.event_loops.specs.Rings.{loops_in, goes, those_going, those_staying, without_going, gathered};
+ghost use Rattle.event_loops.specs.code.Counts.{waiting_of};
 
 use crate::item::Posted;
+use crate::marks::Marks;
 use basic_types::{Name, ObjectId};
 use indexmap::{IndexMap, IndexSet};
 use std::alloc::{AllocError, Global};
 use std::collections::VecDeque;
 use std::mem;
 
-/// The numbers of these objects. Its error is that memory was refused.
-pub fn numbers_of(alloc: Global, objects: &[ObjectId]) -> Result<IndexSet<usize>, AllocError>
+/// The numbers of those of these objects for which items wait. Its error is that memory was refused.
+pub fn waiting_among(
+    alloc: Global,
+    marks: &Marks,
+    objects: &[ObjectId],
+) -> Result<IndexSet<usize>, AllocError>
     ensures { IfOk result (λ numbers. (o : ℕ) → contains eqb numbers o
-        ≡ list_any (λ k. eqb o k) objects.now) }
+        ≡ (list_any (λ k. eqb o k) objects.now && nat_lt 0 (waiting_of marks.now o))) }
 {
     let mut numbers = IndexSet::new(alloc);
     for object in objects {
+        if !marks.awaits(object.number()) {
+            continue;
+        }
         numbers.insert(object.number())?;
     }
     Ok(numbers)

@@ -6,6 +6,7 @@ ghost use Rattle.std.specs.Option.{option_copied};
 ghost use Rattle.event_loops.specs.Queues.{items_at, change, is_before, next_item, with_item, without_first_before, without_object};
 ghost use Rattle.event_loops.specs.Rings.{loops_in};
 ghost use Rattle.event_loops.specs.Kept.{seen, Within, StayWithin};
+ghost use Rattle.event_loops.specs.code.Counts.{Counted};
 ghost use Rattle.event_loops.specs.code.Sure.{AllTold};
 ghost use Rattle.event_loops.specs.declared.fault.PostFault.TheVariants.{NoLoop};
 
@@ -30,6 +31,7 @@ pub fn post_at(
     requires within { Within posted queues.old marks.old }
     requires few { posted + 1 < 2 ^ 64 }
     requires told { AllTold queues.old marks.old }
+    requires counted { Counted queues.old marks.old }
     ensures pushed { OnOk result
         (seen queues.new marks.new
         ≡ change home (with_item (next_item posted item)) (seen queues.old marks.old)) }
@@ -38,6 +40,7 @@ pub fn post_at(
     ensures err { OnErr result (seen queues.new marks.new ≡ seen queues.old marks.old) }
     ensures still { OnErr result (Within posted queues.new marks.new) }
     ensures told { AllTold queues.new marks.new }
+    ensures counted { Counted queues.new marks.new }
 {
     if home.number() >= queues.len() {
         return Err(PostFault::NoLoop);
@@ -117,10 +120,12 @@ pub fn forget(
 )
     requires within { Within posted queues.old marks.old }
     requires told { AllTold queues.old marks.old }
+    requires counted { Counted queues.old marks.old }
     ensures dropped { seen queues.new marks.new
         ≡ map (without_object object) (seen queues.old marks.old) }
     ensures within { StayWithin queues.old marks.old queues.new marks.new }
     ensures told { AllTold queues.new marks.new }
+    ensures counted { Counted queues.new marks.new }
 {
     match marks.forget(object) {
         None => {}

@@ -9,6 +9,7 @@ use Rattle.event_loops.specs.Queues.{Loop, items_at}
 use Rattle.event_loops.specs.Rings.{loops_in}
 use Rattle.event_loops.specs.Marks.{since_of, waits, is_upto}
 use Rattle.event_loops.specs.Kept.{Kept}
+use Rattle.event_loops.specs.code.Counts.{Counted}
 
 -- each item in a ring passes the test
 abbrev pub AllAt : (Posted → Bool) → List Loop → Type 0
@@ -28,7 +29,9 @@ AreTold marks items = list_all (is_told marks) items ≡ true
 abbrev pub AllTold : {A S : Type 0} → IndexMap (List ℕ) (VecDeque Posted A) S → Marks → Type 0
 AllTold queues marks = AllAt (is_told marks) (loops_in queues)
 
--- what the loops keep, and that the items in them are told apart by their numbers where these are high enough
+-- what the loops keep, that the items in them are told apart by their numbers where these are high enough, and how many wait
+-- for each object
 pub record Held {A S : Type 0} (queues : IndexMap (List ℕ) (VecDeque Posted A) S) (marks : Marks) (posted : ℕ) : Type 0 where
   pub kept : Kept queues marks posted
   pub told : AllTold queues marks
+  pub counted : Counted queues marks

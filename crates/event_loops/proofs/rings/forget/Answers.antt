@@ -1,9 +1,12 @@
-use Rattle.std.proofs.Common.{ℕ, sym, subst, ◌∙◌}
+use Rattle.std.proofs.Common.{ℕ, List, sym, subst, ◌∙◌}
 use Rattle.event_loops.specs.Rings.{loops_in}
-use Rattle.event_loops.specs.Marks.{since_of, is_upto}
+use Rattle.event_loops.specs.Marks.{since_of, visible, is_upto}
+use Rattle.event_loops.specs.Queues.{Loop}
+use Rattle.event_loops.specs.code.Counts.{AreCounted}
 use Rattle.event_loops.specs.code.Sure.{AllAt, is_sure}
 use Rattle.event_loops.proofs.Waiting.{visible-forgotten, marked-forgotten}
 use Rattle.event_loops.proofs.Told.{all_at-more, sure-upto, sure-alike, forgets-none}
+use Rattle.event_loops.proofs.Counted.{counted-dropped}
 use Rattle.event_loops.proofs.rings.forget.Goals as goal
 
 pub returns-in-None-clause-dropped : goal.returns-in-None-clause-dropped
@@ -40,3 +43,17 @@ returns-in-None-clause-told c =
     let Told : ℕ → Type 0 = λ last. AllAt (is_sure last new) (loops_in c.args.queues.now) in
     subst Told (sym c.forget.ensures.stale)
     (all_at-more (is_sure bound old) (is_sure bound new) (sure-alike old new (forgets-none old new c.args.object c.forget.ensures.forgets (c.forget.ensures.none c.in-None.is)) bound) (loops_in c.args.queues.now) c.requires.told)
+
+pub returns-in-None-clause-counted : goal.returns-in-None-clause-counted
+returns-in-None-clause-counted c =
+    let before = visible (since_of c.args.marks.now) (loops_in c.args.queues.now) in
+    let Are : List Loop → Type 0 = λ loops. AreCounted loops c.forget.new.self in
+    subst Are (sym (visible-forgotten (since_of c.args.marks.now) (since_of c.forget.new.self) c.args.object c.forget.ensures.forgets (loops_in c.args.queues.now)))
+    (counted-dropped c.args.object before c.args.marks.now c.forget.new.self c.forget.ensures.counts c.requires.counted)
+
+pub returns-in-Some-clause-counted : goal.returns-in-Some-clause-counted
+returns-in-Some-clause-counted c =
+    let before = visible (since_of c.args.marks.now) (loops_in c.args.queues.now) in
+    let Are : List Loop → Type 0 = λ loops. AreCounted loops c.forget.new.self in
+    subst Are (sym (c.trim_at.ensures.seen ∙ visible-forgotten (since_of c.args.marks.now) (since_of c.forget.new.self) c.args.object c.forget.ensures.forgets (loops_in c.args.queues.now)))
+    (counted-dropped c.args.object before c.args.marks.now c.forget.new.self c.forget.ensures.counts c.requires.counted)

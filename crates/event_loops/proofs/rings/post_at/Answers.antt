@@ -3,10 +3,12 @@ use Rattle.event_loops.specs.declared.item.Posted.{Posted}
 use Rattle.event_loops.specs.Queues.{Loop, next_item, with_item, change}
 use Rattle.event_loops.specs.Rings.{loops_in}
 use Rattle.event_loops.specs.Marks.{since_of, waits, visible, AreUpto}
+use Rattle.event_loops.specs.code.Counts.{AreCounted, CountsMore}
 use Rattle.event_loops.specs.code.Sure.{AllAt, is_sure}
 use Rattle.event_loops.proofs.Entries.{OnErr-always}
 use Rattle.event_loops.proofs.Waiting.{visible-noted, visible-posted, waits-noted, upto-posted, marked-noted, marked-more}
 use Rattle.event_loops.proofs.Told.{all_at-more, all-posted, sure-waits, sure-after}
+use Rattle.event_loops.proofs.Counted.{counted-more, counted-posted}
 use Rattle.event_loops.proofs.rings.post_at.Goals as goal
 
 pub returns-in_err-push_at-clause-err : goal.returns-in_err-push_at-clause-err
@@ -61,3 +63,28 @@ returns-clause-told c =
     (subst (AllAt (is_sure bound new)) (sym c.in_ok-push_at.ensures.pushed)
     (all-posted (is_sure bound new) next (sure-waits bound new next told) c.number-2.result (loops_in c.args.queues.now)
     (all_at-more (is_sure bound old) (is_sure bound new) (sure-after old new bound c.object.result c.args.posted c.in_ok-note.ensures.ok) (loops_in c.args.queues.now) c.requires.told)))
+
+pub returns-in_err-push_at-clause-counted : goal.returns-in_err-push_at-clause-counted
+returns-in_err-push_at-clause-counted c =
+    let old = since_of c.args.marks.now in
+    let new = since_of c.note.new.self in
+    let now = ap (visible new) c.in_err-push_at.ensures.err
+    ∙ visible-noted old new c.object.result c.args.posted c.in_ok-note.ensures.ok (loops_in c.args.queues.now) c.requires.within.upto in
+    let Are : List Loop → Type 0 = λ loops. AreCounted loops c.note.new.self in
+    subst Are (sym now) (counted-more (visible old (loops_in c.args.queues.now)) c.args.marks.now c.note.new.self c.object.result c.in_ok-note.ensures.counts c.requires.counted)
+
+pub returns-clause-counted : goal.returns-clause-counted
+returns-clause-counted c =
+    let Are : List Loop → Type 0 = λ loops. AreCounted loops c.note.new.self in
+    let More : ℕ → Type 0 = λ o. CountsMore o c.args.marks.now c.note.new.self in
+    let before = visible (since_of c.args.marks.now) (loops_in c.args.queues.now) in
+    let old = since_of c.args.marks.now in
+    let new = since_of c.note.new.self in
+    let next : Posted = next_item c.args.posted c.args.item in
+    let told : waits new next ≡ true = waits-noted old new c.object.result c.args.posted c.in_ok-note.ensures.ok c.requires.within.marked next c.object.ensures refl in
+    let now = ap (visible new) c.in_ok-push_at.ensures.pushed
+    ∙ visible-posted new next told c.number-2.result (loops_in c.args.queues.now)
+    ∙ ap (λ home. change home (with_item next) (visible new (loops_in c.args.queues.now))) c.number-2.ensures
+    ∙ ap (change c.args.home (with_item next)) (visible-noted old new c.object.result c.args.posted c.in_ok-note.ensures.ok (loops_in c.args.queues.now) c.requires.within.upto) in
+    subst Are (sym now)
+    (counted-posted c.args.home (next_item c.args.posted c.args.item) before c.args.marks.now c.note.new.self (subst More c.object.ensures c.in_ok-note.ensures.counts) c.requires.counted)

@@ -2,12 +2,14 @@ use Rattle.std.proofs.Common.{◌≡◌, ◌∷◌, [], ◌++◌, sym, ◌∙◌
 use Rattle.event_loops.specs.Queues.{Queues, Loop, IsTaken, with_loop}
 use Rattle.event_loops.specs.Rings.{loops_in, loops_of}
 use Rattle.event_loops.specs.Marks.{since_of, visible, is_upto, AreUpto}
+use Rattle.event_loops.specs.code.Counts.{AreCounted}
 use Rattle.event_loops.specs.code.Sure.{AllAt, is_told}
 use Rattle.event_loops.specs.Kept.{seen}
 use Rattle.event_loops.specs.Numbers.{IsNumbered}
 use Rattle.event_loops.proofs.Names.{shown-insert}
 use Rattle.event_loops.proofs.Numbers.{IsNumbered-with_loop}
 use Rattle.event_loops.proofs.Waiting.{name_at-visible, visible-with_loop, all-with_loop}
+use Rattle.event_loops.proofs.Counted.{counted-with_loop}
 use Rattle.event_loops.proofs.loops.Loops.append.Goals as goal
 
 pub invariant_of-self-2 : goal.invariant_of-self-2
@@ -23,6 +25,7 @@ invariant_of-self-2 c =
     let Numbered : List Loop → Type 0 = λ loops. IsNumbered (record { loops = loops; posted = c.self.inside.posted }) in
     let Upto : List Loop → Type 0 = AreUpto c.self.inside.posted in
     let before : Queues = record { loops = seen c.self.inside.queues c.self.inside.marks; posted = c.self.inside.posted } in
+    let Are : List Loop → Type 0 = λ loops. AreCounted loops c.self.inside.marks in
     record {
       kept = record {
         numbered = subst Numbered (sym (ap (visible since) added ∙ visible-with_loop since c.args.name.now rings))
@@ -33,6 +36,7 @@ invariant_of-self-2 c =
         };
       };
       told = subst (AllAt (is_told c.self.inside.marks)) (sym added) (all-with_loop c.args.name.now rings (is_told c.self.inside.marks) c.self.invariant.told);
+      counted = subst Are (sym (ap (visible since) added ∙ visible-with_loop since c.args.name.now rings)) (counted-with_loop c.args.name.now before.loops c.self.inside.marks c.self.invariant.counted);
     }
 
 pub returns-clause-added : goal.returns-clause-added

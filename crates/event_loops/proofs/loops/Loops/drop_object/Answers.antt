@@ -15,4 +15,5 @@ invariant_of-self c =
         within = c.forget.ensures.within c.self.inside.posted c.self.invariant.kept.within;
       };
       told = c.forget.ensures.told;
+      counted = c.forget.ensures.counted;
     }

@@ -17,4 +17,5 @@ invariant_of-self-2 c =
         within = c.in_ok-post_at.ensures.within;
       };
       told = c.in_ok-post_at.ensures.told;
+      counted = c.in_ok-post_at.ensures.counted;
     }

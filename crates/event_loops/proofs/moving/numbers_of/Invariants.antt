@@ -1,8 +1,0 @@
-use Rattle.std.proofs.Common.{◌≡◌, ℕ, eqb, take}
-use Rattle.std.specs.List.{list_any}
-use Rattle.indexmap.specs.IndexSet.{contains}
-use Rattle.event_loops.proofs.moving.numbers_of.Given as goal
-
--- those that were looked at are in the set, and nothing else is
-abbrev pub invariant-loop-object : goal.invariant-loop-object
-invariant-loop-object l = (o : ℕ) → contains eqb l.numbers o ≡ list_any (λ k. eqb o k) (take l.object-index l.objects)
