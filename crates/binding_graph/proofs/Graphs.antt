@@ -1,15 +1,14 @@
 -- What the graph of the installed bindings says, and how it stays one.
-use Rattle.std.proofs.Common.{◌≡◌, ℕ, Bool, eqb, refl, ◌<◌, ◌⊎◌, true, false, List, [], ◌∷◌, length, arith, inl, inr, Option, None, Some, ap, sym, ◌∙◌, subst}
-use Rattle.std.proofs.lemmas.Bool.{false≢true, eqb-true}
+use Rattle.std.proofs.Common.{◌≡◌, ℕ, Bool, refl, ◌<◌, ◌⊎◌, true, false, List, [], ◌∷◌, length, arith, inl, inr, Option, None, Some, ap, sym, ◌∙◌, subst}
+use Rattle.std.proofs.lemmas.Bool.{false≢true}
 use Rattle.std.proofs.lemmas.Option.{same_Some}
 use Rattle.binding_graph.specs.declared.place.Place.{Place}
 use Rattle.binding_graph.specs.declared.binding.Binding.{Binding}
 use Rattle.binding_graph.specs.declared.graph.Graph.{Graph}
 use Rattle.binding_graph.specs.declared.installed.Installed.{Installed}
-use Rattle.std.specs.HashSet.{contains}
 use Rattle.binding_graph.specs.Places.{In, same_place}
 use Rattle.binding_graph.specs.Bindings.{binding_at, AreApart, Reads, read_by, touches, without, replaced}
-use Rattle.binding_graph.specs.code.Graph.{AreKeyed, AreNamed, AreTouched, IsGraph, KeepReaders, KeepTouched, RankOfReader, bindings_in, bindings_of, position_of, readers_at}
+use Rattle.binding_graph.specs.code.Graph.{AreKeyed, AreNamed, AreTouched, IsGraph, IsIndexed, KeepReaders, KeepTouched, LosesPlace, LosesTarget, Named, NamesTouched, RankOfReader, Touched, bindings_in, bindings_of, position_of}
 use Rattle.binding_graph.specs.code.Orders.{bound}
 use Rattle.binding_graph.specs.code.Ranks.{AreRanked, KeepRanks, RankAll, rank_of}
 use Rattle.binding_graph.proofs.Apart.{apart-fewer, apart-replaced}
@@ -50,10 +49,6 @@ pub none-bound : (bs : List Binding) → length bs ≡ 0 → (q : Place) (b : Bi
 none-bound [] z q b some = cc some
 none-bound (x ∷ xs) z q b some = absurd (omega (arith, z))
 
-pub none-in : (ps : List Place) (q : Place) → length ps ≡ 0 → In q ps → ⊥
-none-in [] q z i = i
-none-in (p ∷ ps) q z i = absurd (omega (arith, z))
-
 pub none-left : (p : Place) (bs : List Binding) → length bs ≡ 0 → bs ≡ without p bs
 none-left p [] z = refl
 none-left p (x ∷ xs) z = absurd (omega (arith, z))
@@ -64,39 +59,57 @@ empty-graph g keyed none unranked = record {
   apart = subst AreApart (sym none) tt;
   ranks = ranked-none (binding_at (bindings_of g)) (rank_of g.ranks) g.ranks.next nothing unranked;
   readers = λ q m b some reads. absurd (nothing q b some);
-  touched = λ q b o some t. absurd (nothing q b some);
+  touched = λ q b o some t passes. absurd (nothing q b some);
 }
   where
     nothing : (p : Place) (b : Binding) → binding_at (bindings_of g) p ≡ Some b → ⊥
     nothing p b some = (let here : binding_at [] p ≡ Some b = ap (λ (xs : List Binding). binding_at xs p) (sym none) ∙ some in cc here)
 
+pub indexed-of : (g : Graph) → IsGraph g → IsIndexed g
+indexed-of g h = record { keyed = h.keyed; apart = h.apart; ranks = h.ranks; readers = h.readers }
+
+pub graph-of : (g : Graph) → IsIndexed g → NamesTouched (λ o. true) g → IsGraph g
+graph-of g h touched = record { keyed = h.keyed; apart = h.apart; ranks = h.ranks; readers = h.readers; touched = touched }
+
 -- ---- fewer bindings
-pub removed-graph : (g n : Graph) (p : Place) → IsGraph g → AreKeyed n.installed → bindings_of n ≡ without p (bindings_of g) → n.ranks.next ≡ g.ranks.next → ((q : Place) → same_place p q ≡ false → rank_of n.ranks q ≡ rank_of g.ranks q) → ((q : Place) (i : ℕ) → rank_of n.ranks q ≡ Some i → rank_of g.ranks q ≡ Some i) → n.touched ≡ g.touched → ((m q : Place) → In q (readers_at g.readers m) → In q (readers_at n.readers m) ⊎ (p ≡ q)) → IsGraph n
-removed-graph g n p h keyed left next others old touched loses =
-    let fewer : (q : Place) (b : Binding) → binding_at (bindings_of n) q ≡ Some b → binding_at (bindings_of g) q ≡ Some b = λ q b some. without-fewer p (bindings_of g) q b (ap (λ (xs : List Binding). binding_at xs q) (sym left) ∙ some) in
-    let away : (q : Place) (b : Binding) → binding_at (bindings_of n) q ≡ Some b → p ≡ q → ⊥ = λ q b some e. (let none : binding_at (without p (bindings_of g)) q ≡ None = subst (λ (r : Place). binding_at (without p (bindings_of g)) r ≡ None) e (without-at p (bindings_of g)) in let there : binding_at (without p (bindings_of g)) q ≡ Some b = ap (λ (xs : List Binding). binding_at xs q) (sym left) ∙ some in cc (none, there)) in
-    record {
-      keyed = keyed;
-      apart = subst AreApart (sym left) (apart-fewer _ (bindings_of g) h.apart);
-      ranks = subst (λ (k : ℕ). AreRanked (binding_at (bindings_of n)) [] (rank_of n.ranks) k) (sym next)
-          (ranked-fewer (binding_at (bindings_of g)) (binding_at (bindings_of n)) (rank_of g.ranks) (rank_of n.ranks) g.ranks.next fewer old (λ q b some. others q (different p q (away q b some))) h.ranks);
-      readers = λ q m b some reads. elim (loses m q (h.readers q m b (fewer q b some) reads)) [ inl i ↦ i | inr e ↦ absurd (away q b some e) ];
-      touched = λ q b o some is. rw touched (h.touched q b o (fewer q b some) is);
-    }
+module _ (g n : Graph) (p : Place) (left : bindings_of n ≡ without p (bindings_of g)) where
+  pub removed-fewer : (q : Place) (b : Binding) → binding_at (bindings_of n) q ≡ Some b → binding_at (bindings_of g) q ≡ Some b
+  removed-fewer q b some = without-fewer p (bindings_of g) q b (ap (λ (xs : List Binding). binding_at xs q) (sym left) ∙ some)
+
+  pub removed-away : (q : Place) (b : Binding) → binding_at (bindings_of n) q ≡ Some b → p ≡ q → ⊥
+  removed-away q b some e =
+      let none : binding_at (without p (bindings_of g)) q ≡ None = subst (λ (r : Place). binding_at (without p (bindings_of g)) r ≡ None) e (without-at p (bindings_of g)) in
+      let there : binding_at (without p (bindings_of g)) q ≡ Some b = ap (λ (xs : List Binding). binding_at xs q) (sym left) ∙ some in
+      cc (none, there)
+
+  pub removed-indexed : IsIndexed g → AreKeyed n.installed → n.ranks.next ≡ g.ranks.next → ((q : Place) → same_place p q ≡ false → rank_of n.ranks q ≡ rank_of g.ranks q) → ((q : Place) (i : ℕ) → rank_of n.ranks q ≡ Some i → rank_of g.ranks q ≡ Some i) → ((m q : Place) → Named g.readers m q → Named n.readers m q ⊎ (p ≡ q)) → IsIndexed n
+  removed-indexed h keyed next others old loses = record {
+    keyed = keyed;
+    apart = subst AreApart (sym left) (apart-fewer _ (bindings_of g) h.apart);
+    ranks = subst (λ (k : ℕ). AreRanked (binding_at (bindings_of n)) [] (rank_of n.ranks) k) (sym next)
+        (ranked-fewer (binding_at (bindings_of g)) (binding_at (bindings_of n)) (rank_of g.ranks) (rank_of n.ranks) g.ranks.next removed-fewer old (λ q b some. others q (different p q (removed-away q b some))) h.ranks);
+    readers = λ q m b some reads. elim (loses m q (h.readers q m b (removed-fewer q b some) reads)) [ inl i ↦ i | inr e ↦ absurd (removed-away q b some e) ];
+  }
+
+  pub removed-touched : (test : ℕ → Bool) → LosesPlace p g.touching n.touching → NamesTouched test g → NamesTouched test n
+  removed-touched test loses h = λ q b o some t passes. elim (loses o q (h q b o (removed-fewer q b some) t passes)) [
+    | inl i ↦ i
+    | inr e ↦ absurd (removed-away q b some e)
+  ]
 
 -- ---- room for one more
-pub roomier-graph : (g n : Graph) → IsGraph g → AreKeyed n.installed → bindings_of n ≡ bindings_of g → KeepRanks g.ranks n.ranks → KeepTouched g.touched n.touched → KeepReaders g.readers n.readers → IsGraph n
+pub roomier-graph : (g n : Graph) → IsGraph g → AreKeyed n.installed → bindings_of n ≡ bindings_of g → KeepRanks g.ranks n.ranks → KeepTouched g.touching n.touching → KeepReaders g.readers n.readers → IsGraph n
 roomier-graph g n h keyed same ranks touched readers = record {
   keyed = keyed;
   apart = subst AreApart (sym same) h.apart;
   ranks = subst (λ (xs : List Binding). RankAll (binding_at xs) [] n.ranks) (sym same) (ranks (binding_at (bindings_of g)) h.ranks);
   readers = λ q m b some reads. readers m q (h.readers q m b (ap (λ (xs : List Binding). binding_at xs q) (sym same) ∙ some) reads);
-  touched = λ q b o some is. touched o (h.touched q b o (ap (λ (xs : List Binding). binding_at xs q) (sym same) ∙ some) is);
+  touched = λ q b o some is passes. touched o q (h.touched q b o (ap (λ (xs : List Binding). binding_at xs q) (sym same) ∙ some) is passes);
 }
 
 -- ---- one binding more
-pub installed-graph : (g n : Graph) (b : Binding) → IsGraph g → AreKeyed n.installed → bindings_of n ≡ replaced (bindings_of g) b → RankAll (binding_at (replaced (bindings_of g) b)) [] n.ranks → n.touched ≡ g.touched → AreTouched g.touched b → AreNamed g.readers b → ((m q : Place) → In q (readers_at g.readers m) → In q (readers_at n.readers m) ⊎ ((b.target ≡ q) × (In m (read_by b) → ⊥))) → IsGraph n
-installed-graph g n b h keyed is ranks touched objects named loses = record {
+pub installed-graph : (g n : Graph) (b : Binding) → IsGraph g → AreKeyed n.installed → bindings_of n ≡ replaced (bindings_of g) b → RankAll (binding_at (replaced (bindings_of g) b)) [] n.ranks → LosesTarget b b.target g.touching n.touching → AreTouched g.touching b → AreNamed g.readers b → ((m q : Place) → Named g.readers m q → Named n.readers m q ⊎ ((b.target ≡ q) × (In m (read_by b) → ⊥))) → IsGraph n
+installed-graph g n b h keyed is ranks leaves objects named loses = record {
   keyed = keyed;
   apart = subst AreApart (sym is) (apart-replaced (bindings_of g) b h.apart);
   ranks = subst (λ (xs : List Binding). RankAll (binding_at xs) [] n.ranks) (sym is) ranks;
@@ -104,13 +117,16 @@ installed-graph g n b h keyed is ranks touched objects named loses = record {
     | inl e ↦
         let one : b ≡ z = own q z some e in
         let own-reads : Reads b m = subst (λ (c : Binding). Reads c m) (sym one) reads in
-        subst (λ (r : Place). In r (readers_at n.readers m)) e (elim (loses m b.target (named m own-reads)) [ inl i ↦ i | inr out ↦ absurd (out.1 own-reads) ])
+        subst (λ (r : Place). Named n.readers m r) e (elim (loses m b.target (named m own-reads)) [ inl i ↦ i | inr out ↦ absurd (out.1 own-reads) ])
     | inr f ↦ elim (loses m q (h.readers q m z (other q z some f) reads)) [ inl i ↦ i | inr out ↦ absurd (apart q f out.0) ]
   ];
-  touched = λ q z o some t. rw touched (elim (decide_place b.target q) [
-    | inl e ↦ let one : b ≡ z = own q z some e in objects o (subst (λ (c : Binding). touches o c ≡ true) (sym one) t)
-    | inr f ↦ h.touched q z o (other q z some f) t
-  ]);
+  touched = λ q z o some t passes. elim (decide_place b.target q) [
+    | inl e ↦
+        let one : b ≡ z = own q z some e in
+        let own-touches : touches o b ≡ true = subst (λ (c : Binding). touches o c ≡ true) (sym one) t in
+        subst (λ (r : Place). Touched n.touching o r) e (elim (leaves o b.target (objects o own-touches)) [ inl i ↦ i | inr out ↦ absurd (false≢true (sym out.1 ∙ own-touches)) ])
+    | inr f ↦ elim (leaves o q (h.touched q z o (other q z some f) t passes)) [ inl i ↦ i | inr out ↦ absurd (apart q f out.0) ]
+  ];
 }
   where
     whole : (q : Place) → binding_at (bindings_of n) q ≡ bound (binding_at (bindings_of g)) b.target b q
@@ -124,17 +140,3 @@ installed-graph g n b h keyed is ranks touched objects named loses = record {
 
     apart : (q : Place) → same_place b.target q ≡ false → b.target ≡ q → ⊥
     apart q f e = false≢true (sym f ∙ subst (λ (r : Place). same_place b.target r ≡ true) e (same_place-refl b.target))
-
--- ---- an object that bindings touch no more
-pub untouched-graph : (g n : Graph) (o : ℕ) → IsGraph g → n.installed ≡ g.installed → n.ranks ≡ g.ranks → n.readers ≡ g.readers → ((k : ℕ) → eqb o k ≡ false → contains eqb n.touched k ≡ contains eqb g.touched k) → ((q : Place) (b : Binding) → binding_at (bindings_of g) q ≡ Some b → touches o b ≡ false) → IsGraph n
-untouched-graph g n o h installed ranks readers others away = record {
-  keyed = rw installed h.keyed;
-  apart = rw installed h.apart;
-  ranks = rw (installed, ranks) h.ranks;
-  readers = λ q m b some reads. rw readers (h.readers q m b (ap (λ (x : Installed). binding_at (bindings_in x) q) (sym installed) ∙ some) reads);
-  touched = λ q b k some t. by-test q b k (ap (λ (x : Installed). binding_at (bindings_in x) q) (sym installed) ∙ some) t (eqb o k) refl;
-}
-  where
-    by-test : (q : Place) (b : Binding) (k : ℕ) → binding_at (bindings_of g) q ≡ Some b → touches k b ≡ true → (test : Bool) → eqb o k ≡ test → contains eqb n.touched k ≡ true
-    by-test q b k some t true is = let same : o ≡ k = eqb-true o k is in absurd (false≢true (sym (away q b some) ∙ ap (λ (j : ℕ). touches j b) same ∙ t))
-    by-test q b k some t false is = others k is ∙ h.touched q b k some t

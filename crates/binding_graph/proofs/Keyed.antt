@@ -9,7 +9,6 @@ use Rattle.std.proofs.lemmas.Option.{same_Some}
 use Rattle.binding_graph.specs.declared.place.Place.{Place}
 use Rattle.binding_graph.specs.declared.binding.Binding.{Binding}
 use Rattle.binding_graph.specs.Places.{In, property_of, same_place}
-use Rattle.binding_graph.specs.code.Lists.{forgotten}
 use Rattle.binding_graph.specs.code.Keys.{key_of, same_key}
 use Rattle.binding_graph.specs.Bindings.{binding_at, AreApart, without}
 use Rattle.binding_graph.specs.code.Graph.{position_of}
@@ -142,43 +141,6 @@ target-of (x ∷ xs) p b some = elim (cases_Bool (same_place x.target p)) [
       ap (λ (z : Binding). z.target) (sym same) ∙ same_place-true x.target p t
   | inr f ↦ target-of xs p b (sym (ap (λ (y : Bool). cond y (Some x) (binding_at xs p)) f) ∙ some)
 ]
-
--- ---- lists of properties by key
-module _ (old new : ℕ × ℕ → List Place) (g : ℕ × ℕ) where
-  pub kept-in : ((q : ℕ × ℕ) → new q ≡ cond (same_key g q) (old g) (old q)) → (m : ℕ × ℕ) (x : Place) → In x (old m) → In x (new m)
-  kept-in is m x i = subst (In x) (sym (is m ∙ at_key old g m)) i
-
-  module _ (p : Place) where
-    pub pushed-in : ((q : ℕ × ℕ) → new q ≡ cond (same_key g q) (old g ++ p ∷ []) (old q)) → (m : ℕ × ℕ) (x : Place) → In x (old m) → In x (new m)
-    pushed-in is m x i = elim (cases_Bool (same_key g m)) [
-      | inl t ↦ subst (In x) (sym (is m ∙ ap (λ (b : Bool). cond b (old g ++ p ∷ []) (old m)) t)) (In-left x (old g) (p ∷ []) (subst (λ (k : ℕ × ℕ). In x (old k)) (sym (key-same g m t)) i))
-      | inr f ↦ subst (In x) (sym (is m ∙ ap (λ (b : Bool). cond b (old g ++ p ∷ []) (old m)) f)) i
-    ]
-
-    pub pushed-here : ((q : ℕ × ℕ) → new q ≡ cond (same_key g q) (old g ++ p ∷ []) (old q)) → In p (new g)
-    pushed-here is = subst (In p) (sym (is g ∙ ap (λ (b : Bool). cond b (old g ++ p ∷ []) (old g)) (key-refl g))) (In-right p (old g) (p ∷ []) (inl refl))
-
-    pub forgotten-in : ((q : ℕ × ℕ) → new q ≡ cond (same_key g q) (forgotten p (old g)) (old q)) → (m : ℕ × ℕ) (x : Place) → In x (old m) → In x (new m) ⊎ ((g ≡ m) × (p ≡ x))
-    forgotten-in is m x i = elim (cases_Bool (same_key g m)) [
-      | inl t ↦ elim (left-or-gone (old g) x (subst (λ (k : ℕ × ℕ). In x (old k)) (sym (key-same g m t)) i)) [
-        | inl j ↦ inl (subst (In x) (sym (is m ∙ ap (λ (b : Bool). cond b (forgotten p (old g)) (old m)) t)) j)
-        | inr e ↦ inr (key-same g m t, e)
-      ]
-      | inr f ↦ inl (subst (In x) (sym (is m ∙ ap (λ (b : Bool). cond b (forgotten p (old g)) (old m)) f)) i)
-    ]
-      where
-        left-or-gone : (xs : List Place) (x : Place) → In x xs → In x (forgotten p xs) ⊎ (p ≡ x)
-        left-or-gone [] x i = absurd i
-        left-or-gone (y ∷ ys) x i = elim (cases_Bool (same_place y p)) [
-          | inl t ↦ elim i [
-            | inl e ↦ inr (sym (same_place-true y p t) ∙ e)
-            | inr j ↦ elim (left-or-gone ys x j) [ inl k ↦ inl (subst (λ (b : Bool). In x (cond (not b) (y ∷ forgotten p ys) (forgotten p ys))) (sym t) k) | inr e ↦ inr e ]
-          ]
-          | inr f ↦ elim i [
-            | inl e ↦ inl (subst (λ (b : Bool). In x (cond (not b) (y ∷ forgotten p ys) (forgotten p ys))) (sym f) (inl e))
-            | inr j ↦ elim (left-or-gone ys x j) [ inl k ↦ inl (subst (λ (b : Bool). In x (cond (not b) (y ∷ forgotten p ys) (forgotten p ys))) (sym f) (inr k)) | inr e ↦ inr e ]
-          ]
-        ]
 
 pub key-places : (p q : Place) → key_of p ≡ key_of q → p ≡ q
 key-places p q e = same_place-true p q (ap (λ (k : ℕ × ℕ). same_key k (key_of q)) e ∙ key-refl (key_of q))

@@ -17,4 +17,5 @@ pub mod Ranking
 pub mod Compacting
 pub mod Dropping
 pub mod Joining
-pub mod Touching
+pub mod OneByOne
+pub mod Members

@@ -5,3 +5,4 @@ pub mod Orders
 pub mod Numbering
 pub mod Ranks
 pub mod Graph
+pub mod Touched

@@ -1,12 +1,15 @@
 //! Bindings, and what their expressions read.
 
-ghost use Rattle.std.specs.Prelude.{◌≡◌, ◌∷◌, [], ◌++◌, filter_map, not, IfOk, OnOk};
+ghost use Rattle.std.specs.Prelude.{◌≡◌, ◌∷◌, [], ◌++◌, eqb, filter_map, not, IfOk, OnOk};
 ghost use Rattle.std.specs.List.{list_any};
+ghost use Rattle.indexmap.specs.IndexSet.{contains};
 ghost use Rattle.meta_model.specs.Among.{is_among};
 ghost use Rattle.binding_graph.specs.Bindings.{leads_out, named_in, source_place, read_by, touches};
+ghost use Rattle.binding_graph.specs.code.Touched.{leads_out_by};
 
 use crate::place::Place;
 use basic_types::ObjectId;
+use indexmap::IndexSet;
 use meta_model::{Formula, SourceProperty};
 use sqlite_items::Items;
 use std::alloc::{AllocError, Global};
@@ -57,6 +60,42 @@ impl Binding {
             is_one_inside(sources, objects)
         }
     }
+
+    /// Whether one of its objects is among those of these numbers, and another isn't.
+    pub fn leads_out_of(&self, objects: &IndexSet<usize>) -> bool
+        ensures { result ≡ leads_out_by (contains eqb objects.now) self.now }
+    {
+        let sources = self.sources.as_slice();
+        if objects.contains(&self.target.object.number()) {
+            is_one_beyond(sources, objects)
+        } else {
+            is_one_within(sources, objects)
+        }
+    }
+}
+
+/// Whether one of the sources is among the objects of these numbers.
+fn is_one_within(sources: &[ObjectId], objects: &IndexSet<usize>) -> bool
+    ensures { result ≡ list_any (contains eqb objects.now) sources.now }
+{
+    for source in sources {
+        if objects.contains(&source.number()) {
+            return true;
+        }
+    }
+    false
+}
+
+/// Whether one of the sources isn't among the objects of these numbers.
+fn is_one_beyond(sources: &[ObjectId], objects: &IndexSet<usize>) -> bool
+    ensures { result ≡ list_any (λ o. not (contains eqb objects.now o)) sources.now }
+{
+    for source in sources {
+        if !objects.contains(&source.number()) {
+            return true;
+        }
+    }
+    false
 }
 
 /// Whether the object is one of these.

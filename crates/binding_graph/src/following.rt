@@ -1,13 +1,14 @@
 //! What follows from some properties: what chains of bindings lead to from them.
 
-ghost use Rattle.std.specs.Prelude.{◌≡◌, IfOk, OnOk};
+ghost use Rattle.std.specs.Prelude.{◌≡◌, map, IfOk, OnOk};
 ghost use Rattle.std.specs.Option.{is_some};
 ghost use Rattle.indexmap.specs.IndexMap.{get};
 ghost use Rattle.binding_graph.specs.declared.place.Place.{Place};
 ghost use Rattle.binding_graph.specs.Places.{is_in};
 ghost use Rattle.binding_graph.specs.Bindings.{binding_at, without_all};
-ghost use Rattle.binding_graph.specs.code.Graph.{IsGraph, bindings_of, readers_at};
+ghost use Rattle.binding_graph.specs.code.Graph.{IsGraph, bindings_of, reader_keys};
 ghost use Rattle.binding_graph.specs.code.Keys.{key_of, same_key};
+ghost use Rattle.binding_graph.specs.code.Lists.{place_at};
 ghost use Rattle.binding_graph.specs.code.Numbering.{Gains, IsNumbering, IsReach, places_of};
 ghost use Rattle.binding_graph.specs.code.Orders.{IsAffected};
 ghost use Rattle.binding_graph.specs.code.Ranks.{rank_of};
@@ -84,14 +85,14 @@ fn add_readers(graph: &Graph, source: &Place, found: &mut Vec<Numbered>) -> Resu
     requires graph { IsGraph graph.now }
     requires numbered { IsNumbering (rank_of graph.now.ranks) found.old.items }
     ensures { OnOk result (Gains (binding_at (bindings_of graph.now)) (rank_of graph.now.ranks)
-        source.now (readers_at graph.now.readers source.now) found.old.items found.new.items) }
+        source.now (map place_at (reader_keys graph.now.readers source.now)) found.old.items found.new.items) }
 {
     let readers = graph.readers.of(source);
-    for reader in readers {
-        let Some(number) = graph.rank_of_reader(reader, source) else {
+    for key in readers {
+        let place = Place::at(*key);
+        let Some(number) = graph.rank_of_reader(&place, source) else {
             continue;
         };
-        let place = *reader;
         put_in(found, Numbered { number, place })?;
     }
     Ok(())

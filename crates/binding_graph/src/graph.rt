@@ -1,30 +1,31 @@
 //! The installed bindings with what finds what follows from a property.
 
-ghost use Rattle.std.specs.Prelude.{◌≡◌, ◌<◌, ◌^◌, [], length, eqb, IsTrue, OnOk};
-ghost use Rattle.std.specs.List.{list_any};
-ghost use Rattle.std.specs.HashSet.{contains};
+ghost use Rattle.std.specs.Prelude.{◌≡◌, ◌<◌, ◌^◌, [], length, eqb, not, IfOk, IsTrue, OnOk};
+ghost use Rattle.indexmap.specs.IndexSet.{contains};
 ghost use Rattle.binding_graph.specs.Bindings.{binding_at, dropped, lead_out, replaced, without, without_all};
-ghost use Rattle.binding_graph.specs.code.Graph.{AreKeyed, AreNamed, AreTouched, HasRoom, IsGraph, KeepTouched, LosesReader, RankOfReader, Unread, bindings_of};
+ghost use Rattle.binding_graph.specs.code.Graph.{AreKeyed, AreNamed, AreTouched, HasRoom, IsGraph, IsIndexed, LosesPlace, LosesReader, LosesTarget, NamesTouched, RankOfReader, Unread, bindings_of, touches_too};
 ghost use Rattle.binding_graph.specs.code.Orders.{IsLater};
 ghost use Rattle.binding_graph.specs.code.Ranks.{HasNumbers};
+ghost use Rattle.binding_graph.specs.code.Touched.{AreTouchedAmong, LeavesTouching, ListsTouching, lead_out_touched, leads_out_at, leads_out_of};
 
 use crate::binding::Binding;
 use crate::installed::{Installed, Reader};
 use crate::place::{Place, contains};
 use crate::ranks::Ranks;
 use crate::readers::Readers;
+use crate::touching::Touching;
 use basic_types::ObjectId;
+use indexmap::IndexSet;
 use std::alloc::{AllocError, Global};
-use std::collections::HashSet;
 
 /// The installed bindings, each property's readers, the numbers of the bound properties, in whose order they are evaluated,
-/// and the objects that bindings have as targets' or as sources.
+/// and the bindings that touch each object.
 #[derive(Drop)]
 pub struct Graph {
     pub installed: Installed,
     pub readers: Readers,
     pub ranks: Ranks,
-    pub touched: HashSet<usize>,
+    pub touching: Touching,
 }
 
 impl Graph {
@@ -36,12 +37,12 @@ impl Graph {
         let installed = Installed::new(alloc);
         let readers = Readers::new(alloc);
         let ranks = Ranks::new(alloc);
-        let touched = HashSet::new(alloc);
+        let touching = Touching::new(alloc);
         Graph {
             installed,
             readers,
             ranks,
-            touched,
+            touching,
         }
     }
 
@@ -85,12 +86,12 @@ impl Graph {
         ensures room { OnOk result (HasRoom self.new.installed) }
         ensures numbers { OnOk result (HasNumbers moved self.new.ranks) }
         ensures named { OnOk result (AreNamed self.new.readers reader.now) }
-        ensures touched { OnOk result (AreTouched self.new.touched reader.now) }
+        ensures touched { OnOk result (AreTouched self.new.touching reader.now) }
     {
         self.installed.reserve()?;
         self.ranks.reserve(moved)?;
         self.readers.enlist(alloc, reader)?;
-        touch(&mut self.touched, reader.binding())?;
+        self.touching.add_binding(alloc, reader.binding())?;
         Ok(())
     }
 
@@ -101,7 +102,7 @@ impl Graph {
         requires room { HasRoom self.old.installed }
         requires numbers { HasNumbers (length moved.now) self.old.ranks }
         requires named { AreNamed self.old.readers reader }
-        requires touched { AreTouched self.old.touched reader }
+        requires touched { AreTouched self.old.touching reader }
         requires later { IsLater (binding_at (bindings_of self.old))
             (binding_at (replaced (bindings_of self.old) reader)) reader.target moved.now }
         ensures replaced { bindings_of self.new ≡ replaced (bindings_of self.old) reader }
@@ -109,6 +110,7 @@ impl Graph {
     {
         let target = reader.binding().target;
         unlist(&self.installed, &mut self.readers, &target, reader.reads());
+        leave_old(&self.installed, &mut self.touching, reader.binding());
         self.installed.remove(&target);
         self.installed.push(reader);
         self.ranks.renumber(moved);
@@ -124,10 +126,21 @@ impl Graph {
         if self.installed.is_empty() {
             return;
         }
+        self.remove_bound(place);
+    }
+
+    /// Removes the binding of a property, whatever is named under the objects.
+    fn remove_bound(&mut self, place: &Place)
+        requires { IsIndexed self.old }
+        ensures left { bindings_of self.new ≡ without place.now (bindings_of self.old) }
+        ensures indexed { IsIndexed self.new }
+        ensures touched { LosesPlace place.now self.old.touching self.new.touching }
+    {
         let Some(reader) = self.installed.reader(place) else {
             return;
         };
         self.readers.unlist(reader, &[]);
+        self.touching.leave(reader.binding());
         self.installed.remove(place);
         self.ranks.forget(place);
     }
@@ -143,50 +156,123 @@ impl Graph {
         }
     }
 
-    /// Whether a binding has one of its objects among these and another that isn't. It looks at the bindings only where they
-    /// may touch one of these.
+    /// Whether a binding has one of its objects among these and another that isn't. Each object is looked up once, and then
+    /// the bindings that touch one of these are looked at; all are, where there is no memory to note those.
     pub fn joins(&self, objects: &[ObjectId]) -> bool
         requires { IsGraph self.now }
         ensures { result ≡ lead_out objects.now (bindings_of self.now) }
     {
-        if !touches_any(&self.touched, objects) {
+        if self.installed.is_empty() {
             return false;
         }
-        self.installed.lead_out(objects)
+        match self.touched_among(objects) {
+            Ok(touched) => self.joins_touched(&touched),
+            Err(_) => self.installed.lead_out(objects),
+        }
     }
 
-    /// Removes the bindings whose target is of the object, or of which it is a source. It looks at them only where there may
-    /// be such a one.
+    /// The numbers of those of these objects that bindings touch. The error is that memory was refused.
+    fn touched_among(&self, objects: &[ObjectId]) -> Result<IndexSet<usize>, AllocError>
+        ensures { IfOk result (λ touched. AreTouchedAmong self.now objects.now touched) }
+    {
+        let mut touched = IndexSet::new(*self.installed.by_target.allocator());
+        for object in objects {
+            if self.touching.of(*object).is_empty() {
+                continue;
+            }
+            touched.insert(object.number())?;
+        }
+        Ok(touched)
+    }
+
+    /// Whether a binding that touches one of these objects joins it with another that isn't among them.
+    fn joins_touched(&self, objects: &IndexSet<usize>) -> bool
+        requires { AreKeyed self.now.installed }
+        ensures { result ≡ lead_out_touched self.now (contains eqb objects.now) objects.now.keys }
+    {
+        let touched = objects.as_slice();
+        for object in touched {
+            if self.joins_at(ObjectId::new(*object), objects) {
+                return true;
+            }
+        }
+        false
+    }
+
+    /// Whether one of the bindings that touch this object does.
+    fn joins_at(&self, object: ObjectId, objects: &IndexSet<usize>) -> bool
+        requires { AreKeyed self.now.installed }
+        ensures { result ≡ leads_out_at self.now (contains eqb objects.now) object }
+    {
+        let targets = self.touching.of(object);
+        for target in targets {
+            if self.joins_of(&Place::at(*target), objects) {
+                return true;
+            }
+        }
+        false
+    }
+
+    /// Whether the binding of this property does, if it has one.
+    fn joins_of(&self, target: &Place, objects: &IndexSet<usize>) -> bool
+        requires { AreKeyed self.now.installed }
+        ensures { result ≡ leads_out_of (contains eqb objects.now)
+            (binding_at (bindings_of self.now) target.now) }
+    {
+        match self.installed.reader(target) {
+            Some(reader) => reader.binding().leads_out_of(objects),
+            None => false,
+        }
+    }
+
+    /// Removes the bindings whose target is of the object, or of which it is a source. It looks at no other.
     pub fn drop_object(&mut self, object: ObjectId)
         requires { IsGraph self.old }
         ensures left { bindings_of self.new ≡ dropped object (bindings_of self.old) }
         ensures graph { IsGraph self.new }
     {
-        if !self.touched.contains(&object.number()) {
-            return;
+        match self.touching.take(object) {
+            Some(targets) => self.remove_touching(object, targets.items.as_slice()),
+            None => {}
         }
-        self.drop_touching(object);
-        self.touched.remove(&object.number());
     }
 
-    /// Removes them one by one.
-    fn drop_touching(&mut self, object: ObjectId)
-        requires { IsGraph self.old }
+    /// Removes those that touch the object, one by one: they are bindings of properties with these numbers.
+    fn remove_touching(&mut self, object: ObjectId, targets: &[(usize, usize)])
+        requires indexed { IsIndexed self.old }
+        requires touched { NamesTouched (λ o. not (eqb object o)) self.old }
+        requires listed { ListsTouching object targets.now self.old }
         ensures left { bindings_of self.new ≡ dropped object (bindings_of self.old) }
         ensures graph { IsGraph self.new }
     {
-        let mut i = 0;
-        while i < self.installed.len() {
-            let Some(reader) = self.installed.at(i) else {
-                return;
-            };
-            let binding = reader.binding();
-            if !binding.touches(object) {
-                i += 1;
-                continue;
-            }
-            let target = binding.target;
-            self.remove(&target);
+        for target in targets {
+            self.remove_if_touching(object, &Place::at(*target));
+        }
+    }
+
+    /// Removes the binding of a property if it touches the object.
+    fn remove_if_touching(&mut self, object: ObjectId, place: &Place)
+        requires indexed { IsIndexed self.old }
+        requires touched { NamesTouched (λ o. not (eqb object o)) self.old }
+        ensures left { dropped object (bindings_of self.new) ≡ dropped object (bindings_of self.old) }
+        ensures indexed { IsIndexed self.new }
+        ensures touched { NamesTouched (λ o. not (eqb object o)) self.new }
+        ensures gone { LeavesTouching object place.now self.old self.new }
+    {
+        if !self.is_touching(object, place) {
+            return;
+        }
+        self.remove_bound(place);
+    }
+
+    /// Whether the property has a binding that touches the object.
+    fn is_touching(&self, object: ObjectId, place: &Place) -> bool
+        requires { AreKeyed self.now.installed }
+        ensures { result ≡ touches_too (binding_at (bindings_of self.now) place.now) object }
+    {
+        match self.installed.reader(place) {
+            Some(reader) => reader.binding().touches(object),
+            None => false,
         }
     }
 }
@@ -202,27 +288,13 @@ fn unlist(installed: &Installed, readers: &mut Readers, place: &Place, kept: &[P
     }
 }
 
-/// Whether bindings may touch one of these objects.
-fn touches_any(touched: &HashSet<usize>, objects: &[ObjectId]) -> bool
-    ensures { result ≡ list_any (contains eqb touched.now) objects.now }
+/// Removes the target of a binding from the objects that its old binding touches and the new one doesn't.
+fn leave_old(installed: &Installed, touching: &mut Touching, new: &Binding)
+    requires { AreKeyed installed.now }
+    ensures { LosesTarget new.now new.now.target touching.old touching.new }
 {
-    for object in objects {
-        if touched.contains(&object.number()) {
-            return true;
-        }
+    match installed.reader(&new.target) {
+        Some(old) => touching.leave_to(old.binding(), new),
+        None => {}
     }
-    false
-}
-
-/// Adds the objects of a binding to those that bindings touch. Its error is that memory was refused; then some are added.
-fn touch(touched: &mut HashSet<usize>, binding: &Binding) -> Result<(), AllocError>
-    ensures kept { KeepTouched touched.old touched.new }
-    ensures touched { OnOk result (AreTouched touched.new binding.now) }
-{
-    touched.insert(binding.target.object.number())?;
-    let sources = binding.sources.as_slice();
-    for source in sources {
-        touched.insert(source.number())?;
-    }
-    Ok(())
 }

@@ -11,6 +11,7 @@ mod numbering;
 mod place;
 mod ranks;
 mod readers;
+mod touching;
 
 pub use binding::Binding;
 pub use following::followers;

@@ -1,109 +1,100 @@
-//! Lists of properties by key.
+//! Properties by key, each once.
 
-ghost use Rattle.std.specs.Prelude.{◌≡◌, ◌∷◌, [], ◌++◌, ◌<◌, filter, not, false, if◌then◌else◌, OnOk, IsSomeAnd};
-ghost use Rattle.std.specs.Vec.{vec_len, vec_capacity};
-ghost use Rattle.binding_graph.specs.Places.{same_place};
-ghost use Rattle.binding_graph.specs.code.Lists.{list_of, HasRoomAt, Keeps, Pushes, Forgets, SameLists, forgotten};
+ghost use Rattle.std.specs.Prelude.{◌≡◌, ℕ, [], true, false, cond, OnOk, OnErr};
+ghost use Rattle.binding_graph.specs.code.Keys.{same_key};
+ghost use Rattle.binding_graph.specs.code.Lists.{Adds, Clears, Forgets, SameLists, is_key_in, keys_in, keys_under};
 
-use crate::place::Place;
-use indexmap::IndexMap;
+use indexmap::{IndexMap, IndexSet};
 use std::alloc::{AllocError, Global};
 use std::hash::Hash;
 
-/// Some properties.
+/// Some properties, each once, by their numbers. One is added or forgotten in time that doesn't grow with their number.
 #[derive(Drop)]
 pub struct Places {
-    pub items: Vec<Place>,
+    pub items: IndexSet<(usize, usize)>,
 }
 
 impl Places {
     fn new(alloc: Global) -> Places
-        ensures { result.items.items ≡ [] }
+        ensures { result.items.keys ≡ [] }
     {
         Places {
-            items: Vec::new(alloc),
+            items: IndexSet::new(alloc),
         }
     }
 
-    /// Makes room for one more.
-    fn reserve(&mut self) -> Result<(), AllocError>
-        ensures room { OnOk result (vec_len self.new.items < vec_capacity self.new.items) }
-        ensures items { self.new.items.items ≡ self.old.items.items }
+    /// With this one, where it isn't among them. The error is that memory was refused; then nothing changes.
+    fn add(&mut self, key: (usize, usize)) -> Result<(), AllocError>
+        ensures added { OnOk result ((k : ℕ × ℕ) → is_key_in k self.new.items.keys
+            ≡ cond (same_key key k) true (is_key_in k self.old.items.keys)) }
+        ensures err { OnErr result (self.new.items.keys ≡ self.old.items.keys) }
     {
-        self.items.reserve(1)
-    }
-
-    /// One more at the end, for which there is room.
-    fn push(&mut self, place: Place)
-        requires { vec_len self.old.items < vec_capacity self.old.items }
-        ensures { self.new.items.items ≡ self.old.items.items ++ place ∷ [] }
-    {
-        self.items.push_reserved(place);
+        self.items.insert(key)?;
+        Ok(())
     }
 
     /// Without this one.
-    fn forget(&mut self, place: &Place)
-        ensures { self.new.items.items ≡ forgotten place.now self.old.items.items }
+    fn forget(&mut self, key: (usize, usize))
+        ensures { (k : ℕ × ℕ) → is_key_in k self.new.items.keys
+            ≡ cond (same_key key k) false (is_key_in k self.old.items.keys) }
     {
-        self.items.retain(|each| !each.is_same(place));
+        self.items.swap_remove(&key);
     }
 }
 
-/// The properties under a key.
-pub fn places_of<K: Eq + Hash>(lists: &IndexMap<K, Places>, key: K) -> &[Place]
+/// The numbers of the properties under a key.
+pub fn places_of<K: Eq + Hash>(lists: &IndexMap<K, Places>, key: K) -> &[(usize, usize)]
 where
     K: Drop,
-    ensures { result.now ≡ list_of K.eq lists.now key }
+    ensures { result.now ≡ keys_under K.eq lists.now key }
 {
     match lists.get(&key) {
         None => &[],
-        Some(places) => &places.items,
+        Some(places) => places.items.as_slice(),
     }
 }
 
-/// Makes room for one more property under a key.
-pub fn make_room<K: Eq + Hash + Copy>(
+/// Puts a property under a key, where it isn't there. The error is that memory was refused; then nothing is seen to change.
+pub fn add_place<K: Eq + Hash>(
     alloc: Global,
     lists: &mut IndexMap<K, Places>,
     key: K,
+    place: (usize, usize),
 ) -> Result<(), AllocError>
 where
     K: Drop,
-    ensures room { OnOk result (HasRoomAt K.eq lists.new key) }
-    ensures lists { Keeps K.eq lists.old lists.new key }
+    ensures added { OnOk result (Adds K.eq lists.old lists.new key place) }
+    ensures err { OnErr result (SameLists K.eq lists.old lists.new) }
 {
     if let Some(places) = lists.get_mut(&key) {
-        return places.reserve();
+        return places.add(place);
     }
     let mut places = Places::new(alloc);
-    places.reserve()?;
+    places.add(place)?;
     lists.insert(key, places)?;
     Ok(())
 }
 
-/// One more property under a key, which has room for it.
-pub fn push_place<K: Eq + Hash>(lists: &mut IndexMap<K, Places>, key: K, place: Place)
-where
-    K: Drop,
-    requires { HasRoomAt K.eq lists.old key }
-    ensures { Pushes K.eq lists.old lists.new key place }
-{
-    match lists.get_mut(&key) {
-        None => {}
-        Some(places) => places.push(place),
-    }
-}
-
 /// One property less under a key.
-pub fn forget_place<K: Eq + Hash>(lists: &mut IndexMap<K, Places>, key: K, place: &Place)
+pub fn forget_place<K: Eq + Hash>(lists: &mut IndexMap<K, Places>, key: K, place: (usize, usize))
 where
     K: Drop,
-    ensures { Forgets K.eq lists.old lists.new key place.now }
+    ensures { Forgets K.eq lists.old lists.new key place }
 {
     match lists.get_mut(&key) {
         None => {}
         Some(places) => places.forget(place),
     }
+}
+
+/// Takes all properties from under a key.
+pub fn take_places<K: Eq + Hash>(lists: &mut IndexMap<K, Places>, key: K) -> Option<Places>
+where
+    K: Drop,
+    ensures taken { keys_in result ≡ keys_under K.eq lists.old key }
+    ensures left { Clears K.eq lists.old lists.new key }
+{
+    lists.swap_remove(&key)
 }
 
 /// Drops a key with no properties.

@@ -3,6 +3,7 @@
 ghost use Rattle.std.specs.Prelude.{◌≡◌};
 ghost use Rattle.binding_graph.specs.Places.{same_place, is_in};
 ghost use Rattle.binding_graph.specs.code.Keys.{key_of};
+ghost use Rattle.binding_graph.specs.code.Lists.{place_at};
 
 use basic_types::ObjectId;
 
@@ -16,6 +17,16 @@ pub struct Place {
 }
 
 impl Place {
+    /// The property with these numbers.
+    pub fn at(key: (usize, usize)) -> Place
+        ensures { result ≡ place_at key }
+    {
+        Place {
+            object: ObjectId::new(key.0),
+            property: key.1,
+        }
+    }
+
     /// The numbers by which it is looked up.
     pub fn key(&self) -> (usize, usize)
         ensures { result ≡ key_of self.now }

@@ -2,11 +2,10 @@
 
 ghost use Rattle.std.specs.Prelude.{◌≡◌, OnOk};
 ghost use Rattle.binding_graph.specs.declared.place.Place.{Place};
-ghost use Rattle.binding_graph.specs.Places.{In};
-ghost use Rattle.binding_graph.specs.code.Graph.{AreNamed, KeepReaders, LosesOnly, LosesReader, readers_at};
+ghost use Rattle.binding_graph.specs.code.Graph.{AreNamed, KeepReaders, LosesOnly, LosesReader, Named, reader_keys};
 
 use crate::installed::Reader;
-use crate::lists::{Places, drop_empty, forget_place, make_room, places_of, push_place};
+use crate::lists::{Places, add_place, drop_empty, forget_place, places_of};
 use crate::place::{Place, contains};
 use indexmap::IndexMap;
 use std::alloc::{AllocError, Global};
@@ -25,9 +24,9 @@ impl Readers {
         }
     }
 
-    /// The properties whose bindings read this one.
-    pub fn of(&self, source: &Place) -> &[Place]
-        ensures { result.now ≡ readers_at self.now source.now }
+    /// The numbers of the properties whose bindings read this one.
+    pub fn of(&self, source: &Place) -> &[(usize, usize)]
+        ensures { result.now ≡ reader_keys self.now source.now }
     {
         places_of(&self.by_source, source.key())
     }
@@ -62,13 +61,9 @@ impl Readers {
     /// Adds a reader of a property.
     fn add(&mut self, alloc: Global, source: &Place, reader: &Place) -> Result<(), AllocError>
         ensures kept { KeepReaders self.old self.new }
-        ensures there { OnOk result (In reader.now (readers_at self.new source.now)) }
+        ensures there { OnOk result (Named self.new source.now reader.now) }
     {
-        if contains(self.of(source), reader) {
-            return Ok(());
-        }
-        make_room(alloc, &mut self.by_source, source.key())?;
-        push_place(&mut self.by_source, source.key(), *reader);
+        add_place(alloc, &mut self.by_source, source.key(), reader.key())?;
         Ok(())
     }
 
@@ -76,7 +71,7 @@ impl Readers {
     fn forget(&mut self, source: &Place, reader: &Place)
         ensures { LosesOnly source.now reader.now self.old self.new }
     {
-        forget_place(&mut self.by_source, source.key(), reader);
+        forget_place(&mut self.by_source, source.key(), reader.key());
         drop_empty(&mut self.by_source, source.key());
     }
 }

@@ -8,9 +8,12 @@ use Rattle.binding_graph.specs.declared.binding.Binding.{Binding}
 use Rattle.binding_graph.specs.Places.{In, Distinct, is_in, same_place}
 use Rattle.binding_graph.specs.Bindings.{without_all}
 use Rattle.binding_plans.specs.Changes.{once}
-use Rattle.binding_graph.specs.code.Lists.{forgotten}
 use Rattle.binding_graph.proofs.Places.{decide_in, decide_place, different, same_place-refl}
 use Rattle.binding_graph.proofs.Several.{distinct-filter, filter-in, filter-keeps, in-filter, is_in-of, is_in-not, without_all-left}
+
+-- all but this property
+abbrev forgotten : Place → List Place → List Place
+forgotten p qs = filter (λ q. not (same_place q p)) qs
 
 forgotten-out : (p : Place) (ps : List Place) → In p (forgotten p ps) → ⊥
 forgotten-out p ps i = (let kept : not (same_place p p) ≡ true = filter-keeps (λ q. not (same_place q p)) ps p i in let same : same_place p p ≡ true = same_place-refl p in cc (ap not same, kept))

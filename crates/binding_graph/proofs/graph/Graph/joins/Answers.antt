@@ -1,11 +1,10 @@
-use Rattle.std.proofs.Common.{◌≡◌, ◌∙◌, false, eqb, sym}
-use Rattle.std.specs.List.{list_any}
-use Rattle.std.specs.HashSet.{contains}
+use Rattle.std.proofs.Common.{◌∙◌, sym}
 use Rattle.binding_graph.specs.code.Graph.{bindings_of}
-use Rattle.binding_graph.proofs.Joining.{none-joined}
+use Rattle.binding_graph.proofs.Joining.{joins-touched, none-lead}
 use Rattle.binding_graph.proofs.graph.Graph.joins.Goals as goal
 
-pub returns-then-not-touches_any : goal.returns-then-not-touches_any
-returns-then-not-touches_any c =
-    let none : list_any (contains eqb c.args.self.now.touched) c.args.objects.now ≡ false = sym c.touches_any.ensures ∙ c.if-not-touches_any.true in
-    sym (none-joined c.args.objects.now (bindings_of c.args.self.now) (contains eqb c.args.self.now.touched) c.requires.apart c.requires.touched none)
+pub returns-then-is_empty : goal.returns-then-is_empty
+returns-then-is_empty c = sym (none-lead c.args.objects.now (bindings_of c.args.self.now) (c.is_empty.ensures.0 c.if-is_empty.true))
+
+pub returns-in-Ok : goal.returns-in-Ok
+returns-in-Ok c = c.joins_touched.ensures ∙ joins-touched c.args.self.now c.requires c.args.objects.now c.in-Ok.touched c.in-Ok.ensures

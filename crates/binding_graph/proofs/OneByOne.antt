@@ -1,19 +1,8 @@
--- Objects that bindings touch.
+-- Objects among others, one by one.
 use Rattle.std.proofs.Common.{◌≡◌, ℕ, zero, suc, ◌+◌, ◌<◌, ◌≤◌, ◌||◌, ◌⊎◌, Bool, true, false, eqb, List, [], ◌∷◌, ◌++◌, length, take, get_or, inl, inr, refl, ap, sym, ◌∙◌, subst, arith}
 use Rattle.std.proofs.lemmas.Bool.{cases_Bool, eqb-true, false≢true}
 use Rattle.std.proofs.lemmas.List.{take_more}
-use Rattle.std.specs.HashSet.{HashSet, Updates, contains}
 use Rattle.meta_model.specs.Among.{is_among}
-
-module _ {S : Type 0} (m n : HashSet ℕ S) (k : ℕ) (u : Updates eqb m n k true) where
-  pub set-kept : (o : ℕ) → contains eqb m o ≡ true → contains eqb n o ≡ true
-  set-kept o is = elim (cases_Bool (eqb k o)) [
-    | inl t ↦ subst (λ (x : ℕ). contains eqb n x ≡ true) (eqb-true k o t) u.1
-    | inr f ↦ u.2 o f ∙ is
-  ]
-
-  pub set-has : (o : ℕ) → k ≡ o → contains eqb n o ≡ true
-  set-has o e = subst (λ (x : ℕ). contains eqb n x ≡ true) e u.1
 
 among-more : (o : ℕ) (xs : List ℕ) (x : ℕ) → is_among o (xs ++ x ∷ []) ≡ true → (is_among o xs ≡ true) ⊎ (x ≡ o)
 among-more o [] x is = elim (cases_Bool (eqb x o)) [
