@@ -7,3 +7,5 @@ pub mod LookUps
 pub mod Indexing
 pub use Rattle.name_indexes.proofs.Searches
 pub use Rattle.name_indexes.proofs.Zips
+pub mod ClassPlaces
+pub mod Declared

@@ -3,6 +3,7 @@
 #![tactic(auto)]
 
 mod class_index;
+mod class_places;
 mod effects;
 mod meta;
 mod object;

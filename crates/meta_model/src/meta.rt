@@ -2,18 +2,21 @@
 
 ghost use Rattle.std.specs.Prelude.{◌≡◌, ◌<◌, List, IsTrue, ◌↔◌, IfOk, IfSome, option_copied, slice_get};
 ghost use Rattle.std.specs.List.{AllZip};
+ghost use Rattle.name_indexes.specs.Places.{StandsAt};
 ghost use Rattle.name_indexes.specs.LookUps.{LooksUp, LooksUpRef, FindsOnly};
 ghost use Rattle.meta_model.specs.Indexes.{IndexesMembers};
 ghost use Rattle.meta_model.specs.Members.{IsClassNamed, IsMethod, HasSig, IsMethodNamed, IsPropertyNamed};
 ghost use Rattle.meta_model.specs.Members.{base_of, method_count, method_offset, Below};
-ghost use Rattle.meta_model.specs.Members.{CoversBy, Covers, OwnsBy, Owns};
+ghost use Rattle.meta_model.specs.Members.{Covers, Owns};
 ghost use Rattle.meta_model.specs.Sound.{IsSound, IsSoundClass, IsSoundMethod, IsSoundSite};
 ghost use Rattle.meta_model.specs.Sites.{IsSiteNamed};
 ghost use Rattle.meta_model.specs.Typed.{TellsType, TellsReference};
 ghost use Rattle.meta_model.specs.Wiring.{IsWired};
+ghost use Rattle.meta_model.specs.code.Declared.{MayOwn, OwnsFrom, Joins, CoversFrom};
 ghost use Rattle.meta_model.specs.code.Ends.{IsEndOf};
 
 use crate::class_index::{ClassIndex, MemberIndex, index_sites};
+use crate::class_places::{ClassPlaces, index_owners, index_wires};
 use crate::object::{MetaMethod, MetaObject, MetaOwns, MetaWire, ValueType};
 use crate::site::MetaSite;
 use basic_types::{Kind, Name, ObjectId, Sig, Value, fits};
@@ -30,6 +33,10 @@ pub struct Meta {
     sites: Items<MetaSite>,
     index: ClassIndex,
     site_names: NameIndex,
+    /// The places of `wires`, by the senders' classes.
+    wires_from: ClassPlaces,
+    /// The places of `owns`, by the parents' classes.
+    owned_by: ClassPlaces,
 }
 
 impl Drop for Meta {
@@ -41,12 +48,15 @@ impl Drop for Meta {
             sites: _,
             index: _,
             site_names: _,
+            wires_from: _,
+            owned_by: _,
         } = self;
     }
 }
 
 impl Model for Meta {
-    ghost use Rattle.meta_model.specs.Indexes.{IsIndexOf, IndexesSites};
+    ghost use Rattle.meta_model.specs.Indexes.{IsIndexOf, IndexesSites, IndexesWires, IndexesOwners};
+    ghost use Rattle.std.specs.Prelude.{length};
     ghost use Rattle.meta_model.specs.Loaded.{Loaded};
     ghost use Rattle.meta_model.specs.Sound.{IsSound};
     ghost use Rattle.meta_model.specs.contracts.object.Statement as statement;
@@ -60,7 +70,7 @@ impl Model for Meta {
 
     ghost view = { λ meta. record { classes = meta.classes; wires = meta.wires; owns = meta.owns; sites = meta.sites } };
 
-    ghost invariant = { λ meta. IsSound (record { classes = meta.classes; wires = meta.wires; owns = meta.owns; sites = meta.sites }) × IsIndexOf meta.classes meta.index × IndexesSites meta.sites meta.site_names };
+    ghost invariant = { λ meta. IsSound (record { classes = meta.classes; wires = meta.wires; owns = meta.owns; sites = meta.sites }) × IsIndexOf meta.classes meta.index × IndexesSites meta.sites meta.site_names × IndexesWires meta.wires (length meta.classes) meta.wires_from × IndexesOwners meta.owns (length meta.classes) meta.owned_by };
 }
 
 /// Whether a wire covers a connection, and whether its method fits its signal.
@@ -102,6 +112,8 @@ impl Meta {
     {
         let index = ClassIndex::new(alloc, classes.as_slice(), members)?;
         let site_names = index_sites(alloc, sites.as_slice())?;
+        let wires_from = index_wires(alloc, classes.len(), wires.as_slice())?;
+        let owned_by = index_owners(alloc, classes.len(), owns.as_slice())?;
         Ok(Meta {
             classes,
             wires,
@@ -109,6 +121,8 @@ impl Meta {
             sites,
             index,
             site_names,
+            wires_from,
+            owned_by,
         })
     }
 
@@ -307,32 +321,60 @@ impl Meta {
         requires to { IsEndOf self.now to.now }
         ensures { IsTrue result ↔ Covers self.now from.now.class from.now.sig.now to.now.class to.now.sig.now kind }
     {
-        for wire in self.wires() {
-            if self.is_covered_by(from, to, kind, wire) {
+        let mut class = from.class;
+        'classes: while !self.covers_by(class, from, to, kind) {
+            match self.base(class) {
+                Some(base) => class = base,
+                None => return false,
+            }
+        }
+        true
+    }
+
+    /// Whether a wire covers the connection whose sender's class this is.
+    fn covers_by(
+        &self,
+        class: usize,
+        from: &ConnectionEnd<'_>,
+        to: &ConnectionEnd<'_>,
+        kind: Kind,
+    ) -> bool
+        requires from { IsEndOf self.now from.now }
+        requires to { IsEndOf self.now to.now }
+        ensures { IsTrue result ↔ CoversFrom self.now class from.now.sig.now to.now.class to.now.sig.now kind }
+    {
+        let mut place = self.wires_from.last_of(class);
+        'places: while let Some(at) = place {
+            if self.is_covered_at(at, from, to, kind) {
                 return true;
             }
+            place = self.wires_from.earlier_of(at);
         }
         false
     }
 
-    /// Whether this wire covers the connection.
-    fn is_covered_by(
+    /// Whether the wire at this place covers the connection, where the sender is of its class.
+    fn is_covered_at(
         &self,
+        at: usize,
         from: &ConnectionEnd<'_>,
         to: &ConnectionEnd<'_>,
         kind: Kind,
-        wire: &MetaWire,
     ) -> bool
         requires from { IsEndOf self.now from.now }
         requires to { IsEndOf self.now to.now }
         ensures { IsTrue result
-            ↔ CoversBy self.now from.now.class from.now.sig.now to.now.class to.now.sig.now kind wire.now }
+            ↔ StandsAt (Joins self.now from.now.sig.now to.now.class to.now.sig.now kind) self.now.wires at }
     {
-        wire.kind == kind
-            && self.inherits(from.class, wire.sender)
-            && self.inherits(to.class, wire.receiver)
-            && self.is_end_at(from, wire.sender, wire.signal)
-            && self.is_end_at(to, wire.receiver, wire.method)
+        match self.wires.get(at) {
+            Some(wire) => {
+                wire.kind == kind
+                    && self.inherits(to.class, wire.receiver)
+                    && self.is_end_at(from, wire.sender, wire.signal)
+                    && self.is_end_at(to, wire.receiver, wire.method)
+            }
+            None => false,
+        }
     }
 
     /// Whether the method of this number has the signature of the end.
@@ -363,19 +405,38 @@ impl Meta {
     pub fn owns(&self, parent: usize, child: usize) -> bool
         ensures { IsTrue result ↔ Owns self.now parent child }
     {
-        for owns in self.owned() {
-            if self.is_owned_by(parent, child, owns) {
+        let mut class = parent;
+        'classes: while !self.owns_by(class, child) {
+            match self.base(class) {
+                Some(base) => class = base,
+                None => return false,
+            }
+        }
+        true
+    }
+
+    /// Whether a declaration says so whose parent's class this is.
+    fn owns_by(&self, class: usize, child: usize) -> bool
+        ensures { IsTrue result ↔ OwnsFrom self.now class child }
+    {
+        let mut place = self.owned_by.last_of(class);
+        'places: while let Some(at) = place {
+            if self.is_child_at(at, child) {
                 return true;
             }
+            place = self.owned_by.earlier_of(at);
         }
         false
     }
 
-    /// Whether this declaration is of these classes or of classes above them.
-    fn is_owned_by(&self, parent: usize, child: usize, owns: &MetaOwns) -> bool
-        ensures { IsTrue result ↔ OwnsBy self.now parent child owns.now }
+    /// Whether the declaration at this place is of the child's class or of one above it.
+    fn is_child_at(&self, at: usize, child: usize) -> bool
+        ensures { IsTrue result ↔ StandsAt (MayOwn self.now child) self.now.owns at }
     {
-        self.inherits(parent, owns.parent) && self.inherits(child, owns.child)
+        match self.owns.get(at) {
+            Some(declared) => self.inherits(child, declared.child),
+            None => false,
+        }
     }
 
     /// Whether the value has the type. Where the value refers to an object, `class` is that object's class, or `None`

@@ -1,17 +1,22 @@
-use Rattle.std.proofs.Common.{refl}
-use Rattle.meta_model.proofs.LookUps.{not_owned, owned_by}
-use Rattle.name_indexes.proofs.Searches.{none_more, none_at_all, read_at}
+use Rattle.std.proofs.Common.{refl, sym}
+use Rattle.meta_model.specs.Members.{Owns}
+use Rattle.meta_model.specs.code.Declared.{OwnsFrom}
+use Rattle.meta_model.proofs.Declared.{at_base, at_root, owns_inherited}
 use Rattle.meta_model.proofs.meta.Meta.owns.Goals as goal
 
-pub returns-then-is_owned_by : goal.returns-then-is_owned_by
-returns-then-is_owned_by c =
-    let by = c.is_owned_by.ensures.0 c.if-is_owned_by.true in
-    (λ _. owned_by _ _ _ _ c.owned-owns-items.ensures _ _ c.loop-owns-test.true (read_at _ _ _ c.loop-owns-test.true) by, λ _. refl)
+pub classes-preserved : goal.classes-preserved
+classes-preserved c =
+    let p = c.args.self.now in
+    let both = at_base p (λ k. Owns p k c.args.child) (λ k. OwnsFrom p k c.args.child) (owns_inherited p c.args.child) c.classes.class c.in-Some.base (sym c.in-Some.ensures.value) (λ from. let t = c.owns_by.ensures.1 from in cc) in
+    (λ h. c.classes.invariant.0 (both.0 h), λ h. both.1 (c.classes.invariant.1 h))
 
-pub loop-owns-preserved : goal.loop-owns-preserved
-loop-owns-preserved c =
-    none_more _ _ _ _ c.loop-owns.invariant c.loop-owns-test.true (read_at _ _ _ c.loop-owns-test.true) (λ by. let t = c.is_owned_by.ensures.1 by in cc)
+pub returns-in-None : goal.returns-in-None
+returns-in-None c =
+    let p = c.args.self.now in
+    (λ t. absurd (cc), λ h. absurd (at_root p (λ k. Owns p k c.args.child) (λ k. OwnsFrom p k c.args.child) (owns_inherited p c.args.child) c.classes.class (sym c.in-None.ensures.value) (λ from. let t = c.owns_by.ensures.1 from in cc) (c.classes.invariant.1 h)))
 
 pub returns : goal.returns
 returns c =
-    (λ t. absurd (cc), λ h. absurd (not_owned _ _ _ _ c.owned-owns-items.ensures (none_at_all _ _ _ c.loop-owns.invariant c.loop-owns-test.false) h))
+    let p = c.args.self.now in
+    let from = c.classes-test.ensures.0 refl in
+    (λ _. c.classes.invariant.0 ((owns_inherited p c.args.child).here c.classes.class from), λ _. refl)

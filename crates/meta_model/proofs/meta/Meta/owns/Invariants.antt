@@ -1,8 +1,10 @@
-use Rattle.std.proofs.Common.{ℕ, ◌<◌}
-use Rattle.meta_model.specs.Members.{OwnsBy}
-use Rattle.name_indexes.specs.Places.{StandsAt}
+use Rattle.std.proofs.Common.{◌↔◌}
+use Rattle.meta_model.specs.Members.{Owns}
 use Rattle.meta_model.proofs.meta.Meta.owns.Given as goal
 
--- no earlier declaration says so
-abbrev pub invariant-loop-owns : goal.invariant-loop-owns
-invariant-loop-owns l = (k : ℕ) → k < l.owns-index → ¬ StandsAt (OwnsBy l.self l.parent l.child) l.owns-items k
+-- what holds of the class that was reached holds of the parent's
+abbrev pub invariant-classes : goal.invariant-classes
+invariant-classes l = Owns l.self l.class l.child ↔ Owns l.self l.fn.parent l.child
+
+abbrev pub decreases-classes : goal.decreases-classes
+decreases-classes l = l.class
