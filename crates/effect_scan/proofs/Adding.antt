@@ -7,7 +7,7 @@ use Rattle.std.proofs.lemmas.Option.{slice_get_within, same_Some, none-some, get
 pub use Rattle.class_sets.proofs.Firsts.{no_members, first_more}
 use Rattle.effect_scan.specs.Rows.{row, Edge}
 use Rattle.effect_scan.specs.Effects.{Gathers}
-use Rattle.effect_scan.specs.code.Adding.{Adds, Joins, IsOrdered, AreOrdered}
+use Rattle.effect_scan.specs.code.Adding.{Adds, Joins, IsOrdered}
 use Rattle.effect_scan.specs.code.Adding.{Among, AmongFirst}
 
 -- ---- rows
@@ -203,38 +203,6 @@ left_rows initial now after k r count same e = (
   λ n past. ap (λ (l : List (List ℕ)). row l n) e ∙ row_set_other now k r n (λ is. absurd (omega (arith, past, is))) ∙ same n (omega (arith, past)),
 )
 
--- ---- rows that are put in order one by one
-pub order_step : (initial now after : List (List ℕ)) (k : ℕ) (d r : List ℕ) → k < length now → length now ≡ length initial → ((n : ℕ) → n < k → IsOrdered (row initial n) (row now n)) → ((n : ℕ) → k ≤ n → row now n ≡ row initial n)
-    → IsOrdered (get_or now k d) r → after ≡ set now k r
-    → (length after ≡ length initial) × ((n : ℕ) → n < k + 1 → IsOrdered (row initial n) (row after n)) × ((n : ℕ) → k + 1 ≤ n → row after n ≡ row initial n)
-order_step initial now after k d r inside count before same ordered e =
-    let left = left_rows initial now after k r count same e in (
-      left.0,
-      λ n low.
-          elim (cases_eq n k) [
-            | inl is ↦
-                let first : get_or now k d ≡ row initial n = row_default now k d inside ∙ same k (omega arith) ∙ ap (row initial) (sym is) in
-                let last : row after n ≡ r = ap (λ (l : List (List ℕ)). row l n) e ∙ ap (row (set now k r)) is ∙ row_set_same now k r inside in
-                subst (λ (l : List ℕ). IsOrdered l (row after n)) first (subst (λ (l : List ℕ). IsOrdered (get_or now k d) l) (sym last) ordered)
-            | inr ne ↦
-                let stays : row after n ≡ row now n = ap (λ (l : List (List ℕ)). row l n) e ∙ row_set_other now k r n ne in
-                subst (λ (l : List ℕ). IsOrdered (row initial n) l) (sym stays) (before n (omega (arith, ne, low)))
-          ],
-      left.1,
-    )
-
+-- ---- a row that is in order
 pub nothing_ordered : IsOrdered [] []
 nothing_ordered = record { same = λ n. (λ h. h, λ h. h); increasing = λ k inside. absurd (omega (arith, inside)) }
-
-pub order_all : (initial now : List (List ℕ)) (k : ℕ) → length initial ≤ k → length now ≡ length initial → ((n : ℕ) → n < k → IsOrdered (row initial n) (row now n)) → ((n : ℕ) → k ≤ n → row now n ≡ row initial n) → AreOrdered initial now
-order_all initial now k past count before same = record {
-  count = count;
-  each = λ a.
-      elim (cases_lt a k) [
-        | inl l ↦ before a l
-        | inr m ↦
-            let none : row initial a ≡ [] = row_past initial a (omega (arith, past, m)) in
-            let none_now : row now a ≡ [] = same a m ∙ none in
-            subst (λ (l : List ℕ). IsOrdered l (row now a)) (sym none) (subst (λ (l : List ℕ). IsOrdered [] l) (sym none_now) nothing_ordered)
-      ];
-}

@@ -5,6 +5,7 @@ pub mod Listing
 pub mod Numbered
 pub mod Occurring
 pub mod Doing
+pub mod Gathered
 pub mod Gathering
 pub mod Pairing
 pub mod Relating

@@ -257,12 +257,12 @@ module _ (p : Loaded) (places : Places) (are : ArePlaces p places) where
         case (by_site r) = inr (inl (inr (sites_from a b (at (BySite p) r))))
         case (by_destruction r) = inr (inr (closures_from a b (at (ByDestruction p) r)))
 
-    pub edges_are : (r0 r1 r2 r3 r4 r5 lists : List (List ℕ)) → r0 ≡ replicate (length places.numbering) [] → Adds (WorksLead places p.classes) r0 r1 → Adds (WiresLead places p.wires) r1 r2
-        → Adds (NotifiersLead places p.classes) r2 r3 → Adds (SitesLead places p.sites) r3 r4 → Adds (ClosuresLead places closures) r4 r5 → AreOrdered r5 lists → AreEdges p lists
-    edges_are r0 r1 r2 r3 r4 r5 lists empty a1 a2 a3 a4 a5 ordered = record {
+    pub edges_are : (r0 r1 r2 r3 f r4 r5 lists : List (List ℕ)) → r0 ≡ replicate (length places.numbering) [] → Adds (WorksLead places p.classes) r0 r1 → Adds (NotifiersLead places p.classes) r1 r2
+        → Adds (ClosuresLead places closures) r2 r3 → f ≡ r3 → Adds (WiresLead places p.wires) f r4 → Adds (SitesLead places p.sites) r4 r5 → AreOrdered r5 lists → AreEdges p lists
+    edges_are r0 r1 r2 r3 f r4 r5 lists empty a1 a2 a3 same a4 a5 ordered = record {
       count =
-          ordered.count ∙ a5.count ∙ a4.count ∙ a3.count ∙ a2.count ∙ a1.count ∙ ap length empty ∙ length-replicate (length places.numbering) []
-          ∙ ap length are.numbering;
+          ordered.count ∙ a5.count ∙ a4.count ∙ ap length same ∙ a3.count ∙ a2.count ∙ a1.count ∙ ap length empty
+          ∙ length-replicate (length places.numbering) [] ∙ ap length are.numbering;
       edges = λ a b. (
         λ h. leads_to a b (split a b (((ordered.each a).same b).0 h)),
         λ h. ((ordered.each a).same b).1 (joined a b (leads_from a b h)),
@@ -276,7 +276,7 @@ module _ (p : Loaded) (places : Places) (are : ArePlaces p places) where
               | inl h4 ↦
                   elim ((a4.edges a b).0 h4) [
                     | inl h3 ↦
-                        elim ((a3.edges a b).0 h3) [
+                        elim ((a3.edges a b).0 (subst (λ (l : List (List ℕ)). Edge l a b) same h3)) [
                           | inl h2 ↦
                               elim ((a2.edges a b).0 h2) [
                                 | inl h1 ↦
@@ -284,13 +284,13 @@ module _ (p : Loaded) (places : Places) (are : ArePlaces p places) where
                                       | inl h0 ↦ absurd (empty_edge (length places.numbering) a b (subst (λ (l : List (List ℕ)). Edge l a b) empty h0))
                                       | inr new ↦ inl (inl new)
                                     ]
-                                | inr new ↦ inl (inr new)
+                                | inr new ↦ inr (inl (inl new))
                               ]
-                          | inr new ↦ inr (inl (inl new))
+                          | inr new ↦ inr (inr new)
                         ]
-                    | inr new ↦ inr (inl (inr new))
+                    | inr new ↦ inl (inr new)
                   ]
-              | inr new ↦ inr (inr new)
+              | inr new ↦ inr (inl (inr new))
             ]
 
         -- what was added stays
@@ -298,14 +298,14 @@ module _ (p : Loaded) (places : Places) (are : ArePlaces p places) where
         from4 a b h = (a5.edges a b).1 (inl h)
 
         from3 : (a b : ℕ) → Edge r3 a b → Edge r5 a b
-        from3 a b h = from4 a b ((a4.edges a b).1 (inl h))
+        from3 a b h = from4 a b ((a4.edges a b).1 (inl (subst (λ (l : List (List ℕ)). Edge l a b) (sym same) h)))
 
         from2 : (a b : ℕ) → Edge r2 a b → Edge r5 a b
         from2 a b h = from3 a b ((a3.edges a b).1 (inl h))
 
         joined : (a b : ℕ) → Leads a b → Edge r5 a b
         joined a b (inl (inl h)) = from2 a b ((a2.edges a b).1 (inl ((a1.edges a b).1 (inr h))))
-        joined a b (inl (inr h)) = from2 a b ((a2.edges a b).1 (inr h))
-        joined a b (inr (inl (inl h))) = from3 a b ((a3.edges a b).1 (inr h))
-        joined a b (inr (inl (inr h))) = from4 a b ((a4.edges a b).1 (inr h))
-        joined a b (inr (inr h)) = (a5.edges a b).1 (inr h)
+        joined a b (inl (inr h)) = from4 a b ((a4.edges a b).1 (inr h))
+        joined a b (inr (inl (inl h))) = from2 a b ((a2.edges a b).1 (inr h))
+        joined a b (inr (inl (inr h))) = (a5.edges a b).1 (inr h)
+        joined a b (inr (inr h)) = from3 a b ((a3.edges a b).1 (inr h))

@@ -1,5 +1,5 @@
 -- Edges between numbered nodes: a row of numbers for each node, where its edges end.
-use Rattle.std.specs.Prelude.{ℕ, List, [], ◌∷◌, ◌++◌, suc, map, slice_index_or}
+use Rattle.std.specs.Prelude.{◌≡◌, ℕ, List, [], ◌∷◌, ◌++◌, suc, length, map, Some, slice_get, slice_index_or}
 use Rattle.std.specs.List.{Contains}
 
 -- the numbers in a row
@@ -14,3 +14,8 @@ Edge rows a b = Contains (row rows a) b
 abbrev pub pairs_from : ℕ → List (List ℕ) → List (ℕ × ℕ)
 pairs_from a [] = []
 pairs_from a (r ∷ rest) = map (λ b. (a, b)) r ++ pairs_from (suc a) rest
+
+-- for each row the number of one that is the same
+pub record AreAlike (rows : List (List ℕ)) (alike : List ℕ) : Type 0 where
+  pub count : length alike ≡ length rows
+  pub each : (a b : ℕ) → slice_get alike a ≡ Some b → row rows b ≡ row rows a

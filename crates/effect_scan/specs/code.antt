@@ -3,4 +3,5 @@ pub mod Adding
 pub mod Places
 pub mod Relations
 pub mod Leading
+pub mod Families
 pub mod Holding

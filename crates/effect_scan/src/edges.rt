@@ -12,9 +12,9 @@ ghost use Rattle.effect_scan.specs.code.Leading.{WireLeads, WiresLead, MethodLea
 
 use crate::added::Added;
 use crate::effect::{Effect, gather, gather_native};
+use crate::families::Families;
 use crate::node::{Member, Node};
 use crate::places::Places;
-use crate::rows::join;
 use crate::targets::Targets;
 use basic_types::Kind;
 use meta_model::{
@@ -41,7 +41,7 @@ pub fn add_wires(
     alloc: Global,
     places: &Places,
     wires: &[MetaWire],
-    rows: &mut [Targets],
+    rows: &mut Families,
 ) -> Result<(), AllocError>
     requires { length rows.old ≡ length places.now.numbering }
     ensures { IfOk result (λ _. Adds (WiresLead places.now wires.now) rows.old rows.new) }
@@ -57,7 +57,7 @@ fn add_wire(
     alloc: Global,
     places: &Places,
     wire: &MetaWire,
-    rows: &mut [Targets],
+    rows: &mut Families,
 ) -> Result<(), AllocError>
     requires { length rows.old ≡ length places.now.numbering }
     ensures { IfOk result (λ _. Adds (WireLeads places.now wire.now) rows.old rows.new) }
@@ -68,7 +68,7 @@ fn add_wire(
             let signal = Member::Method(named(wire.signal));
             let from = places.below(alloc, wire.sender, signal)?;
             let to = places.below(alloc, wire.receiver, Member::Method(wire.method))?;
-            join(alloc, rows, from.as_slice(), to.as_slice())
+            rows.join(alloc, from.as_slice(), to.as_slice())
         }
     }
 }
@@ -259,7 +259,7 @@ pub fn add_sites(
     alloc: Global,
     places: &Places,
     sites: &[MetaSite],
-    rows: &mut [Targets],
+    rows: &mut Families,
 ) -> Result<(), AllocError>
     requires { length rows.old ≡ length places.now.numbering }
     ensures { IfOk result (λ _. Adds (SitesLead places.now sites.now) rows.old rows.new) }
@@ -275,7 +275,7 @@ fn add_site(
     alloc: Global,
     places: &Places,
     site: &MetaSite,
-    rows: &mut [Targets],
+    rows: &mut Families,
 ) -> Result<(), AllocError>
     requires { length rows.old ≡ length places.now.numbering }
     ensures { IfOk result (λ _. Adds (SiteLeads places.now site.now) rows.old rows.new) }
@@ -284,7 +284,7 @@ fn add_site(
     gather_sources(site.formula.expression(), &mut sources)?;
     let from = read(alloc, places, site.formals.as_slice(), sources.as_slice())?;
     let to = places.below(alloc, site.class, Member::Property(site.property))?;
-    join(alloc, rows, from.as_slice(), to.as_slice())
+    rows.join(alloc, from.as_slice(), to.as_slice())
 }
 
 /// The properties that the expression names, from left to right.

@@ -5,6 +5,7 @@ mod added;
 mod closure;
 mod edges;
 mod effect;
+mod families;
 mod laws;
 mod lineage;
 mod node;
@@ -12,6 +13,7 @@ mod numbering;
 mod places;
 mod rows;
 mod scan;
+mod sharing;
 mod targets;
 
 pub use edges::named;

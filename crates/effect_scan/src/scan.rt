@@ -1,19 +1,21 @@
 //! What the members of a program's classes may do at once.
 
-ghost use Rattle.std.specs.Prelude.{◌≡◌, [], replicate, length, IfOk};
+ghost use Rattle.std.specs.Prelude.{◌≡◌, length, IfOk};
 ghost use Rattle.meta_model.specs.LookUps.{LooksUp, FindsOnly};
 ghost use Rattle.effect_scan.specs.Nodes.{IsAt};
-ghost use Rattle.effect_scan.specs.Rows.{row, pairs_from};
+ghost use Rattle.effect_scan.specs.Rows.{row, pairs_from, AreAlike};
 ghost use Rattle.effect_scan.specs.code.Places.{ArePlaces};
+ghost use Rattle.effect_scan.specs.code.Leading.{AddsOwn};
 ghost use Rattle.effect_scan.specs.Destroying.{AreClosures};
 ghost use Rattle.effect_scan.specs.Scans.{AreEdges, IsScan};
 
 use crate::closure::closures;
 use crate::edges::{add_closures, add_notifiers, add_sites, add_wires, add_works};
+use crate::families::{Families, Ordered};
 use crate::node::Node;
 use crate::numbering::Numbering;
 use crate::places::Places;
-use crate::rows::{empty_rows, order_rows, targets_at};
+use crate::rows::{empty_rows, targets_at};
 use crate::targets::Targets;
 use meta_model::Meta;
 use sqlite_items::Items;
@@ -24,6 +26,7 @@ use std::marker::Model;
 pub struct Scan {
     numbering: Numbering,
     rows: Items<Targets>,
+    alike: Items<usize>,
     closures: Items<Items<usize>>,
 }
 
@@ -32,17 +35,21 @@ impl Drop for Scan {
         let Scan {
             numbering: _,
             rows: _,
+            alike: _,
             closures: _,
         } = self;
     }
 }
 
 impl Model for Scan {
+    ghost use Rattle.effect_scan.specs.Rows.{AreAlike};
     ghost use Rattle.effect_scan.specs.Scans.{Scanned};
 
     ghost Value = { Scanned };
 
     ghost view = { λ scan. record { nodes = scan.numbering; rows = scan.rows; closures = scan.closures } };
+
+    ghost invariant = { λ scan. AreAlike scan.rows scan.alike };
 }
 
 impl Scan {
@@ -52,7 +59,7 @@ impl Scan {
     {
         let places = Places::of(alloc, meta)?;
         let closures = closures(alloc, meta, places.lineage.as_slice())?;
-        let rows = edges(alloc, meta, &places, closures.as_slice())?;
+        let Ordered { rows, alike } = edges(alloc, meta, &places, closures.as_slice())?;
         let Places {
             numbering,
             lineage: _lineage,
@@ -60,6 +67,7 @@ impl Scan {
         Ok(Scan {
             numbering,
             rows,
+            alike,
             closures,
         })
     }
@@ -93,6 +101,14 @@ impl Scan {
         self.rows.as_slice()
     }
 
+    /// For each node, by number, the number of one that leads to the same nodes: the first such, where that is known. So what
+    /// hangs on these alone needs to be found once.
+    pub fn alike(&self) -> &[usize]
+        ensures { AreAlike self.now.rows result.now }
+    {
+        self.alike.as_slice()
+    }
+
     /// All edges, by the numbers of the nodes that they lead from and to, in this order.
     pub fn edges(&self, alloc: Global) -> Result<Items<(usize, usize)>, AllocError>
         ensures { IfOk result (λ edges. edges ≡ pairs_from 0 self.now.rows) }
@@ -120,33 +136,32 @@ fn edges(
     meta: &Meta,
     places: &Places,
     closures: &[Items<usize>],
-) -> Result<Items<Targets>, AllocError>
+) -> Result<Ordered, AllocError>
     requires places { ArePlaces meta.now places.now }
     requires closures { AreClosures meta.now closures.now }
-    ensures { IfOk result (AreEdges meta.now) }
+    ensures edges { IfOk result (λ ordered. AreEdges meta.now ordered.rows) }
+    ensures alike { IfOk result (λ ordered. AreAlike ordered.rows ordered.alike) }
 {
     let mut rows = empty_rows(alloc, places.numbering.nodes().len())?;
-    add_edges(alloc, meta, places, closures, rows.as_mut_slice())?;
-    Ok(Items::from_vec(rows))
+    add_own(alloc, meta, places, closures, rows.as_mut_slice())?;
+    let mut families = Families::of(alloc, rows)?;
+    add_wires(alloc, places, meta.wires(), &mut families)?;
+    add_sites(alloc, places, meta.sites(), &mut families)?;
+    families.in_order(alloc)
 }
 
-/// The edges of the program, in rows that are empty at first.
-fn add_edges(
+/// Adds the edges that each node has of its own: those that works, notify signals and destructions give.
+fn add_own(
     alloc: Global,
     meta: &Meta,
     places: &Places,
     closures: &[Items<usize>],
     rows: &mut [Targets],
 ) -> Result<(), AllocError>
-    requires places { ArePlaces meta.now places.now }
-    requires closures { AreClosures meta.now closures.now }
-    requires empty { rows.old ≡ replicate (length places.now.numbering) [] }
-    ensures { IfOk result (λ _. AreEdges meta.now rows.new) }
+    requires { length rows.old ≡ length places.now.numbering }
+    ensures { IfOk result (λ _. AddsOwn meta.now places.now closures.now rows.old rows.new) }
 {
     add_works(alloc, places, meta.classes(), rows)?;
-    add_wires(alloc, places, meta.wires(), rows)?;
     add_notifiers(alloc, places, meta.classes(), rows)?;
-    add_sites(alloc, places, meta.sites(), rows)?;
-    add_closures(alloc, places, closures, rows)?;
-    order_rows(alloc, rows)
+    add_closures(alloc, places, closures, rows)
 }

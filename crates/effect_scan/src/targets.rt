@@ -7,7 +7,6 @@ ghost use Rattle.effect_scan.specs.code.Holding.{held_list};
 
 use crate::added::Added;
 use shared_values::Shared;
-use sqlite_items::Items;
 use std::alloc::{AllocError, Global};
 use std::marker::Model;
 use std::mem;
@@ -20,19 +19,12 @@ pub enum Held {
     /// There is one.
     One([usize; 1]),
     /// They are a list that other nodes have too.
-    Common(Shared<Items<usize>>),
+    Common(Shared<Added>),
     /// They are a list of the node's own.
     Own(Added),
 }
 
 impl Held {
-    /// Whether there are none, and no list either.
-    fn is_nothing(&self) -> bool
-        ensures { IsTrue result → held_list self.now ≡ [] }
-    {
-        matches!(self, Held::Nothing)
-    }
-
     /// The numbers.
     fn as_slice(&self) -> &[usize]
         ensures { result.now ≡ held_list self.now }
@@ -93,6 +85,37 @@ impl Held {
                 }
                 let list = Added::with_room(alloc, held.as_slice(), 0)?;
                 Ok(Held::Own(list.fitted()))
+            }
+        }
+    }
+
+    /// The numbers, in a list that other nodes can have too; the error is that memory was refused.
+    fn into_common(self, alloc: Global) -> Result<Held, AllocError>
+        ensures { IfOk result (λ held. held_list held ≡ held_list self) }
+    {
+        match self {
+            Held::Own(list) => {
+                let list = Shared::new(alloc, list)?;
+                Ok(Held::Common(list))
+            }
+            held => Ok(held),
+        }
+    }
+
+    /// The same numbers, in the same list where other nodes can have it; the error is that memory was refused.
+    fn copy(&self, alloc: Global) -> Result<Held, AllocError>
+        ensures { IfOk result (λ held. held_list held ≡ held_list self.now) }
+    {
+        match self {
+            Held::Nothing => Ok(Held::Nothing),
+            Held::One(number) => Ok(Held::One(*number)),
+            Held::Common(list) => {
+                let list = list.copy()?;
+                Ok(Held::Common(list))
+            }
+            Held::Own(list) => {
+                let list = Added::with_room(alloc, list.as_slice(), 0)?;
+                Ok(Held::Own(list))
             }
         }
     }
@@ -163,22 +186,6 @@ impl Targets {
         Ok(())
     }
 
-    /// Adds the numbers of the list to the end. Where there were none before, the list is kept, and takes no memory more.
-    pub fn add_common(
-        &mut self,
-        alloc: Global,
-        list: &Shared<Items<usize>>,
-    ) -> Result<(), AllocError>
-        ensures { OnOk result (self.new ≡ self.old ++ list.now) }
-    {
-        if self.held.is_nothing() {
-            let list = list.copy()?;
-            self.held = Held::Common(list);
-            return Ok(());
-        }
-        self.add_all(alloc, list.get().as_slice())
-    }
-
     /// Puts the numbers in their order, each once.
     pub fn put_in_order(&mut self, alloc: Global) -> Result<(), AllocError>
         ensures { IfOk result (λ _. IsOrdered self.old self.new) }
@@ -186,5 +193,21 @@ impl Targets {
         let held = mem::replace(&mut self.held, Held::Nothing);
         self.held = held.in_order(alloc)?;
         Ok(())
+    }
+    /// Keeps the numbers so that copies share them. The error is that memory was refused.
+    pub fn share(&mut self, alloc: Global) -> Result<(), AllocError>
+        ensures { IfOk result (λ _. self.new ≡ self.old) }
+    {
+        let held = mem::replace(&mut self.held, Held::Nothing);
+        self.held = held.into_common(alloc)?;
+        Ok(())
+    }
+
+    /// The same numbers, in the same list where they are shared. The error is that memory was refused.
+    pub fn copy(&self, alloc: Global) -> Result<Targets, AllocError>
+        ensures { IfOk result (λ copy. copy ≡ self.now) }
+    {
+        let held = self.held.copy(alloc)?;
+        Ok(Targets { held })
     }
 }

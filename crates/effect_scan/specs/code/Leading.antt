@@ -8,12 +8,13 @@ use Rattle.meta_model.specs.declared.object.MetaProperty.{MetaProperty}
 use Rattle.meta_model.specs.declared.object.MetaWire.{MetaWire}
 use Rattle.meta_model.specs.declared.site.MetaSite.{MetaSite}
 use Rattle.meta_model.specs.Sites.{paths_in}
+use Rattle.meta_model.specs.Loaded.{Loaded}
 use Rattle.effect_scan.specs.declared.node.Member.TheVariants.{Method, Property, Destruction}
 use Rattle.effect_scan.specs.declared.effect.Effect.{Effect}
 use Rattle.effect_scan.specs.declared.places.Places.{Places}
 use Rattle.effect_scan.specs.Nodes.{node, named, IsAt}
 use Rattle.effect_scan.specs.Effects.{WorkHas}
-use Rattle.effect_scan.specs.code.Adding.{Among}
+use Rattle.effect_scan.specs.code.Adding.{Adds, Among}
 use Rattle.effect_scan.specs.code.Places.{InEach, InBelow, IsReached, IsRead, OfSome}
 
 pub record WireLeads (places : Places) (wire : MetaWire) (a b : ℕ) : Type 0 where
@@ -77,3 +78,11 @@ SitesLead places sites = Among (λ (_ : ℕ). SiteLeads places) sites
 
 abbrev pub ClosuresLead : Places → List (List ℕ) → ℕ → ℕ → Type 0
 ClosuresLead places closures = Among (ClosureLeads places) closures
+
+-- what is added of the declarations that give a node edges of its own
+pub record AddsOwn (p : Loaded) (places : Places) (destroyed before after : List (List ℕ)) : Type 0 where
+  pub first : List (List ℕ)
+  pub second : List (List ℕ)
+  pub works : Adds (WorksLead places p.classes) before first
+  pub notifiers : Adds (NotifiersLead places p.classes) first second
+  pub closures : Adds (ClosuresLead places destroyed) second after

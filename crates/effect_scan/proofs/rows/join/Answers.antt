@@ -3,7 +3,7 @@ use Rattle.std.specs.List.{Contains}
 use Rattle.std.proofs.lemmas.List.Elements.{Contains-get_or}
 use Rattle.effect_scan.proofs.Adding.{adds_to, join_more, join_all}
 use Rattle.effect_scan.proofs.Gathering.{gathers_list}
-use Rattle.effect_scan.proofs.rows.join_each.Goals as goal
+use Rattle.effect_scan.proofs.rows.join.Goals as goal
 
 pub offset_bounds-rows-source : goal.offset_bounds-rows-source
 offset_bounds-rows-source c =
