@@ -1,5 +1,5 @@
 -- One output after another, and what a writer took in the end.
-use Rattle.std.proofs.Common.{ℕ, ◌+◌, ◌<◌, ◌≡◌, List, [], ◌∷◌, ◌++◌, take, length, get_or, Option, Some, None, Result, Ok, Err, IsNone, IsSome, IfNone, OnOk, ◌⊎◌, inl, inr, rules, append_assoc, append-nil, refl, sym, ap, subst, ◌∙◌}
+use Rattle.std.proofs.Common.{ℕ, ◌+◌, ◌<◌, ◌≡◌, List, [], ◌∷◌, ◌++◌, take, length, get_or, Option, Some, None, Result, Ok, Err, IsNone, IsSome, IsTrue, IfNone, OnOk, OnErr, ◌⊎◌, inl, inr, rules, append_assoc, append-nil, refl, sym, ap, subst, ◌∙◌}
 use Rattle.std.specs.List.{flat_map}
 use Rattle.std.proofs.lemmas.List.{take_more}
 use Rattle.std.proofs.lemmas.List.Concat.{flat_map-append}
@@ -7,6 +7,7 @@ use Rattle.std.specs.Io.KnownBytes.{Appends}
 use Rattle.std.proofs.KnownBytes.{Appends-trans, Appends-nil}
 use Rattle.command_lines.specs.declared.output.Output.{Output}
 use Rattle.command_lines.specs.declared.fault.WriteFault.{WriteFault}
+use Rattle.command_lines.specs.declared.watched.Failing.{Failing}
 use Rattle.command_lines.specs.Sent.{Puts, TakesWith, Ends, IsBegun}
 
 -- the rest of what is put in by two steps
@@ -109,6 +110,16 @@ finished {W} {E} {contents} {a} {b} {c} {before} {after} {bytes} {expected} {res
       };
       status = ends.status;
     }
+
+-- .. a fault is answered only where a write failed
+none-flagged : {W : Type 0} (output : Output W (List ℕ)) (fault : Option WriteFault) → fault ≡ None → IsSome fault → IsTrue output.failing.is_set
+none-flagged output None is some = absurd (search (rules, some))
+none-flagged output (Some fault) is some = absurd (cc is)
+
+pub finished_faults : {W E : Type 0} {contents : W → Option (List ℕ)} {a b c : Output W (List ℕ)} {before : W} {bytes : List ℕ} {expected : ℕ} {result : Result ℕ E} {failing : Failing} →
+    IsBegun before a → Puts contents a b bytes → Ends contents b c expected result → failing ≡ c.failing → OnErr result (IsTrue failing.is_set)
+finished_faults {a = a} {result = result} begun puts ends is =
+    subst (λ (f : Failing). OnErr result (IsTrue f.is_set)) (sym is) (ends.faults (puts.flagged (none-flagged a a.fault begun.unfailed)))
 
 -- nothing is written
 pub none_taken : {E : Type 0} (a : Option (List ℕ)) (expected : ℕ) → TakesWith {E = E} a a [] expected (Ok expected)

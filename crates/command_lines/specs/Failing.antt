@@ -12,7 +12,10 @@ abbrev pub HasReadFailed : {E : Type 0} → Result ℕ E → Type 0
 HasReadFailed answer = IsErr answer
 
 -- where there is no input because a read failed, this is so
+abbrev pub OnUnread : InputFault → Type 0 → Type 0
+OnUnread (Unread reason) P = P
+OnUnread Memory P = Unit {0}
+
 abbrev pub IfUnread : {A : Type 0} → Result A InputFault → Type 0 → Type 0
 IfUnread (Ok input) P = Unit {0}
-IfUnread (Err (Unread reason)) P = P
-IfUnread (Err Memory) P = Unit {0}
+IfUnread (Err fault) P = OnUnread fault P

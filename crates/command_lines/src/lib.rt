@@ -21,5 +21,5 @@ pub use fault::WriteFault;
 pub use input::{InputFault, LARGEST_INPUT, read_input};
 pub use output::Output;
 pub use usage::UsageFault;
-pub use watched::Failing;
+pub use watched::{Failing, Failures};
 pub use words::{Command, CommandLine, Options};

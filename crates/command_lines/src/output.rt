@@ -86,6 +86,13 @@ impl<'w, W: Write> Output<'w, W> {
         }
     }
 
+    /// Whether a write failed.
+    pub fn failing(&self) -> Failing
+        ensures { result ≡ self.now.failing }
+    {
+        self.failing
+    }
+
     /// Makes room for these bytes, or else writes all that is pending; where they are too many they are written too.
     #[cold]
     #[inline(never)]

@@ -10,6 +10,7 @@ use std::io::{Read, Write};
 
 /// Whether a read or a write failed: its answer was an error, or a write took none of the bytes that it was given. The two
 /// functions here alone set it, as the reader and the writer answer.
+#[derive(Clone, Copy)]
 pub struct Failing {
     is_set: bool,
 }
@@ -23,9 +24,22 @@ impl Failing {
     }
 }
 
-impl Drop for Failing {
-    fn drop(self) {
-        let Failing { is_set: _ } = self;
+/// Whether a read failed, and whether a write did.
+#[derive(Clone, Copy)]
+pub struct Failures {
+    /// Of the reads.
+    pub reading: Failing,
+    /// Of the writes.
+    pub writing: Failing,
+}
+
+impl Failures {
+    /// None was made yet.
+    pub fn none() -> Failures {
+        Failures {
+            reading: Failing::none(),
+            writing: Failing::none(),
+        }
     }
 }
 

@@ -104,7 +104,7 @@ pub fn prepare_for<N: FittingNatives, M: ObjectMachine<Natives = N>>(
 }
 
 /// How large a program may be, with `--wide` and without it.
-fn limits_of(is_wide: bool) -> Limits
+pub fn limits_of(is_wide: bool) -> Limits
     ensures { result ≡ limits_of is_wide }
 {
     if is_wide {

@@ -8,7 +8,7 @@ mod outcome;
 mod prepared;
 mod runs;
 
-pub use command_line::{Answered, answer, prepare_for};
+pub use command_line::{Answered, answer, limits_of, prepare_for};
 pub use command_lines::{InputFault, LARGEST_INPUT, UsageFault, WriteFault};
 pub use natives::FittingNatives;
 pub use object_machine::ObjectMachine;

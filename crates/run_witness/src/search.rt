@@ -59,12 +59,12 @@ impl From<AllocError> for WitnessFault {
     }
 }
 
-/// A script whose run of this program, unchecked and without natives, ends as the reason warns for which the program has no
-/// certificate: with fault 61, 62 or 63. There is an object of each class, the wires and bindings of the chain that the
-/// reason names are used, and each of its members is begun with; events that aren't needed are left out, as far as a bounded
-/// number of trials finds them.
-pub fn find_witness(alloc: Global, program: &[u8]) -> Result<Sought, WitnessFault> {
-    let meta = match load_program(alloc, Limits::standard(), program) {
+/// A script whose run of this program, which is read by these limits, unchecked and without natives, ends as the reason warns
+/// for which the program has no certificate: with fault 61, 62 or 63. There is an object of each class, the wires and bindings
+/// of the chain that the reason names are used, and each of its members is begun with; events that aren't needed are left out,
+/// as far as a bounded number of trials finds them.
+pub fn find_witness(alloc: Global, limits: Limits, program: &[u8]) -> Result<Sought, WitnessFault> {
+    let meta = match load_program(alloc, limits, program) {
         Ok(meta) => meta,
         Err(refusal) => {
             return Err(match refusal.number() {
@@ -78,16 +78,24 @@ pub fn find_witness(alloc: Global, program: &[u8]) -> Result<Sought, WitnessFaul
         Err(Why::Memory) => Err(WitnessFault::Memory),
         Err(Why::Wire(_) | Why::BodyType(_)) => Ok(Sought::NotFound),
         Err(Why::Cycle(nodes) | Why::DestroyPath(nodes) | Why::TooHigh(nodes)) => {
-            let sought = search(alloc, program, &meta, nodes.as_slice())?;
+            let text = Text { limits, program };
+            let sought = search(alloc, text, &meta, nodes.as_slice())?;
             Ok(sought)
         }
     }
 }
 
+/// A program's text, and how large it may be.
+#[derive(Clone, Copy)]
+struct Text<'t> {
+    limits: Limits,
+    program: &'t [u8],
+}
+
 /// Tries the events for these members, and leaves out those that aren't needed.
 fn search(
     alloc: Global,
-    program: &[u8],
+    text: Text<'_>,
     meta: &Meta,
     nodes: &[Node],
 ) -> Result<Sought, AllocError> {
@@ -98,15 +106,15 @@ fn search(
     let mut choice = Choice::of(alloc, events)?;
     if !ends_so(
         alloc,
-        program,
+        text,
         choice.script(alloc, Part::NONE)?.as_str(),
         STEPS,
     ) {
         return Ok(Sought::NotFound);
     }
-    leave_out(alloc, program, &mut choice)?;
+    leave_out(alloc, text, &mut choice)?;
     let script = choice.script(alloc, Part::NONE)?;
-    if ends_so(alloc, program, script.as_str(), STEPS) {
+    if ends_so(alloc, text, script.as_str(), STEPS) {
         Ok(Sought::Found(script))
     } else {
         Ok(Sought::NotFound)
@@ -117,8 +125,8 @@ fn search(
 const PARTS: [usize; 7] = [4096, 1024, 256, 64, 16, 4, 1];
 
 /// Leaves out what isn't needed, in smaller and smaller parts, each time from the last one on, until the trials are used up.
-fn leave_out(alloc: Global, program: &[u8], choice: &mut Choice) -> Result<(), AllocError> {
-    let mut trials = (TRIED_BYTES / program.len().max(1)).min(MOST_TRIALS);
+fn leave_out(alloc: Global, text: Text<'_>, choice: &mut Choice) -> Result<(), AllocError> {
+    let mut trials = (TRIED_BYTES / text.program.len().max(1)).min(MOST_TRIALS);
     for size in PARTS {
         let count = choice.len().checked_div(size).unwrap_or(0);
         for place in (0..=count).rev() {
@@ -131,7 +139,7 @@ fn leave_out(alloc: Global, program: &[u8], choice: &mut Choice) -> Result<(), A
             if choice.has_some(part) {
                 trials = trials.saturating_sub(1);
                 let script = choice.script(alloc, part)?;
-                if ends_so(alloc, program, script.as_str(), TRIAL_STEPS) {
+                if ends_so(alloc, text, script.as_str(), TRIAL_STEPS) {
                     choice.leave_out(part);
                 }
             }
@@ -141,11 +149,19 @@ fn leave_out(alloc: Global, program: &[u8], choice: &mut Choice) -> Result<(), A
 }
 
 /// Whether the run of the script, by so many rules at most (1 to 2^63 - 1), ends with fault 61, 62 or 63.
-fn ends_so(alloc: Global, program: &[u8], script: &str, steps: u64) -> bool
+fn ends_so(alloc: Global, text: Text<'_>, script: &str, steps: u64) -> bool
     requires steps { (1 ≤ steps) × (steps < 2 ^ 63) }
 {
     let natives = Natives::of(Vec::new(alloc));
-    let outcome = unchecked_run_outcome(alloc, program, script.as_bytes(), natives, DEPTH, steps);
+    let outcome = unchecked_run_outcome(
+        alloc,
+        text.limits,
+        text.program,
+        script.as_bytes(),
+        natives,
+        DEPTH,
+        steps,
+    );
     match &outcome {
         Outcome::Ran(ran) => matches!(
             ran.ended,

@@ -107,11 +107,13 @@ pub fn run<W: Write>(
     written(prepared.carry_out(alloc, w))
 }
 
-/// What `run --unchecked` comes to: the run of a program, which need not be checked, on a script, or why there is none.
+/// What `run --unchecked` comes to: the run of a program, which is read by these limits and need not be checked, on a script, or
+/// why there is none.
 ///
 /// At most `depth` activations nest (1 to 256), and at most `steps` rules are used (1 to 2^63 - 1).
 pub fn unchecked_run_outcome(
     alloc: Global,
+    limits: Limits,
     program: &[u8],
     script: &[u8],
     natives: Natives,
@@ -121,18 +123,11 @@ pub fn unchecked_run_outcome(
     requires depth { (1 ≤ depth) × (depth ≤ most_depth) }
     requires steps { (1 ≤ steps) × (steps < 2 ^ 63) }
     ensures { let heads = map (λ slot. slot.head) natives.slots.items in
-        UncheckedRunComesTo standard ⟦<Natives as Answering>⟧.gives heads natives program.now script.now depth steps result }
+        UncheckedRunComesTo limits ⟦<Natives as Answering>⟧.gives heads natives program.now script.now depth steps result }
 {
     prepare_unchecked_run::<Natives, Machine<Natives>>(
-        alloc,
-        Limits::standard(),
-        program,
-        script,
-        natives,
-        depth,
-        steps,
-    )
-    .outcome()
+        alloc, limits, program, script, natives, depth, steps,
+    ).outcome()
 }
 
 /// Runs a program, which need not be checked, on a script, and writes the trace, or why there is none.

@@ -23,13 +23,13 @@ returns-in-Ok-clause-answers g c =
     carried-as (λ end comes. record { input = Ok c.as_slice.result.now; reads = reads; comes = comes }) (carried-of c.prepare_for.ensures c.carry_out-carried.ensures)
 
 -- .. or it can't be
-pub returns-clause-answers : goal.returns-clause-answers
-returns-clause-answers g c =
+pub returns-in-Err-clause-answers : goal.returns-in-Err-clause-answers
+returns-in-Err-clause-answers g c =
     carried-as (λ end comes. record { input = Err c.in-Err.fault; reads = tt; comes = comes }) (carried-of c.prepare_for-in-Err.ensures c.carry_out-in-Err.ensures)
 
 -- the words are a command line
 pub returns-in-Ok-clause-unread : goal.returns-in-Ok-clause-unread
 returns-in-Ok-clause-unread g c = λ none. absurd (none c.in-Some.field-0 c.in-Some.ensures.said)
 
-pub returns-clause-unread : goal.returns-clause-unread
-returns-clause-unread g c = λ none. absurd (none c.in-Some.field-0 c.in-Some.ensures.said)
+pub returns-in-Err-clause-unread : goal.returns-in-Err-clause-unread
+returns-in-Err-clause-unread g c = λ none. absurd (none c.in-Some.field-0 c.in-Some.ensures.said)

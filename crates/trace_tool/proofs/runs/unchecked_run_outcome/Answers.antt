@@ -5,4 +5,4 @@ pub outcome-requires : goal.outcome-requires
 outcome-requires g c = c.prepare_unchecked_run.ensures.may
 
 pub returns : goal.returns
-returns g c = comes-itself (rw c.standard.ensures at c.prepare_unchecked_run.ensures) c.outcome.ensures
+returns g c = comes-itself c.prepare_unchecked_run.ensures c.outcome.ensures
