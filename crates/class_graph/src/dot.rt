@@ -2,6 +2,7 @@
 
 use crate::drawing::{Drawing, DrawnEdge, DrawnNode, Verdict};
 use crate::label::{cause_text, class_text, kind_word, member_text};
+use crate::origin::push_tip;
 use std::alloc::{AllocError, Global};
 
 /// The graph, a box for each class: the way to the reason why there is no certificate is red, and queued wires are dashed.
@@ -87,6 +88,11 @@ fn push_node(
     if drawn.is_marked {
         text.push_str(", color=red")?;
     }
+    if let Some(origins) = &drawing.origins
+        && let Some(place) = origins.node(drawn.node)
+    {
+        push_tip(text, place)?;
+    }
     text.push_str("];\n")
 }
 
@@ -106,6 +112,11 @@ fn push_edge(
     }
     if drawn.is_marked {
         text.push_str(", color=red, fontcolor=red, penwidth=2")?;
+    }
+    if let Some(origins) = &drawing.origins
+        && let Some(place) = origins.edge(drawing, edge)
+    {
+        push_tip(text, place)?;
     }
     text.push_str("];\n")
 }

@@ -3,6 +3,7 @@
 use crate::edge::{Cause, Edge, Edges, MOST_EDGES};
 use crate::family::Family;
 use crate::fault::PartFault;
+use crate::origin::Origins;
 use crate::part::{Part, drawn, is_marked};
 use effect_scan::{Member, Node, Scan};
 use meta_model::Meta;
@@ -49,6 +50,8 @@ pub struct Drawing<'m> {
     pub nodes: Vec<DrawnNode>,
     /// Those between the nodes, in the order of the nodes that they lead from.
     pub edges: Vec<DrawnEdge>,
+    /// What the members and the edges stand for in another text, where that is told.
+    pub origins: Option<Origins<'m>>,
 }
 
 /// What a maker of certificates finds of a program.
@@ -63,7 +66,12 @@ struct Finding {
 
 impl<'m> Drawing<'m> {
     /// What is drawn of a program that loads.
-    pub fn of(alloc: Global, meta: &'m Meta, part: Part<'_>) -> Result<Drawing<'m>, PartFault> {
+    pub fn of(
+        alloc: Global,
+        meta: &'m Meta,
+        part: Part<'_>,
+        origins: Option<Origins<'m>>,
+    ) -> Result<Drawing<'m>, PartFault> {
         let scan = Scan::of(alloc, meta)?;
         let Some(edges) = Edges::of(alloc, meta, &scan)? else {
             return Err(PartFault::TooLarge);
@@ -75,6 +83,7 @@ impl<'m> Drawing<'m> {
             verdict: finding.verdict,
             nodes: Vec::new(alloc),
             edges: Vec::new(alloc),
+            origins,
         };
         drawing.push_nodes(&scan, &finding, is_drawn.as_slice())?;
         let Some(posted) = posted(alloc, meta, &scan, &edges, is_drawn.as_slice())? else {
@@ -85,6 +94,16 @@ impl<'m> Drawing<'m> {
             drawing.push_edges(&scan, queued.as_slice(), &finding, is_drawn.as_slice())?;
         }
         Ok(drawing)
+    }
+
+    /// The node of this number, if it is drawn.
+    pub fn node_of(&self, number: usize) -> Option<Node> {
+        let nodes = self.nodes.as_slice();
+        // They stand in the order of their numbers.
+        let place = nodes
+            .binary_search_by_key(&number, |drawn: &DrawnNode| drawn.number)
+            .ok()?;
+        Some(nodes.get(place)?.node)
     }
 
     /// Adds the nodes that are drawn.

@@ -2,6 +2,7 @@
 
 use crate::drawing::{Drawing, DrawnEdge, DrawnNode, Verdict};
 use crate::label::{cause_text, class_text, kind_word, member_text};
+use crate::origin::push_members;
 use std::alloc::{AllocError, Global};
 
 /// One object with the verdict, the nodes and the edges, a line for each of them. Names and types have no byte that a text
@@ -52,6 +53,11 @@ fn push_node(
     if let Some(rank) = drawn.rank {
         write!(text, ", \"rank\": {rank}")?;
     }
+    if let Some(origins) = &drawing.origins
+        && let Some(place) = origins.node(drawn.node)
+    {
+        push_members(text, place)?;
+    }
     push_mark(text, drawn.is_marked)
 }
 
@@ -73,6 +79,11 @@ fn push_edge(
     )?;
     if edge.is_queued() {
         text.push_str(", \"queued\": true")?;
+    }
+    if let Some(origins) = &drawing.origins
+        && let Some(place) = origins.edge(drawing, edge)
+    {
+        push_members(text, place)?;
     }
     push_mark(text, drawn.is_marked)
 }

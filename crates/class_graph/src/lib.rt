@@ -2,8 +2,6 @@
 #![tactic(auto)]
 
 ghost use Rattle.std.specs.Prelude.{IfOk, IfErr};
-ghost use Rattle.class_lang.specs.Limits.{standard};
-ghost use Rattle.program_commands.specs.Loading.{LoadsProgram};
 ghost use Rattle.class_graph.specs.Graphs.{Loads, Lacks};
 
 mod dot;
@@ -13,18 +11,24 @@ mod family;
 mod fault;
 mod json;
 mod label;
+mod origin;
 mod part;
 
 use crate::dot::dot_text;
 use crate::drawing::Drawing;
 use crate::fault::{PartFault, refused};
 use crate::json::json_text;
-use class_lang::Limits;
+use crate::origin::Origins;
+use class_lang::{Limits, Program};
 pub use fault::GraphFault;
+use findings::Levels;
 use meta_model::Meta;
 pub use part::Part;
-use program_commands::{Refusal, load_program};
+use program_commands::load_program;
+use program_flaws::{Source, declarations_of};
 use std::alloc::Global;
+use text_places::TextPlaces;
+use verdicts::{Located, Places};
 
 /// How a graph is written.
 #[derive(Clone, Copy, Debug, PartialEq, Eq)]
@@ -35,38 +39,87 @@ pub enum Form {
     Json,
 }
 
-/// The graph of a program's text, of which a part is drawn. The text has whole lines. Errors: the text is refused, or the
-/// program that it has (`Refused`); the part names a class or a member that isn't there (`Unknown`); the program has more edges
-/// than are drawn (`TooLarge`); `Memory`.
+/// The graph of a program's text, which is read by these limits, of which a part is drawn. The text has whole lines. Where places
+/// of the program in another text are given, each member and edge that stands there is told with its place. Errors: the text is
+/// refused, or the program that it has (`Refused`); the part names a class or a member that isn't there (`Unknown`); the program
+/// has more edges than are drawn (`TooLarge`); `Memory`.
 pub fn class_graph(
     alloc: Global,
+    limits: Limits,
     program: &[u8],
     part: Part<'_>,
     form: Form,
+    places: Option<&TextPlaces<'_>>,
 ) -> Result<String, GraphFault>
-    ensures drawn { IfOk result (λ text. Loads program.now) }
-    ensures lacks { IfErr result (Lacks program.now) }
+    ensures drawn { IfOk result (λ text. Loads limits program.now) }
+    ensures lacks { IfErr result (Lacks limits program.now) }
 {
-    let meta = match load(alloc, program) {
+    let meta = match load_program(alloc, limits, program) {
         Ok(meta) => meta,
         Err(refusal) => return Err(refused(&refusal)),
     };
-    let drawing = match Drawing::of(alloc, &meta, part) {
-        Ok(drawing) => drawing,
-        Err(PartFault::Unknown) => return Err(GraphFault::Unknown),
-        Err(PartFault::TooLarge) => return Err(GraphFault::TooLarge),
-        Err(PartFault::Memory) => return Err(GraphFault::Memory),
+    let drawn = match places {
+        Some(places) => placed_text(alloc, program, &meta, part, form, places),
+        None => drawn_text(alloc, &meta, part, form, None),
     };
+    match drawn {
+        Ok(text) => Ok(text),
+        Err(PartFault::Unknown) => Err(GraphFault::Unknown),
+        Err(PartFault::TooLarge) => Err(GraphFault::TooLarge),
+        Err(PartFault::Memory) => Err(GraphFault::Memory),
+    }
+}
+
+/// The graph of the program that this text is, told with its places in another text.
+fn placed_text(
+    alloc: Global,
+    program: &[u8],
+    meta: &Meta,
+    part: Part<'_>,
+    form: Form,
+    places: &TextPlaces<'_>,
+) -> Result<String, PartFault> {
+    let Some(tree) = declarations_of(alloc, program)? else {
+        return drawn_text(alloc, meta, part, form, None);
+    };
+    let found = Places::of(alloc, program)?;
+    told_text(alloc, &tree, &found, meta, part, form, places)
+}
+
+/// The graph of a program that loads, of whose declarations these are the places, and these those in another text.
+fn told_text<'x>(
+    alloc: Global,
+    program: &'x Program,
+    found: &'x Places,
+    meta: &'x Meta,
+    part: Part<'_>,
+    form: Form,
+    places: &'x TextPlaces<'x>,
+) -> Result<String, PartFault> {
+    let located = Located {
+        source: Source {
+            alloc,
+            program,
+            meta,
+        },
+        places: found,
+        levels: Levels { changes: &[] },
+    };
+    drawn_text(alloc, meta, part, form, Some(Origins { located, places }))
+}
+
+/// The graph of a program that loads.
+fn drawn_text(
+    alloc: Global,
+    meta: &Meta,
+    part: Part<'_>,
+    form: Form,
+    origins: Option<Origins<'_>>,
+) -> Result<String, PartFault> {
+    let drawing = Drawing::of(alloc, meta, part, origins)?;
     let text = match form {
         Form::Dot => dot_text(alloc, &drawing)?,
         Form::Json => json_text(alloc, &drawing)?,
     };
     Ok(text)
-}
-
-/// Reads a program by the standard limits, and loads it.
-fn load(alloc: Global, program: &[u8]) -> Result<Meta, Refusal>
-    ensures { LoadsProgram standard program.now result }
-{
-    load_program(alloc, Limits::standard(), program)
 }

@@ -1,4 +1,4 @@
-//! The edges of a program, along them and against them, and ways along them.
+//! Edges between numbered nodes, along them and against them, and ways along them.
 
 use crate::hops::{Hop, Hops};
 use crate::knotting::finished;
@@ -6,42 +6,63 @@ use crate::marking::{is_marked, marks, set_mark};
 use effect_scan::Scan;
 use std::alloc::{AllocError, Global};
 
-/// The edges of a program between the numbers of its nodes.
+/// Edges between nodes that are numbers from 0.
 #[derive(Drop)]
-pub struct Graph<'s> {
+pub struct Graph {
     /// What memory is taken from.
     pub alloc: Global,
-    scan: &'s Scan,
-    /// For each node, by number, those that lead to it.
+    /// For each node those that it leads to.
+    after: Vec<Vec<usize>>,
+    /// For each node those that lead to it.
     before: Vec<Vec<usize>>,
     edges: usize,
 }
 
-impl<'s> Graph<'s> {
-    /// The edges of the scan.
-    pub fn of(alloc: Global, scan: &'s Scan) -> Result<Graph<'s>, AllocError> {
-        let mut before = Vec::new(alloc);
-        for _ in scan.nodes() {
-            before.push(Vec::new(alloc))?;
+impl Graph {
+    /// So many nodes without edges.
+    pub fn without_edges(alloc: Global, count: usize) -> Result<Graph, AllocError> {
+        let mut graph = Graph {
+            alloc,
+            after: Vec::new(alloc),
+            before: Vec::new(alloc),
+            edges: 0,
+        };
+        for _ in 0..count {
+            graph.add_node()?;
         }
-        let mut edges = 0usize;
-        for from in 0..scan.nodes().len() {
+        Ok(graph)
+    }
+
+    /// The edges of the scan, between the numbers of its nodes.
+    pub fn of(alloc: Global, scan: &Scan) -> Result<Graph, AllocError> {
+        let count = scan.nodes().len();
+        let mut graph = Graph::without_edges(alloc, count)?;
+        for from in 0..count {
             for to in scan.targets(from) {
-                edges = edges.saturating_add(1);
-                push_at(&mut before, *to, from)?;
+                graph.join(from, *to)?;
             }
         }
-        Ok(Graph {
-            alloc,
-            scan,
-            before,
-            edges,
-        })
+        Ok(graph)
+    }
+
+    /// Adds a node without edges, and answers its number.
+    pub fn add_node(&mut self) -> Result<usize, AllocError> {
+        let number = self.after.len();
+        self.after.push(Vec::new(self.alloc))?;
+        self.before.push(Vec::new(self.alloc))?;
+        Ok(number)
+    }
+
+    /// Adds an edge from the one node to the other.
+    pub fn join(&mut self, from: usize, to: usize) -> Result<(), AllocError> {
+        self.edges = self.edges.saturating_add(1);
+        push_at(&mut self.after, from, to)?;
+        push_at(&mut self.before, to, from)
     }
 
     /// How many nodes there are.
     pub fn len(&self) -> usize {
-        self.scan.nodes().len()
+        self.after.len()
     }
 
     /// How many edges there are.
@@ -51,15 +72,12 @@ impl<'s> Graph<'s> {
 
     /// The nodes that this one leads to.
     pub fn after(&self, node: usize) -> &[usize] {
-        self.scan.targets(node)
+        list_at(self.after.as_slice(), node)
     }
 
     /// The nodes that lead to this one.
     pub fn before(&self, node: usize) -> &[usize] {
-        match self.before.get(node) {
-            Some(found) => found.as_slice(),
-            None => &[],
-        }
+        list_at(self.before.as_slice(), node)
     }
 
     /// For each node that leads to one of the targets, through nodes that aren't marked alone, a shortest way there.
@@ -92,19 +110,38 @@ impl<'s> Graph<'s> {
         Ok(hops)
     }
 
-    /// A shortest cycle through the first node of a knot: it is at both ends.
-    pub fn cycle_in(&self, knot: &[usize]) -> Result<Vec<usize>, AllocError> {
-        let mut nodes = Vec::new(self.alloc);
-        let Some(first) = knot.first().copied() else {
-            return Ok(nodes);
-        };
+    /// A shortest cycle through these nodes alone that begins with the edge from the one node to the other: the first node is at
+    /// both ends. Only this node where none of them leads back to it.
+    pub fn cycle_by(
+        &self,
+        from: usize,
+        to: usize,
+        nodes: &[usize],
+    ) -> Result<Vec<usize>, AllocError> {
         let mut outside = marks(self.alloc, self.len(), true)?;
-        for node in knot {
+        for node in nodes {
             set_mark(&mut outside, *node, false);
         }
-        let hops = self.ways_to(&[first], outside.as_slice())?;
+        let hops = self.ways_to(&[from], outside.as_slice())?;
+        let mut cycle = Vec::new(self.alloc);
+        cycle.push(from)?;
+        if let Some(hop) = hops.at(to) {
+            let mut rest = hops.way(self.alloc, to, hop.left)?;
+            cycle.append(&mut rest)?;
+        }
+        Ok(cycle)
+    }
+
+    /// A shortest cycle through this node and others of these alone: it is at both ends. Only this node where none of them leads
+    /// back to it.
+    pub fn cycle_through(&self, node: usize, nodes: &[usize]) -> Result<Vec<usize>, AllocError> {
+        let mut outside = marks(self.alloc, self.len(), true)?;
+        for inner in nodes {
+            set_mark(&mut outside, *inner, false);
+        }
+        let hops = self.ways_to(&[node], outside.as_slice())?;
         let mut second: Option<(usize, usize)> = None;
-        for target in self.after(first) {
+        for target in self.after(node) {
             if let Some(hop) = hops.at(*target) {
                 match second {
                     Some((left, _)) if left <= hop.left => {}
@@ -112,12 +149,13 @@ impl<'s> Graph<'s> {
                 }
             }
         }
-        nodes.push(first)?;
+        let mut cycle = Vec::new(self.alloc);
+        cycle.push(node)?;
         if let Some((left, target)) = second {
             let mut rest = hops.way(self.alloc, target, left)?;
-            nodes.append(&mut rest)?;
+            cycle.append(&mut rest)?;
         }
-        Ok(nodes)
+        Ok(cycle)
     }
 
     /// A chain of so many edges through nodes that aren't marked, where there is one; the marked ones are those of the knots.
@@ -164,6 +202,14 @@ impl<'s> Graph<'s> {
             }
         }
         longest
+    }
+}
+
+/// The list at this place.
+fn list_at(lists: &[Vec<usize>], place: usize) -> &[usize] {
+    match lists.get(place) {
+        Some(found) => found.as_slice(),
+        None => &[],
     }
 }
 

@@ -1,4 +1,4 @@
-//! Walks along the edges of a program: knots of nodes that all lead to one another, shortest ways, and long chains. Unlike
+//! Walks along edges, as those of a program: knots of nodes that all lead to one another, shortest ways, and long chains. Unlike
 //! `rank_graph` it goes on where there are cycles.
 #![tactic(auto)]
 
@@ -9,5 +9,5 @@ mod marking;
 
 pub use graph::Graph;
 pub use hops::{Hop, Hops};
-pub use knotting::knots;
+pub use knotting::{knots, knots_of_nodes};
 pub use marking::{is_marked, marks, set_mark};

@@ -1,7 +1,9 @@
 //! What is said to a person of what a command line comes to.
 
+use class_lang::Limits;
+use command_lines::CommandLine;
 use explanations::{push_fault, push_outcome, push_usage};
-use machine_commands::Outcome;
+use machine_commands::{Outcome, limits_of};
 use std::alloc::{AllocError, Global};
 
 /// Explains what the words come to on this input, or where it isn't known, without a place. `None` where there is nothing to
@@ -15,7 +17,9 @@ pub fn explanation<M: Drop>(
     let mut text = String::new(alloc);
     match outcome {
         Outcome::Usage(fault) => push_usage(&mut text, alloc, words, input, *fault)?,
-        Outcome::Program(outcome) => push_outcome(&mut text, alloc, input, outcome)?,
+        Outcome::Program(outcome) => {
+            push_outcome(&mut text, alloc, limits_for(words), input, outcome)?;
+        }
         Outcome::Ran(ran) => {
             if let Err(fault) = ran.ended {
                 push_fault(&mut text, fault)?;
@@ -27,5 +31,13 @@ pub fn explanation<M: Drop>(
         Ok(None)
     } else {
         Ok(Some(text))
+    }
+}
+
+/// How large a program may be where these are the words.
+fn limits_for(words: &[&str]) -> Limits {
+    match CommandLine::of(words) {
+        Some(line) => limits_of(line.is_wide),
+        None => Limits::standard(),
     }
 }

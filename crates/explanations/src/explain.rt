@@ -1,5 +1,6 @@
 //! Explanations: what an answer of the program means, and where in the input its reason lies.
 
+use class_lang::Limits;
 use declaration_flaws::{declaration_flaw, native_flaw};
 use diagnostics::{Flaw, Severity, Span, TextKind, meaning, push_flaw, text_spans};
 use meta_model::Meta;
@@ -11,18 +12,19 @@ use std::alloc::{AllocError, Global};
 use text_flaws::{certificate_flaw, program_flaw, script_flaw, script_size_flaw, wire_flaw};
 use trace_entries::Fault;
 
-/// Adds what a command that runs nothing comes to on this input, or why a program doesn't run, for a person: what it means, in
-/// one sentence; and where the input is at fault, what is wrong there, its line and column in the input and in its text,
+/// Adds what a command that runs nothing, and reads a program by these limits, comes to on this input, or why a program doesn't
+/// run, for a person: what it means, in one sentence; and where the input is at fault, what is wrong there, its line and column in the input and in its text,
 /// that line with a caret below the place, and what to write instead, where that is known. Where the input isn't known no
 /// place is reported. Nothing is added where the command did what it was asked, or memory was wanting.
 pub fn push_outcome(
     text: &mut String,
     alloc: Global,
+    limits: Limits,
     input: Option<&[u8]>,
     outcome: &Outcome,
 ) -> Result<(), AllocError> {
     match outcome {
-        Outcome::Refused(refusal) => push_refusal(text, alloc, input, refusal),
+        Outcome::Refused(refusal) => push_refusal(text, alloc, limits, input, refusal),
         Outcome::Uncertified(meta, why) => push_missing(text, alloc, input, meta, why),
         _ => Ok(()),
     }
@@ -39,6 +41,7 @@ pub fn push_fault(text: &mut String, fault: Fault) -> Result<(), AllocError> {
 fn push_refusal(
     text: &mut String,
     alloc: Global,
+    limits: Limits,
     input: Option<&[u8]>,
     refusal: &Refusal,
 ) -> Result<(), AllocError> {
@@ -54,18 +57,18 @@ fn push_refusal(
         };
     }
     if let Some(input) = input {
-        push_place_of(text, alloc, input, refusal, number)?;
+        push_place_of(text, alloc, limits, input, refusal)?;
     }
     writeln!(text, "refused {number}: {about}")
 }
 
-/// Adds where the input is at fault that is refused under this number, if that is at one place.
+/// Adds where the input is at fault that is refused, if that is at one place.
 fn push_place_of(
     text: &mut String,
     alloc: Global,
+    limits: Limits,
     input: &[u8],
     refusal: &Refusal,
-    number: u8,
 ) -> Result<(), AllocError> {
     let kind = text_at_fault(refusal);
     let spans = text_spans(alloc, input)?;
@@ -73,7 +76,7 @@ fn push_place_of(
         return Ok(());
     };
     let source = source_of(input, span);
-    match flaw_of(alloc, source, refusal, number)? {
+    match flaw_of(alloc, limits, source, refusal)? {
         Some(flaw) => push_flaw(text, Severity::Error, input, span, kind, &flaw),
         None => Ok(()),
     }
@@ -91,12 +94,15 @@ fn text_at_fault(refusal: &Refusal) -> TextKind {
 /// What is wrong with that text.
 fn flaw_of(
     alloc: Global,
+    limits: Limits,
     source: &[u8],
     refusal: &Refusal,
-    number: u8,
 ) -> Result<Option<Flaw>, AllocError> {
+    let Some(number) = refusal.number() else {
+        return Ok(None);
+    };
     match refusal {
-        Refusal::Text(_) => program_flaw(alloc, source, number),
+        Refusal::Text(_) => program_flaw(alloc, limits, source, number),
         Refusal::Loading(_) => declaration_flaw(alloc, source, number),
         Refusal::Natives(misfit) => native_flaw(alloc, source, *misfit),
         Refusal::Certificate(_) => certificate_flaw(alloc, source),

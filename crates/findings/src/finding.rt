@@ -28,6 +28,16 @@ pub struct Finding {
     pub chain: Vec<Step>,
 }
 
+impl Finding {
+    /// The step that the finding is about, if it has steps: of one on deletions the last one, which deletes, else the first.
+    pub fn edge(&self) -> Option<&Step> {
+        match self.rule {
+            Rule::DestroyPath | Rule::SenderDeleted | Rule::DeletesConnected => self.chain.last(),
+            _ => self.chain.first(),
+        }
+    }
+}
+
 /// What leads from one member to the next.
 #[derive(Clone, Copy, Debug, PartialEq, Eq)]
 pub enum Link {
@@ -80,6 +90,8 @@ pub struct Step {
     pub to: String,
     /// By what.
     pub link: Link,
+    /// Whether it comes later, when an event loop turns.
+    pub is_posted: bool,
     /// The same in a sentence.
     pub message: String,
     /// Where in the program it is by which it does; `None` for what is in no line.

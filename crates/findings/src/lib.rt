@@ -1,15 +1,21 @@
-//! Findings as values: rules, messages, places, and the steps that lead to them; and lists of cycles that are accepted.
+//! Findings as values: rules with their severities, messages, places, and the steps that lead to them; and lists of edges that
+//! are accepted.
 #![tactic(auto)]
 
-mod cycle_index;
-mod cycle_set;
+mod edge;
+mod edge_index;
 mod finding;
+mod levels;
 mod rule;
+mod severity;
+mod table;
 mod verdict;
 
-pub use cycle_index::CycleIndex;
-pub use cycle_set::{CycleSet, ListFault, cycle_list, read_cycles};
 pub use diagnostics::TextPlace;
+pub use edge::{Edge, ListFault, PlacedEdge, edge_list, read_edges};
+pub use edge_index::EdgeIndex;
 pub use finding::{Finding, Link, Step, TextKind};
+pub use levels::{LevelChange, LevelFault, Levels, change_levels};
 pub use rule::Rule;
+pub use severity::Severity;
 pub use verdict::Verdict;

@@ -1,29 +1,42 @@
 //! What is found of a program and its certificate.
 
-ghost use Rattle.std.specs.Prelude.{◌≡◌, ◌<◌, ◌+◌, ◌-◌, ◌^◌, ◌↔◌, ◌++◌, ◌∷◌, [], IsTrue, IsFalse, OnOk, length};
+ghost use Rattle.std.specs.Prelude.{◌≡◌, ◌≢◌, ◌<◌, ◌+◌, ◌-◌, ◌^◌, ◌↔◌, ◌++◌, ◌∷◌, [], Some, None, IfSome, OnOk, length};
+ghost use Rattle.findings.specs.declared.severity.Severity.{Severity};
+ghost use Rattle.findings.specs.declared.severity.Severity.TheVariants.{Error};
+ghost use Rattle.findings.specs.Listed.{findings_of};
 
-use crate::cycle_set::CycleSet;
+use crate::edge::PlacedEdge;
 use crate::finding::Finding;
+use crate::severity::Severity;
 use std::alloc::{AllocError, Global};
 
-/// So many findings are reported.
+/// So many findings of one severity are reported.
 const MOST_TOLD: usize = 100;
 
 /// What is found of a program and its certificate.
 #[derive(Drop)]
 pub struct Verdict {
-    /// What is wrong: the first hundred.
-    pub findings: Vec<Finding>,
-    /// How many more there are.
-    pub more: usize,
-    /// The cycles that are there, whether they are accepted or not.
-    pub cycles: Vec<CycleSet>,
+    /// The errors: the first hundred.
+    pub errors: Vec<Finding>,
+    /// The warnings: the first hundred.
+    pub warnings: Vec<Finding>,
+    /// The notes: the first hundred.
+    pub notes: Vec<Finding>,
+    /// How many more errors there are.
+    pub more_errors: usize,
+    /// How many more warnings and notes there are.
+    pub more_others: usize,
+    /// The edges on which there are cycles and that can be accepted, whether they are or not.
+    pub edges: Vec<PlacedEdge>,
     /// How many of these are accepted.
     pub accepted: usize,
-    /// Those of the list of accepted cycles that aren't there, by their places; none where the program doesn't load.
+    /// How many edges are on loops of bindings, which can't be accepted.
+    pub bound: usize,
+    /// The edges that warnings and notes are about.
+    pub remarked: Vec<PlacedEdge>,
+    /// Those of the list of accepted edges that aren't there, by their places; none where the program doesn't load.
     pub absent: Vec<usize>,
-    /// The exit status: 0 where nothing is found, 3 where the program has no certificate or the given one isn't valid, 2
-    /// where a text is refused.
+    /// The exit status: 0 where no error is found, 3 where one is, 2 where a text is refused.
     pub status: u8,
 }
 
@@ -32,45 +45,96 @@ impl Verdict {
     pub fn new(alloc: Global, status: u8) -> Verdict
         ensures status { result.status ≡ status }
         ensures accepted { result.accepted ≡ 0 }
-        ensures findings { result.findings.items ≡ [] }
+        ensures edges { result.edges.items ≡ [] }
+        ensures errors { result.errors.items ≡ [] }
+        ensures more_errors { result.more_errors ≡ 0 }
     {
         Verdict {
-            findings: Vec::new(alloc),
-            more: 0,
-            cycles: Vec::new(alloc),
+            errors: Vec::new(alloc),
+            warnings: Vec::new(alloc),
+            notes: Vec::new(alloc),
+            more_errors: 0,
+            more_others: 0,
+            edges: Vec::new(alloc),
             accepted: 0,
+            bound: 0,
+            remarked: Vec::new(alloc),
             absent: Vec::new(alloc),
             status,
         }
     }
 
-    /// Whether one more finding is reported; where it isn't, it is counted.
-    pub fn takes_one(&mut self) -> bool
-        ensures told { IsTrue result ↔ (length self.old.findings.items < 100) }
-        ensures counted { IsFalse result → self.old.more < 2 ^ 64 - 1 → self.new.more ≡ self.old.more + 1 }
-        ensures uncounted { IsTrue result → self.new.more ≡ self.old.more }
-        ensures findings { self.new.findings ≡ self.old.findings }
+    /// The severity of one more finding that is as grave as this, or off, if it is reported: where it isn't, but isn't off, it
+    /// is counted.
+    pub fn taken(&mut self, asked: Option<Severity>) -> Option<Severity>
+        ensures same { IfSome result (λ severity. asked ≡ Some severity) }
+        ensures told { (severity : Severity) → asked ≡ Some severity →
+            (result ≡ asked ↔ (length (findings_of severity self.old) < 100)) }
+        ensures counted { asked ≡ Some Error → result ≡ None → self.old.more_errors < 2 ^ 64 - 1 →
+            self.new.more_errors ≡ self.old.more_errors + 1 }
+        ensures uncounted { asked ≢ Some Error → self.new.more_errors ≡ self.old.more_errors }
+        ensures errors { self.new.errors ≡ self.old.errors }
         ensures status { self.new.status ≡ self.old.status }
     {
-        let is_taken = self.findings.len() < MOST_TOLD;
-        if !is_taken {
-            self.more = self.more.saturating_add(1);
+        let Some(severity) = asked else {
+            return None;
+        };
+        if self.findings_of(severity).len() < MOST_TOLD {
+            return Some(severity);
         }
-        is_taken
+        match severity {
+            Severity::Error => {
+                self.more_errors = self.more_errors.saturating_add(1);
+                None
+            }
+            Severity::Warning | Severity::Note => {
+                self.more_others = self.more_others.saturating_add(1);
+                None
+            }
+        }
     }
 
     /// Adds a finding that is reported.
-    pub fn push(&mut self, finding: Finding) -> Result<(), AllocError>
-        ensures findings { OnOk result (self.new.findings.items ≡ self.old.findings.items ++ finding ∷ []) }
-        ensures more { self.new.more ≡ self.old.more }
+    pub fn push(&mut self, severity: Severity, finding: Finding) -> Result<(), AllocError>
+        ensures added { OnOk result (findings_of severity self.new ≡ findings_of severity self.old ++ finding ∷ []) }
+        ensures errors { severity ≢ Error → self.new.errors ≡ self.old.errors }
+        ensures more_errors { self.new.more_errors ≡ self.old.more_errors }
         ensures status { self.new.status ≡ self.old.status }
     {
-        self.findings.push(finding)?;
-        Ok(())
+        match severity {
+            Severity::Error => {
+                self.errors.push(finding)?;
+                Ok(())
+            }
+            Severity::Warning => {
+                self.warnings.push(finding)?;
+                Ok(())
+            }
+            Severity::Note => {
+                self.notes.push(finding)?;
+                Ok(())
+            }
+        }
     }
 
-    /// How many findings there are.
-    pub fn count(&self) -> usize {
-        self.findings.len().saturating_add(self.more)
+    /// Those findings of this severity that are reported.
+    pub fn findings_of(&self, severity: Severity) -> &[Finding]
+        ensures { result.now ≡ findings_of severity self.now }
+    {
+        match severity {
+            Severity::Error => self.errors.as_slice(),
+            Severity::Warning => self.warnings.as_slice(),
+            Severity::Note => self.notes.as_slice(),
+        }
+    }
+
+    /// How many errors there are.
+    pub fn error_count(&self) -> usize {
+        self.errors.len().saturating_add(self.more_errors)
+    }
+
+    /// How many more findings there are than are reported.
+    pub fn more(&self) -> usize {
+        self.more_errors.saturating_add(self.more_others)
     }
 }

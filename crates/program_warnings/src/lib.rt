@@ -15,6 +15,8 @@ mod spot;
 mod telling;
 mod warning;
 
+pub use bodies::OwnSlot;
 pub use ranked::Ranked;
 pub use remarks::{Yes, told_beside, warnings};
+pub use telling::warning_text;
 pub use warning::Warning;

@@ -49,100 +49,99 @@ impl Subject<'_> {
             write!(told, "{line}:{column}:")?;
         }
         told.push_str(" warning: ")?;
-        match warning {
-            Warning::Empty => told.push_str("this program declares nothing")?,
-            Warning::IdleWire { other, .. } => self.push_idle_wire(told, *other)?,
-            Warning::Unwired { wanted, .. } => self.push_unwired(told, wanted)?,
-            Warning::NotifiedTwice {
-                class,
-                method,
-                property,
-                ..
-            } => self.push_notified_twice(told, *class, *method, *property)?,
-            Warning::LostSender { class, signal } => {
-                self.push_lost_sender(told, *class, *signal)?
-            }
+        let sentence = warning_text(self.alloc, self.meta, warning)?;
+        told.push_str(sentence.as_str())?;
+        if let Warning::LostSender { class, signal } = warning {
+            self.push_way_to_deletion(told, *class, *signal)?;
         }
         told.push_str("\n")
     }
 
-    /// Adds what is said of a wire that is idle beside this one.
-    fn push_idle_wire(&self, told: &mut String, other: usize) -> Result<(), AllocError> {
-        let alloc = self.alloc;
-        let meta = self.meta;
-        if let Some(wider) = meta.wires().get(other) {
-            let wider = wire_text(alloc, meta, wider)?;
-            write!(
-                told,
-                "nothing can use this wire: `{wider}` covers each connection that it covers"
-            )?;
-        }
-        Ok(())
-    }
-
-    /// Adds what is said of a `connect` that lacks this wire.
-    fn push_unwired(&self, told: &mut String, wanted: &MetaWire) -> Result<(), AllocError> {
-        let alloc = self.alloc;
-        let meta = self.meta;
-        let wanted = wire_text(alloc, meta, wanted)?;
-        write!(
-            told,
-            "no wire covers this `connect`, so it is refused whenever its objects are there (38): `{wanted}` would cover it"
-        )
-    }
-
-    /// Adds what is said of a slot that sets the property, and emits its notify signal.
-    fn push_notified_twice(
-        &self,
-        told: &mut String,
-        class: usize,
-        method: usize,
-        property: usize,
-    ) -> Result<(), AllocError> {
-        let alloc = self.alloc;
-        let meta = self.meta;
-        let slot = node_text(
-            alloc,
-            meta,
-            Node {
-                class,
-                member: Member::Method(method),
-            },
-        )?;
-        let name = property_text(alloc, meta, Some(class), property)?;
-        write!(
-            told,
-            "`{slot}` sets `{name}`, whose change emits this signal, and emits it itself: whoever is connected is notified twice"
-        )
-    }
-
-    /// Adds what is said of a signal that may lead to the destruction of its sender.
-    fn push_lost_sender(
+    /// Adds the chain by which the signal may lead to the destruction of its sender, where ranks are known.
+    fn push_way_to_deletion(
         &self,
         told: &mut String,
         class: usize,
         signal: usize,
     ) -> Result<(), AllocError> {
-        let alloc = self.alloc;
-        let meta = self.meta;
-        let node = Node {
-            class,
-            member: Member::Method(signal),
-        };
-        let name = node_text(alloc, meta, node)?;
-        write!(
-            told,
-            "a slot may delete the sender while it emits `{name}`: in C++ the emitter goes on in a destroyed object"
-        )?;
         let Some(ranked) = self.ranked else {
             return Ok(());
         };
-        if let Some(number) = ranked.scan.number(node) {
-            let chain = ranked.chain_to_destruction(alloc, number, class)?;
+        let member = Member::Method(signal);
+        if let Some(number) = ranked.scan.number(Node { class, member }) {
+            let chain = ranked.chain_to_destruction(self.alloc, number, class)?;
             told.push_str(" (")?;
-            ranked.push_chain(told, alloc, chain.as_slice())?;
+            ranked.push_chain(told, self.alloc, chain.as_slice())?;
             told.push_str(")")?;
         }
         Ok(())
     }
+}
+
+/// What the warning says, in a sentence.
+pub fn warning_text(alloc: Global, meta: &Meta, warning: &Warning) -> Result<String, AllocError> {
+    match warning {
+        Warning::Empty => String::from_str(alloc, "this program declares nothing"),
+        Warning::IdleWire { other, .. } => idle_wire_text(alloc, meta, *other),
+        Warning::Unwired { wanted, .. } => unwired_text(alloc, meta, wanted),
+        Warning::NotifiedTwice {
+            class,
+            method,
+            property,
+            ..
+        } => notified_twice_text(alloc, meta, *class, *method, *property),
+        Warning::LostSender { class, signal } => {
+            let name = method_text(alloc, meta, *class, *signal)?;
+            format!(in alloc;
+                "a slot may delete the sender while it emits `{name}`: in C++ the emitter goes on in a destroyed object"
+            )
+        }
+    }
+}
+
+/// The method of the class, as a certificate names it.
+fn method_text(
+    alloc: Global,
+    meta: &Meta,
+    class: usize,
+    method: usize,
+) -> Result<String, AllocError> {
+    let member = Member::Method(method);
+    node_text(alloc, meta, Node { class, member })
+}
+
+/// What is said of a wire that is idle beside this one.
+fn idle_wire_text(alloc: Global, meta: &Meta, other: usize) -> Result<String, AllocError> {
+    match meta.wires().get(other) {
+        Some(wider) => {
+            let wider = wire_text(alloc, meta, wider)?;
+            format!(in alloc;
+                "nothing can use this wire: `{wider}` covers each connection that it covers"
+            )
+        }
+        None => Ok(String::new(alloc)),
+    }
+}
+
+/// What is said of a `connect` that lacks this wire.
+fn unwired_text(alloc: Global, meta: &Meta, wanted: &MetaWire) -> Result<String, AllocError> {
+    let wanted = wire_text(alloc, meta, wanted)?;
+    format!(in alloc;
+        "no wire covers this `connect`, so it is refused whenever its objects are there (38): `{wanted}` would cover it"
+    )
+}
+
+/// What is said of a slot that sets the property, and emits its notify signal.
+fn notified_twice_text(
+    alloc: Global,
+    meta: &Meta,
+    class: usize,
+    method: usize,
+    property: usize,
+) -> Result<String, AllocError> {
+    let slot = method_text(alloc, meta, class, method)?;
+    let name = property_text(alloc, meta, Some(class), property)?;
+    format!(in alloc;
+        "`{slot}` sets `{name}`, whose change emits this signal, and emits it itself: whoever is connected is notified twice"
+    )
 }

@@ -1,61 +1,93 @@
-//! A verdict beside a list of accepted cycles.
+//! A verdict beside a list of accepted edges.
 
-use findings::{CycleIndex, CycleSet, Verdict};
+use class_lang::Limits;
+use findings::{Edge, EdgeIndex, Levels, PlacedEdge, Verdict};
 use std::alloc::{AllocError, Global};
-use verdicts::{Texts, verdict};
+use verdicts::{Listed, Texts, verdict};
 
-/// A list of more cycles than this is first cut down to those that are there.
+/// A list of more edges than this is first cut down to those that are there.
 const FEW: usize = 1000;
 
 /// The exit status where a text is refused.
 const REFUSED: u8 = 2;
 
-/// A verdict, and those of the accepted cycles that aren't there.
+/// A verdict, and those of the listed edges that aren't there.
 #[derive(Drop)]
 pub struct Judged {
     pub found: Verdict,
-    pub absent: Vec<CycleSet>,
+    pub absent: Vec<Edge>,
 }
 
-/// The verdict on the texts, where the cycles of the list are accepted.
-pub fn judge(alloc: Global, texts: Texts<'_>, listed: Vec<CycleSet>) -> Result<Judged, AllocError> {
-    if listed.len() > FEW {
-        return judge_by_many(alloc, texts, listed);
+/// What is judged, and by what.
+#[derive(Clone, Copy)]
+pub struct Asked<'a> {
+    /// The limits by which the program is read.
+    pub limits: Limits,
+    /// The texts.
+    pub texts: Texts<'a>,
+    /// How grave the rules are.
+    pub levels: Levels<'a>,
+    /// Whether warnings and notes on listed edges are left out.
+    pub is_baseline: bool,
+}
+
+impl Asked<'_> {
+    /// The verdict, where these edges are listed.
+    fn verdict(&self, alloc: Global, edges: &[Edge]) -> Result<Verdict, AllocError> {
+        let listed = Listed {
+            edges,
+            is_baseline: self.is_baseline,
+        };
+        verdict(alloc, self.limits, self.texts, self.levels, listed)
     }
-    let found = verdict(alloc, texts, listed.as_slice())?;
+}
+
+/// The verdict on what is asked, where the edges of the list are accepted.
+pub fn judge(alloc: Global, asked: Asked<'_>, edges: Vec<Edge>) -> Result<Judged, AllocError> {
+    if edges.len() > FEW {
+        return judge_by_many(alloc, asked, edges);
+    }
+    let found = asked.verdict(alloc, edges.as_slice())?;
     let mut absent = Vec::new(alloc);
-    for (place, cycles) in listed.into_iter().enumerate() {
+    for (place, edge) in edges.into_iter().enumerate() {
         if found.absent.contains(&place) {
-            absent.push(cycles)?;
+            absent.push(edge)?;
         }
     }
     Ok(Judged { found, absent })
 }
 
-/// The same by a long list, of which only the cycles that are there are looked at with the program: each cycle of the program
-/// is held against each of these.
-fn judge_by_many(
-    alloc: Global,
-    texts: Texts<'_>,
-    listed: Vec<CycleSet>,
-) -> Result<Judged, AllocError> {
-    let mut listed = listed;
-    let all = verdict(alloc, texts, &[])?;
+/// The same by a long list, of which only the edges that are there are looked at with the program: each edge of the program is
+/// held against each of these.
+fn judge_by_many(alloc: Global, asked: Asked<'_>, edges: Vec<Edge>) -> Result<Judged, AllocError> {
+    let mut edges = edges;
+    let all = asked.verdict(alloc, &[])?;
     let mut absent = Vec::new(alloc);
     if all.status == REFUSED {
         return Ok(Judged { found: all, absent });
     }
-    let there = CycleIndex::of(alloc, all.cycles)?;
-    listed.sort()?;
-    listed.dedup();
-    let mut accepted = Vec::new(alloc);
-    for cycles in listed {
-        if there.contains(&cycles) {
-            accepted.push(cycles)?;
+    let mut names = Vec::new(alloc);
+    push_edges(&mut names, all.edges)?;
+    push_edges(&mut names, all.remarked)?;
+    let there = EdgeIndex::of(alloc, names)?;
+    edges.sort()?;
+    edges.dedup();
+    let mut listed = Vec::new(alloc);
+    for edge in edges {
+        if there.contains(&edge) {
+            listed.push(edge)?;
         } else {
-            absent.push(cycles)?;
+            absent.push(edge)?;
         }
     }
-    let found = verdict(alloc, texts, accepted.as_slice())?;
+    let found = asked.verdict(alloc, listed.as_slice())?;
     Ok(Judged { found, absent })
+}
+
+/// Adds the edges without their places.
+fn push_edges(edges: &mut Vec<Edge>, placed: Vec<PlacedEdge>) -> Result<(), AllocError> {
+    for one in placed {
+        edges.push(one.edge)?;
+    }
+    Ok(())
 }

@@ -1,12 +1,13 @@
 //! Why a word doesn't do what it is asked.
 
 use class_graph::GraphFault;
-use findings::ListFault;
+use findings::{LevelFault, ListFault};
 use moc_import::ImportFault;
 use run_witness::WitnessFault;
 use script_tests::ExpectationFault;
 use std::alloc::AllocError;
 use std::io;
+use text_places::PlacesFault;
 use thiserror::Error;
 
 /// Why a word doesn't do what it is asked. Nothing is written on standard output then, but where a write failed or members
@@ -14,7 +15,7 @@ use thiserror::Error;
 #[derive(Clone, Copy, Debug, Error)]
 pub enum ToolFault {
     /// The words are none that there are.
-    #[error("usage: qt_tools graph [--json] [--class CLASS,..] [--from MEMBER] < PROGRAM, import [--only CLASS,..] [--lean] [--strict] [--effects] < TEXTS, session [--tap] [--unchecked N] [--steps M] < TEXTS, verdict [--json|--sarif|--accept-all] [--accept] [--program NAME] [--certificate NAME] < TEXTS, view --plain|--color|--mermaid|--html < TRACE, or witness < PROGRAM")]
+    #[error("usage: qt_tools [--wide] graph [--json] [--places] [--class CLASS,..] [--from MEMBER] < PROGRAM, import [--only CLASS,..] [--lean] [--strict] [--effects] < TEXTS, [--wide] session [--tap|--record] [--unchecked N] [--steps M] < TEXTS, [--wide] verdict [--json|--sarif|--junit|--accept-all|--rules] [--error RULE,..] [--warning RULE,..] [--off RULE,..] [--places] [--accept|--baseline] [--program NAME] [--certificate NAME] < TEXTS, view --plain|--color|--mermaid|--html < TRACE, or [--wide] witness < PROGRAM")]
     Usage,
     /// The program is refused, with the number that `gammonfig` gives.
     #[error("the program is refused with {0}: `gammonfig meta` says where")]
@@ -52,12 +53,21 @@ pub enum ToolFault {
     /// A text is refused, which was reported.
     #[error("a text is refused")]
     Unjudged,
-    /// A list of cycles can't be read.
+    /// The words name rules that can't be taken.
+    #[error("{0}")]
+    Unlevelled(LevelFault),
+    /// A list of edges can't be read.
     #[error("{0}")]
     Unlisted(ListFault),
+    /// Places in another text can't be read.
+    #[error("{0}")]
+    Unplaced(PlacesFault),
     /// A line of the script expects a line of the trace and stands above all events.
     #[error("{0}")]
     Unexpected(ExpectationFault),
+    /// A script would be too long with what is recorded.
+    #[error("the script isn't recorded: it would have more than 1048576 bytes")]
+    LongScript,
     /// The input is longer than what is read of one.
     #[error("the input has more than 67108864 bytes")]
     TooLong,
@@ -89,7 +99,10 @@ impl ToolFault {
             | ToolFault::Unimported(_)
             | ToolFault::Unjudged
             | ToolFault::Unlisted(_)
+            | ToolFault::Unplaced(_)
+            | ToolFault::Unlevelled(_)
             | ToolFault::Mistaken
+            | ToolFault::LongScript
             | ToolFault::TooLong
             | ToolFault::TooManyEdges
             | ToolFault::NoText => 2,
@@ -144,6 +157,24 @@ impl From<WitnessFault> for ToolFault {
         match fault {
             WitnessFault::Refused(number) => ToolFault::Refused(number),
             WitnessFault::Memory => ToolFault::Memory,
+        }
+    }
+}
+
+impl From<PlacesFault> for ToolFault {
+    fn from(fault: PlacesFault) -> ToolFault {
+        match fault {
+            PlacesFault::Memory => ToolFault::Memory,
+            refused => ToolFault::Unplaced(refused),
+        }
+    }
+}
+
+impl From<LevelFault> for ToolFault {
+    fn from(fault: LevelFault) -> ToolFault {
+        match fault {
+            LevelFault::Memory => ToolFault::Memory,
+            refused => ToolFault::Unlevelled(refused),
         }
     }
 }

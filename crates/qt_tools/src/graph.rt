@@ -1,13 +1,13 @@
 //! The word `graph`: what the members of a program's classes may lead to, as a picture.
 
 use crate::fault::ToolFault;
-use crate::streams::{input, write};
+use crate::placed::places_first;
+use crate::streams::{input, program, write};
+use crate::verdict::{MOST_BYTES, MOST_READ};
 use class_graph::{Form, Part, class_graph};
+use class_lang::Limits;
 use std::alloc::{AllocError, Global};
-use texts::MOST_BYTES;
-
-/// So many bytes of a program are read: one more than it may have, so that a longer one is refused for its length.
-const MOST_READ: u64 = MOST_BYTES as u64 + 1;
+use text_places::read_places;
 
 /// What the options of `graph` ask for.
 #[derive(Drop)]
@@ -15,6 +15,8 @@ struct Options<'w> {
     form: Form,
     classes: Vec<&'w str>,
     from: Option<&'w str>,
+    /// Whether the input's first text is the program's places in another text.
+    has_places: bool,
 }
 
 /// The option whose value the next word is.
@@ -31,6 +33,7 @@ impl<'w> Options<'w> {
             form: Form::Dot,
             classes: Vec::new(alloc),
             from: None,
+            has_places: false,
         };
         let mut awaited: Option<Awaited> = None;
         for word in words {
@@ -46,6 +49,7 @@ impl<'w> Options<'w> {
                     awaited = None;
                 }
                 None if *word == "--json" => options.form = Form::Json,
+                None if *word == "--places" => options.has_places = true,
                 None if *word == "--class" => awaited = Some(Awaited::Classes),
                 None if *word == "--from" => awaited = Some(Awaited::From),
                 None => return Ok(None),
@@ -59,21 +63,39 @@ impl<'w> Options<'w> {
     }
 }
 
-/// Draws the program on standard input, as the options say.
-pub fn graph(rt: &HostRuntime, words: &[&str]) -> Result<(), ToolFault> {
+/// Draws the program on standard input, which is read by these limits, as the options say. Its places in another text may stand
+/// before it.
+pub fn graph(rt: &HostRuntime, limits: Limits, words: &[&str]) -> Result<(), ToolFault> {
     let alloc = rt.alloc();
     let Some(options) = Options::of(alloc, words)? else {
         return Err(ToolFault::Usage);
     };
-    let program = match input(rt, MOST_READ) {
-        Ok(program) => program,
+    let read = if options.has_places {
+        input(rt, MOST_READ)
+    } else {
+        program(rt, limits)
+    };
+    let texts = match read {
+        Ok(texts) => texts,
         Err(reason) => return Err(ToolFault::Unread(reason)),
+    };
+    if texts.len() > MOST_BYTES {
+        return Err(ToolFault::TooLong);
+    }
+    let Some((placed, program)) = places_first(texts.as_slice(), options.has_places) else {
+        return Err(ToolFault::Usage);
+    };
+    let places = read_places(alloc, placed)?;
+    let told = if options.has_places {
+        Some(&places)
+    } else {
+        None
     };
     let part = Part {
         classes: options.classes.as_slice(),
         from: options.from,
     };
-    let text = class_graph(alloc, program.as_slice(), part, options.form)?;
+    let text = class_graph(alloc, limits, program, part, options.form, told)?;
     match write(rt, text.as_str()) {
         Ok(()) => Ok(()),
         Err(reason) => Err(ToolFault::Unwritten(reason)),

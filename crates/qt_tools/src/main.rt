@@ -6,6 +6,7 @@ mod accepted;
 mod fault;
 mod graph;
 mod import;
+mod placed;
 mod session;
 mod streams;
 mod verdict;
@@ -22,6 +23,7 @@ use crate::view::view;
 use crate::witness::witness;
 use crate::words::{shown, words};
 use std::process::ExitCode;
+use trace_tool::limits_of;
 
 fn main(rt: HostRuntime) -> ExitCode {
     match start(&rt) {
@@ -42,14 +44,31 @@ fn start(rt: &HostRuntime) -> Result<(), ToolFault> {
         .map(String::as_str)
         .collect::<Vec<&str>>(rt.alloc())?;
     match words.as_slice() {
-        [word, options @ ..] if *word == "graph" => graph(rt, options),
-        [word, options @ ..] if *word == "import" => import_classes(rt, options),
-        [word, options @ ..] if *word == "session" => session(rt, options),
-        [word, options @ ..] if *word == "verdict" => {
-            tell_verdict(rt, options, given.get(1..).unwrap_or(&[]))
+        [wide, words @ ..] if *wide == "--wide" => {
+            do_word(rt, true, words, given.get(1..).unwrap_or(&[]))
         }
-        [word, options @ ..] if *word == "view" => view(rt, options),
-        [word, options @ ..] if *word == "witness" => witness(rt, options),
+        words => do_word(rt, false, words, given.as_slice()),
+    }
+}
+
+/// Does what the words say, which are given as bytes too. With `--wide` in front of them a program may be as large as one that a
+/// tool writes.
+fn do_word(
+    rt: &HostRuntime,
+    is_wide: bool,
+    words: &[&str],
+    given: &[Vec<u8>],
+) -> Result<(), ToolFault> {
+    let limits = limits_of(is_wide);
+    match words {
+        [word, options @ ..] if *word == "graph" => graph(rt, limits, options),
+        [word, options @ ..] if *word == "session" => session(rt, is_wide, options),
+        [word, options @ ..] if *word == "verdict" => {
+            tell_verdict(rt, limits, options, given.get(1..).unwrap_or(&[]))
+        }
+        [word, options @ ..] if *word == "witness" => witness(rt, limits, options),
+        [word, options @ ..] if *word == "import" && !is_wide => import_classes(rt, options),
+        [word, options @ ..] if *word == "view" && !is_wide => view(rt, options),
         _ => Err(ToolFault::Usage),
     }
 }

@@ -1,11 +1,11 @@
 //! The word `session`: runs a script as a test.
 
 use crate::fault::ToolFault;
-use crate::streams::{input, write};
+use crate::streams::{input, write, write_bytes};
 use native_slots::Natives;
-use script_tests::{Form, judge, report};
+use script_tests::{Form, judge, record, report};
 use std::alloc::{AllocError, Global};
-use texts::{number, split_at_line};
+use texts::{MOST_BYTES, number, split_at_line};
 use trace_tool::{LARGEST_INPUT, command};
 
 /// So many bytes are read: one more than the command takes, which takes none of a longer input.
@@ -17,22 +17,41 @@ const BORDER: &[u8] = b"%%";
 /// The option that needs no certificate.
 const UNCHECKED: &str = "--unchecked";
 
-/// Runs the script on standard input as `gammonfig run` does with these words, but for a first `--tap`, and writes which
-/// events went otherwise than its comments expect.
-pub fn session(rt: &HostRuntime, words: &[&str]) -> Result<(), ToolFault> {
+/// What is done with what happened.
+#[derive(Clone, Copy)]
+enum Task {
+    /// It is told which events went otherwise than the script's comments expect.
+    Tell(Form),
+    /// The script is written, with comments that expect what happened.
+    Record,
+}
+
+/// Runs the script on standard input as `gammonfig run` does with these words, but for a first `--tap` or `--record`, and
+/// writes which events went otherwise than its comments expect, or the script with comments that they meet. With `--wide` the
+/// run has it too.
+pub fn session(rt: &HostRuntime, is_wide: bool, words: &[&str]) -> Result<(), ToolFault> {
     let alloc = rt.alloc();
-    let (form, options) = match words {
-        [word, options @ ..] if *word == "--tap" => (Form::Tap, options),
-        _ => (Form::Plain, words),
+    let (task, options) = match words {
+        [word, options @ ..] if *word == "--tap" => (Task::Tell(Form::Tap), options),
+        [word, options @ ..] if *word == "--record" => (Task::Record, options),
+        _ => (Task::Tell(Form::Plain), words),
     };
     let input = match input(rt, MOST_READ) {
         Ok(input) => input,
         Err(reason) => return Err(ToolFault::Unread(reason)),
     };
-    let trace = trace_of(alloc, options, input.as_slice())?;
+    let trace = trace_of(alloc, is_wide, options, input.as_slice())?;
     let script = script_of(options, input.as_slice()).unwrap_or(&[]);
-    let tests = judge(alloc, script, trace.as_slice())?;
-    let (text, failed) = report(alloc, tests.as_slice(), form)?;
+    match task {
+        Task::Tell(form) => tell(rt, script, trace.as_slice(), form),
+        Task::Record => record_run(rt, script, trace.as_slice()),
+    }
+}
+
+/// Writes which events of the script went otherwise than its comments expect.
+fn tell(rt: &HostRuntime, script: &[u8], trace: &[u8], form: Form) -> Result<(), ToolFault> {
+    let tests = judge(rt.alloc(), script, trace)?;
+    let (text, failed) = report(rt.alloc(), tests.as_slice(), form)?;
     match write(rt, text.as_str()) {
         Ok(()) if failed == 0 => Ok(()),
         Ok(()) => Err(ToolFault::Otherwise),
@@ -40,9 +59,37 @@ pub fn session(rt: &HostRuntime, words: &[&str]) -> Result<(), ToolFault> {
     }
 }
 
-/// The trace of a run of this input with these options.
-fn trace_of(alloc: Global, options: &[&str], input: &[u8]) -> Result<Vec<u8>, ToolFault> {
-    let words = run_words(alloc, options)?;
+/// Writes the script with comments that expect what happened, and says on standard error of how many events they changed,
+/// and what still is otherwise: where a fault stopped the run, the events behind it.
+fn record_run(rt: &HostRuntime, script: &[u8], trace: &[u8]) -> Result<(), ToolFault> {
+    let alloc = rt.alloc();
+    let tests = judge(alloc, script, trace)?;
+    let recorded = record(alloc, script, tests.as_slice())?;
+    if recorded.script.len() > MOST_BYTES {
+        return Err(ToolFault::LongScript);
+    }
+    let tests = judge(alloc, recorded.script.as_slice(), trace)?;
+    let (text, failed) = report(alloc, tests.as_slice(), Form::Plain)?;
+    if let Err(reason) = write_bytes(rt, recorded.script.as_slice()) {
+        return Err(ToolFault::Unwritten(reason));
+    }
+    let changed = recorded.changed;
+    eprintln!(rt; "the comments of {changed} events are recorded anew").ok();
+    eprint!(rt; "{text}").ok();
+    match failed {
+        0 => Ok(()),
+        _ => Err(ToolFault::Otherwise),
+    }
+}
+
+/// The trace of a run of this input with these options, and with `--wide` or without it.
+fn trace_of(
+    alloc: Global,
+    is_wide: bool,
+    options: &[&str],
+    input: &[u8],
+) -> Result<Vec<u8>, ToolFault> {
+    let words = run_words(alloc, is_wide, options)?;
     let mut reader = input;
     let mut output = Vec::new(alloc);
     let natives = Natives::of(Vec::new(alloc));
@@ -55,9 +102,16 @@ fn trace_of(alloc: Global, options: &[&str], input: &[u8]) -> Result<Vec<u8>, To
     }
 }
 
-/// The words of `run` with these options.
-fn run_words<'w>(alloc: Global, options: &[&'w str]) -> Result<Vec<&'w str>, AllocError> {
+/// The words of `run` with these options, and with `--wide` or without it.
+fn run_words<'w>(
+    alloc: Global,
+    is_wide: bool,
+    options: &[&'w str],
+) -> Result<Vec<&'w str>, AllocError> {
     let mut words = Vec::new(alloc);
+    if is_wide {
+        words.push("--wide")?;
+    }
     words.push("run")?;
     for option in options {
         words.push(*option)?;

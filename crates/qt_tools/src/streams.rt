@@ -1,5 +1,6 @@
 //! Standard input and output.
 
+use class_lang::Limits;
 use std::io;
 use std::io::{Read, Write};
 
@@ -8,6 +9,12 @@ pub fn input(rt: &HostRuntime, most: u64) -> io::Result<Vec<u8>> {
     let mut input = Vec::new(rt.alloc());
     rt.reader().take(most).read_to_end(&mut input)?;
     Ok(input)
+}
+
+/// The program that standard input has: one byte more than it may have by these limits, so that a longer one is refused for its
+/// length.
+pub fn program(rt: &HostRuntime, limits: Limits) -> io::Result<Vec<u8>> {
+    input(rt, (limits.bytes as u64).saturating_add(1))
 }
 
 /// Writes a text on standard output.

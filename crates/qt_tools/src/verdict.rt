@@ -1,20 +1,25 @@
 //! The word `verdict`: all that is wrong with a program and its certificate.
 
-use crate::accepted::{Judged, judge};
+use crate::accepted::{Asked, Judged, judge};
 use crate::fault::ToolFault;
+use crate::placed::places_first;
 use crate::streams::{input, write};
+use class_lang::Limits;
 use diagnostics::Printed;
-use findings::{CycleSet, Verdict, cycle_list, read_cycles};
+use findings::{
+    Edge, LevelChange, Levels, Severity, Verdict, change_levels, edge_list, read_edges,
+};
 use std::alloc::{AllocError, Global};
+use text_places::{TextPlaces, read_places};
 use texts::split_at_line;
-use verdict_reports::{Names, json_report, sarif_report, text_report};
+use verdict_reports::{Names, json_report, junit_report, rules_report, sarif_report, text_report};
 use verdicts::Texts;
 
 /// What is read has at most so many bytes.
-const MOST_BYTES: usize = 67108864;
+pub const MOST_BYTES: usize = 67108864;
 
 /// So many bytes are read: one more than there may be, so that a longer input is refused.
-const MOST_READ: u64 = MOST_BYTES as u64 + 1;
+pub const MOST_READ: u64 = MOST_BYTES as u64 + 1;
 
 /// The exit status where a text is refused.
 const REFUSED: u8 = 2;
@@ -31,17 +36,12 @@ enum Form {
     Json,
     /// As SARIF.
     Sarif,
-    /// Not at all: the list of the cycles that are there is written in its place.
-    Cycles,
-}
-
-/// What the options of `verdict` ask for.
-#[derive(Clone, Copy)]
-struct Options<'w> {
-    form: Form,
-    /// Whether the input's last text is a list of accepted cycles.
-    has_list: bool,
-    names: Names<'w>,
+    /// As JUnit's reports.
+    Junit,
+    /// Not at all: the list of the edges that can be accepted is written in its place.
+    Edges,
+    /// Not at all: the table of rules is written, and nothing is read.
+    Rules,
 }
 
 /// The option whose value the next word is.
@@ -49,62 +49,85 @@ struct Options<'w> {
 enum Awaited {
     Program,
     Certificate,
+    /// Names of rules, which are as grave as this, or off.
+    Rules(Option<Severity>),
 }
 
 /// What the words say, with names by their places among the words.
-#[derive(Clone, Copy)]
+#[derive(Drop)]
 struct Said {
     form: Form,
+    /// Whether the input's last text is a list of accepted edges.
     has_list: bool,
+    /// Whether warnings and notes on its edges are left out too.
+    is_baseline: bool,
+    /// Whether the input's first text is the program's places in another text.
+    has_places: bool,
     program: Option<usize>,
     certificate: Option<usize>,
+    changes: Vec<LevelChange>,
 }
 
 impl Said {
-    /// What the words say; `None` where they are no options.
-    fn of(words: &[&str]) -> Option<Said> {
+    /// What the words say.
+    fn of(alloc: Global, words: &[&str]) -> Result<Said, ToolFault> {
         let mut said = Said {
             form: Form::Text,
             has_list: false,
+            is_baseline: false,
+            has_places: false,
             program: None,
             certificate: None,
+            changes: Vec::new(alloc),
         };
         let mut awaited: Option<Awaited> = None;
         for (place, word) in words.iter().enumerate() {
-            match awaited {
-                Some(Awaited::Program) => {
-                    said.program = Some(place);
-                    awaited = None;
+            awaited = match awaited {
+                Some(option) => {
+                    said.take_value(option, place, *word)?;
+                    None
                 }
-                Some(Awaited::Certificate) => {
-                    said.certificate = Some(place);
-                    awaited = None;
-                }
-                None if *word == "--json" => said.form = Form::Json,
-                None if *word == "--sarif" => said.form = Form::Sarif,
-                None if *word == "--accept-all" => said.form = Form::Cycles,
-                None if *word == "--accept" => said.has_list = true,
-                None if *word == "--program" => awaited = Some(Awaited::Program),
-                None if *word == "--certificate" => awaited = Some(Awaited::Certificate),
-                None => return None,
-            }
+                None => said.take_option(*word)?,
+            };
         }
-        if awaited.is_none() { Some(said) } else { None }
+        match awaited {
+            None => Ok(said),
+            Some(_) => Err(ToolFault::Usage),
+        }
     }
-}
 
-impl<'w> Options<'w> {
-    /// The options that the words are, which are given as bytes too; `None` where they are none.
-    fn of(words: &[&str], given: &'w [Vec<u8>]) -> Option<Options<'w>> {
-        let said = Said::of(words)?;
-        Some(Options {
-            form: said.form,
-            has_list: said.has_list,
-            names: Names {
-                program: name(given, said.program, b"program"),
-                certificate: name(given, said.certificate, b"certificate"),
-            },
-        })
+    /// Takes an option, and answers whether its value is the next word.
+    fn take_option(&mut self, word: &str) -> Result<Option<Awaited>, ToolFault> {
+        match word {
+            "--json" => self.form = Form::Json,
+            "--sarif" => self.form = Form::Sarif,
+            "--junit" => self.form = Form::Junit,
+            "--rules" => self.form = Form::Rules,
+            "--accept-all" => self.form = Form::Edges,
+            "--places" => self.has_places = true,
+            "--accept" => self.has_list = true,
+            "--baseline" => {
+                self.has_list = true;
+                self.is_baseline = true;
+            }
+            "--program" => return Ok(Some(Awaited::Program)),
+            "--certificate" => return Ok(Some(Awaited::Certificate)),
+            "--error" => return Ok(Some(Awaited::Rules(Some(Severity::Error)))),
+            "--warning" => return Ok(Some(Awaited::Rules(Some(Severity::Warning)))),
+            "--off" => return Ok(Some(Awaited::Rules(None))),
+            _ => return Err(ToolFault::Usage),
+        }
+        Ok(None)
+    }
+
+    /// Takes the value of an option, which is the word at this place.
+    fn take_value(&mut self, option: Awaited, place: usize, word: &str) -> Result<(), ToolFault> {
+        match option {
+            Awaited::Program => self.program = Some(place),
+            Awaited::Certificate => self.certificate = Some(place),
+            Awaited::Rules(severity) => change_levels(&mut self.changes, word, severity)?,
+        }
+        Ok(())
     }
 }
 
@@ -116,13 +139,78 @@ fn name<'w>(given: &'w [Vec<u8>], place: Option<usize>, other: &'static [u8]) ->
     }
 }
 
-/// Writes the verdict on the texts of standard input: a program, its certificate if one is given, and a list of accepted
-/// cycles if the options say so. The words are given as bytes too.
-pub fn tell_verdict(rt: &HostRuntime, words: &[&str], given: &[Vec<u8>]) -> Result<(), ToolFault> {
+/// Writes the verdict on the texts of standard input: the program's places in another text if the options say so, a program, its
+/// certificate if one is given, and a list of accepted edges if the options say so. The program is read by these limits. The
+/// words are given as bytes too.
+pub fn tell_verdict(
+    rt: &HostRuntime,
+    limits: Limits,
+    words: &[&str],
+    given: &[Vec<u8>],
+) -> Result<(), ToolFault> {
     let alloc = rt.alloc();
-    let Some(options) = Options::of(words, given) else {
+    let said = Said::of(alloc, words)?;
+    if said.form == Form::Rules {
+        let rules = rules_report(alloc)?;
+        return written(rt, rules.as_str());
+    }
+    let input = read_input(rt)?;
+    tell_input(rt, limits, &said, given, input.as_slice())
+}
+
+/// Writes the verdict on the texts of this input.
+fn tell_input(
+    rt: &HostRuntime,
+    limits: Limits,
+    said: &Said,
+    given: &[Vec<u8>],
+    input: &[u8],
+) -> Result<(), ToolFault> {
+    let alloc = rt.alloc();
+    let Some((placed, texts)) = places_first(input, said.has_places) else {
         return Err(ToolFault::Usage);
     };
+    let places = read_places(alloc, placed)?;
+    let judged = judge_texts(alloc, limits, said, texts)?;
+    tell_placed(rt, said, given, &judged, &places)
+}
+
+/// Writes a verdict with the program's places in another text. The references get one lifetime here: the borrow checker takes
+/// none that is only part of a local's for a struct.
+fn tell_placed(
+    rt: &HostRuntime,
+    said: &Said,
+    given: &[Vec<u8>],
+    judged: &Judged,
+    places: &TextPlaces<'_>,
+) -> Result<(), ToolFault> {
+    tell_judged(rt, said, given, judged, places)
+}
+
+/// Writes a verdict as the words ask for it, with the program's places in another text.
+fn tell_judged<'x>(
+    rt: &HostRuntime,
+    said: &Said,
+    given: &'x [Vec<u8>],
+    judged: &'x Judged,
+    places: &'x TextPlaces<'x>,
+) -> Result<(), ToolFault> {
+    let names = Names {
+        program: name(given, said.program, b"program"),
+        certificate: name(given, said.certificate, b"certificate"),
+        places: Some(places),
+    };
+    if said.form == Form::Edges {
+        return write_edges(rt, &judged.found, names);
+    }
+    tell_absent(rt, judged.absent.as_slice());
+    let text = report(rt.alloc(), &judged.found, said.form, names)?;
+    written(rt, text.as_str())?;
+    answer(judged.found.status)
+}
+
+/// What standard input has.
+fn read_input(rt: &HostRuntime) -> Result<Vec<u8>, ToolFault> {
     let input = match input(rt, MOST_READ) {
         Ok(input) => input,
         Err(reason) => return Err(ToolFault::Unread(reason)),
@@ -130,18 +218,36 @@ pub fn tell_verdict(rt: &HostRuntime, words: &[&str], given: &[Vec<u8>]) -> Resu
     if input.len() > MOST_BYTES {
         return Err(ToolFault::TooLong);
     }
-    let Some(given) = Given::of(input.as_slice(), options.has_list) else {
+    Ok(input)
+}
+
+/// The verdict on these texts, of which the program is read by these limits.
+fn judge_texts(
+    alloc: Global,
+    limits: Limits,
+    said: &Said,
+    texts: &[u8],
+) -> Result<Judged, ToolFault> {
+    let Some(given) = Given::of(texts, said.has_list) else {
         return Err(ToolFault::Usage);
     };
-    let listed = read_cycles(alloc, given.list)?;
-    let Judged { found, absent } = judge(alloc, given.texts, listed)?;
-    tell_absent(rt, absent.as_slice());
-    if options.form == Form::Cycles {
-        return write_cycles(rt, &found);
-    }
-    let text = report(alloc, &found, options)?;
-    match write(rt, text.as_str()) {
-        Ok(()) => answer(found.status),
+    let edges = read_edges(alloc, given.list)?;
+    let asked = Asked {
+        limits,
+        texts: given.texts,
+        levels: Levels {
+            changes: said.changes.as_slice(),
+        },
+        is_baseline: said.is_baseline,
+    };
+    let judged = judge(alloc, asked, edges)?;
+    Ok(judged)
+}
+
+/// Writes a text on standard output.
+fn written(rt: &HostRuntime, text: &str) -> Result<(), ToolFault> {
+    match write(rt, text) {
+        Ok(()) => Ok(()),
         Err(reason) => Err(ToolFault::Unwritten(reason)),
     }
 }
@@ -194,25 +300,29 @@ fn first_text(input: &[u8]) -> (&[u8], Option<&[u8]>) {
     }
 }
 
-/// The verdict as it is asked for.
-fn report(alloc: Global, found: &Verdict, options: Options<'_>) -> Result<String, AllocError> {
-    match options.form {
-        Form::Json => json_report(alloc, found, options.names),
-        Form::Sarif => sarif_report(alloc, found, options.names),
-        Form::Text | Form::Cycles => text_report(alloc, found, options.names),
+/// The verdict in this form.
+fn report(
+    alloc: Global,
+    found: &Verdict,
+    form: Form,
+    names: Names<'_>,
+) -> Result<String, AllocError> {
+    match form {
+        Form::Json => json_report(alloc, found, names),
+        Form::Sarif => sarif_report(alloc, found, names),
+        Form::Junit => junit_report(alloc, found, names),
+        Form::Text | Form::Edges | Form::Rules => text_report(alloc, found, names),
     }
 }
 
-/// Writes the list of the cycles that are there.
-fn write_cycles(rt: &HostRuntime, found: &Verdict) -> Result<(), ToolFault> {
+/// Writes the list of the edges that can be accepted.
+fn write_edges(rt: &HostRuntime, found: &Verdict, names: Names<'_>) -> Result<(), ToolFault> {
     if found.status == REFUSED {
         return Err(ToolFault::Unjudged);
     }
-    let text = cycle_list(rt.alloc(), found.cycles.as_slice())?;
-    match write(rt, text.as_str()) {
-        Ok(()) => Ok(()),
-        Err(reason) => Err(ToolFault::Unwritten(reason)),
-    }
+    let lists = [found.edges.as_slice(), found.remarked.as_slice()];
+    let text = edge_list(rt.alloc(), names.program, lists)?;
+    written(rt, text.as_str())
 }
 
 /// What a verdict with this exit status ends with.
@@ -224,25 +334,17 @@ fn answer(status: u8) -> Result<(), ToolFault> {
     }
 }
 
-/// So many cycles that aren't there are told of.
+/// So many edges that accept nothing are told of.
 const MOST_TOLD: usize = 100;
 
-/// Tells on standard error which cycles of the list aren't there.
-fn tell_absent(rt: &HostRuntime, absent: &[CycleSet]) {
-    for cycles in absent.iter().take(MOST_TOLD) {
-        let members = cycles.members();
-        let first = match members.first() {
-            Some(name) => name.as_str(),
-            None => "no member",
-        };
-        let first = Printed(first.as_bytes());
-        let others = members.len().saturating_sub(1);
-        eprintln!(rt;
-            "note: an accepted cycle isn't there any more: that of `{first}` and {others} other members"
-        ).ok();
+/// Tells on standard error which edges of the list accept nothing.
+fn tell_absent(rt: &HostRuntime, absent: &[Edge]) {
+    for edge in absent.iter().take(MOST_TOLD) {
+        let edge = Printed(edge.text().as_bytes());
+        eprintln!(rt; "note: a listed edge accepts nothing: `{edge}`").ok();
     }
     let more = absent.len().saturating_sub(MOST_TOLD);
     if more > 0 {
-        eprintln!(rt; "note: {more} more accepted cycles aren't there any more").ok();
+        eprintln!(rt; "note: {more} more listed edges accept nothing").ok();
     }
 }

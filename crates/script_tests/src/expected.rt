@@ -7,12 +7,12 @@ use texts::{LexFault, split_line, tokens};
 use thiserror::Error;
 
 /// How a line begins that expects a line of the trace.
-const MARK: &[u8] = b"//=";
+pub const MARK: &str = "//=";
 
 /// What comes before a number at the end of an event's line.
-const REFUSED: &[u8] = b"// refused";
+pub const REFUSED: &str = "// refused";
 
-const FAULT: &[u8] = b"// fault";
+pub const FAULT: &str = "// fault";
 
 /// How an event is answered.
 #[derive(Clone, Copy, Debug, PartialEq, Eq)]
@@ -36,6 +36,10 @@ pub struct Expected<'t> {
     pub fault: Option<u8>,
     /// The lines that the run writes below the event's own, each with its newline; `None` where any will do.
     pub lines: Option<Vec<u8>>,
+    /// The numbers of the script's lines that expect one of these each, in their order.
+    pub comments: Vec<usize>,
+    /// The number of its last comment that speaks of these lines, or where there is none of its own line.
+    pub last: usize,
 }
 
 /// Why it isn't known what a script expects.
@@ -69,11 +73,11 @@ pub fn expectations(alloc: Global, script: &[u8]) -> Result<Vec<Expected<'_>>, E
             let Some(mut event) = current else {
                 return Err(ExpectationFault::Misplaced(number));
             };
-            event.expect(alloc, wanted)?;
+            event.expect(alloc, number, wanted)?;
             current = Some(event);
         } else if has_event(alloc, line)? {
             keep(&mut events, current)?;
-            current = Some(Expected::of(number, line));
+            current = Some(Expected::of(alloc, number, line));
         }
     }
     keep(&mut events, current)?;
@@ -90,7 +94,7 @@ fn keep<'t>(events: &mut Vec<Expected<'t>>, event: Option<Expected<'t>>) -> Resu
 
 impl<'t> Expected<'t> {
     /// What the line of an event expects of it.
-    fn of(number: usize, line: &'t [u8]) -> Expected<'t> {
+    fn of(alloc: Global, number: usize, line: &'t [u8]) -> Expected<'t> {
         let text = line.trim_ascii();
         let mut expected = Expected {
             line: number,
@@ -98,6 +102,8 @@ impl<'t> Expected<'t> {
             answer: ExpectedAnswer::Accepted,
             fault: None,
             lines: None,
+            comments: Vec::new(alloc),
+            last: number,
         };
         if let Some((event, refusal)) = split_number(text, REFUSED) {
             expected.event = event;
@@ -109,8 +115,8 @@ impl<'t> Expected<'t> {
         expected
     }
 
-    /// Adds a line that the run is to write of it; an empty one adds none.
-    fn expect(&mut self, alloc: Global, wanted: &[u8]) -> Result<(), AllocError> {
+    /// Adds what the comment of this number says that the run is to write of it: a line, or where it is empty none.
+    fn expect(&mut self, alloc: Global, number: usize, wanted: &[u8]) -> Result<(), AllocError> {
         let mut lines = match self.lines.take() {
             Some(lines) => lines,
             None => Vec::new(alloc),
@@ -118,20 +124,29 @@ impl<'t> Expected<'t> {
         if !wanted.is_empty() {
             lines.extend_from_slice(wanted)?;
             lines.push(b'\n')?;
+            self.comments.push(number)?;
         }
         self.lines = Some(lines);
+        self.last = number;
         Ok(())
+    }
+
+    /// The number of the line of the script that expects the line of this number, counted from 1, and where none does
+    /// that of its last comment.
+    pub fn comment(&self, line: usize) -> usize {
+        let found = self.comments.get(line.saturating_sub(1));
+        found.copied().unwrap_or(self.last)
     }
 }
 
-/// The line of a trace that this line of a script expects, if it expects one.
-fn wanted_line(line: &[u8]) -> Option<&[u8]> {
-    let wanted = line.trim_ascii().strip_prefix(MARK)?;
+/// The line of a trace that this line of a script expects, if it expects one; an empty one where it expects none.
+pub fn wanted_line(line: &[u8]) -> Option<&[u8]> {
+    let wanted = line.trim_ascii().strip_prefix(MARK.as_bytes())?;
     Some(wanted.trim_ascii())
 }
 
 /// What a text has in front of these words and a number, which end it, and the number.
-fn split_number<'t>(text: &'t [u8], words: &[u8]) -> Option<(&'t [u8], u8)> {
+fn split_number<'t>(text: &'t [u8], words: &str) -> Option<(&'t [u8], u8)> {
     let digits = text
         .iter()
         .rev()
@@ -139,7 +154,10 @@ fn split_number<'t>(text: &'t [u8], words: &[u8]) -> Option<(&'t [u8], u8)> {
         .count();
     let at = text.len().checked_sub(digits)?;
     let number = str::from_utf8(text.get(at..)?).ok()?.parse::<u8>().ok()?;
-    let event = text.get(..at)?.trim_ascii_end().strip_suffix(words)?;
+    let event = text
+        .get(..at)?
+        .trim_ascii_end()
+        .strip_suffix(words.as_bytes())?;
     Some((event.trim_ascii_end(), number))
 }
 

@@ -1,6 +1,6 @@
 //! Each event of a script beside what a trace tells of it.
 
-use crate::expected::{ExpectationFault, Expected, expectations};
+use crate::expected::{ExpectationFault, Expected, ExpectedAnswer, expectations};
 use crate::happened::{Happened, split_event};
 use std::alloc::{AllocError, Global};
 
@@ -13,7 +13,8 @@ pub struct Test<'t> {
 
 /// What the script expects of each of its events, and what the trace of its run tells of that event. A fault that comes
 /// where the next event is to be taken has its line below the event before; it is reported of the next one, if that is
-/// expected to stop the run so. Errors: as of `expectations`.
+/// expected to stop the run so, or if the one before was refused, since nothing goes on after that. Errors: as of
+/// `expectations`.
 pub fn judge<'t>(
     alloc: Global,
     script: &'t [u8],
@@ -37,7 +38,7 @@ fn beside<'t>(
         let (happened, rest) = split_event(left);
         left = rest;
         if let Some(mut test) = before {
-            if happened.answer.is_none() && expected.fault.is_some() {
+            if happened.answer.is_none() && (expected.fault.is_some() || test.is_refused()) {
                 test.leave_fault();
             }
             tests.push(test)?;
@@ -51,10 +52,15 @@ fn beside<'t>(
 }
 
 impl Test<'_> {
-    /// The fault is the next event's, unless this one is expected to stop the run.
+    /// The fault is the next event's, unless this one is expected to stop the run and may have done so.
     fn leave_fault(&mut self) {
-        if self.expected.fault.is_none() {
+        if self.expected.fault.is_none() || self.is_refused() {
             self.happened.fault = None;
         }
+    }
+
+    /// Whether the event was refused.
+    fn is_refused(&self) -> bool {
+        matches!(self.happened.answer, Some(ExpectedAnswer::Refused(_)))
     }
 }

@@ -1,4 +1,5 @@
-//! Scripts as tests: what the comments of a script expect of its events, and whether the trace of a run has it.
+//! Scripts as tests: what the comments of a script expect of its events, whether the trace of a run has it, and the script with
+//! the comments that a trace meets.
 #![tactic(auto)]
 
 mod difference;
@@ -6,6 +7,7 @@ mod expected;
 mod finding;
 mod happened;
 mod judging;
+mod recording;
 mod telling;
 
 pub use difference::{Difference, first_difference};
@@ -13,4 +15,5 @@ pub use expected::{ExpectationFault, Expected, ExpectedAnswer, expectations};
 pub use finding::{Finding, find, went_as_expected};
 pub use happened::{Happened, split_event};
 pub use judging::{Test, judge};
+pub use recording::{Recorded, record};
 pub use telling::{Form, report};

@@ -49,9 +49,12 @@ pub fn report(
     Ok((text, failed))
 }
 
-/// Adds how an event went.
+/// Adds how an event went, with the line of the script that expects it otherwise: a comment below the event, or its own.
 fn push_plain(text: &mut String, test: &Test<'_>, finding: Finding<'_>) -> Result<(), AllocError> {
-    let line = test.expected.line;
+    let line = match finding {
+        Finding::Wrote(difference) => test.expected.comment(difference.line),
+        _ => test.expected.line,
+    };
     write!(text, "line {line} of the script, `")?;
     push_printed(text, test.expected.event)?;
     text.push_str("`: ")?;
@@ -74,6 +77,10 @@ fn push_tap(
     text.push_str("\n")?;
     if !is_as_expected {
         text.push_str("# ")?;
+        if let Finding::Wrote(difference) = finding {
+            let line = test.expected.comment(difference.line);
+            write!(text, "line {line}: ")?;
+        }
         push_finding(text, test, finding)?;
         text.push_str("\n")?;
     }

@@ -13,8 +13,8 @@ use unexpected_tokens::Source;
 /// A limit of how many declarations there may be.
 #[derive(Clone, Copy)]
 struct Limit {
-    /// How many, by the standard limits.
-    standard: usize,
+    /// How many there may be.
+    most: usize,
     /// How many with `--wide`.
     wide: usize,
     name: &'static str,
@@ -24,10 +24,10 @@ struct Limit {
     in_class: bool,
 }
 
-macro_rules! limits {
-    ($($field:ident $name:literal [$($word:ident)*] $in_class:literal;)*) => {
+macro_rules! counted {
+    ($limits:ident; $($field:ident $name:literal [$($word:ident)*] $in_class:literal;)*) => {
         [$(Limit {
-            standard: Limits::standard().$field,
+            most: $limits.$field,
             wide: Limits::wide().$field,
             name: $name,
             words: &[$(Word::$word),*],
@@ -36,9 +36,10 @@ macro_rules! limits {
     };
 }
 
-/// The limits of a program's declarations.
-fn limits() -> [Limit; 7] {
-    limits! {
+/// What these limits say of a program's declarations.
+fn counted(limits: Limits) -> [Limit; 7] {
+    counted! {
+        limits;
         classes "classes" [Class] false;
         wires "wires" [Wire] false;
         owns "`owns`" [Owns] false;
@@ -61,8 +62,8 @@ struct Excess {
 }
 
 impl Limit {
-    /// What goes over this number of them, if anything does.
-    fn excess(&self, most: usize, source: Source, trail: &Trail) -> Option<Excess> {
+    /// What goes over it, if anything does.
+    fn excess(&self, source: Source, trail: &Trail) -> Option<Excess> {
         let mut found: Option<Excess> = None;
         let mut total = 0usize;
         let mut class = 0usize;
@@ -83,7 +84,7 @@ impl Limit {
                     Some(first) => first.at,
                     None => begun.at,
                 };
-                if total > most {
+                if total > self.most {
                     found = Some(Excess { at, total, class });
                 }
             }
@@ -92,73 +93,53 @@ impl Limit {
     }
 }
 
-/// The first declaration with which there are too many: more than `--wide` takes, where there are so many of some kind, and
-/// else more than the standard limits say.
+/// The first declaration with which there are more than these limits say.
 pub fn count_flaw(
     alloc: Global,
+    limits: Limits,
     source: Source,
     trail: &Trail,
 ) -> Result<Option<Flaw>, AllocError> {
-    match first_excess(alloc, source, trail, true)? {
-        Some(flaw) => Ok(Some(flaw)),
-        None => first_excess(alloc, source, trail, false),
+    let Some((limit, excess)) = first_excess(limits, source, trail) else {
+        return Ok(None);
+    };
+    let sentence = excess_sentence(alloc, source, &limit, &excess)?;
+    let mut flaw = Flaw::with_advice(alloc, source.place(excess.at), sentence, None)?;
+    if first_excess(Limits::wide(), source, trail).is_none() {
+        flaw.advice = Some(wide_advice(alloc, limit.wide)?);
     }
+    Ok(Some(flaw))
 }
 
-/// The first declaration with which there are more than `--wide` takes, or more than the standard limits say.
-fn first_excess(
-    alloc: Global,
-    source: Source,
-    trail: &Trail,
-    is_wide: bool,
-) -> Result<Option<Flaw>, AllocError> {
-    let mut first: Option<(usize, Flaw)> = None;
-    for limit in &limits() {
-        let most = if is_wide { limit.wide } else { limit.standard };
-        if let Some(excess) = limit.excess(most, source, trail) {
+/// The first declaration that goes over one of these limits, and over which, if one does.
+fn first_excess(limits: Limits, source: Source, trail: &Trail) -> Option<(Limit, Excess)> {
+    let mut first: Option<(Limit, Excess)> = None;
+    for limit in &counted(limits) {
+        if let Some(excess) = limit.excess(source, trail) {
             let is_first = match &first {
-                Some((at, _)) => excess.at < *at,
+                Some((_, other)) => excess.at < other.at,
                 None => true,
             };
             if is_first {
-                let mut flaw = excess_flaw(alloc, source, limit, most, &excess)?;
-                if !is_wide {
-                    flaw.advice = Some(wide_advice(alloc, limit.wide)?);
-                }
-                first = Some((excess.at, flaw));
+                first = Some((*limit, excess));
             }
         }
     }
-    match first {
-        Some((_, flaw)) => Ok(Some(flaw)),
-        None => Ok(None),
-    }
+    first
 }
 
-/// What helps where the standard limits are too small.
+/// What helps where the limits are too small, and the wide ones aren't.
 fn wide_advice(alloc: Global, most: usize) -> Result<String, AllocError> {
     format!(in alloc; "with `--wide` at most {most} may be")
-}
-
-fn excess_flaw(
-    alloc: Global,
-    source: Source,
-    limit: &Limit,
-    most: usize,
-    excess: &Excess,
-) -> Result<Flaw, AllocError> {
-    let sentence = excess_sentence(alloc, source, limit, most, excess)?;
-    Flaw::with_advice(alloc, source.place(excess.at), sentence, None)
 }
 
 fn excess_sentence(
     alloc: Global,
     source: Source,
     limit: &Limit,
-    most: usize,
     excess: &Excess,
 ) -> Result<String, AllocError> {
-    let (name, total) = (limit.name, excess.total);
+    let (name, most, total) = (limit.name, limit.most, excess.total);
     let mut sentence = if limit.in_class {
         let class = source.shown(excess.class);
         format!(in alloc; "class `{class}`")?
@@ -179,18 +160,21 @@ pub fn script_size_flaw(alloc: Global, text: &[u8]) -> Result<Option<Flaw>, Allo
     size_flaw(alloc, "script", text, MOST_BYTES)
 }
 
-/// A program with more bytes than it may have: than `--wide` takes, or else than the standard limits say.
-pub fn program_size_flaw(alloc: Global, text: &[u8]) -> Result<Option<Flaw>, AllocError>
+/// A program with more bytes than these limits say.
+pub fn program_size_flaw(
+    alloc: Global,
+    limits: Limits,
+    text: &[u8],
+) -> Result<Option<Flaw>, AllocError>
     ensures { IfOk result (λ flaw. IfSome flaw (λ f. f.at ≤ length text.now)) }
 {
-    let wide = Limits::wide().bytes;
-    if text.len() > wide {
-        return size_flaw(alloc, "program", text, wide);
-    }
-    let Some(mut flaw) = size_flaw(alloc, "program", text, Limits::standard().bytes)? else {
+    let Some(mut flaw) = size_flaw(alloc, "program", text, limits.bytes)? else {
         return Ok(None);
     };
-    flaw.advice = Some(wide_advice(alloc, wide)?);
+    let wide = Limits::wide().bytes;
+    if text.len() <= wide {
+        flaw.advice = Some(wide_advice(alloc, wide)?);
+    }
     Ok(within(0, text.len(), Some(flaw)))
 }
 

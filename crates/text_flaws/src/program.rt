@@ -5,33 +5,43 @@ ghost use Rattle.std.specs.Prelude.{◌≤◌, length, IfOk, IfSome};
 use crate::bytes::bad_byte;
 use crate::limits::{count_flaw, depth_flaw, parameters_flaw, program_size_flaw, reference_flaw};
 use crate::parts::{plain_tokens, whole, within};
-use class_lang::program_trail;
+use class_lang::{Limits, program_trail};
 use diagnostics::{Flaw, meaning};
 use std::alloc::{AllocError, Global};
 use texts::{PlaceFault, PlacedToken, Token, Word, placed_tokens};
 use token_reading::Trail;
 use unexpected_tokens::{Source, Unexpected};
 
-/// What is wrong with a program that is refused for the reason of this number, where that has a place in its text: a
-/// byte that begins no token (4), the first token that can't stand where it does (5), one that nests too deep (6), a
-/// reference that isn't const (2), a ninth parameter (3), or too many bytes or declarations (7).
-pub fn program_flaw(alloc: Global, text: &[u8], number: u8) -> Result<Option<Flaw>, AllocError>
+/// What is wrong with a program that was read by these limits and is refused for the reason of this number, where that has a
+/// place in its text: a byte that begins no token (4), the first token that can't stand where it does (5), one that nests too
+/// deep (6), a reference that isn't const (2), a ninth parameter (3), or too many bytes or declarations (7).
+pub fn program_flaw(
+    alloc: Global,
+    limits: Limits,
+    text: &[u8],
+    number: u8,
+) -> Result<Option<Flaw>, AllocError>
     ensures { IfOk result (λ flaw. IfSome flaw (λ f. f.at ≤ length text.now)) }
 {
-    let flaw = flaw_of(alloc, text, number)?;
+    let flaw = flaw_of(alloc, limits, text, number)?;
     Ok(within(0, text.len(), flaw))
 }
 
-fn flaw_of(alloc: Global, text: &[u8], number: u8) -> Result<Option<Flaw>, AllocError> {
+fn flaw_of(
+    alloc: Global,
+    limits: Limits,
+    text: &[u8],
+    number: u8,
+) -> Result<Option<Flaw>, AllocError> {
     if number == 7
-        && let Some(flaw) = program_size_flaw(alloc, text)?
+        && let Some(flaw) = program_size_flaw(alloc, limits, text)?
     {
         return Ok(Some(flaw));
     }
     match placed_tokens(alloc, text) {
         Ok(placed) => {
             let tokens = placed.as_slice();
-            flaw_in(alloc, Source { text, tokens }, number)
+            flaw_in(alloc, limits, Source { text, tokens }, number)
         }
         Err(PlaceFault::BadByte(at)) => Ok(Some(bad_byte(alloc, text, at)?)),
         Err(PlaceFault::Memory) => Err(AllocError),
@@ -39,7 +49,12 @@ fn flaw_of(alloc: Global, text: &[u8], number: u8) -> Result<Option<Flaw>, Alloc
 }
 
 /// What is wrong with a program of these tokens.
-fn flaw_in(alloc: Global, source: Source, number: u8) -> Result<Option<Flaw>, AllocError> {
+fn flaw_in(
+    alloc: Global,
+    limits: Limits,
+    source: Source,
+    number: u8,
+) -> Result<Option<Flaw>, AllocError> {
     match number {
         2 => reference_flaw(alloc, source),
         3 => parameters_flaw(alloc, source, false),
@@ -50,7 +65,7 @@ fn flaw_in(alloc: Global, source: Source, number: u8) -> Result<Option<Flaw>, Al
         6 => depth_flaw(alloc, source),
         7 => {
             let trail = trail_of(alloc, source.text)?;
-            count_flaw(alloc, source, &trail)
+            count_flaw(alloc, limits, source, &trail)
         }
         _ => Ok(None),
     }

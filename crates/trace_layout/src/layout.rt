@@ -4,10 +4,10 @@ ghost use Rattle.std.specs.Prelude.{◌≡◌, ◌++◌, List, ℕ, OnOk};
 ghost use Rattle.trace_layout.specs.Shown.{ShowsLine, AddsColoured, AddsRemark, indent_of};
 
 use crate::colour::colour_of;
-use diagnostics::meaning;
+use crate::remarks::remark;
 use std::alloc::AllocError;
 use texts::{MOST_DEPTH, split_line};
-use trace_reading::{EntryKind, TraceLine};
+use trace_reading::TraceLine;
 
 /// What ends a colour.
 const RESET: &[u8] = b"\x1b[0m";
@@ -71,14 +71,4 @@ fn push_remark(shown: &mut Vec<u8>, told: TraceLine) -> Result<(), AllocError>
     shown.extend_from_slice(b"  -- ")?;
     shown.extend_from_slice(words)?;
     Ok(())
-}
-
-/// What the number of a refusal or a fault means.
-fn remark(told: TraceLine) -> Option<&'static str> {
-    match told {
-        TraceLine::Refused(_, reason) => meaning(reason),
-        TraceLine::At(_, EntryKind::Refused(reason)) => meaning(reason),
-        TraceLine::Fault(fault) => meaning(fault),
-        TraceLine::Accepted(_) | TraceLine::At(_, _) => None,
-    }
 }

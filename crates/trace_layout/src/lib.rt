@@ -4,7 +4,9 @@
 
 mod colour;
 mod layout;
+mod remarks;
 mod show;
 
 pub use layout::push_shown;
+pub use remarks::remark;
 pub use show::show_trace;

@@ -18,6 +18,7 @@ header { background: Canvas; padding: 1em 0; position: sticky; top: 0; }
 summary, div, .fault, code { font-family: monospace; overflow-wrap: anywhere; white-space: pre-wrap; }
 summary { cursor: pointer; }
 code { color: var(--grey); padding-left: 1ch; }
+i { color: var(--grey); font: italic 13px/1.5 sans-serif; padding-left: 1ch; }
 details:not(:has(div)) > summary { list-style: none; padding-left: 2ch; }
 div { padding-left: calc(var(--depth) * 2ch + 2ch); }
 .emit, .connect { color: var(--brown); }
@@ -48,14 +49,15 @@ pub const FOOT: &str = r#"</main>
 <script>
 const search = document.getElementById("search");
 const events = Array.from(document.querySelectorAll("details"));
+const first = events.find((event) => event.open);
 const has = (element, text) => element.textContent.toLowerCase().includes(text);
 function find() {
   const text = search.value.toLowerCase();
   for (const event of events) {
     event.hidden = !has(event, text);
-    event.open = text !== "" && !event.hidden;
+    event.open = text === "" ? event === first : !event.hidden;
     for (const line of event.children) {
-      line.classList.toggle("found", event.open && has(line, text));
+      line.classList.toggle("found", text !== "" && has(line, text));
     }
   }
   const found = events.filter((event) => !event.hidden).length;

@@ -1,14 +1,19 @@
 //! A verdict as JSON (docs/verdict.md).
 
-use crate::names::{Labels, Names, name_text};
-use findings::{Finding, Step, TextKind, TextPlace, Verdict};
+use crate::names::{Names, name_text};
+use crate::spots::origin;
+use findings::{Finding, Severity, Step, TextKind, TextPlace, Verdict};
 use serde::Serialize;
 use serde_json::to_string_pretty;
 use std::alloc::{AllocError, Global};
 
+/// The version of the form: it rises where a field goes or means something else.
+const FORM: usize = 1;
+
 /// A verdict.
 #[derive(Drop, Serialize)]
 struct Report<'v> {
+    version: usize,
     findings: Vec<Entry<'v>>,
     more: usize,
     accepted: usize,
@@ -18,15 +23,23 @@ struct Report<'v> {
 #[derive(Drop, Serialize)]
 struct Entry<'v> {
     rule: &'v str,
-    number: u8,
+    #[serde(skip_serializing_if = "Option::is_none")]
+    number: Option<u8>,
+    severity: &'v str,
     message: &'v str,
     #[serde(skip_serializing_if = "Option::is_none")]
     help: Option<&'v str>,
-    file: &'v str,
+    file: String,
     #[serde(skip_serializing_if = "Option::is_none")]
     line: Option<usize>,
     #[serde(skip_serializing_if = "Option::is_none")]
     column: Option<usize>,
+    #[serde(skip_serializing_if = "Option::is_none")]
+    words: Option<String>,
+    #[serde(skip_serializing_if = "Vec::is_empty")]
+    conditions: Vec<String>,
+    #[serde(skip_serializing_if = "Option::is_none")]
+    program: Option<Spot>,
     chain: Vec<StepEntry<'v>>,
 }
 
@@ -36,12 +49,39 @@ struct StepEntry<'v> {
     from: &'v str,
     to: &'v str,
     by: &'v str,
+    #[serde(skip_serializing_if = "Option::is_none")]
+    queued: Option<bool>,
     message: &'v str,
-    file: &'v str,
+    file: String,
     #[serde(skip_serializing_if = "Option::is_none")]
     line: Option<usize>,
     #[serde(skip_serializing_if = "Option::is_none")]
     column: Option<usize>,
+    #[serde(skip_serializing_if = "Option::is_none")]
+    words: Option<String>,
+    #[serde(skip_serializing_if = "Vec::is_empty")]
+    conditions: Vec<String>,
+    #[serde(skip_serializing_if = "Option::is_none")]
+    program: Option<Spot>,
+}
+
+/// A place of a text.
+#[derive(Drop, Serialize)]
+struct Spot {
+    file: String,
+    #[serde(skip_serializing_if = "Option::is_none")]
+    line: Option<usize>,
+    #[serde(skip_serializing_if = "Option::is_none")]
+    column: Option<usize>,
+}
+
+/// Where something stands: in the other text, where that is known, and then in the program too.
+#[derive(Drop)]
+struct Standing {
+    spot: Spot,
+    words: Option<String>,
+    conditions: Vec<String>,
+    program: Option<Spot>,
 }
 
 /// The verdict as one object of JSON. Its only error is that memory was refused.
@@ -50,28 +90,16 @@ pub fn json_report(
     verdict: &Verdict,
     names: Names<'_>,
 ) -> Result<String, AllocError> {
-    let program = name_text(alloc, names.program)?;
-    let certificate = name_text(alloc, names.certificate)?;
-    let labels = Labels {
-        program: program.as_str(),
-        certificate: certificate.as_str(),
-    };
-    report_text(alloc, verdict, labels)
-}
-
-/// The verdict on texts of these names.
-fn report_text<'v>(
-    alloc: Global,
-    verdict: &'v Verdict,
-    labels: Labels<'v>,
-) -> Result<String, AllocError> {
     let mut findings = Vec::new(alloc);
-    for finding in verdict.findings.as_slice() {
-        findings.push(entry_of(alloc, finding, labels)?)?;
+    for severity in Severity::ALL {
+        for finding in verdict.findings_of(severity) {
+            findings.push(entry_of(alloc, severity, finding, names)?)?;
+        }
     }
     let report = Report {
+        version: FORM,
         findings,
-        more: verdict.more,
+        more: verdict.more(),
         accepted: verdict.accepted,
     };
     let mut text = to_string_pretty(alloc, &report).map_err(|_| AllocError)?;
@@ -82,36 +110,97 @@ fn report_text<'v>(
 /// A finding, with its steps.
 fn entry_of<'v>(
     alloc: Global,
+    severity: Severity,
     finding: &'v Finding,
-    labels: Labels<'v>,
+    names: Names<'_>,
 ) -> Result<Entry<'v>, AllocError> {
     let mut chain = Vec::new(alloc);
     for step in finding.chain.as_slice() {
-        chain.push(step_of(step, labels))?;
+        chain.push(step_of(alloc, step, names)?)?;
     }
+    let Standing {
+        spot: Spot { file, line, column },
+        words,
+        conditions,
+        program,
+    } = standing_at(alloc, names, finding.text, finding.place)?;
     Ok(Entry {
         rule: finding.rule.id(),
         number: finding.rule.number(),
+        severity: severity.word(),
         message: finding.message.as_str(),
         help: help_of(finding),
-        file: labels.of(finding.text),
-        line: line_of(finding.place),
-        column: column_of(finding.place),
+        file,
+        line,
+        column,
+        words,
+        conditions,
+        program,
         chain,
     })
 }
 
 /// A step.
-fn step_of<'v>(step: &'v Step, labels: Labels<'v>) -> StepEntry<'v> {
-    StepEntry {
+fn step_of<'v>(
+    alloc: Global,
+    step: &'v Step,
+    names: Names<'_>,
+) -> Result<StepEntry<'v>, AllocError> {
+    let Standing {
+        spot: Spot { file, line, column },
+        words,
+        conditions,
+        program,
+    } = standing_at(alloc, names, TextKind::Program, step.place)?;
+    Ok(StepEntry {
         from: step.from.as_str(),
         to: step.to.as_str(),
         by: step.link.word(),
+        queued: if step.is_posted { Some(true) } else { None },
         message: step.message.as_str(),
-        file: labels.of(TextKind::Program),
-        line: line_of(step.place),
-        column: column_of(step.place),
+        file,
+        line,
+        column,
+        words,
+        conditions,
+        program,
+    })
+}
+
+/// Where this place of a text stands.
+fn standing_at(
+    alloc: Global,
+    names: Names<'_>,
+    text: TextKind,
+    place: Option<TextPlace>,
+) -> Result<Standing, AllocError> {
+    let own = Spot {
+        file: name_text(alloc, names.of(text))?,
+        line: line_of(place),
+        column: column_of(place),
+    };
+    let mut conditions = Vec::new(alloc);
+    let Some(other) = origin(names, text, place) else {
+        return Ok(Standing {
+            spot: own,
+            words: None,
+            conditions,
+            program: None,
+        });
+    };
+    for condition in other.conditions.as_slice() {
+        conditions.push(name_text(alloc, condition)?)?;
     }
+    Ok(Standing {
+        spot: Spot {
+            file: name_text(alloc, other.file)?,
+            line: Some(other.other_line),
+            column: Some(other.other_column),
+        },
+        words: Some(name_text(alloc, other.words)?),
+        conditions,
+        program: Some(own),
+    })
 }
 
 /// What to do about it.

@@ -4,38 +4,23 @@ use diagnostics::push_printed;
 use findings::TextKind;
 use std::alloc::{AllocError, Global};
 use std::str;
+use text_places::TextPlaces;
 
 /// What the texts are called: the names of their files, where they are files. Such a name may be any bytes.
-#[derive(Clone, Copy, Debug)]
+#[derive(Clone, Copy)]
 pub struct Names<'n> {
     /// The program.
     pub program: &'n [u8],
     /// Its certificate.
     pub certificate: &'n [u8],
+    /// What places of the program stand for in another text, from which a tool wrote it; where they stand for something,
+    /// that is told.
+    pub places: Option<&'n TextPlaces<'n>>,
 }
 
 impl<'n> Names<'n> {
     /// What the text is called.
     pub fn of(&self, text: TextKind) -> &'n [u8] {
-        match text {
-            TextKind::Program => self.program,
-            TextKind::Certificate => self.certificate,
-        }
-    }
-}
-
-/// How the texts are named in a report.
-#[derive(Clone, Copy, Debug)]
-pub struct Labels<'n> {
-    /// The program.
-    pub program: &'n str,
-    /// Its certificate.
-    pub certificate: &'n str,
-}
-
-impl<'n> Labels<'n> {
-    /// How the text is named.
-    pub fn of(&self, text: TextKind) -> &'n str {
         match text {
             TextKind::Program => self.program,
             TextKind::Certificate => self.certificate,

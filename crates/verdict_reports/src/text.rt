@@ -1,36 +1,56 @@
 //! A verdict as lines, as compilers write them.
 
 use crate::names::Names;
+use crate::spots::{step_text, told_at};
 use diagnostics::Printed;
-use findings::{Finding, Step, TextKind, TextPlace, Verdict};
+use findings::{Finding, Severity, Step, TextKind, TextPlace, Verdict};
 use std::alloc::{AllocError, Global};
 
 /// So many steps of a chain are reported.
 const MOST_STEPS: usize = 12;
 
-/// The findings, each a line `NAME:LINE:COLUMN: error: MESSAGE [RULE]` with its steps as notes and what to do below it; and a
-/// last line that counts them.
+/// The findings, the gravest first, each a line `NAME:LINE:COLUMN: SEVERITY: MESSAGE [RULE]` with its steps as notes and what to
+/// do below it; and a last line that counts them.
 pub fn text_report(
     alloc: Global,
     verdict: &Verdict,
     names: Names<'_>,
 ) -> Result<String, AllocError> {
     let mut text = String::new(alloc);
-    for finding in verdict.findings.as_slice() {
-        push_finding(&mut text, finding, names)?;
+    for severity in Severity::ALL {
+        for finding in verdict.findings_of(severity) {
+            push_finding(&mut text, alloc, severity, finding, names)?;
+        }
     }
     push_count(&mut text, verdict)?;
     Ok(text)
 }
 
 /// Adds a finding.
-fn push_finding(text: &mut String, finding: &Finding, names: Names<'_>) -> Result<(), AllocError> {
+fn push_finding(
+    text: &mut String,
+    alloc: Global,
+    severity: Severity,
+    finding: &Finding,
+    names: Names<'_>,
+) -> Result<(), AllocError> {
+    let severity = severity.word();
     let message = finding.message.as_str();
     let rule = finding.rule.id();
-    push_place(text, names.of(finding.text), finding.place)?;
-    writeln!(text, " error: {message} [{rule}]")?;
+    push_place(text, names, finding.text, finding.place)?;
+    writeln!(text, " {severity}: {message} [{rule}]")?;
+    push_below(text, alloc, finding, names)
+}
+
+/// Adds what stands below a finding: its steps, and what to do about it.
+pub fn push_below(
+    text: &mut String,
+    alloc: Global,
+    finding: &Finding,
+    names: Names<'_>,
+) -> Result<(), AllocError> {
     for step in finding.chain.iter().take(MOST_STEPS) {
-        push_step(text, step, names)?;
+        push_step(text, alloc, step, names)?;
     }
     let more = finding.chain.len().saturating_sub(MOST_STEPS);
     if more > 0 {
@@ -44,14 +64,25 @@ fn push_finding(text: &mut String, finding: &Finding, names: Names<'_>) -> Resul
 }
 
 /// Adds a step.
-fn push_step(text: &mut String, step: &Step, names: Names<'_>) -> Result<(), AllocError> {
-    let message = step.message.as_str();
-    push_place(text, names.of(TextKind::Program), step.place)?;
+fn push_step(
+    text: &mut String,
+    alloc: Global,
+    step: &Step,
+    names: Names<'_>,
+) -> Result<(), AllocError> {
+    push_place(text, names, TextKind::Program, step.place)?;
+    let message = step_text(alloc, names, step)?;
     writeln!(text, " note: {message}")
 }
 
-/// Adds a place in the text of this name.
-fn push_place(text: &mut String, name: &[u8], place: Option<TextPlace>) -> Result<(), AllocError> {
+/// Adds a place in a text, or what it stands for in another one.
+fn push_place(
+    text: &mut String,
+    names: Names<'_>,
+    kind: TextKind,
+    place: Option<TextPlace>,
+) -> Result<(), AllocError> {
+    let (name, place) = told_at(names, kind, place);
     let name = Printed(name);
     match place {
         Some(TextPlace { line, column }) => write!(text, "{name}:{line}:{column}:"),
@@ -59,14 +90,30 @@ fn push_place(text: &mut String, name: &[u8], place: Option<TextPlace>) -> Resul
     }
 }
 
-/// Adds how many findings there are, and how many cycles are accepted.
+/// Adds how many findings there are, of which severities where not all are errors, and how many are accepted.
 fn push_count(text: &mut String, verdict: &Verdict) -> Result<(), AllocError> {
-    match verdict.findings.len() {
+    let errors = verdict.findings_of(Severity::Error).len();
+    let warnings = verdict.findings_of(Severity::Warning).len();
+    let notes = verdict.findings_of(Severity::Note).len();
+    let others = warnings.saturating_add(notes);
+    match errors.saturating_add(others) {
         0 => text.push_str("no findings")?,
         1 => text.push_str("1 finding")?,
         many => write!(text, "{many} findings")?,
     }
-    let more = verdict.more;
+    if others > 0 {
+        let mut joint = ": ";
+        for severity in Severity::ALL {
+            let count = verdict.findings_of(severity).len();
+            let word = severity.word();
+            if count > 0 {
+                let end = if count == 1 { "" } else { "s" };
+                write!(text, "{joint}{count} {word}{end}")?;
+                joint = ", ";
+            }
+        }
+    }
+    let more = verdict.more();
     if more > 0 {
         write!(text, ", and {more} more")?;
     }

@@ -4,6 +4,7 @@ use crate::located::Located;
 use crate::refusal::refusal_finding;
 use crate::sentences::Told;
 use certificate_lang::{Certificate, read_certificate};
+use class_lang::Limits;
 use effect_scan::Numbering;
 use findings::{Finding, Rule, TextKind, Verdict};
 use program_commands::Refusal;
@@ -11,9 +12,11 @@ use program_flaws::{cause_place, cause_text};
 use rank_check::{Cause, Mistake, judge};
 use std::alloc::AllocError;
 
-/// Adds why the certificate can't be read, or isn't valid for the program, where that lies in the certificate.
+/// Adds why the certificate can't be read, or isn't valid for the program, which was read by these limits, where that lies in
+/// the certificate.
 pub fn gather_certificate(
     located: Located<'_>,
+    limits: Limits,
     text: &[u8],
     found: &mut Verdict,
 ) -> Result<(), AllocError> {
@@ -21,8 +24,8 @@ pub fn gather_certificate(
     let certificate = match read_certificate(alloc, text) {
         Ok(certificate) => certificate,
         Err(fault) => {
-            let finding = refusal_finding(alloc, text, &Refusal::Certificate(fault))?;
-            return push(found, finding);
+            let finding = refusal_finding(alloc, limits, text, &Refusal::Certificate(fault))?;
+            return push(located, found, finding);
         }
     };
     match judge(alloc, located.source.meta, &certificate) {
@@ -31,16 +34,16 @@ pub fn gather_certificate(
         Err(Cause::Wire(_) | Cause::BodyType(_)) => Ok(()),
         Err(cause) => {
             let finding = cause_finding(located, text, &certificate, cause)?;
-            push(found, finding)
+            push(located, found, finding)
         }
     }
 }
 
-fn push(found: &mut Verdict, finding: Finding) -> Result<(), AllocError> {
-    if found.takes_one() {
-        found.push(finding)?;
+fn push(located: Located<'_>, found: &mut Verdict, finding: Finding) -> Result<(), AllocError> {
+    match found.taken(located.levels.of(finding.rule)) {
+        Some(severity) => found.push(severity, finding),
+        None => Ok(()),
     }
-    Ok(())
 }
 
 /// What breaks a condition, which is one of those on the certificate.

@@ -19,10 +19,10 @@ pub fn gather_chain(search: Search<'_>, found: &mut Verdict) -> Result<(), Alloc
         }
     }
     if let Some(numbers) = graph.long_chain(knotted.as_slice(), MOST_BOUND as usize)? {
-        if found.takes_one() {
+        if let Some(severity) = found.taken(search.located.levels.of(Rule::ChainTooLong)) {
             let nodes = search.nodes_at(numbers.as_slice())?;
             let finding = chain_finding(search.located, nodes.as_slice())?;
-            found.push(finding)?;
+            found.push(severity, finding)?;
         }
     }
     Ok(())

@@ -1,29 +1,35 @@
 //! The verdict on a program and its certificate.
 
-ghost use Rattle.std.specs.Prelude.{◌≡◌, ◌≢◌, ◌<◌, ◌⊎◌, [], IsTrue, IfOk, MatchOption, count_by};
-ghost use Rattle.class_lang.specs.Limits.{standard};
+ghost use Rattle.std.specs.Prelude.{◌≡◌, ◌≢◌, ◌<◌, ◌⊎◌, ◌↔◌, [], All, IsTrue, IsFalse, IfOk, MatchOption, count_by};
 ghost use Rattle.program_commands.specs.Commands.{CertifyComesTo, CheckComesTo};
 ghost use Rattle.program_commands.specs.Outcomes.{outcome_status};
 ghost use Rattle.verdicts.specs.Accepted.{is_accepted, IsClean};
-ghost use Rattle.verdicts.specs.Statuses.{HasStatus};
+ghost use Rattle.verdicts.specs.Statuses.{HasStatus, IsRefusedAs};
 
 use crate::certificate::gather_certificate;
 use crate::judged::judged_finding;
 use crate::located::Located;
 use crate::places::Places;
-use crate::program::gather_program;
+use crate::program::{gather_program, program_remarks};
 use crate::refusal::refusal_finding;
-use class_lang::{Limits, read_program};
-use findings::{CycleSet, Verdict};
+use class_lang::{Limits, read_within};
+use effect_scan::Scan;
+use findings::{Edge, Finding, LevelChange, Levels, PlacedEdge, Rule, Severity, Verdict};
 use meta_model::Meta;
 use meta_objects::FromProgram;
 use program_commands::{Outcome, Refusal, certify_outcome, check_outcome};
-use program_flaws::Source;
+use program_flaws::{Source, declarations_of};
 use std::alloc::{AllocError, Global};
 use syntax_trees::Program;
 
-/// The exit status where nothing is found.
+/// The exit status where no error is found.
 const CLEAN: u8 = 0;
+
+/// The exit status where a text is refused.
+const REFUSED: u8 = 2;
+
+/// The exit status where errors are found.
+const FOUND: u8 = 3;
 
 /// The exit status where memory was wanting.
 const UNDONE: u8 = 1;
@@ -37,143 +43,296 @@ pub struct Texts<'t> {
     pub certificate: Option<&'t [u8]>,
 }
 
-/// All that is wrong with a program and its certificate: what refuses a text; and of a program that loads each wire that
-/// doesn't fit, each member and binding that isn't typed, one cycle of each set of members that all lead to one another,
-/// each slot and native with a way to the deletion of an object of its class, and one chain that is too long; then what the
-/// check says of the certificate. Cycles on the list are counted alone, and nothing else is. The exit status is that of
-/// `check`, or that of `certify` where no certificate is given, but 0 where all that is found is accepted. Where it is 0
-/// nothing is found that isn't accepted, and else something is. Its error is that memory was refused.
+/// What is known, and how far that is told.
+#[derive(Clone, Copy, Debug)]
+pub struct Listed<'l> {
+    /// The edges that are accepted on cycles.
+    pub edges: &'l [Edge],
+    /// Whether warnings and notes that are about one of these edges are left out too.
+    pub is_baseline: bool,
+}
+
+/// All that is found of a program, which is read by these limits, and its certificate: what refuses a text; and of a program
+/// that loads each wire that doesn't fit, each member and binding that isn't typed, one cycle of each set of members that all
+/// lead to one another, by each edge, what deletes an object while a slot, a native or a signal of it is active, one chain that is too long,
+/// and what is worth a warning or a note; then what the check says of the certificate. Each is as grave as the levels say, and cycles
+/// on the list are counted alone. The exit status is 2 where a text is refused, else 3 where an error is found and 0 where none
+/// is. Where the levels are those of the table it is that of `check`, or that of `certify` where no certificate is given, but 0
+/// where all errors that are found are accepted. Its error is that memory was refused.
 pub fn verdict(
     alloc: Global,
+    limits: Limits,
     texts: Texts<'_>,
-    accepted: &[CycleSet],
+    levels: Levels<'_>,
+    listed: Listed<'_>,
 ) -> Result<Verdict, AllocError>
-    ensures status { IfOk result (λ verdict. (verdict.accepted ≡ 0 ⊎ verdict.status ≢ 0) → HasStatus
+    ensures status { IfOk result (λ verdict. levels.entry.changes.now ≡ [] → (verdict.accepted ≡ 0 ⊎ verdict.status ≢ 0) → HasStatus
         (λ outcome. MatchOption texts.entry.certificate
-        (CertifyComesTo standard texts.entry.program.now outcome)
-        (λ certificate. CheckComesTo standard texts.entry.program.now certificate.now outcome))
+        (CertifyComesTo limits texts.entry.program.now outcome)
+        (λ certificate. CheckComesTo limits texts.entry.program.now certificate.now outcome))
         verdict.status) }
-    ensures accepted { IfOk result (λ verdict. verdict.accepted ≡ count_by (is_accepted accepted.now) verdict.cycles.items) }
-    ensures clean { IfOk result (λ verdict. verdict.status ≡ 0 → IsClean verdict) }
-    ensures found { IfOk result (λ verdict. verdict.status ≢ 0 → verdict.findings.items ≢ []) }
+    ensures refused { IfOk result (λ verdict. IsRefusedAs
+        (λ outcome. MatchOption texts.entry.certificate
+        (CertifyComesTo limits texts.entry.program.now outcome)
+        (λ certificate. CheckComesTo limits texts.entry.program.now certificate.now outcome))
+        verdict.status) }
+    ensures accepted { IfOk result (λ verdict. verdict.accepted ≡ count_by (is_accepted listed.entry.edges.now) verdict.edges.items) }
+    ensures clean { IfOk result (λ verdict. verdict.status ≡ 0 → IsClean levels.entry.changes.now verdict) }
+    ensures found { IfOk result (λ verdict. verdict.status ≢ 0 → verdict.errors.items ≢ []) }
 {
-    let judged = outcome(alloc, texts);
+    let judged = outcome(alloc, limits, texts);
     match judged.status() {
         UNDONE => Err(AllocError),
-        CLEAN => clean(alloc, accepted.len()),
-        _ => search(alloc, texts, accepted, &judged),
+        CLEAN => remark(alloc, texts, levels, listed, &judged),
+        _ => search(alloc, limits, texts, levels, listed, &judged),
     }
 }
 
-/// Nothing is found, so that none of so many cycles of a list is there.
-fn clean(alloc: Global, listed: usize) -> Result<Verdict, AllocError>
-    ensures status { IfOk result (λ verdict. verdict.status ≡ 0) }
-    ensures none { IfOk result (λ verdict. verdict.cycles.items ≡ []) }
+/// What is worth a warning or a note in the program of these texts, of which this is what `check` or `certify` answers: that
+/// nothing is wrong, so that it has no cycles.
+fn remark(
+    alloc: Global,
+    texts: Texts<'_>,
+    levels: Levels<'_>,
+    listed: Listed<'_>,
+    judged: &Outcome,
+) -> Result<Verdict, AllocError>
+    ensures status { IfOk result (λ verdict. levels.entry.changes.now ≡ [] → verdict.status ≡ 0) }
+    ensures refused { IfOk result (λ verdict. verdict.status ≢ 2) }
+    ensures none { IfOk result (λ verdict. verdict.edges.items ≡ []) }
     ensures accepted { IfOk result (λ verdict. verdict.accepted ≡ 0) }
-    ensures clean { IfOk result (λ verdict. IsClean verdict) }
+    ensures clean { IfOk result (λ verdict. verdict.status ≡ 0 → IsClean levels.entry.changes.now verdict) }
+    ensures found { IfOk result (λ verdict. verdict.status ≢ 0 → verdict.errors.items ≢ []) }
 {
-    let mut absent = Vec::new(alloc);
-    for place in 0..listed {
-        absent.push(place)?;
+    let remarks = certified_remarks(alloc, texts, levels, judged)?;
+    let mut found = Verdict::new(alloc, CLEAN);
+    add_remarks(levels, listed, remarks, &mut found)?;
+    found.edges = Vec::new(alloc);
+    found.accepted = 0;
+    found.bound = 0;
+    found.absent = absent(alloc, &found, listed.edges)?;
+    found.status = CLEAN;
+    if found.errors.is_empty() {
+        // Errors are counted behind the first hundred alone.
+        found.more_errors = 0;
+        return Ok(found);
     }
-    Ok(Verdict {
-        findings: Vec::new(alloc),
-        more: 0,
-        cycles: Vec::new(alloc),
-        accepted: 0,
-        absent,
-        status: CLEAN,
-    })
+    found.status = FOUND;
+    Ok(found)
+}
+
+/// What is worth a warning or a note in a program of which nothing is wrong. Most have nothing of that kind, so the text is read
+/// for places and names only where something is found without them. (A slot that runs an event loop and is led back to, which
+/// a comment of the text says, is on a cycle through an event loop, and so among what is found.)
+fn certified_remarks(
+    alloc: Global,
+    texts: Texts<'_>,
+    levels: Levels<'_>,
+    judged: &Outcome,
+) -> Result<Vec<Finding>, AllocError> {
+    let (meta, scan) = match judged {
+        Outcome::Certificate(certified) => (certified.meta(), &certified.ranks().scan),
+        Outcome::Valid(checked) => (checked.meta(), checked.scan()),
+        _ => return Ok(Vec::new(alloc)),
+    };
+    let found = remarks_by(alloc, b"", meta, scan, levels)?;
+    if found.is_empty() {
+        return Ok(found);
+    }
+    remarks_by(alloc, texts.program, meta, scan, levels)
+}
+
+/// What is worth a warning or a note in the program of these nodes and edges, with the places and names that this text has.
+fn remarks_by(
+    alloc: Global,
+    text: &[u8],
+    meta: &Meta,
+    scan: &Scan,
+    levels: Levels<'_>,
+) -> Result<Vec<Finding>, AllocError> {
+    let Some(program) = declarations_of(alloc, text)? else {
+        return Ok(Vec::new(alloc));
+    };
+    let places = Places::of(alloc, text)?;
+    let located = Located {
+        source: Source {
+            alloc,
+            program: &program,
+            meta,
+        },
+        places: &places,
+        levels,
+    };
+    program_remarks(located, scan)
+}
+
+/// Adds these findings, which are no errors but where that is asked for; those that the list has are left out where they are to.
+fn add_remarks(
+    levels: Levels<'_>,
+    listed: Listed<'_>,
+    remarks: Vec<Finding>,
+    found: &mut Verdict,
+) -> Result<(), AllocError>
+    ensures { levels.entry.changes.now ≡ [] → found.new.errors ≡ found.old.errors }
+{
+    for remark in remarks {
+        add_remark(levels, listed, remark, found)?;
+    }
+    Ok(())
+}
+
+/// Adds the finding, which is no error but where that is asked for.
+fn add_remark(
+    levels: Levels<'_>,
+    listed: Listed<'_>,
+    remark: Finding,
+    found: &mut Verdict,
+) -> Result<(), AllocError>
+    ensures { levels.entry.changes.now ≡ [] → found.new.errors ≡ found.old.errors }
+{
+    let is_known = note_edge(&remark, listed, &mut found.remarked)?;
+    if is_known {
+        return Ok(());
+    }
+    match found.taken(levels.of_remark(remark.rule)) {
+        Some(severity) => found.push(severity, remark),
+        None => Ok(()),
+    }
+}
+
+/// Adds the edge that the finding is about, if it is about one, and answers whether it is left out for it.
+fn note_edge(
+    remark: &Finding,
+    listed: Listed<'_>,
+    edges: &mut Vec<PlacedEdge>,
+) -> Result<bool, AllocError> {
+    let Some(step) = remark.edge() else {
+        return Ok(false);
+    };
+    let edge = Edge::of_step(*edges.allocator(), step)?;
+    let is_known = listed.is_baseline && listed.edges.contains(&edge);
+    edges.push(PlacedEdge {
+        edge,
+        place: step.place,
+    })?;
+    Ok(is_known)
 }
 
 /// What is wrong with the texts, of which this is what `check` or `certify` answers. The exit status is that one's, but 0
-/// where all that is found is accepted.
+/// where no error is found that isn't accepted.
 #[tactic(auto, using(crate::proofs::Told::not_empty))]
 fn search(
     alloc: Global,
+    limits: Limits,
     texts: Texts<'_>,
-    accepted: &[CycleSet],
+    levels: Levels<'_>,
+    listed: Listed<'_>,
     judged: &Outcome,
 ) -> Result<Verdict, AllocError>
     requires { outcome_status judged.now ≢ 0 }
-    ensures status { IfOk result (λ verdict. (verdict.accepted ≡ 0 ⊎ verdict.status ≢ 0) → verdict.status ≡ outcome_status judged.now) }
-    ensures accepted { IfOk result (λ verdict. verdict.accepted ≡ count_by (is_accepted accepted.now) verdict.cycles.items) }
-    ensures clean { IfOk result (λ verdict. verdict.status ≡ 0 → IsClean verdict) }
-    ensures found { IfOk result (λ verdict. verdict.status ≢ 0 → verdict.findings.items ≢ []) }
+    ensures status { IfOk result (λ verdict. levels.entry.changes.now ≡ [] → (verdict.accepted ≡ 0 ⊎ verdict.status ≢ 0) → verdict.status ≡ outcome_status judged.now) }
+    ensures refused { IfOk result (λ verdict. outcome_status judged.now ≡ 2 ↔ verdict.status ≡ 2) }
+    ensures accepted { IfOk result (λ verdict. verdict.accepted ≡ count_by (is_accepted listed.entry.edges.now) verdict.edges.items) }
+    ensures clean { IfOk result (λ verdict. verdict.status ≡ 0 → IsClean levels.entry.changes.now verdict) }
+    ensures found { IfOk result (λ verdict. verdict.status ≢ 0 → verdict.errors.items ≢ []) }
 {
     let status = judged.status();
     let mut found = Verdict::new(alloc, status);
-    gather(alloc, texts, accepted, &mut found)?;
-    found.accepted = count_accepted(found.cycles.as_slice(), accepted);
-    if is_clean(&found) {
+    gather(alloc, limits, texts, levels, listed, &mut found)?;
+    found.accepted = count_accepted(found.edges.as_slice(), listed.edges);
+    if status != REFUSED && is_clean(levels, &found) {
         found.status = CLEAN;
         return Ok(found);
     }
     found.status = status;
-    if !found.findings.is_empty() {
+    if !found.errors.is_empty() {
         return Ok(found);
     }
     let finding = judged_finding(alloc, judged)?;
-    found.findings.push(finding)?;
+    found.errors.push(finding)?;
     Ok(found)
 }
 
-/// How many of the cycles are on the list.
-fn count_accepted(cycles: &[CycleSet], accepted: &[CycleSet]) -> usize
-    ensures { result ≡ count_by (is_accepted accepted.now) cycles.now }
+/// The places of those edges on the list that are neither on a cycle nor what a warning or a note is about.
+fn absent(alloc: Global, found: &Verdict, accepted: &[Edge]) -> Result<Vec<usize>, AllocError> {
+    let mut absent = Vec::new(alloc);
+    for (place, edge) in accepted.iter().enumerate() {
+        let is_there = is_among(found.edges.as_slice(), edge)
+            || is_among(found.remarked.as_slice(), edge);
+        if !is_there {
+            absent.push(place)?;
+        }
+    }
+    Ok(absent)
+}
+
+/// Whether the edge is one of these.
+fn is_among(edges: &[PlacedEdge], edge: &Edge) -> bool {
+    edges.iter().any(|placed: &PlacedEdge| placed.edge == *edge)
+}
+
+/// How many of the edges are on the list.
+fn count_accepted(edges: &[PlacedEdge], accepted: &[Edge]) -> usize
+    ensures { result ≡ count_by (is_accepted accepted.now) edges.now }
 {
-    cycles
+    edges
         .iter()
-        .filter(|cycle| accepted.contains(*cycle))
+        .filter(|placed| accepted.contains(&placed.edge))
         .count()
 }
 
-/// Whether all that is found is accepted.
-fn is_clean(found: &Verdict) -> bool
-    ensures { IsTrue result → IsClean found.now × (0 < found.now.accepted) }
+/// Whether no error is found, but where something is accepted or levels were changed.
+fn is_clean(levels: Levels<'_>, found: &Verdict) -> bool
+    ensures clean { IsTrue result → IsClean levels.entry.changes.now found.now }
+    ensures reason { IsTrue result → levels.entry.changes.now ≡ [] → 0 < found.now.accepted }
 {
-    found.accepted > 0
-        && found.accepted == found.cycles.len()
-        && found.findings.is_empty()
-        && found.more == 0
+    let all_accepted = found.accepted == found.edges.len() && found.bound == 0;
+    let is_asked = found.accepted > 0 || !levels.changes.is_empty();
+    is_asked
+        && (all_accepted || is_changed(levels.changes, Rule::Cycle))
+        && found.errors.is_empty()
+        && found.more_errors == 0
+}
+
+/// Whether one of the changes is of the rule.
+fn is_changed(changes: &[LevelChange], rule: Rule) -> bool
+    ensures { IsTrue result → ¬ All (λ change. change.rule ≢ rule) changes.now }
+{
+    for change in changes {
+        if change.rule == rule {
+            return true;
+        }
+    }
+    false
 }
 
 /// What `check` comes to, or where no certificate is given `certify`.
-fn outcome(alloc: Global, texts: Texts<'_>) -> Outcome
+fn outcome(alloc: Global, limits: Limits, texts: Texts<'_>) -> Outcome
     ensures { MatchOption texts.entry.certificate
-        (CertifyComesTo standard texts.entry.program.now result)
-        (λ certificate. CheckComesTo standard texts.entry.program.now certificate.now result) }
+        (CertifyComesTo limits texts.entry.program.now result)
+        (λ certificate. CheckComesTo limits texts.entry.program.now certificate.now result) }
 {
     match texts.certificate {
-        Some(certificate) => check_program(alloc, texts.program, certificate),
-        None => certify_program(alloc, texts.program),
+        Some(certificate) => check_outcome(alloc, limits, texts.program, certificate),
+        None => certify_outcome(alloc, limits, texts.program),
     }
-}
-
-/// What `check` comes to, by the standard limits.
-fn check_program(alloc: Global, program: &[u8], certificate: &[u8]) -> Outcome
-    ensures { CheckComesTo standard program.now certificate.now result }
-{
-    check_outcome(alloc, Limits::standard(), program, certificate)
-}
-
-/// What `certify` comes to, by the standard limits.
-fn certify_program(alloc: Global, program: &[u8]) -> Outcome
-    ensures { CertifyComesTo standard program.now result }
-{
-    certify_outcome(alloc, Limits::standard(), program)
 }
 
 /// Adds what is wrong.
 fn gather(
     alloc: Global,
+    limits: Limits,
     texts: Texts<'_>,
-    accepted: &[CycleSet],
+    levels: Levels<'_>,
+    listed: Listed<'_>,
     found: &mut Verdict,
 ) -> Result<(), AllocError> {
-    let (program, meta) = match load(alloc, texts.program) {
+    let (program, meta) = match load(alloc, limits, texts.program) {
         Ok(loaded) => loaded,
-        Err(refusal) => return found.push(refusal_finding(alloc, texts.program, &refusal)?),
+        Err(refusal) => {
+            let finding = refusal_finding(alloc, limits, texts.program, &refusal)?;
+            return found.push(Severity::Error, finding);
+        }
     };
     let places = Places::of(alloc, texts.program)?;
     let located = Located {
@@ -183,17 +342,20 @@ fn gather(
             meta: &meta,
         },
         places: &places,
+        levels,
     };
-    gather_program(located, accepted, found)?;
-    match texts.certificate {
-        Some(certificate) => gather_certificate(located, certificate, found),
-        None => Ok(()),
+    let remarks = gather_program(located, listed.edges, found)?;
+    add_remarks(levels, listed, remarks, found)?;
+    if let Some(certificate) = texts.certificate {
+        gather_certificate(located, limits, certificate, found)?;
     }
+    found.absent = absent(alloc, found, listed.edges)?;
+    Ok(())
 }
 
 /// The declarations of the text, and the same with their names resolved.
-fn load(alloc: Global, text: &[u8]) -> Result<(Program, Meta), Refusal> {
-    let program = read_program(alloc, text)?;
+fn load(alloc: Global, limits: Limits, text: &[u8]) -> Result<(Program, Meta), Refusal> {
+    let program = read_within(alloc, limits, text)?;
     let meta = Meta::build(alloc, &program)?;
     Ok((program, meta))
 }

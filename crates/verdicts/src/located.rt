@@ -2,19 +2,21 @@
 
 use crate::places::Places;
 use diagnostics::TextPlace;
-use edge_reasons::Reason;
+use edge_reasons::{Reason, reason_for};
 use effect_scan::{Member, Node};
-use findings::{Link, Step};
+use findings::{Levels, Link, Step};
 use program_flaws::{Source, node_text, push_edge};
 use std::alloc::AllocError;
 
-/// A program that loads, and where its parts are in its text.
+/// A program that loads, where its parts are in its text, and how grave the rules are.
 #[derive(Clone, Copy)]
 pub struct Located<'s> {
     /// The program.
     pub source: Source<'s>,
     /// The places.
     pub places: &'s Places,
+    /// How grave the rules are.
+    pub levels: Levels<'s>,
 }
 
 /// A member among those that its class declares.
@@ -109,12 +111,31 @@ impl<'s> Located<'s> {
     }
 
     /// Where that stands by which the one node leads to the other.
-    fn reason_place(&self, reason: Reason, from: Node) -> Option<TextPlace> {
+    pub fn reason_place(&self, reason: Reason, from: Node) -> Option<TextPlace> {
         match reason {
             Reason::Statement(number) => self.statement_place(from, number),
             Reason::Wire(place) => self.places.wire(place),
             Reason::Binding(place) => self.places.site(place),
             Reason::Native | Reason::Notify | Reason::Deletion => self.node_place(from),
+        }
+    }
+
+    /// Where that stands by which the one node leads to the other.
+    pub fn edge_place(&self, from: Node, to: Node) -> Option<TextPlace> {
+        let reason = reason_for(self.source.meta, from, to)?;
+        self.reason_place(reason, from)
+    }
+
+    /// Whether the node is a slot or native that its class declares and that is said to run an event loop.
+    pub fn is_modal(&self, node: Node) -> bool {
+        let Member::Method(method) = node.member else {
+            return false;
+        };
+        let declared = self.declared_method(node.class, method);
+        match declared.class_place() {
+            Some(class) => declared.class == node.class
+                && self.places.is_modal(class, declared.own),
+            None => false,
         }
     }
 
@@ -127,6 +148,7 @@ impl<'s> Located<'s> {
             from: node_text(alloc, self.source.meta, from)?,
             to: node_text(alloc, self.source.meta, to)?,
             link: Link::of(reason),
+            is_posted: false,
             message: String::from_str(alloc, line.as_str().trim())?,
             place: self.reason_place(reason, from),
         })

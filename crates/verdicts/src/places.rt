@@ -28,6 +28,36 @@ pub struct Places {
     classes: Vec<ClassPlaces>,
     wires: Vec<TextPlace>,
     sites: Vec<TextPlace>,
+    connects: Vec<TextPlace>,
+    emits: Vec<TextPlace>,
+    /// The numbers of the lines that end with the directive `//@ modal`, in their order.
+    modal_lines: Vec<usize>,
+}
+
+/// What says, at the end of the line where a slot or native begins, that it runs an event loop until something ends it.
+const MODAL: &[u8] = b"//@ modal";
+
+/// The numbers of the lines, from 1, that end so.
+fn modal_lines(alloc: Global, text: &[u8]) -> Result<Vec<usize>, AllocError> {
+    let mut lines = Vec::new(alloc);
+    for (place, line) in text.split(|byte| *byte == b'\n').enumerate() {
+        if without_blanks(line).ends_with(MODAL) {
+            lines.push(place.saturating_add(1))?;
+        }
+    }
+    Ok(lines)
+}
+
+/// The line without the blanks at its end.
+fn without_blanks(line: &[u8]) -> &[u8] {
+    let mut rest = line;
+    for _ in line {
+        match rest {
+            [before @ .., b' ' | b'\t' | b'\r'] => rest = before,
+            _ => break,
+        }
+    }
+    rest
 }
 
 /// How far a text was gone through.
@@ -80,6 +110,9 @@ impl Places {
             classes: Vec::new(alloc),
             wires: Vec::new(alloc),
             sites: Vec::new(alloc),
+            connects: Vec::new(alloc),
+            emits: Vec::new(alloc),
+            modal_lines: modal_lines(alloc, text)?,
         };
         let found = match tokens(alloc, text) {
             Ok(found) => found,
@@ -120,7 +153,7 @@ impl Places {
         match begun.landmark {
             Landmark::Declaration => self.push_declaration(alloc, word, place),
             Landmark::Member => self.push_member(alloc, word, place),
-            Landmark::Statement => self.push_statement(place),
+            Landmark::Statement => self.push_statement(word, place),
         }
     }
 
@@ -171,8 +204,13 @@ impl Places {
         Ok(())
     }
 
-    /// Adds a statement of the last slot.
-    fn push_statement(&mut self, place: TextPlace) -> Result<(), AllocError> {
+    /// Adds a statement of the last slot that begins with this word, if it does with one.
+    fn push_statement(&mut self, word: Option<Word>, place: TextPlace) -> Result<(), AllocError> {
+        match word {
+            Some(Word::Connect) => self.connects.push(place)?,
+            Some(Word::Emit) => self.emits.push(place)?,
+            _ => {}
+        }
         if let Some(class) = self.classes.last_mut() {
             if let Some(slot) = class.slots.last_mut() {
                 slot.statements.push(place)?;
@@ -200,16 +238,38 @@ impl Places {
         }
     }
 
+    /// Whether such a method begins on a line that says that it runs an event loop.
+    pub fn is_modal(&self, class: usize, own: usize) -> bool {
+        match self.slot(class, own) {
+            Some(slot) => self.modal_lines.binary_search(&slot.at.line).is_ok(),
+            None => false,
+        }
+    }
+
+    /// The slot or native that is such a method.
+    fn slot(&self, class: usize, own: usize) -> Option<&SlotPlaces> {
+        let class = self.classes.get(class)?;
+        class.slots.get(own.checked_sub(class.signals.len())?)
+    }
+
     /// The statement of this number in the body of such a method.
     pub fn statement(&self, class: usize, own: usize, number: usize) -> Option<TextPlace> {
-        let class = self.classes.get(class)?;
-        let slot = class.slots.get(own.checked_sub(class.signals.len())?)?;
-        slot.statements.get(number).copied()
+        self.slot(class, own)?.statements.get(number).copied()
     }
 
     /// The wire at this place among them.
     pub fn wire(&self, place: usize) -> Option<TextPlace> {
         self.wires.get(place).copied()
+    }
+
+    /// The `connect` at this place among all of the program.
+    pub fn connect(&self, place: usize) -> Option<TextPlace> {
+        self.connects.get(place).copied()
+    }
+
+    /// The `emit` at this place among all of the program.
+    pub fn emit(&self, place: usize) -> Option<TextPlace> {
+        self.emits.get(place).copied()
     }
 
     /// The binding at this place among them.

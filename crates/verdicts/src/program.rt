@@ -2,21 +2,22 @@
 
 use crate::chains::gather_chain;
 use crate::cycles::gather_cycles;
-use crate::deletions::gather_deletions;
+use crate::deletions::{deletions, gather_deletions};
 use crate::located::Located;
+use crate::remarks::remarks;
 use crate::search::Search;
 use crate::typing_flaws::{gather_types, gather_wires};
 use edge_walks::{Graph, knots};
 use effect_scan::Scan;
-use findings::{CycleSet, Verdict};
+use findings::{Edge, Finding, Verdict};
 use std::alloc::AllocError;
 
-/// Adds what is wrong with the program; cycles on the list are counted alone.
+/// Adds what is wrong with the program, and answers what is worth a warning or a note; cycles on the list are counted alone.
 pub fn gather_program(
     located: Located<'_>,
-    accepted: &[CycleSet],
+    accepted: &[Edge],
     found: &mut Verdict,
-) -> Result<(), AllocError> {
+) -> Result<Vec<Finding>, AllocError> {
     let alloc = located.source.alloc;
     let scan = Scan::of(alloc, located.source.meta)?;
     let graph = Graph::of(alloc, &scan)?;
@@ -30,6 +31,21 @@ pub fn gather_program(
     gather_wires(located, found)?;
     gather_types(located, scan.nodes(), found)?;
     gather_cycles(search, accepted, found)?;
-    gather_deletions(search, found)?;
-    gather_chain(search, found)
+    let deletions = deletions(search)?;
+    gather_deletions(located, deletions.as_slice(), found)?;
+    gather_chain(search, found)?;
+    remarks(search, deletions.as_slice())
+}
+
+/// What is worth a warning or a note in a program that has a certificate, whose nodes and edges these are.
+pub fn program_remarks(located: Located<'_>, scan: &Scan) -> Result<Vec<Finding>, AllocError> {
+    let graph = Graph::of(located.source.alloc, scan)?;
+    let search = Search {
+        located,
+        scan,
+        graph: &graph,
+        knots: &[],
+    };
+    let deletions = deletions(search)?;
+    remarks(search, deletions.as_slice())
 }

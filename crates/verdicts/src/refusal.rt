@@ -1,5 +1,6 @@
 //! Texts that are refused.
 
+use class_lang::Limits;
 use declaration_flaws::declaration_flaw;
 use diagnostics::{Flaw, TextPlace, meaning};
 use findings::{Finding, Rule, TextKind};
@@ -7,9 +8,10 @@ use program_commands::Refusal;
 use std::alloc::{AllocError, Global};
 use text_flaws::{certificate_flaw, program_flaw};
 
-/// Why the text is refused, which is this refusal's.
+/// Why the text is refused, which is this refusal's; a program was read by these limits.
 pub fn refusal_finding(
     alloc: Global,
+    limits: Limits,
     text: &[u8],
     refusal: &Refusal,
 ) -> Result<Finding, AllocError> {
@@ -21,7 +23,7 @@ pub fn refusal_finding(
         _ => TextKind::Program,
     };
     let flaw = match refusal {
-        Refusal::Text(_) => program_flaw(alloc, text, number)?,
+        Refusal::Text(_) => program_flaw(alloc, limits, text, number)?,
         Refusal::Certificate(_) => certificate_flaw(alloc, text)?,
         _ => declaration_flaw(alloc, text, number)?,
     };
@@ -39,7 +41,7 @@ pub fn refusal_finding(
     }
 }
 
-/// The flaw as a finding. What helps a text that is too large is an option that verdicts don't take.
+/// The flaw as a finding.
 fn flaw_finding(
     alloc: Global,
     text: &[u8],
@@ -56,7 +58,7 @@ fn flaw_finding(
         rule,
         place: Some(TextPlace::of(text, at.min(text.len()))),
         message: sentence,
-        help: if rule == Rule::TooLarge { None } else { advice },
+        help: advice,
         text: kind,
         chain: Vec::new(alloc),
     })

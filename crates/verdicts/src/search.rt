@@ -3,8 +3,6 @@
 use crate::located::Located;
 use edge_walks::Graph;
 use effect_scan::{Node, Scan};
-use findings::CycleSet;
-use program_flaws::node_text;
 use std::alloc::AllocError;
 
 /// A program, its nodes and edges, and its knots.
@@ -15,7 +13,7 @@ pub struct Search<'s> {
     /// Its nodes.
     pub scan: &'s Scan,
     /// The edges between them.
-    pub graph: &'s Graph<'s>,
+    pub graph: &'s Graph,
     /// The sets of nodes that all lead to one another.
     pub knots: &'s [Vec<usize>],
 }
@@ -30,15 +28,5 @@ impl<'s> Search<'s> {
             }
         }
         Ok(nodes)
-    }
-
-    /// The cycles of a knot, by its members.
-    pub fn cycles_of(&self, knot: &[usize]) -> Result<CycleSet, AllocError> {
-        let source = self.located.source;
-        let mut names = Vec::new(source.alloc);
-        for node in self.nodes_at(knot)? {
-            names.push(node_text(source.alloc, source.meta, node)?)?;
-        }
-        CycleSet::of(names)
     }
 }

@@ -15,10 +15,13 @@ use type_check::{Spot, flaw_at};
 pub fn gather_wires(located: Located<'_>, found: &mut Verdict) -> Result<(), AllocError> {
     let meta = located.source.meta;
     for (place, wire) in meta.wires().iter().enumerate() {
-        if !is_fit(meta, wire) && found.takes_one() {
+        if !is_fit(meta, wire)
+            && let Some(severity) = found.taken(located.levels.of(Rule::WireTypes))
+        {
             let text = unfit_text(located.source, place)?;
             let at = located.places.wire(place);
-            found.push(finding(located, Rule::WireTypes, text.as_str(), at)?)?;
+            let finding = finding(located, Rule::WireTypes, text.as_str(), at)?;
+            found.push(severity, finding)?;
         }
     }
     Ok(())
@@ -56,10 +59,11 @@ pub fn gather_types(
 fn gather_type(located: Located<'_>, spot: Spot, found: &mut Verdict) -> Result<(), AllocError> {
     let source = located.source;
     if let Some(flaw) = flaw_at(source.alloc, source.meta, spot)? {
-        if found.takes_one() {
+        if let Some(severity) = found.taken(located.levels.of(Rule::IllTyped)) {
             let text = flaw_text(source, spot, flaw)?;
             let at = spot_place(located, spot, flaw.statement);
-            found.push(finding(located, Rule::IllTyped, text.as_str(), at)?)?;
+            let finding = finding(located, Rule::IllTyped, text.as_str(), at)?;
+            found.push(severity, finding)?;
         }
     }
     Ok(())

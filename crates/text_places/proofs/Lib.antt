@@ -1,0 +1,4 @@
+pub mod Parting
+pub mod Counting
+pub mod Gathered
+pub mod Keyed
