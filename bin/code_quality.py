@@ -5,13 +5,16 @@ import json
 import sys
 
 
+SEVERITIES = {"error": "critical", "warning": "minor", "note": "info"}
+
+
 def entry(finding):
     told = "\0".join([finding["rule"], finding["file"], finding["message"]])
     return {
         "description": finding["message"],
         "check_name": finding["rule"],
         "fingerprint": hashlib.sha256(told.encode()).hexdigest(),
-        "severity": "critical",
+        "severity": SEVERITIES[finding["severity"]],
         "location": {"path": finding["file"], "lines": {"begin": finding.get("line", 1)}},
     }
 

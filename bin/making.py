@@ -56,13 +56,20 @@ def building(store: Store, name: str):
 
 
 def make(root: str, name: str, store: Store) -> str:
-    """Builds the program unproved, and gives where it stands. Where the sources change meanwhile it is built again."""
+    """Builds the program unproved, and gives where it stands. The others are built beside it where there is room for them, so
+    that the next command needn't wait. Where the sources change meanwhile it is built again."""
     import trial
 
     found = kit.kit()
+
+    def stands(name: str, *kinds: str) -> str | None:
+        total = sources.sum_of(root, name, found.identity)
+        return next((path for kind in kinds if (path := store.program(kind, name, total))), None)
+
     with building(store, UNPROVED) as lock:
-        while not (path := store.program(UNPROVED, name, sources.sum_of(root, name, found.identity))):
-            trial.build(root, name, found, store, lock)
+        while not (path := stands(name, UNPROVED)):
+            left = [name, *(it for it in PROGRAMS if it != name and not stands(it, UNPROVED, PROVED))]
+            trial.build(root, left[: trial.trials_at_once()], found, store, lock)
         return path
 
 

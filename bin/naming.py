@@ -16,7 +16,8 @@ BOTH = re.compile(rb" at line \d+, column \d+ of the input \(line (\d+), column 
 LINES = [
     (b"certificate", re.compile(rb"line (\d+) of the certificate(.*)", re.S), b""),
     (b"script", re.compile(rb"(?:qt_tools: )?line (\d+) of the script,? (.*)", re.S), b": "),
-    (b"list", re.compile(rb"qt_tools: line (\d+) of the list of cycles:(.*)", re.S), b":"),
+    (b"places", re.compile(rb"qt_tools: line (\d+) of the places: (.*)", re.S), b": "),
+    (b"list", re.compile(rb"qt_tools: line (\d+) of the list:(.*)", re.S), b":"),
     (b"effects", re.compile(rb"line (\d+) of the effects: (.*)", re.S), b": "),
 ]
 OTHERS = re.compile(rb"^(?:qt_tools|trace_view): ")

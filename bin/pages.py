@@ -6,6 +6,7 @@ from __future__ import annotations
 
 import textwrap
 
+import rules
 from words import COMMANDS, DONE, FRONT, READER, REFUSED, USAGE, Command
 
 WIDTH = 120
@@ -43,13 +44,11 @@ def help_text() -> str:
 def form(command: Command) -> str:
     """The command line of a command."""
     parts = ["./gammonfig", command.word, *(f"[{it.shown()}]" for it in command.options)]
-    if command.many:
-        parts.append("[FILE..]")
-    elif command.texts:
+    if command.texts:
         least = len(command.texts) if command.least is None else command.least
         names = [it.upper() for it in command.texts]
         behind = " ".join(f"[{it}" for it in names[least:]) + "]" * len(names[least:])
-        whole = " ".join(it for it in (" ".join(names[:least]), behind) if it)
+        whole = " ".join(it for it in (" ".join(names[:least]), behind) if it) + (".." if command.many else "")
         # Texts may come from standard input in place of all files.
         parts.append(whole if command.program == FRONT else f"[{whole}]")
     return " ".join(parts)
@@ -64,9 +63,11 @@ def command_help(command: Command) -> str:
     if command.options:
         made += "\n" + rows((it.shown(), it.told) for it in command.options)
     if command.program not in (FRONT, READER):
-        held = "JSON, any number of them" if command.many else ", ".join(f"{'a'} {it}" for it in command.texts)
+        held = f"{command.texts[0]}, any number of them" if command.numbered else ", ".join(f"a {it}" for it in command.texts)
         made += f"\nTexts: {held}, a file each; `-` is standard input. Without files they come\nfrom standard input, with a line `%%` between two of them.\n"
     made += f"\n{command.more}" if command.more else ""
+    if command.word == "verdict" and (known := rules.rows()):
+        made += "\nRules (docs/rules.md says more):\n" + rows(known)
     made += "\nExit status:\n" + rows((str(status), told) for status, told in command.statuses)
     return made + f"\nExample: ./gammonfig {command.example}\nMore: {command.page}\n"
 

@@ -7,6 +7,8 @@ import os
 import signal
 
 import naming
+import placed
+import several
 import texts
 import words
 from told import NAME, Ended, Fault, say, write_to
@@ -15,31 +17,59 @@ from told import NAME, Ended, Fault, say, write_to
 UNTOLD = ("session", "verdict", "import")
 # What no command reads at a time: a trace is read line for line.
 ENDLESS = ("view",)
+# How a program ends that says what is wrong with a text.
+EXPLAINED = (2, 3)
 # Python ignores these two, and a program shall not.
 NOT_OURS = (signal.SIGPIPE, signal.SIGXFSZ)
 FORWARDED = (signal.SIGINT, signal.SIGTERM, signal.SIGHUP)
 
 
 class Given:
-    """What a program is given: its further words, its input (None: standard input as it is), and the files of its texts."""
+    """What a program is given: its further words, its input (None: standard input as it is), and the files of its texts; or where it
+    runs several times, the rounds."""
 
     def __init__(self, front, call: words.Call):
         self.front, self.call = front, call
-        self.words, self.input, self.files = [], None, {}
+        self.words, self.input, self.files, self.rounds, self.placed, self.program = [], None, {}, [], b"", None
         names, held = list(call.files), list(call.texts)
+        if held[:1] == ["program"]:
+            names[0] = placed.program_of(names[0])
+        self.named = list(zip(held, names))
         if call.command.word == "verdict" and names:
-            self.words += [word for it, name in zip(held, names) for word in (f"--{it}", texts.shown(name))]
+            self.words += self.named_texts()
+        self.places = self.places_of(names)
+        if self.places:
+            names, held = names or [texts.STANDARD_INPUT], held or ["input"]
+        if self.places and call.command.program == words.TOOLS:
+            names, held = [self.places, *names], ["places", *held]
+            self.words.append(words.PLACES.name)
+        elif self.places:
+            self.placed = texts.one_text(self.places, texts.Reader().text(self.places))
         for option in call.command.options:
-            if option.text and call.has(option.name):
+            if option.text and option is not words.PLACES and call.has(option.name):
                 # An import of standard input with effects: it may have several texts, and they come first.
                 names, held = [*(names or [texts.STANDARD_INPUT]), call.values[option.name]], [*(held or ["input"]), option.text]
                 self.words.append(option.name)
         if names:
             self.read(names, held)
+        elif call.has("--rules"):
+            pass
         elif call.command.word in UNTOLD:
             self.read_input()
         else:
             self.tell_wait()
+
+    def named_texts(self) -> list[str]:
+        """The words that tell `verdict` what the texts are called, but a program that is in several files."""
+        named = [(it, name) for it, name in self.named if it != "program" or not self.call.has_parts()]
+        return [word for it, name in named for word in (f"--{it}", texts.shown(name))]
+
+    def places_of(self, names: list[str]) -> str | None:
+        """The file of the program's places in another text, which is named or stands beside the program's, if there is one; of
+        several files none, since the program that they make has lines of its own."""
+        if words.PLACES not in self.call.command.options or self.call.has_parts():
+            return None
+        return self.call.values.get(words.PLACES.name) or (placed.beside(names[0]) if names else None)
 
     def read(self, names: list[str], held: list[str]) -> None:
         """Reads the texts, each once. A line `%%` in one would part it in two."""
@@ -51,9 +81,18 @@ class Given:
                 self.tell_wait()
             whole = reader.text(name, most)
             found.append(whole if text == "input" else texts.one_text(name, whole))
-            if name != texts.STANDARD_INPUT:
+            if name != texts.STANDARD_INPUT and not (text == "program" and self.call.has_parts()):
                 self.files[text.encode()] = texts.shown(name).encode()
-        self.take(texts.joined(found))
+        self.rounds = several.rounds(self.call, names, found)
+        if not self.rounds:
+            self.take(texts.joined(self.one_program(names, held, found) if self.call.has_parts() else found))
+
+    def one_program(self, names: list[str], held: list[str], found: list[bytes]) -> list[bytes]:
+        """The texts with all parts of the program as the first one."""
+        import programs
+
+        self.program = programs.Program([(name, whole) for name, text, whole in zip(names, held, found) if text == "program"])
+        return [self.program.text, *(whole for text, whole in zip(held, found) if text != "program")]
 
     def read_input(self) -> None:
         """Reads standard input whole, for a program that would cut a long one. Where that fails the status is the program's."""
@@ -87,6 +126,8 @@ def input_file(text: bytes) -> int:
 
 def run(front, path: str, own: list[str], given: Given, call: words.Call) -> None:
     """Runs the program, and ends as it ends."""
+    if given.rounds:
+        several.run(front, path, own, given.rounds, call)
     closed = set(front.streams.closed)
     has_file = given.input is None and 0 not in closed and is_file(0)
     begun = os.lseek(0, 0, os.SEEK_CUR) if has_file else 0
@@ -94,8 +135,10 @@ def run(front, path: str, own: list[str], given: Given, call: words.Call) -> Non
         os.dup2(input_file(given.input), 0)
         closed.discard(0)
     end = None
-    if given.files or call.command.program != words.PROGRAM:
+    if given.files or given.places or call.command.program != words.PROGRAM:
         end = named(path, own, given, call, closed, front.streams)
+        if given.places and call.command.program == words.PROGRAM and end in EXPLAINED:
+            tell_places(front, given, call)
     elif not call.files and has_file:
         end = spawned(path, own, {}, closed)
     if end is not None:
@@ -109,13 +152,26 @@ def run(front, path: str, own: list[str], given: Given, call: words.Call) -> Non
     os.execv(path, [path, *own])
 
 
+def tell_places(front, given: Given, call: words.Call) -> None:
+    """Tells on standard error what `verdict` finds of the same texts, in lines of the text that the program was written from: what a
+    command explains by itself is told in lines of the program."""
+    os.dup2(input_file(texts.joined([given.placed, given.input])), 0)
+    own = [*(it for it in call.words if it == words.WIDE.name), "verdict", words.PLACES.name, *given.named_texts()]
+    said = os.memfd_create("said")
+    spawned(front.program(words.TOOLS), own, {1: 2, 2: said}, set())
+    told = naming.Naming({b"places": texts.shown(given.places).encode()}, NAME.encode()).whole(content(said))
+    if b": this is no place" in told:
+        write_to(2, told)
+
+
 def named(path: str, own: list[str], given: Given, call: words.Call, closed: set[int], streams) -> int:
-    """Runs the program beside this process, and names the files in what it says. What a session writes names lines too: it is
-    written behind the run, and where that fails it ends as the program does then. Gives how the program ended."""
+    """Runs the program beside this process, and names the files in what it says. What a session writes names lines too, and around
+    places lines of files may be asked for: that is written behind the run, and where it fails it ends as the program does then.
+    Gives how the program ended."""
     names = naming.Naming(given.files, NAME.encode())
     ours, theirs = os.pipe2(os.O_CLOEXEC)
     changed, output = {2: theirs}, None
-    if call.command.word == "session":
+    if call.command.word == "session" or call.has(words.CONTEXT.name) or given.program:
         output = changed[1] = os.memfd_create("output")
     told = []
 
@@ -132,9 +188,19 @@ def named(path: str, own: list[str], given: Given, call: words.Call, closed: set
 
     end = spawned(path, own, changed, closed - set(changed), listen)
     if output is not None:
-        streams.write_output(naming.Naming(given.files).whole(content(output)))
+        streams.write_output(written(content(output), given, call))
         write_to(2, b"".join(told))
     return end
+
+
+def written(output: bytes, given: Given, call: words.Call) -> bytes:
+    """What is written of a program's output."""
+    if given.program:
+        form = next((it for it in call.values if call.command.option(it).group == "form"), "")
+        output = given.program.told(output, "program", form) if output else b""
+    if call.has(words.CONTEXT.name):
+        return placed.Surroundings(int(call.values[words.CONTEXT.name])).shown(output)
+    return output if given.program else naming.Naming(given.files).whole(output)
 
 
 def content(file: int) -> bytes:

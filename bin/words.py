@@ -2,21 +2,27 @@
 help, completion and the table of docs/commands.md are made from it, and words are taken apart by it."""
 from __future__ import annotations
 
+from told import Fault
+
 MOST_STEPS = 9223372036854775807
 MOST_NESTED = 256
+MOST_CONTEXT = 1000
 PROGRAM, TOOLS, VIEWER = "gammonfig", "qt_tools", "trace_view"
 # The front's own work, for which no program is run.
 FRONT = ""
 # What reads C++: a program of its own in this file, which takes its words apart itself.
 READER = "cpp/read"
+# How the names of files end that may be parts of one program.
+PART = ".gf"
 
 
 class Option:
     """An option: its name, what stands for its value, and what it does. A value may be a number from 1 to `most`, or name the
-    file of a text. Options of one `group` exclude one another. One that is `first` stands in front of the word for the program."""
+    file of a text. Options of one `group` exclude one another. One that is `first` stands in front of the word for the program, and
+    one that is `here` is for the front alone."""
 
-    def __init__(self, name: str, told: str, value: str = "", most: int = 0, text: str = "", group: str = "", repeats: bool = False, first: bool = False):
-        self.name, self.told, self.value, self.most, self.text, self.group, self.repeats, self.first = name, told, value, most, text, group, repeats, first
+    def __init__(self, name: str, told: str, value: str = "", most: int = 0, text: str = "", group: str = "", repeats: bool = False, first: bool = False, here: bool = False):
+        self.name, self.told, self.value, self.most, self.text, self.group, self.repeats, self.first, self.here = name, told, value, most, text, group, repeats, first, here
 
     def shown(self) -> str:
         return f"{self.name} {self.value}" if self.value else self.name
@@ -24,12 +30,16 @@ class Option:
 
 class Command:
     """A command: its word, the program that does it, what it does, an example, its options in the order in which the program takes
-    them, what its texts are, how many of them there are at least (None: all), whether any number of them is taken, what else is
-    to be said, and the page that says more. Of a command that the front does itself the texts are words."""
+    them, what its texts are, how many of them there are at least (None: all), whether there may be any number of the last one, what
+    else is to be said, the page that says more, and whether the program may be in several files. Of a command that the front does
+    itself the texts are words."""
 
-    def __init__(self, word, program, told, example, options=(), texts=(), least=None, statuses=(), page="", many=False, more=""):
+    def __init__(self, word, program, told, example, options=(), texts=(), least=None, statuses=(), page="", many=False, more="", parts=False):
         self.word, self.program, self.told, self.example, self.options = word, program, told, example, options
         self.texts, self.least, self.statuses, self.page, self.many, self.more = texts, least, statuses, page, many, more
+        # Where all texts are of one kind, they are told apart by number.
+        self.numbered = many and len(texts) == 1
+        self.parts = parts
 
     def option(self, name: str) -> Option | None:
         return next((it for it in self.options if it.name == name), None)
@@ -37,7 +47,10 @@ class Command:
 
 STEPS = Option("--steps", "the most rules that a run carries out, 1,000,000 without it", "M", MOST_STEPS)
 UNCHECKED = Option("--unchecked", "needs no certificate; at most N activations nest, from 1 to 256", "N", MOST_NESTED)
+RECORD = Option("--record", "writes what came of each event into the script, as comments", group="form")
 WIDE = Option("--wide", "takes a program as large as one that a tool writes: 8,192 classes, 16,384 wires, 32 MiB", first=True)
+PLACES = Option("--places", "tells places by this file, and without it by NAME.places beside NAME.gf", "FILE", text="places")
+CONTEXT = Option("--context", "with N lines of the file around each place", "N", MOST_CONTEXT, group="form", here=True)
 USAGE = (1, "the words are no command, or something can't be read or written")
 REFUSED = (2, "a text is refused, or a file can't be read")
 INVALID = (3, "the certificate isn't valid")
@@ -51,30 +64,38 @@ EFFECTS = """Effects are a slot a line:
 """
 
 COMMANDS = [
-    Command("certify", PROGRAM, "the certificate of a program, or why it has none", "certify app.gf > app.gfc", (WIDE,),
+    Command("certify", PROGRAM, "the certificate of a program, or why it has none", "certify app.gf > app.gfc", (WIDE, PLACES),
             texts=("program",), statuses=((0, "a certificate is written"), USAGE, REFUSED, (3, "the program has no certificate")), page="docs/commands.md"),
-    Command("check", PROGRAM, "whether a certificate is valid: `yes`, or `no` and a number", "check app.gf app.gfc", (WIDE,),
+    Command("check", PROGRAM, "whether a certificate is valid: `yes`, or `no` and a number", "check app.gf app.gfc", (WIDE, PLACES),
             texts=("program", "certificate"), statuses=((0, "it is valid"), USAGE, REFUSED, INVALID), page="docs/certificate.md"),
     Command("run", PROGRAM, "checks, then runs a script: the trace of each event", "run app.gf app.gfc session.gfs", (WIDE, UNCHECKED, STEPS),
             ("program", "certificate", "script"), statuses=((0, "the run took all events"), USAGE, REFUSED, INVALID, (4, "a fault stopped the run")), page="docs/commands.md"),
     Command("session", TOOLS, "runs a script as a test of what its comments expect", "session app.gf app.gfc session.gfs",
-            (Option("--tap", "writes the outcomes as TAP"), UNCHECKED, STEPS), ("program", "certificate", "script"),
-            statuses=((0, "each event went as expected"), USAGE, REFUSED, INVALID, (5, "events went otherwise")), page="docs/session.md"),
+            (WIDE, Option("--tap", "writes the outcomes as TAP", group="form"), RECORD, UNCHECKED, STEPS), ("program", "certificate", "script"), many=True,
+            statuses=((0, "each event went as expected"), USAGE, REFUSED, INVALID, (5, "events went otherwise")), page="docs/session.md",
+            more="There may be several scripts: what is told of one names it, and the exit status is the worst.\n"),
     Command("verdict", TOOLS, "all findings at once, with their places", "verdict app.gf",
-            (Option("--json", "as JSON", group="form"), Option("--sarif", "as SARIF", group="form"),
-             Option("--accept-all", "writes the list of all cycles, to be accepted", group="form"),
-             Option("--accept", "leaves out the cycles of this list", "LIST", text="list")),
-            ("program", "certificate"), 1, ((0, "no findings"), USAGE, REFUSED, (3, "there are findings")), "docs/verdict.md"),
-    Command("witness", TOOLS, "a script that shows why a program has no certificate", "witness app.gf > shows.gfs", texts=("program",),
+            (WIDE, Option("--json", "as JSON", group="form"), Option("--sarif", "as SARIF", group="form"), Option("--junit", "as JUnit's reports", group="form"),
+             Option("--accept-all", "writes the list of all edges that can be accepted", group="form"),
+             Option("--rules", "writes the table of rules as JSON, and reads nothing", group="form"),
+             Option("--error", "these rules are errors", "RULE,..", repeats=True), Option("--warning", "these rules are warnings", "RULE,..", repeats=True),
+             Option("--off", "these rules are off", "RULE,..", repeats=True),
+             CONTEXT, PLACES,
+             Option("--accept", "counts the edges of this list on cycles, and finds them no more", "LIST", text="list", group="list"),
+             Option("--baseline", "the same, and leaves out warnings and notes on these edges", "LIST", text="list", group="list")),
+            ("program", "certificate"), 1, ((0, "no errors"), USAGE, REFUSED, (3, "there are errors")), "docs/verdict.md", parts=True,
+            more="Several files that end with `.gf` are one program, in any order; places name the files.\n"),
+    Command("witness", TOOLS, "a script that shows why a program has no certificate", "witness app.gf > shows.gfs", (WIDE,), texts=("program",),
             statuses=((0, "a script is written"), USAGE, REFUSED, (3, "no script was found, or there is a certificate")), page="docs/witness.md"),
     Command("view", TOOLS, "a trace, indented, with its script's lines", "view app.trace session.gfs",
             (Option("--mermaid", "as a sequence diagram", group="form"), Option("--html", "as a page for a browser", group="form"),
              Option("--color", "in colours, also where no terminal is", group="form"), Option("--plain", "without colours", group="form")),
-            ("trace", "script"), 1, ((0, "it is shown"), USAGE, (2, "a file can't be read")), "docs/traces.md"),
+            ("trace", "script"), 1, ((0, "it is shown"), USAGE, (2, "a file can't be read")), "docs/traces.md", many=True,
+            more="There may be several traces, each with its script behind it: what is shown of one has its name above.\n"),
     Command("meta", PROGRAM, "the classes of a program, with their members' numbers", "meta app.gf", (WIDE,), texts=("program",),
             statuses=((0, "the classes are written"), USAGE, REFUSED), page="docs/commands.md"),
     Command("graph", TOOLS, "what may lead to what, as a picture", "graph app.gf | dot -Tsvg > app.svg",
-            (Option("--json", "as JSON, in place of Graphviz's language"), Option("--class", "these classes alone", "CLASS,..", repeats=True),
+            (WIDE, Option("--json", "as JSON, in place of Graphviz's language"), PLACES, Option("--class", "these classes alone", "CLASS,..", repeats=True),
              Option("--from", "what this member may lead to alone", "MEMBER", repeats=True)),
             ("program",), statuses=((0, "it is drawn"), USAGE, REFUSED), page="docs/graph.md"),
     Command("import", TOOLS, "classes from what `moc --output-json` writes of C++ headers", "import app.json > app.gf",
@@ -105,11 +126,21 @@ class NoCommand(Exception):
     """The words are no command line."""
 
 
+class Excluded(Fault):
+    """Two options stand together that exclude one another, in a sentence."""
+
+    status = 2
+
+
 class Call:
     """A command line that was taken apart: the command, the program's own words, and the files with the texts that they hold."""
 
     def __init__(self, command: Command):
         self.command, self.words, self.values, self.files, self.texts = command, [command.word], {}, [], []
+
+    def has_parts(self) -> bool:
+        """Whether the program is in several files."""
+        return self.texts.count("program") > 1
 
     def has(self, name: str) -> bool:
         return name in self.values
@@ -138,9 +169,11 @@ def parse(words: list[str]) -> Call:
 def take(call: Call, option: Option, rest: list[str]) -> None:
     """Takes an option and its value. They stand in the order of the table, but where that says nothing."""
     is_again = call.has(option.name) and not option.repeats
-    is_other = option.group and any(it.group == option.group and call.has(it.name) for it in call.command.options)
-    if is_again or is_other or is_late(call, option):
+    if is_again or is_late(call, option):
         raise NoCommand
+    other = next((it.name for it in call.command.options if option.group and it.group == option.group and call.has(it.name)), None)
+    if other:
+        raise Excluded(f"`{other}` and `{option.name}` exclude one another: `{call.command.word}` takes one of them")
     value = ""
     if option.value:
         if not rest or (option.most and not is_number(rest[0], option.most)) or (option.text and not rest[0]):
@@ -149,14 +182,15 @@ def take(call: Call, option: Option, rest: list[str]) -> None:
     call.values[option.name] = value
     if option.first:
         call.words.insert(0, option.name)
-    elif not option.text:
+    elif not option.text and not option.here:
         call.words += [option.name, value] if option.value else [option.name]
 
 
 def is_late(call: Call, option: Option) -> bool:
     """Whether a number stands before this option that the program takes behind it."""
     place = call.command.options.index(option)
-    return not option.first and any(call.has(it.name) for it in call.command.options[place + 1 :]) and any(it.most for it in call.command.options)
+    numbered = any(it.most and not it.here for it in call.command.options)
+    return numbered and not option.first and any(call.has(it.name) for it in call.command.options[place + 1 :])
 
 
 def is_number(digits: str, most: int) -> bool:
@@ -169,12 +203,22 @@ def texts_of(call: Call) -> list[str]:
     """What the files hold, a text each."""
     command, count = call.command, len(call.files)
     texts = [it for it in command.texts if it != "certificate" or not call.has(UNCHECKED.name)]
-    if command.many:
+    if command.parts and sum(it.endswith(PART) for it in call.files) > 1:
+        # Several files are one program, and whichever isn't one of them is the certificate.
+        texts = ["program" if it.endswith(PART) else "certificate" for it in call.files]
+        if texts.count("certificate") > 1:
+            raise NoCommand
+        if call.has(PLACES.name):
+            raise Excluded(f"`{PLACES.name}` is for a program in one file: {texts.count('program')} are named")
+        return texts
+    if command.numbered:
         return [f"text {it + 1}" for it in range(count)]
-    if count > len(texts) or (0 < count < (command.least or len(texts))):
+    if (count > len(texts) and not command.many) or (0 < count < (command.least or len(texts))):
         raise NoCommand
-    if call.has("--accept") and not count:
+    if any(it.text == "list" and call.has(it.name) for it in command.options) and not count:
         raise NoCommand
-    if command.word == "view" and count > 1 and call.has("--mermaid"):
+    if call.has("--rules") and (count or len(call.values) > 1):
         raise NoCommand
-    return texts[:count]
+    if command.word == "view" and count > (1 if call.has("--mermaid") else 2 if call.has("--html") else count):
+        raise NoCommand
+    return (texts + texts[-1:] * count)[:count]

@@ -67,7 +67,7 @@ class Tests:
 
     def run(self):
         unproved = "this answer is of the unproved build"
-        self.check("a trial", "meta", 0, "7\n", ["building gammonfig unproved", unproved])
+        self.check("a trial", "meta", 0, "7\n", ["building gammonfig, qt_tools and trace_view unproved", unproved])
         self.check("a trial again", "meta", 0, "7\n", [unproved])
         proving = ["proving: 4 of 4 crates left", "proving: 0 of 4 crates left", "all of it is proved"]
         others = ["qt_tools is proved", "trace_view is proved"]

@@ -29,6 +29,8 @@ MAY_BE_FREE = set(b"value_copy eval_sum type_of adopt connect add post schedule 
 # Those on a scan that was just made: its rows give back the room that they don't need, and do without where that is refused.
 # For any other request that is refused they answer as the others do.
 SHRUNK = set(b"scan edges nodes destroys make check".split())
+# Those that note on the way what they look up, and look at more where that is refused.
+NOTING = set(b"move_tree".split())
 # The scripts of its runs.
 SCRIPT = b"new s Source\nnew l Label\nconnect s valueChanged(int) l show(int) auto\ncall s.setValue(7)\n"
 COUNTING = b"new a Counter\nnew b Counter\nconnect\nconnect\nset a.value 5\n"
@@ -73,6 +75,8 @@ class Call:
         """Which of the answers it is that are wanted where a request of the call was refused, or None."""
         head, _, told = output.partition(b"\n")
         if self.word in LENT:
+            if self.word in NOTING and output == self.ample:
+                return WITHOUT
             is_wanted = (head, told) == (self.word + b": memory, as before true, then ample", self.told)
             return AS_BEFORE if is_wanted else None
         if self.word == b"apply":

@@ -74,12 +74,12 @@ def own_calls(classes):
 
 def many_cycles(count):
     """Such classes, and a list of so many cycles that aren't there."""
-    return own_calls(200) + b"\n%%\n" + b"".join(b"cycle\nA.%d\n" % it for it in range(count))
+    return own_calls(200) + b"\n%%\n" + b"".join(b"A.%d -> A.%d\n" % (it, it) for it in range(count))
 
 
 def one_cycle(count):
-    """A list with one cycle of so many members, the last ones first."""
-    return b"class A { }\n%%\ncycle\n" + b"".join(b"  A.m%06d()\n" % it for it in reversed(range(count)))
+    """A list with a cycle of so many edges, the last ones first."""
+    return b"class A { }\n%%\n" + b"".join(b"A.m%06d() -> A.m%06d()\n" % (it, it + 1) for it in reversed(range(count)))
 
 
 def long_with_cycle():
@@ -88,6 +88,14 @@ def long_with_cycle():
     slots = " ".join(f"slot write{it}() {{ set this.reference1 = null; }}" for it in range(60))
     classes = [f"class C{it} {{ {properties} {slots} }}" for it in range(218)]
     return "\n".join([*classes, "class Last { slot f() { call this.f(); } }"]).encode()
+
+
+def largest():
+    """A program of 256 classes with a certificate, as large as may be: properties that notify, slots that set them, and wires."""
+    members = " ".join(f"property int p{it} notify s{it}(int); signal s{it}(int); slot f{it}(int v) {{ set this.p{it} = v; }}" for it in range(28))
+    classes = [f"class C{it} {{ {members} }}" for it in range(256)]
+    wires = [f"wire C{it} s{member}(int) -> C{it + 1} f{member}(int) {'queued' if it % 40 == 39 else 'direct'};" for it in range(250) for member in range(4)]
+    return "\n".join(classes + wires).encode()
 
 
 class Costs:
@@ -153,13 +161,25 @@ class Costs:
     def verdicts(self):
         found = self.run("150,000 cycles that aren't there", ["verdict", "--accept"], many_cycles(150_000))
         self.count.check(found.output.endswith(b"100 findings, and 11900 more\n"), lambda: f"a long list: {found}")
-        self.count.check(b"note: 149900 more accepted cycles" in found.errors, lambda: f"a long list: {found}")
+        self.count.check(b"note: 149900 more listed edges" in found.errors, lambda: f"a long list: {found}")
         text = own_calls(200)
         listed = self.run("the list of 12,000 cycles", ["verdict", "--accept-all"], text).output
         found = self.run("12,000 cycles that are there", ["verdict", "--accept"], text + b"\n%%\n" + listed)
         self.count.check(found.output == b"no findings, 12000 accepted\n", lambda: f"12,000 cycles: {found}")
         found = self.run("a cycle of 140,000 members", ["verdict", "--accept"], one_cycle(140_000))
         self.count.check(found.output == b"no findings\n", lambda: f"a long cycle: {found}")
+        self.largest_program()
+
+    def largest_program(self):
+        """A graph of 256 classes is judged in at most twice what `certify` takes."""
+        text, certify = largest(), built.BUILDS[1 if self.program.endswith(".by-rattle") else 0]
+        certified = [self.bench.run(certify, ["certify"], text) for _ in range(3)]
+        found = [self.bench.run(self.program, ["verdict"], text) for _ in range(3)]
+        least, taken = (min(it.seconds for it in runs) for runs in (certified, found))
+        self.measured.append(("256 classes, beside `certify`", ["verdict"], taken))
+        self.measured.append(("256 classes", ["certify"], least))
+        holds = all(it.status == 0 for it in certified + found) and taken <= 2 * least
+        self.count.check(holds, lambda: f"256 classes: {taken:.2f} s, and certify {least:.2f} s: {found[0].output[-300:]}")
 
 
 def try_all(bench, count, program):

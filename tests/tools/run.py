@@ -2,10 +2,11 @@
 """Runs the cases of tests/tools/*.cases on both builds of the program `qt_tools`. They have the form of docs/cases.md, and
 `--- errors` is compared where it is there. Then `import` is given changed texts of JSON: of each it makes declarations that
 `gammonfig meta` takes, or it is refused with status 2 and nothing is written; so with changed texts of effects behind them, of
-which it makes bodies that are typed. And `graph` is given changed programs: it draws
-those that `meta` takes, as JSON that can be read, whose edges join nodes that are drawn. So is `verdict`: it finds nothing where
-`gammonfig certify` makes a certificate, and else what its reason says too; what it lists of cycles it accepts; and its SARIF
-has what the schema asks, and its JSON becomes a code quality report. What was dear once keeps to bounds (costs.py).
+which it makes bodies that are typed. The scripts of the examples are recorded, as they are and with changed comments: what is
+recorded is met, and the same. And `graph` is given changed programs: it draws those that `meta` takes, as JSON that can be read,
+whose edges join nodes that are drawn. So is `verdict`: it finds nothing where `gammonfig certify` makes a certificate, and else
+what its reason says too; what it lists of cycles it accepts; and its SARIF has what the schema asks, and its JSON becomes a code
+quality report. What was dear once keeps to bounds (costs.py).
 
 Usage: tests/tools/run.py. The last line is `N passed, M failed`."""
 import json
@@ -21,12 +22,15 @@ import built
 import case_files
 import costs
 import sarif
+import schema
 
 FOLDER = os.path.dirname(os.path.abspath(__file__))
 PROGRAM = f"{built.ROOT}/crates/qt_tools/out/qt_tools"
 
 
-SEED, DRAWN, JUDGED = 20260101, 100, 60
+SEED, DRAWN, JUDGED, RECORDED = 20260101, 100, 60, 30
+with open(f"{built.ROOT}/docs/verdict.schema.json", encoding="utf-8") as SCHEMA_FILE:
+    SCHEMA = json.load(SCHEMA_FILE)
 CHANGED = int(os.environ.get("CHANGED") or 1500)
 TOKEN = re.compile(rb'"[^"]*"|[0-9a-z]+|[][{}:,]')
 ODD = [b"", b"\n", b'""', b'"int"', b'"class"', b'"QObject"', b'"a::b"', b'"x\\ny"', b"3", b"null", b"true", b"[]", b"{}", b"[", b"}", b"\xff"]
@@ -121,12 +125,12 @@ def is_verdict(found, certified, text):
     """Whether a verdict as JSON goes with what `certify` says of the program."""
     try:
         told = json.loads(found.output)
-        rules = {it["rule"] for it in told["findings"]}
+        rules = {it["rule"] for it in told["findings"] if it["severity"] == "error"}
         chains = [it["chain"] for it in told["findings"]]
-        joined = all(first["to"] == second["from"] for it in chains for first, second in zip(it, it[1:]))
+        joined = all(first["to"] == second["from"] for it in told["findings"] if it["rule"] != "deletes-connected" for first, second in zip(it["chain"], it["chain"][1:]))
         placed = all(is_placed(it, text) for it in told["findings"] + [step for chain in chains for step in chain])
         reason = re.match(rb"no (\w+) ", certified.output)
-        return joined and placed and bool(rules) == (found.status != 0) and (not reason or RULES[reason[1]] in rules)
+        return joined and placed and not schema.faults(told, SCHEMA) and bool(rules) == (found.status != 0) and (not reason or RULES[reason[1]] in rules)
     except (ValueError, KeyError):
         return False
 
@@ -147,13 +151,20 @@ def judge(bench, count, program):
 
 
 def accept(bench, count, program, text):
-    """All cycles of the program are accepted by their own list, and by it alone."""
+    """All cycles of the program are accepted by their own list, but loops of bindings, and by it alone; with an edge less one is found."""
     listed = bench.run(program, ["verdict", "--accept-all"], text)
     found = bench.run(program, ["verdict", "--json", "--accept"], text + b"\n%%\n" + listed.output)
     told = json.loads(found.output)
-    holds = listed.status == 0 and told["accepted"] == listed.output.count(b"\ncycle\n") and b"note" not in found.errors
-    holds = holds and not any(it["rule"] == "cycle" for it in told["findings"])
+    edges = [it for it in listed.output.splitlines() if not it.startswith(b"#")]
+    holds = listed.status == 0 and told["accepted"] <= len(edges) and b"note" not in found.errors
+    cycles = [it for it in told["findings"] if it["rule"] == "cycle"]
+    holds = holds and all(step["by"] == "binding" for it in cycles for step in it["chain"])
     count.check(holds, lambda: f"{text}: the list {listed}, and with it {found}")
+    if told["accepted"] and not told["more"]:
+        found = bench.run(program, ["verdict", "--json", "--accept"], text + b"\n%%\n" + b"\n".join(edges[1:]))
+        left = json.loads(found.output)
+        holds = left["accepted"] == told["accepted"] - 1 and any(it["rule"] == "cycle" for it in left["findings"])
+        count.check(holds and found.status == 3, lambda: f"{text}: without {edges[0]}: {found}")
 
 
 def chained(length):
@@ -172,11 +183,24 @@ def judge_large(bench, count, program):
         for it in told["findings"]:
             holds = len(it["chain"]) == 256 and all(step["by"] == "wire" for step in it["chain"])
             count.check(holds, lambda: f"a chain of {length}: {it['chain']}")
+    calls = [" ".join(f"call this.f{to}();" for to in range(6) if to != it) for it in range(6)]
+    dense = f"class A {{ {' '.join(f'slot f{it}() {{ {body} }}' for it, body in enumerate(calls))} }}".encode()
+    told = json.loads(bench.run(program, ["verdict", "--json"], dense).output)
+    edges = {(step["from"], step["to"]) for it in told["findings"] for step in it["chain"]}
+    holds = [it["rule"] for it in told["findings"]] == ["cycle"] * 10 and len(edges) == 20 and told["more"] == 0
+    count.check(holds, lambda: f"15 cycles of two: {told}")
     many = b"class A { signal s(); slot f(int v) { } }\n" + b"wire A s() -> A f(int) queued;\n" * 130
-    told = json.loads(bench.run(program, ["verdict", "--json"], many).output)
+    told = json.loads(bench.run(program, ["verdict", "--json", "--off", "wire-unused"], many).output)
     count.check((len(told["findings"]), told["more"]) == (100, 30), lambda: f"130 wires that don't fit: {told}")
-    lines = bench.run(program, ["verdict"], many).output.splitlines()
+    lines = bench.run(program, ["verdict", "--off", "wire-unused"], many).output.splitlines()
     count.check(lines[-1] == b"100 findings, and 30 more", lambda: f"130 wires that don't fit: {lines[-1]}")
+
+
+# Of the rules that are about an edge of the programs below, their fingerprints.
+EDGES = {
+    "cycle": "cycle A.f() -> A.f()", "destroy-path": "destroy-path A.g() -> ~A", "queued-cycle": "queued-cycle A.s() -> A.f()",
+    "deletes-connected": "deletes-connected B.g() -> ~A",
+}  # fmt: skip
 
 
 def report(bench, count, program):
@@ -186,6 +210,8 @@ def report(bench, count, program):
         "types": (b'class A { property int p = "x"; signal s(); slot f(int v) { } }\nwire A s() -> A f(int) auto;', ["wire-types", "ill-typed"]),
         "text": (b"class A {\n  property int p\n  signal s();\n}", ["syntax"]),
         "brace": (b"class A { property int p }", ["syntax"]),
+        "posted": (b"class A { signal s(); slot f() { emit s(); } }\nwire A s() -> A f() queued;", ["queued-cycle"]),
+        "dropped": (b"class A { slot f() { } }\nclass B { property A* a; signal s(); slot g() { later this.a; } }\nwire B s() -> A f() queued;", ["deletes-connected"]),
         "none": (b"class A { }", []),
     }  # fmt: skip
     for name, (text, rules) in faulty.items():
@@ -196,8 +222,11 @@ def report(bench, count, program):
         run = log["runs"][0]
         results = run["results"]
         count.check([it["ruleId"] for it in results] == rules, lambda: f"{name}: {results}, wanted {rules}")
-        known = {it["id"] for it in run["tool"]["driver"]["rules"]}
-        count.check(known.issuperset(rules), lambda: f"{name}: the rules are {known}")
+        known = {it["id"]: it for it in run["tool"]["driver"]["rules"]}
+        holds = all(it["level"] == known[it["ruleId"]]["defaultConfiguration"]["level"] and known[it["ruleId"]]["help"]["text"] for it in results)
+        count.check(holds, lambda: f"{name}: the rules are {known}, and the levels {results}")
+        keyed = {it["ruleId"]: it.get("partialFingerprints", {}).get("gammonfigEdge/v1") for it in results}
+        count.check(all(bool(keyed[it]) == (it in EDGES) and keyed[it] in (None, EDGES.get(it)) for it in rules), lambda: f"{name}: the fingerprints are {keyed}")
         uris = {at["physicalLocation"]["artifactLocation"]["uri"] for it in results for at in it["locations"]}
         count.check(uris <= {f"src/{name}%201.gf"}, lambda: f"{name}: {uris}")
         told = bench.run(program, ["verdict", "--json"], text).output
@@ -207,7 +236,9 @@ def report(bench, count, program):
         holds = holds and all(it["location"]["path"] == "program" and it["location"]["lines"]["begin"] >= 1 for it in entries)
         count.check(holds, lambda: f"{name}: {entries}")
         flows = {it["ruleId"] for it in results if it.get("codeFlows")}
-        count.check(flows == {"cycle", "destroy-path"} & set(rules), lambda: f"{name}: {results}")
+        count.check(flows == set(EDGES) & set(rules), lambda: f"{name}: {results}")
+        related = {it["ruleId"] for it in results if it.get("relatedLocations")}
+        count.check(related == flows, lambda: f"{name}: {results}")
 
 
 def name_files(bench, count, program):
@@ -219,6 +250,79 @@ def name_files(bench, count, program):
         found = bench.run(program, ["verdict", "--sarif", *words], text)
         at = json.loads(found.output)["runs"][0]["results"][0]["locations"][0]
         count.check(at["physicalLocation"]["artifactLocation"]["uri"] == uri, lambda: f"{name!r}: {found}")
+
+
+def tell_places(bench, count, program):
+    """Where a place stands for one of another text, that is told, and the place in the program beside it: in each form."""
+    text = b"class A {\n  slot f() { call this.f(); }\n  slot g() { delete this; }\n}"
+    placed = b"2\t14\tsrc/a b.cpp\t7\t3\tf({});\tif `m_on`\n"
+    given, words = placed + b"%%\n" + text, ["--places", "--program", "app.gf"]
+    told = bench.run(program, ["verdict", *words], given).output.decode()
+    step = "src/a b.cpp:7:3: note: `A.f()` leads to `A.f()`: `f({});`, if `m_on`\n"
+    count.check(step in told and "app.gf:3:3: error: `A.g()`" in told, lambda: f"places as text: {told}")
+    found = json.loads(bench.run(program, ["verdict", "--json", *words], given).output)["findings"]
+    at = [(it["file"], it["line"], it["column"], it.get("program")) for it in found]
+    wanted = [("src/a b.cpp", 7, 3, {"file": "app.gf", "line": 2, "column": 14}), ("app.gf", 3, 3, None)]
+    holds = at == wanted and (found[0]["chain"][0]["words"], found[0]["chain"][0]["conditions"]) == ("f({});", ["if `m_on`"])
+    count.check(holds and "words" not in found[1], lambda: f"places as JSON: {found}")
+    faults = schema.faults({"version": 1, "findings": found, "more": 0, "accepted": 0}, SCHEMA)
+    count.check(not faults, lambda: f"places as JSON: {faults}")
+    log = json.loads(bench.run(program, ["verdict", "--sarif", *words], given).output)
+    first, second = log["runs"][0]["results"]
+    count.check(not sarif.faults(log), lambda: f"places as SARIF: {sarif.faults(log)}")
+    spots = [(it["physicalLocation"]["artifactLocation"]["uri"], it["physicalLocation"]["region"]["startLine"]) for it in first["locations"] + first["relatedLocations"]]
+    flow = first["codeFlows"][0]["threadFlows"][0]["locations"][0]["location"]
+    holds = spots == [("src/a%20b.cpp", 7), ("app.gf", 2), ("src/a%20b.cpp", 7)] and flow["message"]["text"].endswith("`f({{}});`, if `m_on`")
+    holds = holds and first["relatedLocations"][1:] == [flow] and len(second["relatedLocations"]) == 1
+    count.check(holds and flow["physicalLocation"]["artifactLocation"]["uri"] == "src/a%20b.cpp", lambda: f"places as SARIF: {first}, {second}")
+    told = bench.run(program, ["verdict", "--junit", *words], given).output.decode()
+    holds = '<testcase classname="src/a b.cpp" name="cycle 7:3">' in told and step in told and '<testcase classname="app.gf" name="destroy-path 3:3">' in told
+    count.check(holds, lambda: f"places as JUnit: {told}")
+
+
+def record(bench, count, program):
+    """Each example's script is recorded. Then `session` finds each event as expected, but behind a fault; the run is the same; it is
+    recorded again to the byte; and so it is where comments were changed before."""
+    rng = random.Random(SEED)
+    for name, words, text, output, status in built.examples():
+        if words[:1] != ["run"] or status not in (0, 4):
+            continue
+        recording = ["session", "--record", *words[1:]]
+        *before, _ = built.texts(text)
+        recorded = bench.run(program, recording, text)
+        if recorded.status == 2 and not recorded.output and b"refused with 17" in recorded.errors:
+            # Programs with natives aren't run.
+            continue
+        given = case_files.joined([*before, recorded.output])
+        found = bench.run(program, ["session", *words[1:]], given)
+        count.check(found.status == recorded.status and found.status in ((0,) if status == 0 else (0, 5)), lambda: f"{name} recorded: {recorded}, then {found}")
+        ran = bench.run(built.BUILDS[0], words, given)
+        count.check((ran.status, ran.output) == (status, output), lambda: f"{name} recorded: it runs otherwise: {ran}")
+        again = bench.run(program, recording, given)
+        count.check(again.output == recorded.output and again.errors.startswith(b"the comments of 0 events"), lambda: f"{name} recorded again: {again}")
+        for _ in range(RECORDED):
+            other = changed_comments(rng, recorded.output)
+            found = bench.run(program, recording, case_files.joined([*before, other]))
+            # Behind a fault nothing is run, and what is there stays.
+            holds = found.output == recorded.output if status == 0 else found.status == recorded.status
+            count.check(holds, lambda: f"{name}: {other} is recorded as {found}")
+
+
+def changed_comments(rng, script):
+    """The script with some of its comments left out, doubled or changed; and with one more below a line that has an event."""
+    made = []
+    for line in script.split(b"\n"):
+        blanks, is_comment = line[: len(line) - len(line.lstrip())], line.lstrip().startswith(b"//=")
+        chance = rng.random()
+        if is_comment and chance < 0.1:
+            continue
+        if is_comment and chance < 0.2:
+            line = line.replace(b"//= ", b"//= 9")
+        line = re.sub(rb"// refused \d+$", b"// refused 9", line) if chance < 0.5 else line
+        made.append(line)
+        if line.strip() and (is_comment or not line.lstrip().startswith(b"//")) and chance > 0.9:
+            made.append(blanks + b"//= 1 call none.of(these)")
+    return b"\n".join(made)
 
 
 def changed_program(rng, text):
@@ -249,11 +353,13 @@ def main():
     for program in programs:
         change(bench, count, program, text)
         change_effects(bench, count, program, effects)
+        record(bench, count, program)
         draw(bench, count, program)
         judge(bench, count, program)
         judge_large(bench, count, program)
         report(bench, count, program)
         name_files(bench, count, program)
+        tell_places(bench, count, program)
         costs.try_all(bench, count, program)
     count.end()
 

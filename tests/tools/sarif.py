@@ -9,6 +9,7 @@ REQUIRED = {
     "tool": ["driver"],
     "driver": ["name"],
     "rule": ["id"],
+    "configuration": [],
     "words": ["text"],
     "result": ["message"],
     "message": ["text"],
@@ -25,9 +26,10 @@ PROPERTIES = {
     "run": {"tool": "tool", "results": ["result"], "properties": "bag"},
     "tool": {"driver": "driver"},
     "driver": {"name": "text", "version": "text", "rules": ["rule"]},
-    "rule": {"id": "text", "shortDescription": "words"},
+    "rule": {"id": "text", "shortDescription": "words", "help": "words", "defaultConfiguration": "configuration", "properties": "bag"},
+    "configuration": {"level": "level"},
     "words": {"text": "text"},
-    "result": {"ruleId": "text", "level": "level", "message": "message", "locations": ["location"], "codeFlows": ["flow"]},
+    "result": {"ruleId": "text", "level": "level", "message": "message", "locations": ["location"], "relatedLocations": ["location"], "codeFlows": ["flow"], "partialFingerprints": "texts"},
     "message": {"text": "literal"},
     "location": {"physicalLocation": "physical", "message": "message"},
     "physical": {"artifactLocation": "artifact", "region": "region"},
@@ -48,6 +50,7 @@ PLAIN = {
     "level": lambda it: it in ("none", "note", "warning", "error"),
     "count": lambda it: isinstance(it, int) and it >= 1,
     "bag": lambda it: isinstance(it, dict),
+    "texts": lambda it: isinstance(it, dict) and all(isinstance(part, str) for part in it.values()),
 }
 
 

@@ -132,7 +132,7 @@ class Reading:
             (b" at line 9, column 3 of the input (line 4, column 5 of the script)\n", b" at s:4:5\n"),
             (b"line 7 of the certificate gives\n", b"c:7 gives\n"),
             (b"qt_tools: line 7 of the script, expects\n", b"s:7: expects\n"),
-            (b"qt_tools: line 7 of the list of cycles: x\n", b"l:7: x\n"),
+            (b"qt_tools: line 7 of the list: x\n", b"l:7: x\n"),
             (b"line 7 of the effects: x\n", b"e:7: x\n"),
             (b"qt_tools: text 2, line 3, column 4: x\n", b"t:3:4: x\n"),
             (b"qt_tools: text 3, line 3, column 4: x\n", b"qt_tools: text 3, line 3, column 4: x\n"),

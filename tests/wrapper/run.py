@@ -3,8 +3,10 @@
 what reaches the program, what comes back, and what the wrapper says of its own (docs/commands.md, "Files").
 
 Usage: tests/wrapper/run.py. The last line is `N passed, M failed`."""
+import errno
 import os
 import pty
+import re
 import sys
 
 sys.dont_write_bytecode = True
@@ -13,6 +15,9 @@ import built
 from first_minute import FirstMinute
 from place import Place
 from reading import Reading
+
+sys.path.insert(0, f"{built.ROOT}/bin")
+import several
 
 LAMP = """class Lamp {
     property int level notify changed(int);
@@ -89,13 +94,17 @@ class Tests:
     def refused(self):
         """What is no file, no text or no command line is refused before anything runs."""
         self.check(["certify", "none.gf"], 2, "", "none.gf: this file can't be read")
-        self.check(["certify", "."], 2, "", ".: this file can't be read")
+        self.check(["certify", "cache"], 2, "", "cache: this file can't be read")
         self.check(["certify", "parted.gf"], 2, "", "parted.gf:6: a line `%%`")
         for words in (["certify", "app.gf", "app.gfc"], ["run", "app.gf", "session.gfs"], ["run", "--unchecked", "257", "app.gf"]):
             self.check(words, 1, USAGE, "this is no command")
         for words in (["run", "--steps", "0"], ["certify", "--fast"], ["draw", "app.gf"], ["graph", "--json", "app.gf", "app.gf"]):
             self.check(words, 1, USAGE, "this is no command")
         self.check([], 1, USAGE, "a runtime of signals and slots")
+        for word, one, other in ("verdict", "--json", "--sarif"), ("verdict", "--sarif", "--accept-all"), ("view", "--html", "--plain"), ("session", "--tap", "--record"):
+            told = f"gammonfig: `{one}` and `{other}` exclude one another: `{word}` takes one of them\n"
+            found = self.place.run([word, one, other, "app.gf"])
+            self.count.check(found == (2, "", told), lambda: f"{word} {one} {other}: {found}")
 
     def input(self):
         """Standard input reaches the program as it is."""
@@ -128,12 +137,96 @@ class Tests:
         self.check(["session", "--unchecked", "256", "--steps", "100"], 0, passed, text=LAMP + "%%\n" + SCRIPT)
         told = "TAP version 13\n1..2\nok 1 - line 1: new a Lamp\nok 2 - line 2: call a.dim(3)\n"
         self.check(["session", "--tap", "app.gf", "app.gfc", "session.gfs"], 0, told)
-        told = "other.gfs:2: `call a.dim(3)`: its line 1 is `1 call a.dim(3)`, and is expected to be `1 call a.dim(4)`\n"
+        told = "other.gfs:3: `call a.dim(3)`: its line 1 is `1 call a.dim(3)`, and is expected to be `1 call a.dim(4)`\n"
         told += "2 events, 1 not as expected\n"
         self.check(["session", "--unchecked", "256", "app.gf", "other.gfs"], 5, told, "otherwise than is expected")
         self.check(["session", "app.gf", "app.gfc", "above.gfs"], 2, "", "above.gfs:1: expects a line of the trace")
         self.check(["session", "app.gf", "app.gfc", "wrong.gfs"], 2, "", "refused with 16")
         self.check(["session", "app.gf", "session.gfs"], 1, USAGE, "this is no command")
+
+    def sessions(self):
+        """Of several scripts each is named, and the worst status is the one."""
+        before, passed = ["session", "--unchecked", "9", "app.gf"], "session.gfs: 2 events, each as expected\n"
+        self.check([*before, "session.gfs", "session.gfs"], 0, passed * 2)
+        self.check(["session", "app.gf", "app.gfc", "session.gfs", "session.gfs"], 0, passed * 2)
+        told = "other.gfs:3: `call a.dim(3)`: its line 1 is `1 call a.dim(3)`, and is expected to be `1 call a.dim(4)`\n"
+        told += "other.gfs: 2 events, 1 not as expected\n"
+        self.check([*before, "session.gfs", "other.gfs"], 5, passed + told, "gammonfig: other.gfs: events went otherwise")
+        self.check([*before, "other.gfs", "session.gfs"], 5, told + passed, "gammonfig: other.gfs: events went otherwise")
+        self.check([*before, "wrong.gfs", "session.gfs", "other.gfs"], 2, passed + told, "gammonfig: wrong.gfs: the script isn't run", "gammonfig: other.gfs: events")
+        self.check([*before, "above.gfs", "session.gfs"], 2, passed, "above.gfs:1: expects a line of the trace")
+        self.check(["session", "app.gf", "flat.gfc", "session.gfs", "other.gfs"], 3, "", "gammonfig: session.gfs: the script isn't run", "gammonfig: other.gfs: the")
+        self.check([*before, "session.gfs", "none.gfs"], 2, "", "none.gfs: this file can't be read")
+        self.check([*before, "session.gfs", "-"], 0, passed + passed.replace("session.gfs", "-"), text=SCRIPT)
+        told = "TAP version 13\n1..5\nok 1 - session.gfs:1: new a Lamp\nok 2 - session.gfs:2: call a.dim(3)\n"
+        told += "ok 3 - other.gfs:1: new a Lamp\nnot ok 4 - other.gfs:2: call a.dim(3)\n"
+        told += "# line 3: its line 1 is `1 call a.dim(3)`, and is expected to be `1 call a.dim(4)`\nnot ok 5 - wrong.gfs\n# not run\n"
+        self.check(["session", "--tap", *before[1:], "session.gfs", "other.gfs", "wrong.gfs"], 2, told, "other.gfs: events", "wrong.gfs: the script isn't run")
+
+    def record(self):
+        """What is recorded is written into the script: whole, or not at all."""
+        place, words = self.place, ["session", "--record", "--unchecked", "9", "app.gf"]
+        lines = "".join(f"//= {it}\n" for it in TRACE.splitlines()[2:])
+        place.write({"first.gfs": SCRIPT[:-1], "second.gfs": SCRIPT + "//= 1 call a.dim(4)\n// the end\n", "met.gfs": SCRIPT + lines[:-1]})
+        os.chmod(f"{place.folder}/first.gfs", 0o640)
+        os.symlink("first.gfs", f"{place.folder}/link.gfs")
+        self.check([*words, "link.gfs", "second.gfs"], 0, "", "link.gfs: the comments of 1 events", "second.gfs: 2 events, each as expected")
+        found = [self.content(it) for it in ("first.gfs", "second.gfs")]
+        self.count.check(found == [SCRIPT + lines, SCRIPT + lines + "// the end\n"], lambda: f"recorded: {found}")
+        kept = os.stat(f"{place.folder}/first.gfs").st_mode & 0o777, os.path.islink(f"{place.folder}/link.gfs")
+        self.count.check(kept == (0o640, True), lambda: f"what is recorded through a link: {kept}")
+        before = os.stat(f"{place.folder}/met.gfs")
+        self.check([*words, "met.gfs"], 0, "", "met.gfs: the comments of 0 events")
+        after = os.stat(f"{place.folder}/met.gfs")
+        self.count.check((after.st_ino, after.st_mtime_ns) == (before.st_ino, before.st_mtime_ns), lambda: "what is as it was is written again")
+        self.check(["session", "app.gf", "app.gfc", "first.gfs"], 0, "2 events, each as expected\n")
+        self.check([*words, "-"], 0, SCRIPT + lines, "-: the comments of 1 events", text=SCRIPT)
+        self.check([*words[:4], "app.gf", "/dev/stdin"], 0, SCRIPT + lines, "/dev/stdin: 2 events", text=SCRIPT)
+        self.check(words[:4], 0, SCRIPT + lines, "the comments of 1 events", text=LAMP + "%%\n" + SCRIPT)
+        self.check([*words, "wrong.gfs"], 2, "", "gammonfig: wrong.gfs: the script isn't run")
+        self.check([*words, "above.gfs"], 2, "", "above.gfs:1: expects")
+        self.check(["session", "--record", "app.gf", "flat.gfc", "session.gfs"], 3, "", "gammonfig: session.gfs: the script isn't run")
+        found = [self.content(it) for it in ("wrong.gfs", "above.gfs", "session.gfs")]
+        self.count.check(found == [SCRIPT + "cal a.dim(4)\n", "//= event 1\n" + SCRIPT, SCRIPT], lambda: f"refused scripts: {found}")
+        self.unwritten()
+        self.check(["session", "--record", *words[1:], "session.gfs"], 1, USAGE, "this is no command")
+
+    def unwritten(self):
+        """A script that can't be written, or is changed while it runs, stays as it is, and nothing is left beside it: by the calls alone."""
+        place, write = self.place, several.write
+        os.mkdir(f"{place.folder}/busy")
+        place.write({"busy/a.gfs": SCRIPT})
+
+        def full(*_):
+            raise OSError(errno.ENOSPC, "no room")
+
+        for before, how, wanted in (b"as it was", write, "it was changed meanwhile"), (SCRIPT.encode(), full, "no room"):
+            several.write = how
+            try:
+                several.replace(f"{place.folder}/busy/a.gfs", before, b"recorded")
+                found = ""
+            except OSError as fault:
+                found = fault.strerror
+            several.write = write
+            left = os.listdir(f"{place.folder}/busy")
+            self.count.check((found, self.content("busy/a.gfs"), left) == (wanted, SCRIPT, ["a.gfs"]), lambda: f"{wanted}: {found}, {left}")
+        words = ["session", "--record", "--unchecked", "9", "app.gf", "none/../busy/a.gfs"]
+        self.check(words, 2, "", "none/../busy/a.gfs: this file can't be read")
+
+    def content(self, name):
+        with open(f"{self.place.folder}/{name}") as file:
+            return file.read()
+
+    def views(self):
+        """Of several traces each has its name above it, and each may have its script behind it."""
+        self.place.write({"fault": "fault 61\n"})
+        one = self.place.run(["view", "--plain", "trace", "session.gfs"])[1]
+        self.check(["view", "trace", "session.gfs", "fault"], 0, f"==> trace <==\n{one}\n==> fault <==\n" + self.place.run(["view", "--plain", "fault"])[1])
+        shown = self.place.run(["view", "--color", "trace"])[1]
+        self.check(["view", "--color", "fault", "trace"], 0, f"==> fault <==\n{self.place.run(['view', '--color', 'fault'])[1]}\n==> trace <==\n{shown}")
+        self.check(["view", "trace", "-"], 0, f"==> trace <==\n{self.place.run(['view', '--plain', 'trace'])[1]}\n==> - <==\n{self.place.run(['view', '--plain', 'trace'])[1]}", text=TRACE)
+        self.check(["view", "trace", "session.gfs", "session.gfs"], 2, "", "session.gfs: this is no trace")
+        self.check(["view", "--html", "trace", "fault"], 1, "", "a page and a diagram are of one trace")
 
     def view(self):
         """`view` shows traces: as a diagram or a page by that program, or as `./trace_view` does."""
@@ -168,15 +261,88 @@ class Tests:
         told = self.program(["verdict", "--json", "--program", "app.gf", "--certificate", "flat.gfc"], self.joined("app.gf", "flat.gfc"), "qt_tools")
         self.check(["verdict", "--json", "app.gf", "flat.gfc"], 3, told, "there are findings")
         self.check(["verdict"], 3, self.program(["verdict"], CYCLE, "qt_tools"), "there are findings", text=CYCLE)
-        listed = self.program(["verdict", "--accept-all"], CYCLE, "qt_tools")
+        listed = self.program(["verdict", "--accept-all", "--program", "cycle.gf"], CYCLE, "qt_tools")
         self.check(["verdict", "--accept-all", "cycle.gf"], 0, listed)
-        self.place.write({"accepted.txt": listed, "above.txt": "# none\nLamp.level\n"})
-        self.check(["verdict", "--accept", "accepted.txt", "cycle.gf"], 0, "no findings, 1 accepted\n")
-        self.check(["verdict", "--accept", "accepted.txt", "app.gf"], 0, "no findings\n", "isn't there any more")
-        self.check(["verdict", "--accept", "above.txt", "app.gf", "app.gfc"], 2, "", "above.txt:2: no line `cycle`")
+        self.place.write({"accepted.txt": listed, "above.txt": "# none\nLamp.level\n", "old.txt": "# Cycles\ncycle\n  Lamp.level\n"})
+        self.check(["verdict", "--accept", "accepted.txt", "cycle.gf"], 0, "no findings, 3 accepted\n")
+        self.check(["verdict", "--accept", "accepted.txt", "app.gf"], 0, "no findings\n", "accepts nothing")
+        self.check(["verdict", "--accept", "above.txt", "app.gf", "app.gfc"], 2, "", "above.txt:2: this is no edge")
+        self.check(["verdict", "--baseline", "old.txt", "app.gf"], 2, "", "old.txt:2: it names members")
+        self.check(["verdict", "--baseline", "accepted.txt", "cycle.gf"], 0, "no findings, 3 accepted\n")
+        self.check(["verdict", "--rules"], 0, self.program(["verdict", "--rules"], "", "qt_tools"))
+        self.check(["verdict", "--off", "cycle", "cycle.gf"], 0, "no findings\n")
+        self.check(["verdict", "--warning", "none", "cycle.gf"], 2, "", "a rule that isn't there")
         self.check(["verdict", "--accept", "none.txt", "app.gf"], 2, "", "none.txt: this file can't be read")
-        for words in (["--accept", "accepted.txt"], ["--accept"], ["--fast", "app.gf"], ["app.gf", "app.gfc", "app.gfc"]):
+        for words in (["--accept", "accepted.txt"], ["--accept"], ["--fast", "app.gf"], ["app.gf", "app.gfc", "app.gfc"], ["--rules", "app.gf"], ["--accept", "old.txt", "--baseline", "old.txt", "app.gf"]):
             self.check(["verdict", *words], 1, USAGE, "this is no command")
+
+    def other_text(self):
+        """Places beside a program, in a folder or named: findings are told in lines of the text that it was written from."""
+        os.makedirs(f"{self.place.folder}/read")
+        placed = "4\t23\tlamp 1.cpp\t7\t5\tm_level = v\tif `m_level != v`\n6\t1\tlamp 1.cpp\t3\t5\tconnect(a, &Lamp::changed, a, &Lamp::dim)\n"
+        self.place.write({"read/app.gf": CYCLE, "read/app.places": placed, "wrong.places": placed + "7\t1\n", "lamp 1.cpp": "one\ntwo\n\tthree\x1b\nfour\n"})
+        told = self.program(["verdict", "--places", "--program", "read/app.gf"], placed + "%%\n" + CYCLE, "qt_tools")
+        step = "lamp 1.cpp:7:5: note: `Lamp.dim(int)` leads to `Lamp.level`: `m_level = v`, if `m_level != v`\n"
+        self.count.check(told.startswith("lamp 1.cpp:3:5: error: `Lamp.changed(int)` may lead back") and step in told, lambda: f"with places: {told}")
+        self.check(["verdict", "read/app.gf"], 3, told, "there are findings")
+        self.check(["verdict", "read"], 3, told, "there are findings")
+        self.check(["verdict", "--places", "read/app.places", "cycle.gf"], 3, told.replace("read/app.gf", "cycle.gf"), "there are findings")
+        self.check(["verdict", "--places", "read/app.places"], 3, told.replace("read/app.gf", "program"), "there are findings", text=CYCLE)
+        for form in "--json", "--sarif", "--junit":
+            found = self.program(["verdict", form, "--places", "--program", "read/app.gf"], placed + "%%\n" + CYCLE, "qt_tools")
+            self.check(["verdict", form, "read"], 3, found, "there are findings")
+            self.count.check("lamp" in found and "if `m_level != v`" in found and "read/app.gf" in found, lambda: f"{form}: {found}")
+        lines = {"lamp 1.cpp:3:": "      2 | two\n>     3 |     three\\x1b\n      4 | four\n", "read/app.gf:2:": "".join(f"{'>' if it == 2 else ' '} {it:5} | {line}\n" for it, line in enumerate(CYCLE.split("\n")[:3], 1))}
+        shown = "".join(line + next((more for front, more in lines.items() if line.startswith(front)), "") for line in told.splitlines(keepends=True))
+        self.check(["verdict", "--context", "1", "read"], 3, shown, "there are findings")
+        self.check(["verdict", "--places", "wrong.places", "cycle.gf"], 2, "", "wrong.places:3: this is no place")
+        self.check(["verdict", "--places", "none.places", "cycle.gf"], 2, "", "none.places: this file can't be read")
+        self.check(["certify", "read"], 3, self.program(["certify"], CYCLE), "no certificate", step)
+        checked = self.program(["check"], self.joined("cycle.gf", "app.gfc"))
+        self.check(["check", "--places", "read/app.places", "cycle.gf", "app.gfc"], 3, checked, step)
+        self.check(["certify", "--places", "read/app.places"], 3, self.program(["certify"], CYCLE), "no certificate", step, text=CYCLE)
+        self.check(["certify", "--places", "wrong.places", "cycle.gf"], 3, self.program(["certify"], CYCLE), "wrong.places:3: this is no place")
+        self.check(["certify", "--places", "read/app.places", "app.gf"], 0, self.program(["certify"], LAMP), DEPTH)
+        for words in (["--context", "0", "read"], ["--context", "1", "--json", "read"], ["--places"]):
+            self.check(["verdict", *words], 1, USAGE, "this is no command")
+
+    def wide(self):
+        """A program as large as one that a tool writes is taken with `--wide`, and refused without it."""
+        self.place.write({"wide.gf": "".join(f"class C{it} {{ }}\n" for it in range(257))})
+        told = "wide.gf:257:1: error: the program has 257 classes: at most 256 may be, and this is the first one too many [too-large]\n"
+        self.check(["verdict", "wide.gf"], 2, told + "  help: with `--wide` at most 8192 may be\n1 finding\n", "a text is refused")
+        self.check(["verdict", "--wide", "wide.gf"], 0, "no findings\n")
+        for words, status, told in ((["graph"], 2, "refused with 7"), (["witness"], 2, "refused with 7"), (["certify"], 2, "with `--wide` at most 8192 may be")):
+            found, wide = self.place.run([*words, "wide.gf"]), self.place.run([*words, "--wide", "wide.gf"])
+            self.count.check(found[0] == status and told in found[2], lambda: f"{words}: {found}")
+            self.count.check(wide[0] in (0, 3) and "refused" not in wide[2], lambda: f"{words} --wide: {wide}")
+
+    def parts(self):
+        """`verdict` takes several files as one program: classes behind their bases, and places in the files."""
+        base, derived = "class A { slot f() { call this.f(); } }\n", "// below\n  class B : A { slot g() { call this.g(); } } // no more\nwire A destroyed(QObject*) -> B g() direct;\n"
+        self.place.write({"derived.gf": derived, "base.gf": base, "twice.gf": "\nclass A { }\n", "cut.gf": "class C {\n"})
+        joined = base + "  class B : A { slot g() { call this.g(); } }\nwire A destroyed(QObject*) -> B g() direct;\n"
+        files = {1: ("base.gf", 1), 2: ("derived.gf", 2), 3: ("derived.gf", 3)}
+
+        def placed(form, pattern):
+            told = self.program(["verdict", *form], joined, "qt_tools")
+            return re.sub(pattern, lambda it: "%s%s%s%d" % (it[1], files[int(it[3])][0], it[2], files[int(it[3])][1]), told)
+
+        for form, pattern in (
+            ([], r"(^|(?<=\n))program(:)(\d+)"), (["--json"], r'("file": ")program(",\s+"line": )(\d+)'), (["--accept-all"], r"(  # )program(:)(\d+)"),
+            (["--sarif"], r'("uri": ")program("\s+\},\s+"region": \{\s+"startLine": )(\d+)'),
+        ):  # fmt: skip
+            told = placed(form, pattern)
+            status, errors = (0, ()) if form == ["--accept-all"] else (3, ("there are findings",))
+            self.check(["verdict", *form, "derived.gf", "base.gf"], status, told, *errors)
+            self.count.check("derived.gf" in told and "base.gf" in told and '"program"' not in told, lambda: f"{form}: {told}")
+        self.check(["verdict", "base.gf", "twice.gf"], 2, "", "twice.gf:2:1: class `A` is declared twice: at base.gf:1:1 too")
+        found = self.place.run(["verdict", "base.gf", "cut.gf"])
+        self.count.check(found[0] == 2 and found[1].startswith("cut.gf:1:10: error: "), lambda: f"cut.gf: {found}")
+        self.check(["verdict", "base.gf", "derived.gf", "one.gfc", "two.gfc"], 1, USAGE, "this is no command")
+        self.check(["verdict", "--places", "base.places", "base.gf", "derived.gf"], 2, "", "`--places` is for a program in one file: 2 are named")
+        found = self.place.run(["verdict", "--context", "1", "derived.gf", "base.gf"])
+        self.count.check(found[0] == 3 and f">     1 | {base}" in found[1], lambda: f"--context: {found}")
 
     def joined(self, *names):
         """The texts of these files, as one input."""
@@ -274,7 +440,7 @@ class Tests:
 def main():
     tests = Tests()
     first = FirstMinute(tests.count)
-    for part in ("files", "places", "refused", "input", "terminal", "graph", "session", "view", "verdict", "witness", "import_classes", "effects", "install", "drivers", "built"):
+    for part in ("files", "places", "refused", "input", "terminal", "graph", "session", "sessions", "record", "view", "views", "verdict", "other_text", "wide", "parts", "witness", "import_classes", "effects", "install", "drivers", "built"):
         if part == "built":
             Reading(tests.place, tests.count).run()
         getattr(tests, part)()
