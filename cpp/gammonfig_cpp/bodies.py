@@ -3,13 +3,13 @@ from __future__ import annotations
 
 from .classes import OWNING
 from .comparing import Comparing
+from .conditional import Conditional
 from .context import Context
 from .libclang import FUNCTIONS, NAMES, RECORDS, VARIABLES, Cursor, K, T, bare, cindex, expressions, strip
-from .model import Condition, Function, Value
+from .model import Function, Value
 
 # What Q_OBJECT declares and defines.
 OF_MOC = {'tr', 'trUtf8', 'qt_metacall', 'qt_metacast', 'qt_static_metacall', 'metaObject', 'qt_check_for_QGADGET_macro'}
-ENDS = (K.RETURN_STMT, K.CONTINUE_STMT, K.BREAK_STMT)
 SOLE_OWNERS = ('unique_ptr', 'QScopedPointer')
 
 
@@ -17,6 +17,7 @@ class Bodies:
     def __init__(self, context: Context) -> None:
         self.context = context
         self.comparing = Comparing(context)
+        self.conditional = Conditional(context, self)
         self.locals: list[tuple[str, Cursor, str]] = []
         self.released: set[str] = set()
 
@@ -61,6 +62,7 @@ class Bodies:
         with context.hinted(cursor.spelling), context.around(str(cursor.semantic_parent.canonical.get_usr())):
             if initial:
                 context.flow(key, context.values.of(initial[-1]))
+                context.calls.initial_member(initial[-1])
                 if strip(initial[-1]).kind == K.LAMBDA_EXPR:
                     context.lambdas[key] = self.lambda_key(strip(initial[-1]))
         cls = context.classes.of(cursor.type)
@@ -113,6 +115,7 @@ class Bodies:
         kids = list(cursor.get_children())
         with self.context.within(function), self.comparing.fresh():
             self.context.changed = self.context.values.changed_parameters(kids[-1]) if kids else set()
+            self._owned_parameters(kids)
             at = 0
             while at < len(kids):
                 kid = kids[at]
@@ -126,6 +129,15 @@ class Bodies:
                 at += 1
             self._end_scope()
         self.locals = outer
+
+    def _owned_parameters(self, formals: list[Cursor]) -> None:
+        """Smart pointers that a function takes by value are as locals of it."""
+        classes = self.context.classes
+        for formal in formals:
+            if formal.kind == K.PARM_DECL and formal.type.get_canonical().kind == T.RECORD and classes.holder(formal.type) in SOLE_OWNERS:
+                cls, key = classes.of(formal.type), self.context.variable_key(formal)
+                if cls and key is not None:
+                    self.locals.append((key, formal, cls))
 
     def _end_scope(self) -> None:
         """Smart pointers that are locals destroy at the end what they still hold."""
@@ -203,16 +215,20 @@ class Bodies:
         context.calls.initial(first, site)
         function = context.function
         is_local = key.startswith('V:') and cursor.storage_class != cindex.StorageClass.STATIC
-        if function is not None and is_local and context.classes.is_object(cls) and function.name != 'main':
+        dies = context.classes.is_object(cls) or context.classes.has_destructor(cls)
+        if function is not None and is_local and dies and function.name != 'main':
             context.add('scope', cursor, site).cls = cls
 
     # Statements
 
     def walk(self, cursor: Cursor) -> None:
         kind = cursor.kind
-        handler = {K.COMPOUND_STMT: self._compound, K.IF_STMT: self._branch, K.CALL_EXPR: self.context.calls.call,
+        handler = {K.CALL_EXPR: self.context.calls.call,
                    K.LAMBDA_EXPR: self._loose_lambda, K.VAR_DECL: self.variable, K.CXX_NEW_EXPR: self.new, K.CXX_DELETE_EXPR: self._delete,
-                   K.RETURN_STMT: self._return, K.CXX_FOR_RANGE_STMT: self._for_each}.get(kind)
+                   K.RETURN_STMT: self._return, K.CXX_FOR_RANGE_STMT: self._for_each, K.FOR_STMT: self.conditional.loop,
+                   K.WHILE_STMT: self.conditional.loop, K.DO_STMT: self.conditional.loop, K.SWITCH_STMT: self.conditional.switch,
+                   K.IF_STMT: self.conditional.branch, K.CONDITIONAL_OPERATOR: self.conditional.choice,
+                   K.COMPOUND_STMT: self.conditional.block}.get(kind)
         if handler is not None:
             handler(cursor)
             return
@@ -226,41 +242,6 @@ class Bodies:
                 self.walk(inner)
             elif inner.kind in RECORDS:
                 self.declaration(inner)
-
-    def _compound(self, cursor: Cursor) -> None:
-        context = self.context
-        depth, blocked = len(context.conditions), len(context.blocked)
-        with self.comparing.block():
-            for inner in cursor.get_children():
-                self.walk(inner)
-                parts = list(inner.get_children()) if inner.kind == K.IF_STMT else []
-                if len(parts) == 2 and self._ends(parts[1]):
-                    words = context.text(parts[0])
-                    context.conditions.append(Condition('unless', words, inner.location.line))
-                    self.comparing.guard(parts[0], '==')
-        del context.conditions[depth:]
-        del context.blocked[blocked:]
-
-    def _ends(self, cursor: Cursor) -> bool:
-        if cursor.kind == K.COMPOUND_STMT:
-            kids = list(cursor.get_children())
-            return bool(kids) and self._ends(kids[-1])
-        return bool(cursor.kind in ENDS)
-
-    def _branch(self, cursor: Cursor) -> None:
-        parts = list(cursor.get_children())
-        at = 0
-        while at + 2 < len(parts) and parts[at].kind in (K.DECL_STMT, K.VAR_DECL):
-            self.walk(parts[at])
-            at += 1
-        condition = parts[at]
-        self.walk(condition)
-        words, line = self.context.text(condition), cursor.location.line
-        for branch, how in zip(parts[at + 1:], ('if', 'unless')):
-            with self.context.under(Condition(how, words, line)), self.comparing.block():
-                if how == 'if':
-                    self.comparing.guard(condition, '!=')
-                self.walk(branch)
 
     def _loose_lambda(self, cursor: Cursor) -> None:
         key = self.lambda_key(cursor)
@@ -283,7 +264,8 @@ class Bodies:
         operand = list(cursor.get_children())[0]
         cls = self.context.classes.of(strip(operand).type)
         if cls:
-            self.context.add('delete', cursor, self.context.values.of(operand)).cls = cls
+            statement = self.context.add('delete', cursor, self.context.values.of(operand))
+            statement.cls, statement.how = cls, self.context.calls.whose(operand)
         self.walk(operand)
 
     def _return(self, cursor: Cursor) -> None:
@@ -313,9 +295,7 @@ class Bodies:
             cls = self.context.classes.of(variable.type)
             if cls:
                 self.context.flow(self.context.variable_key(variable), self.context.values.of(ranges[0]), cls)
-        for k in kids:
-            if k.kind != K.VAR_DECL and (k.kind.is_expression() or k.kind.is_statement()):
-                self.walk(k)
+        self.conditional.loop(cursor)
 
     def _operator(self, cursor: Cursor) -> None:
         kids = list(cursor.get_children())

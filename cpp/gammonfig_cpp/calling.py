@@ -1,10 +1,14 @@
 """Which functions a call may reach: virtual ones by the classes of the objects, Qt's own by the table."""
 from __future__ import annotations
 
-from .model import Function, Parameter, Place, Statement, Term, Value
-from .objects import Element
+from typing import Collection
+
+from .deaths import Deaths
+from .model import Function, Parameter, Statement, Term, Value
+from .objects import FREE, Element
 from .program import Key, Member, Program, Step, Wire
 from .qtmodel import Entry, QtModel, Written
+from .relations import Related
 
 
 class Calling:
@@ -14,17 +18,28 @@ class Calling:
         self._children: dict[Element, set[Element]] | None = None
         self._owned: dict[Element, set[Element]] = {}
         self._connected: set[Element] | None = None
+        self._callbacks: dict[tuple[Element, str], list[tuple[Element, Key]]] = {}
+        self._present: dict[str, bool] = {}
+        self.deaths = Deaths(program, self)
+        # The classes to whose `destroyed` something is connected; complete once all wires are there.
+        self.watched = Related(self.objects, {Element('class', self.objects.cls(e)) for c in self.whole.connects
+                                              if c.signal.name.split('(')[0] == 'destroyed'
+                                              for e in self.objects.elements(c.sender, c.sender_class)})
+
+    def is_watched(self, element: Element) -> bool:
+        """Whether something is connected to `destroyed` of an object, or of one that it may be."""
+        return self.watched.has(Element('class', self.objects.cls(element)))
 
     # Targets
 
-    def elements(self, value: Value, fallback: str, function: Function | None) -> tuple[set[Element], bool]:
+    def elements(self, value: Value, fallback: str, function: Function | None) -> tuple[Collection[Element], bool]:
         """The objects of a value, and whether it is `this` of the function."""
         if value.kind == 'this' and function is not None and function.cls in self.whole.classes and value.cls in self.whole.classes:
             if self.whole.is_a(function.cls, value.cls):
                 return {Element('class', function.cls)}, True
         return self.objects.elements(value, fallback), False
 
-    def reached(self, usr: str, shown: str, name: str, found: set[Element], virtual: bool) -> list[tuple[Element, str]]:
+    def reached(self, usr: str, shown: str, name: str, found: Collection[Element], virtual: bool) -> list[tuple[Element, str]]:
         """The functions that a call reaches, each with the object that it runs on."""
         whole, out = self.whole, []
         for element in sorted(found):
@@ -35,8 +50,8 @@ class Calling:
             over = whole.overrider(cls, shown, name)
             if over is not None:
                 out.append((element, over))
-            for below in whole.below(cls)[1:] if element.kind == 'class' else ():
-                out += [(Element('class', below), u) for u, m in whole.classes[below].methods.items() if m.shown == shown]
+            if element.kind == 'class':
+                out += [(Element('class', below), u) for below, u in whole.overriders(cls, shown)]
         return out
 
     def call_steps(self, statement: Statement, function: Function, is_library: bool) -> tuple[list[Step], bool]:
@@ -126,6 +141,8 @@ class Calling:
             steps += self._posts(element, posted)
         for deleted in entry.deletes:
             steps += self._deletes(element, deleted)
+        for deleted in entry.later:
+            steps += self._later(element, deleted)
         return steps
 
     def _posts(self, element: Element, name: str) -> list[Step]:
@@ -193,13 +210,29 @@ class Calling:
         steps = []
         for owned in sorted(self.owned(element)):
             if self.whole.is_named(self.objects.cls(owned), name):
-                steps.append(Step('delete', (), self.program.role(owned)))
-                steps += [Step('call', key, self.program.role(owned)) for key in self.destructors(owned)]
+                steps += [Step('delete', (), self.program.role(owned)), *self.deaths.steps(owned)]
+        return steps
+
+    def _later(self, element: Element, name: str) -> list[Step]:
+        """What a function of Qt lets the event loop delete: the object, where it was told to, or what it owns of a class."""
+        dying = [element] if name == 'this' and self.deaths.deletes_itself(element) else []
+        if name != 'this':
+            dying = [o for o in sorted(self.owned(element)) if self.whole.is_named(self.objects.cls(o), name)]
+        program, steps = self.program, list[Step]()
+        for one in dying:
+            key = self.deaths.later(one, self.is_watched(one))
+            if key is not None:
+                signal = program.posted_by_qt(element, f'deletion_of_{self.whole.name(self.objects.cls(one))}')
+                program.wires.append(Wire(element, signal, FREE, key, 'queued', None, 'Qt posts a deletion'))
+                steps.append(Step('emit', signal))
         return steps
 
     def is_present(self, cls: str) -> bool:
         """Whether the application has objects of a class."""
-        return any(self.objects.roles_of.get(b) or self.whole.is_inside(b) for b in self.whole.below(cls))
+        known = self._present.get(cls)
+        if known is None:
+            known = self._present[cls] = any(self.objects.roles_of.get(b) or self.whole.is_inside(b) for b in self.whole.below(cls))
+        return known
 
     def owned(self, element: Element) -> set[Element]:
         """What an object may own, directly or not."""
@@ -207,17 +240,17 @@ class Calling:
         if known is None:
             known, todo = set(), [element]
             while todo:
-                new = self._owned_by(todo.pop()) - known
+                new = self.owned_by(todo.pop()) - known
                 known |= new
                 todo += new
             self._owned[element] = known
         return known
 
-    def _owned_by(self, element: Element) -> set[Element]:
+    def owned_by(self, element: Element) -> set[Element]:
         """What an object may own itself: as an object of its role, or of a class of the application."""
         if self._children is None:
             self._children = {}
-            for owner, child, _ in owners_of(self.program):
+            for owner, child, _ in self.program.owners():
                 for one in {owner, self.objects.role(owner)}:
                     self._children.setdefault(one, set()).add(child)
         found = set(self._children.get(element, ()))
@@ -234,16 +267,23 @@ class Calling:
 
     def callbacks(self, element: Element, name: str) -> list[tuple[Element, Key]]:
         """The application's functions that Qt calls back by a virtual function's name."""
-        whole, out = self.whole, []
+        whole = self.whole
         if name.startswith('owned::'):
             return list(dict.fromkeys(t for o in sorted(self.owned(element)) for t in self.callbacks(o, name[7:])))
         if '::' in name:
             class_name, name = name.split('::')
             return [t for key in whole.by_name.get(class_name, ()) for t in self.callbacks(Element('class', key), name)]
+        known = self._callbacks.get((element, name))
+        if known is None:
+            known = self._callbacks[(element, name)] = self._callbacks_of(element, name)
+        return known
+
+    def _callbacks_of(self, element: Element, name: str) -> list[tuple[Element, Key]]:
+        whole, out = self.whole, list[tuple[Element, Key]]()
         cls, seen = self.objects.cls(element), set[str]()
         for below in [cls] if element.kind == 'site' else whole.below(cls):
             for above in whole.above(below):
-                hit = [u for u, m in whole.classes[above].methods.items() if m.name == name]
+                hit = whole.named(above, name)
                 for usr in hit if whole.is_inside(above) else ():
                     if usr in whole.functions and usr not in seen:
                         seen.add(usr)
@@ -265,17 +305,5 @@ class Calling:
         """The destructors with a body that run when an object dies."""
         cls, whole = self.objects.cls(element), self.whole
         classes = whole.above(cls) + (whole.below(cls) if element.kind == 'class' else [])
-        return [self.program.function(usr) for c in dict.fromkeys(classes) if c in whole.classes
-                for usr, m in whole.classes[c].methods.items() if m.kind == 'destructor' and usr in whole.functions]
-
-
-def owners_of(program: Program) -> list[tuple[Element, Element, Place]]:
-    """Which objects may own which."""
-    found: dict[tuple[Element, Element], Place] = {}
-    for owner, child, place in program.whole.owns:
-        if owner.kind == 'variable' and owner.key.startswith('P:') and owner.key not in program.whole.flows:
-            continue
-        for a in program.objects.elements(owner):
-            for b in program.objects.elements(child):
-                found.setdefault((a, b), place)
-    return [(a, b, place) for (a, b), place in sorted(found.items(), key=lambda f: f[0])]
+        found = [whole.destructor_of[c] for c in dict.fromkeys(classes) if c in whole.destructor_of]
+        return [self.program.function(usr) for usr in found if usr in whole.functions]

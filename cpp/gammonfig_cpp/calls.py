@@ -7,7 +7,7 @@ from .classes import BINDABLE, CONTAINERS, SMART
 from .context import Context
 from .holders import Holders
 from .libclang import FUNCTIONS, NAMES, RECORDS, VARIABLES, Cursor, K, T, bare, expressions, is_written, overloads, strip
-from .model import NONE, Condition, Forward, Named, Statement, Value
+from .model import NONE, Condition, Construct, Forward, Named, Statement, Value
 from .special import Special
 
 # Classes of values, whose functions do nothing that others see.
@@ -41,6 +41,17 @@ class Calls:
             inner = expressions(first)
             return inner[0] if inner else None
         return None
+
+    def whose(self, cursor: Cursor) -> str:
+        """`own` of an object that a member of this object holds, itself or in a container."""
+        at: Cursor | None = strip(cursor)
+        while at is not None and at.kind in (K.CALL_EXPR, K.ARRAY_SUBSCRIPT_EXPR, K.UNARY_OPERATOR):
+            inner = self.object_of(at) if at.kind == K.CALL_EXPR else next(iter(at.get_children()), None)
+            at = strip(inner) if inner is not None else None
+        if at is None or at.kind != K.MEMBER_REF_EXPR or at.referenced is None or at.referenced.kind != K.FIELD_DECL:
+            return ''
+        base = expressions(at)
+        return 'own' if not base or strip(base[0]).kind == K.CXX_THIS_EXPR else ''
 
     @staticmethod
     def is_qualified(call: Cursor) -> bool:
@@ -141,7 +152,8 @@ class Calls:
         elif called.spelling == 'qDeleteAll' and given:
             cls = self.context.classes.of(given[0].type)
             if cls:
-                self.context.add('delete', call, self.context.values.of(given[0])).cls = cls
+                statement = self.context.add('delete', call, self.context.values.of(given[0]))
+                statement.cls, statement.how = cls, self.whose(given[0])
             else:
                 self.context.note('qDeleteAll', call)
         else:
@@ -307,6 +319,7 @@ class Calls:
         inside = context.is_inside(called)
         if inside:
             self._to_function(call, called, on, given).virtual = False
+            self.note_construction(context.function_key(called), on, given)
         formals = list(called.get_arguments())
         owner = NONE
         for at, argument in enumerate(given[:len(formals)]):
@@ -318,6 +331,23 @@ class Calls:
         if owner.kind not in ('null', 'none') and on.kind in ('site', 'this'):
             context.facts.owns.append((owner, on, context.place(call)))
         self.special.constructed(call, context.facts.classes[cls].name, inside, on, given)
+
+    def note_construction(self, constructor: str, on: Value, given: list[Cursor]) -> None:
+        """What a constructor is handed for an object; '' stands for that of the object's class which takes so many arguments."""
+        values, classes = self.context.values, self.context.classes
+        handed = tuple(values.of(a) if classes.of(a.type) else NONE for a in given)
+        self.context.facts.constructs.append(Construct(constructor, on, handed))
+
+    def initial_member(self, given: Cursor) -> None:
+        """What the initialiser of a member makes: for what it does itself there is no function, but what it is handed is known."""
+        made = strip(given)
+        for inner in made.get_children() if made.kind == K.CXX_NEW_EXPR else ():
+            call = strip(inner)
+            if call.kind == K.CALL_EXPR and call.referenced is not None and call.referenced.kind == K.CONSTRUCTOR:
+                called = self._declared_constructor(call.referenced)
+                if self.context.is_inside(called):
+                    self.pass_arguments(called, list(call.get_arguments()))
+                    self.note_construction(self.context.function_key(called), self.context.values.made(made), list(call.get_arguments()))
 
     @staticmethod
     def _declared_constructor(called: Cursor) -> Cursor:

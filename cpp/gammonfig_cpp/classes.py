@@ -1,6 +1,8 @@
 """Classes as a unit declares them, and the class that a type leads to."""
 from __future__ import annotations
 
+import re
+
 from .context import Context, sort_of
 from .libclang import RECORDS, CxxType, Cursor, K, T, template_of
 from .model import Class, Field, Method, Parameter
@@ -94,6 +96,15 @@ class Classes:
             seen.add(cls.key)
             todo += cls.bases
         return False
+
+    def is_handed_over(self, key: str) -> bool:
+        """Whether objects of a class have owners: those of QObject, and items of scenes and views."""
+        return self.is_object(key) or bool(re.match(r'Q(Graphics|Tree|List|Table|Standard)\w*Item$', self.found[key].name))
+
+    def has_destructor(self, key: str) -> bool:
+        """Whether a class of the application has a destructor of its own, which may do something."""
+        cls = self.found.get(key)
+        return cls is not None and cls.inside and any(m.kind == 'destructor' for m in cls.methods.values())
 
     def note(self, declaration: Cursor) -> str:
         declaration = declaration.canonical

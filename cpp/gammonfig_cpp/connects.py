@@ -60,7 +60,14 @@ class Connects:
             else:
                 how = 'direct'
         self._add(call, Connect(sender, self._class(given[0]), signal, receiver, receiver_class, slot, how, context.place(call, 160),
-                                context.function.key if context.function else '', 'connect'))
+                                context.function.key if context.function else '', 'connect', self._is_same(given[0], given[2])))
+
+    def _is_same(self, one: Cursor, other: Cursor) -> bool:
+        """Whether two arguments are one variable that holds one object."""
+        first, second = strip(one), strip(other)
+        if first.kind != K.DECL_REF_EXPR or second.kind != K.DECL_REF_EXPR or first.referenced is None:
+            return False
+        return bool(first.referenced == second.referenced and first.type.get_canonical().kind == T.POINTER)
 
     def _add(self, call: Cursor, connect: Connect) -> None:
         self.context.facts.connects.append(connect)

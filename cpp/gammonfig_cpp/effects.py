@@ -2,11 +2,13 @@
 from __future__ import annotations
 
 import re
+from dataclasses import replace
 from typing import Callable
 
 from .calling import Calling
 from .model import Field, Function, Named, Statement, Value
-from .objects import Element
+from .objects import FREE, Element
+from .owning import is_of_member
 from .program import Key, Program, Step, Wire
 from .qtmodel import KNOWN
 from .targets import Targets
@@ -19,8 +21,10 @@ class Effects:
         self.notify: dict[str, str] = {}
         self.connected: set[str] = set()
         self.bindable: list[tuple[Statement, Function]] = []
+        # Members whose objects the object that has them owns.
+        self.owning_members = {child.key for owner, child, _ in self.whole.owns if owner.kind == 'member'}
         self._kinds: dict[str, Callable[[Statement, Function], list[Step]]] = {
-            'call': self._call, 'library': self._library, 'delete': self._delete, 'scope': self._delete, 'property': self._set_property,
+            'call': self._call, 'library': self._library, 'delete': self._delete, 'scope': self._delete, 'later': self._later, 'property': self._set_property,
             'event': self._event, 'invoke': self._invoke, 'post': self._post, 'assign': self._assign, 'field': self._field}
 
     def all(self) -> None:
@@ -142,22 +146,32 @@ class Effects:
         program, on = self.program, statement.on
         steps: list[Step] = []
         fresh = statement.kind == 'scope' and on.kind == 'site' or self._is_fresh(on, function)
-        of_member = function.kind == 'destructor' and on.kind == 'variable' and '@FI@' in on.key
-        if of_member:
-            # What a destructor deletes of its members is owned.
-            self.whole.owns.append((Value('member', cls=function.cls), on, statement.place))
+        is_own = statement.how == 'own' and on.key in self.owning_members
+        # What a destructor deletes of its members is owned, and dies with the object.
+        of_member = function.kind == 'destructor' and is_of_member(statement.kind, on)
         for element in sorted(self.objects.elements(on, statement.cls)):
             role = program.role(element)
-            if fresh and not self.targets.is_watched(element):
+            if fresh and not self.calling.is_watched(element):
                 program.counts['deletions of what the function itself made'] += 1
             elif not of_member and self._matters(element):
                 this = on.kind == 'this'
-                steps.append(Step('delete', (), None if this else role, (), statement.place, statement.conditions))
-            for key in self.calling.destructors(element):
-                owner = program.members[key].owner
-                target = owner if element.kind == 'class' else role
-                if key != ('function', function.key):
-                    steps.append(Step('call', key, target, (), statement.place, statement.conditions))
+                steps.append(Step('delete', (), None if this else role, (), statement.place, statement.conditions, is_own=is_own))
+            for step in self.calling.deaths.steps(element):
+                if step.member != ('function', function.key):
+                    on_this = on.kind == 'this' and step.on == role
+                    steps.append(replace(step, on=None if on_this else step.on, place=statement.place, conditions=statement.conditions))
+        return steps
+
+    def _later(self, statement: Statement, function: Function) -> list[Step]:
+        """`deleteLater`: the event loop deletes, which is told where somebody sees it."""
+        program, steps = self.program, list[Step]()
+        for element in sorted(self.objects.elements(statement.on, statement.cls or function.cls)):
+            key = self.calling.deaths.later(element, self.calling.is_watched(element))
+            if key is None:
+                continue
+            signal = program.posted(function, statement.place)
+            program.wires.append(Wire(program.owner_of(function), signal, FREE, key, 'queued', statement.place))
+            steps.append(Step('emit', signal, None, (), statement.place, statement.conditions))
         return steps
 
     def _matters(self, element: Element) -> bool:
@@ -165,7 +179,7 @@ class Effects:
         cls = self.objects.cls(element)
         if self.whole.is_inside(cls):
             return True
-        names = {self.whole.name(a) for a in self.whole.above(cls)}
+        names = self.whole.names_above(cls)
         return 'QObject' in names or bool(names & self.calling.qt.table.classes)
 
     def _is_fresh(self, value: Value, function: Function) -> bool:
@@ -199,7 +213,7 @@ class Effects:
         write, notify = re.search(r'\bWRITE (\w+)', text), re.search(r'\bNOTIFY (\w+)', text)
         on = element if whole.is_a(self.objects.cls(element), cls) else Element('class', cls)
         if write:
-            hit = [u for u, m in whole.classes[cls].methods.items() if m.name == write[1]]
+            hit = whole.named(cls, write[1])
             keys = [program.function(u) for u in hit if u in whole.functions]
             if not keys and hit and self.calling.qt.entry(cls, write[1]) is not None:
                 keys = [self.calling.library(on, write[1], list(whole.classes[cls].methods[hit[0]].parameters))]

@@ -15,6 +15,7 @@ from .context import Context
 from .libclang import cindex
 from .model import Class, Facts
 from .naming_callees import Callees
+from .precompiled import Headers, stamp
 from .units import ANNOTATIONS, Unit, is_generated
 from .values import Values
 
@@ -22,22 +23,30 @@ ERROR = 3
 # Headers that clang has of its own.
 OF_CLANG = ('stddef.h', 'stdarg.h', 'float.h', 'limits.h', 'stdint.h')
 # The modules that facts depend on.
-READERS = ('bodies', 'calls', 'classes', 'comparing', 'connects', 'context', 'facts', 'holders', 'libclang', 'model', 'naming_callees',
-           'qtmodel', 'special', 'units', 'values')
+READERS = ('bodies', 'calls', 'classes', 'comparing', 'conditional', 'connects', 'context', 'facts', 'holders', 'libclang', 'model', 'naming_callees',
+           'precompiled', 'qtmodel', 'special', 'units', 'values')
 
 
-def read_unit(unit: Unit, roots: list[str], known: dict[str, Class]) -> Facts:
-    """Reads one unit. `known` has the classes of libraries that earlier units have told."""
-    begun = time.time()
+def read_unit(unit: Unit, roots: list[str], known: dict[str, Class], headers: Headers | None = None) -> Facts:
+    """Reads one unit. `known` has the classes of libraries that earlier units have told, `headers` those of Qt that are parsed already:
+    a unit that doesn't go with them is read without."""
+    facts = _read(unit, roots, known, headers)
+    return _read(unit, roots, known, None) if facts.errors and headers is not None else facts
+
+
+def _read(unit: Unit, roots: list[str], known: dict[str, Class], headers: Headers | None) -> Facts:
+    begun = time.process_time()
     context = Context(unit.source, roots)
     facts = context.facts
     try:
-        tree = cindex.Index.create().parse(unit.source, args=list(unit.flags) + list(ANNOTATIONS))
+        shared = ['-include-pch', headers.path] if headers is not None else []
+        tree = cindex.Index.create(excludeDecls=True).parse(unit.source, args=[*unit.flags, *ANNOTATIONS, *shared])
     except cindex.TranslationUnitLoadError:
         facts.errors.append(f'{unit.source}: libclang can\'t read this file with its flags')
         return facts
     facts.errors = errors_of(tree, context)
-    facts.files = sorted({os.path.realpath(i.include.name) for i in tree.get_includes()} | {unit.source})
+    included = {os.path.realpath(i.include.name) for i in tree.get_includes()}
+    facts.files = sorted(included | {unit.source} | set(headers.files if headers is not None else ()))
     context.classes, context.values, context.callees = Classes(context, known), Values(context), Callees(context)
     context.calls, context.connects = Calls(context), Connects(context)
     context.bodies = Bodies(context)
@@ -45,7 +54,7 @@ def read_unit(unit: Unit, roots: list[str], known: dict[str, Class]) -> Facts:
     for key, cls in facts.classes.items():
         if not cls.inside and cls.defined:
             known[key] = cls
-    facts.seconds = time.time() - begun
+    facts.seconds = time.process_time() - begun
     return facts
 
 
@@ -83,6 +92,7 @@ class Cache:
                 whole.update(file.read())
         self.reader = whole.hexdigest()
         self._sums: dict[str, str] = {}
+        self._outside: dict[str, str] = {}
         os.makedirs(folder, exist_ok=True)
 
     def path(self, unit: Unit, roots: list[str]) -> str:
@@ -102,11 +112,10 @@ class Cache:
         """What a file is known by: its sum in the application, its size and time elsewhere."""
         if any(path.startswith(root) for root in roots):
             return self.sum_of(path)
-        try:
-            status = os.stat(path)
-        except OSError:
-            return ''
-        return f'{status.st_size} {status.st_mtime_ns}'
+        if path not in self._outside:
+            size, time_of = stamp(path)
+            self._outside[path] = f'{size} {time_of}'
+        return self._outside[path]
 
     def load(self, unit: Unit, roots: list[str]) -> Facts | None:
         try:

@@ -3,7 +3,9 @@ from __future__ import annotations
 
 import os
 import sys
+import tempfile
 import time
+from collections import Counter
 from concurrent.futures import ProcessPoolExecutor, as_completed
 from concurrent.futures.process import BrokenProcessPool
 from typing import Iterator
@@ -11,17 +13,18 @@ from typing import Iterator
 from .errors import ReadError
 from .facts import Cache, read_unit
 from .model import Class, Facts
+from .precompiled import LEAST, Headers, kept, kind_of, parse
 from .units import Unit
 
 # The classes of libraries that this process has read: the next unit needn't read them again.
 _known: dict[str, Class] = {}
 
 
-def _read(unit: Unit, roots: list[str]) -> Facts:
+def _read(unit: Unit, roots: list[str], headers: Headers | None) -> Facts:
     """The facts of a unit. Where the reader itself breaks down over it, that is an error of the unit, and not of all."""
     sys.setrecursionlimit(20000)
     try:
-        return read_unit(unit, roots, _known)
+        return read_unit(unit, roots, _known, headers)
     except Exception as wrong:  # whatever libclang's module may raise
         if os.environ.get('GAMMONFIG_TRACE'):
             raise
@@ -59,21 +62,40 @@ def gather(units: list[Unit], roots: list[str], cache: Cache | None, jobs: int, 
                 found[unit] = kept
     missing = [unit for unit in units if unit not in found]
     bar = Bar(len(missing), quiet)
-    for unit, facts in _read_all(missing, roots, jobs):
-        found[unit] = facts
-        if cache is not None and not facts.errors:
-            cache.keep(unit, roots, facts)
-        bar.step(unit.source)
+    with tempfile.TemporaryDirectory(prefix='gammonfig-headers') as own:
+        headers = _headers_for(missing, cache.folder if cache is not None else own)
+        for unit, facts in _read_all(missing, roots, jobs, headers):
+            found[unit] = facts
+            if cache is not None and not facts.errors:
+                cache.keep(unit, roots, facts)
+            bar.step(unit.source)
     return [found[unit] for unit in units]
 
 
-def _read_all(units: list[Unit], roots: list[str], jobs: int) -> Iterator[tuple[Unit, Facts]]:
+def _headers_for(units: list[Unit], folder: str) -> dict[Unit, Headers | None]:
+    """The headers that units share: those that are kept, and where enough units are to be read new ones."""
+    kinds = {unit: kind_of(unit) for unit in units}
+    counts = Counter(kind for kind in kinds.values() if kind is not None)
+    found = {kind: kept(kind, folder) for kind in counts}
+    wanted = [kind for kind, count in counts.items() if found[kind] is None and count >= LEAST]
+    if wanted:
+        # In a process of its own: its memory goes with it.
+        with ProcessPoolExecutor(1) as pool:
+            try:
+                for kind, done in zip(wanted, pool.map(parse, wanted, [folder] * len(wanted))):
+                    found[kind] = kept(kind, folder) if done else None
+            except BrokenProcessPool:
+                pass
+    return {unit: found[kind] if kind is not None else None for unit, kind in kinds.items()}
+
+
+def _read_all(units: list[Unit], roots: list[str], jobs: int, headers: dict[Unit, Headers | None]) -> Iterator[tuple[Unit, Facts]]:
     """The units with their facts, as they are done."""
     if len(units) <= 1 or jobs <= 1:
-        yield from ((unit, _read(unit, roots)) for unit in units)
+        yield from ((unit, _read(unit, roots, headers[unit])) for unit in units)
         return
     with ProcessPoolExecutor(min(jobs, len(units))) as pool:
-        waiting = {pool.submit(_read, unit, roots): unit for unit in units}
+        waiting = {pool.submit(_read, unit, roots, headers[unit]): unit for unit in units}
         for done in as_completed(waiting):
             try:
                 yield waiting[done], done.result()

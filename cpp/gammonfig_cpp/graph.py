@@ -76,20 +76,32 @@ class Graph:
         signature = '' if member.kind == 'property' else f'({sorts})'
         return f'{self.names.classes[node[0]]}.{self.names.names[node[1]]}{signature}'
 
-    def way(self, starts: list[Node], goal: Node, within: set[Node] | None = None) -> list[Node] | None:
-        """A shortest way from one of the starts to a goal."""
+    def way(self, starts: list[Node], goal: Node, within: set[Node] | None = None, most: int = 1 << 30) -> list[Node] | None:
+        """A shortest way from one of the starts to a goal, of at most so many nodes."""
+        before = self.ways(starts, goal, within, most)
+        return path(before, goal) if goal in before else None
+
+    def ways(self, starts: list[Node], goal: Node | None = None, within: set[Node] | None = None,
+             most: int = 1 << 30) -> dict[Node, Node | None]:
+        """By a node the one before it on a shortest way from one of the starts, until the goal is found."""
         before: dict[Node, Node | None] = {n: None for n in starts}
-        todo = list(starts)
-        for node in todo:
-            if node == goal:
-                way: list[Node] = []
-                at: Node | None = node
-                while at is not None:
-                    way.append(at)
-                    at = before[at]
-                return way[::-1]
-            for other in self.edges[node]:
-                if other not in before and (within is None or other in within):
-                    before[other] = node
-                    todo.append(other)
-        return None
+        level, count = list(starts), 1
+        while level and count < most and goal not in before:
+            following: list[Node] = []
+            for node in level:
+                for other in self.edges[node]:
+                    if other not in before and (within is None or other in within):
+                        before[other] = node
+                        following.append(other)
+            level, count = following, count + 1
+        return before
+
+
+def path(before: dict[Node, Node | None], goal: Node) -> list[Node]:
+    """The way to a goal, of what is before each node."""
+    way: list[Node] = []
+    at: Node | None = goal
+    while at is not None:
+        way.append(at)
+        at = before[at]
+    return way[::-1]

@@ -44,7 +44,8 @@ class Holders:
         cls = self.context.classes.of(on.type)
         if cls:
             later = 'DeleteLater' in on.type.get_canonical().spelling
-            self.context.add('later' if later else 'delete', call, self.context.values.of(on)).cls = cls
+            statement = self.context.add('later' if later else 'delete', call, self.context.values.of(on))
+            statement.cls, statement.how = cls, self.context.calls.whose(on)
 
     def keep(self, on: Cursor | None, given: list[Cursor]) -> None:
         """A function object is kept in a variable."""

@@ -8,6 +8,7 @@ from .calling import Calling
 from .effects import Effects
 from .model import Connect, Facts
 from .objects import Objects
+from .owning import find_owners
 from .program import Program
 from .pruning import Pruning, unique_wires
 from .qtmodel import QtModel, Table
@@ -28,9 +29,11 @@ class Linked:
 
 def link(units: list[Facts], table: Table, roles: str, lean: bool) -> Linked:
     whole = Whole(units)
-    objects = Objects(whole, roles)
+    qt = QtModel(whole, table)
+    find_owners(whole, qt)
+    objects = Objects(whole, qt, roles)
     program = Program(whole, objects)
-    calling = Calling(program, QtModel(whole, table))
+    calling = Calling(program, qt)
     targets = Targets(program, calling)
     wires = Wires(program, calling, targets)
     wires.all()

@@ -10,12 +10,13 @@ from .errors import ReadError
 from .explaining import Explaining
 from .facts import Cache
 from .gather import gather
+from .limits import STANDARD, WIDE
 from .linking import Linked, link
 from .model import Facts
 from .notes import Notes
 from .places import Places
 from .qtmodel import Table
-from .report import Teller, add_warnings, judge
+from .report import Teller, Warnings, judge
 from .slicing import keep_slice
 from .units import units_of
 from .watching import Watching
@@ -89,16 +90,21 @@ def write_files(folder: str, files: dict[str, str]) -> None:
 
 
 def write_program(facts: list[Facts], roots: list[str], options: argparse.Namespace) -> tuple[Linked, Written]:
-    """The program; over the language's limits without members that lead to nothing, and then only as a slice."""
+    """The program; over the language's limits without members that lead to nothing, and over those of `--wide` then not at all."""
     table = Table.read(options.table)
     linked, written = _written(facts, table, roots, options.roles, options.lean or options.slice, options.slice)
-    if written.too_much and not options.lean and not options.slice:
-        say(f'the whole program is over a limit of the language ({"; ".join(written.too_much)}): members that lead to nothing are left out')
+    over = written.size.over(STANDARD)
+    if over and not options.lean and not options.slice:
+        say(f'the whole program is over a limit of the language ({"; ".join(over)}): members that lead to nothing are left out')
         linked, written = _written(facts, table, roots, options.roles, True, False)
-    if written.too_much:
-        rest = 'what is on a circle or on a way to a deletion' if options.slice else 'the program'
+        over = written.size.over(STANDARD)
+    too_wide = written.size.over(WIDE)
+    rest = 'what is on a circle or on a way to a deletion' if options.slice else 'the program'
+    if too_wide:
         offer = '' if options.slice else ': --slice keeps what is on a circle or on a way to a deletion'
-        raise ReadError(f'{rest} is over a limit of the language: {"; ".join(written.too_much)}{offer}')
+        raise ReadError(f'{rest} is over a limit of the language: {"; ".join(too_wide)}{offer}')
+    if over:
+        say(f'{rest} is over a limit of the language ({"; ".join(over)}): commands take it with --wide')
     return linked, written
 
 
@@ -128,7 +134,7 @@ def read(options: argparse.Namespace, out: str, roots: list[str]) -> int:
         return 0
     notes = Notes(linked, written, errors)
     write_files(out, {'app.gf': written.text, 'app.places': written.places.text(), 'app.effects.md': notes.text(),
-                      'app.warnings.json': Watching(linked.program, written.names, written.places).text()})
+                      'app.warnings.json': Watching(linked.program, written.names, written.places).text(bool(written.size.over(STANDARD)))})
     if not options.quiet:
         connects = linked.understood + len(linked.dropped)
         say(f'{len(facts)} units, {linked.understood} of {connects} connections understood, {notes.hiding()} unknowns, '
@@ -139,9 +145,10 @@ def read(options: argparse.Namespace, out: str, roots: list[str]) -> int:
 def tell(options: argparse.Namespace, out: str, root: str) -> int:
     """Tells the verdict of what was written; its status."""
     places = Places.read(os.path.join(out, 'app.places'), root)
-    verdict = judge(os.path.join(out, 'app.gf'), places)
-    add_warnings(os.path.join(out, 'app.warnings.json'), verdict)
-    teller = Teller(root, options.context)
+    warnings = Warnings.read(os.path.join(out, 'app.warnings.json'))
+    verdict = judge(os.path.join(out, 'app.gf'), places, warnings.wide)
+    warnings.add_to(verdict)
+    teller = Teller(root, options.context, os.path.join(out, 'app.gf'))
     form = teller.json if options.json else teller.sarif if options.sarif else teller.text
     print(form(verdict), end='')
     return verdict.status

@@ -18,7 +18,8 @@ class Value:
 
     `this`, `class` (any object of `cls`), `variable` and `result` (what the variable or function `key` may hold), `site` (what is
     made at the place `key`), `cast` (those of parts[0] that are a `cls`), `any` (of the parts), `content` (what parts[0] holds as
-    a widget), `sender`, `member` (of each object of `cls`), `null` and `none`."""
+    a widget), `given` (what the function `key` of Qt gives of parts[0]), `sender`, `member` (of each object of `cls`), `null` and
+    `none`."""
     kind: str
     key: str = ''
     cls: str = ''
@@ -50,13 +51,14 @@ class Parameter:
 
 @dataclass(frozen=True, slots=True)
 class Condition:
-    """`how` is `if`, `unless` or `blocked by`."""
+    """`how` is `if`, `unless`, `blocked by`, `in` (a loop) or `case` (labels in a switch over `of`)."""
     how: str
     words: str
     line: int
+    of: str = ''
 
     def told(self) -> str:
-        return f'{self.how} `{self.words}`'
+        return f'{self.how} `{self.words}`' + (f' of `{self.of}`' if self.of else '')
 
 
 @dataclass(frozen=True, slots=True)
@@ -76,7 +78,8 @@ class Statement:
 
     `call` and `library` (a function with sources, and one of Qt), `delete`, `scope` (a local object ends), `later`, `property`
     (setProperty by name), `event` (sendEvent), `invoke`, `post`, `nested`, `assign` (a compared member is set), `field`, `read`,
-    `bind`, `observe` (of bindable properties), `close` (WA_DeleteOnClose)."""
+    `bind`, `observe` (of bindable properties), `close` (an object is told to delete itself). `how` is `queued` and such of a call by
+    name, `told` of an emission that only tells what was set, and `own` of a deletion of what a member of this object holds."""
     kind: str
     place: Place
     on: Value = NONE
@@ -147,6 +150,7 @@ class Site:
 
 @dataclass(slots=True)
 class Connect:
+    """A connection; `is_same` where one variable names both the sender and the receiver."""
     sender: Value
     sender_class: str
     signal: Named
@@ -157,6 +161,25 @@ class Connect:
     place: Place
     function: str
     by: str
+    is_same: bool = False
+
+
+@dataclass(frozen=True, slots=True)
+class Handed:
+    """Objects that a function of Qt is handed, by the number of the argument."""
+    cls: str
+    name: str
+    on: Value
+    given: tuple[tuple[int, Value], ...]
+    place: Place
+
+
+@dataclass(frozen=True, slots=True)
+class Construct:
+    """A constructor of the application that runs on an object, with the objects among its arguments; without a name the one that fits."""
+    constructor: str
+    on: Value
+    given: tuple[Value, ...]
 
 
 @dataclass(frozen=True, slots=True)
@@ -201,6 +224,8 @@ class Facts:
     connects: list[Connect] = field(default_factory=list)
     owns: list[tuple[Value, Value, Place]] = field(default_factory=list)
     contents: list[tuple[Value, Value]] = field(default_factory=list)
+    handed: list[Handed] = field(default_factory=list)
+    constructs: list[Construct] = field(default_factory=list)
     moved: list[Value] = field(default_factory=list)
     callables: list[tuple[str, Named]] = field(default_factory=list)
     forwards: list[Forward] = field(default_factory=list)

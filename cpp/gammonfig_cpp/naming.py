@@ -125,7 +125,7 @@ class Naming:
         names: dict[Key, str] = {}
         taken: dict[Element, set[str]] = defaultdict(set)
         for role in self.order:
-            related = [role, *self.above[role], *self.below[role]]
+            all_taken = set[str]().union(*(taken[r] for r in (role, *self.above[role], *self.below[role])))
             for key in self.sorted_members(role):
                 member = self.program.members[key]
                 if self.is_of_object(key):
@@ -134,8 +134,8 @@ class Naming:
                 wanted = identifier(member.name)
                 if wanted in OF_OBJECT:
                     wanted += '_'
-                all_taken = set().union(*(taken[r] for r in related))
                 names[key] = free_name(wanted, all_taken)
+                all_taken.add(names[key])
                 taken[role].add(names[key])
         return names
 

@@ -4,10 +4,11 @@ An element is `('site', key)`, what is made at a place, or `('class', key)`, any
 over assignments, arguments, returns, members and containers, and doesn't look at their order."""
 from __future__ import annotations
 
-from collections import defaultdict
+from collections import defaultdict, deque
 from typing import NamedTuple
 
 from .model import Value
+from .qtmodel import QtModel
 from .whole import Whole
 
 
@@ -20,12 +21,15 @@ FREE = Element('free', 'Functions')
 
 
 class Objects:
-    def __init__(self, whole: Whole, roles: str) -> None:
-        self.whole, self.roles = whole, roles
+    def __init__(self, whole: Whole, qt: QtModel, roles: str) -> None:
+        self.whole, self.qt, self.roles = whole, qt, roles
         self.outside = self._called_from_outside()
         self.senders = self._senders()
         self.may: dict[str, frozenset[Element]] = {}
         self.held: dict[Element, set[Element]] = defaultdict(set)
+        self.held_by: dict[str, set[Element]] = defaultdict(set)
+        self._elements: dict[tuple[Value, str], frozenset[Element]] = {}
+        self._stands_for: dict[str, Element] = {}
         self._solve()
         self._gather_roles()
 
@@ -47,21 +51,24 @@ class Objects:
 
     def _overrides_qt(self, key: str) -> bool:
         whole, method = self.whole, self.whole.method(key)
-        return method is not None and any(not whole.is_inside(a) and any(m.shown == method.shown for m in whole.classes[a].methods.values())
+        return method is not None and any(not whole.is_inside(a) and whole.with_signature(a, method.shown) is not None
                                           for a in whole.above(whole.class_of(key))[1:])
 
     def _senders(self) -> dict[str, list[tuple[Value, str]]]:
         """By a slot the senders that are connected to it, where it is known by its name or as a member."""
         found: dict[str, list[tuple[Value, str]]] = defaultdict(list)
+        inside: dict[str, list[str]] = defaultdict(list)
+        for usr, (cls, method) in self.whole.methods.items():
+            if self.whole.is_inside(cls):
+                inside[method.name].append(usr)
         for connect in self.whole.connects:
             slot, sender = connect.slot, (connect.sender, connect.sender_class)
             if slot.kind in ('method', 'bound'):
                 found[slot.key].append(sender)
             elif slot.kind == 'text':
                 name = slot.name.split('(')[0].strip()
-                for usr, (_, method) in self.whole.methods.items():
-                    if method.name == name and self.whole.is_inside(self.whole.methods[usr][0]):
-                        found[usr].append(sender)
+                for usr in inside[name]:
+                    found[usr].append(sender)
         return found
 
     def _sender(self, value: Value) -> set[Element]:
@@ -75,24 +82,63 @@ class Objects:
         return fit if fit and len(fit) == len(found) else self._class(value.cls)
 
     def _solve(self) -> None:
-        for _ in range(30):
-            changed = False
-            for key, values in self.whole.flows.items():
-                old = self.may.get(key, frozenset())
-                new = set(old)
-                for value in values:
+        """To the fixed point: a variable is looked at again when one changes that it depends on."""
+        waiting, contents = self._dependents()
+        todo = deque(self.whole.flows)
+        while todo:
+            queued = set(todo)
+            while todo:
+                key = todo.popleft()
+                queued.discard(key)
+                new = set(self.may.get(key, ()))
+                count = len(new)
+                for value in self.whole.flows[key]:
                     new |= self.resolve(value)
-                if len(new) != len(old):
+                if len(new) != count:
                     self.may[key] = frozenset(new)
+                    more = [k for k in waiting.get(key, ()) if k not in queued]
+                    todo.extend(more)
+                    queued.update(more)
+            todo.extend(contents if self._hold() else ())
+
+    def _dependents(self) -> tuple[dict[str, list[str]], list[str]]:
+        """By a variable or result those that depend on it; and those that depend on what widgets hold."""
+        waiting: dict[str, list[str]] = defaultdict(list)
+        contents: list[str] = []
+        for key, values in self.whole.flows.items():
+            sources: set[str] = set()
+            for value in values:
+                self._sources(value, sources)
+            for source in sorted(sources):
+                (waiting[source] if source else contents).append(key)
+        return waiting, contents
+
+    def _sources(self, value: Value, found: set[str]) -> None:
+        """What a value depends on; '' stands for what widgets hold."""
+        if value.kind == 'variable':
+            found.add(value.key)
+        elif value.kind == 'result':
+            found.update('R:' + usr for usr in self._results(value.key))
+        elif value.kind in ('content', 'given'):
+            found.add('')
+        elif value.kind == 'sender' and ('S:' + value.key) not in found:
+            found.add('S:' + value.key)
+            for sender, _ in self.senders.get(value.key, ()):
+                self._sources(sender, found)
+        for part in value.parts:
+            self._sources(part, found)
+
+    def _hold(self) -> bool:
+        """What is put into a widget it holds; whether there is more than before."""
+        changed = False
+        for holder, value in self.whole.contents:
+            inner = self.resolve(value, True)
+            for element in self.resolve(holder, True):
+                if not inner <= self.held[element]:
+                    self.held[element] |= inner
+                    self.held_by[self.cls(element)] |= inner
                     changed = True
-            for holder, value in self.whole.contents:
-                inner = self.resolve(value, True)
-                for element in self.resolve(holder, True):
-                    if not inner <= self.held[element]:
-                        self.held[element] |= inner
-                        changed = True
-            if not changed:
-                return
+        return changed
 
     # What an expression may be
 
@@ -115,12 +161,20 @@ class Objects:
             return self._result(value, final)
         if kind == 'cast':
             return self._cast(value, final)
-        if kind == 'content':
+        if kind == 'content' or (kind == 'given' and self._is_given_away(value)):
             return self._content(value, final)
+        if kind == 'given':
+            return self._class(value.cls)
         found: set[Element] = set()
         for part in value.parts if kind == 'any' else ():
             found |= self.resolve(part, final)
         return found
+
+    def _is_given_away(self, value: Value) -> bool:
+        """Whether a function of Qt gives away what the object has owned."""
+        classes = {self.cls(e) for e in self.resolve(value.parts[0], True)}
+        entries = [self.qt.entry(cls, value.key) for cls in classes]
+        return any(found is not None and 'result' in found[1].takes for found in entries)
 
     def _class(self, key: str) -> set[Element]:
         return {Element('class', key)} if key in self.whole.classes else set()
@@ -133,23 +187,25 @@ class Objects:
             return self._class(value.cls)
         return found
 
+    def _results(self, usr: str) -> list[str]:
+        """The functions whose result a call may have: of a virtual one those that override it too."""
+        method = self.whole.method(usr)
+        if method is None or not method.virtual:
+            return [usr]
+        return [usr, *(over for _, over in self.whole.overriders(self.whole.class_of(usr), method.shown))]
+
     def _result(self, value: Value, final: bool) -> set[Element]:
-        whole = self.whole
-        found = set(self.may.get('R:' + value.key, ()))
-        method = whole.method(value.key)
-        if method is not None and method.virtual:
-            for below in whole.below(whole.class_of(value.key)):
-                for usr, other in whole.classes[below].methods.items():
-                    if other.shown == method.shown:
-                        found |= self.may.get('R:' + usr, frozenset())
-        if not found and final and 'R:' + value.key not in whole.flows:
+        found: set[Element] = set()
+        for usr in self._results(value.key):
+            found |= self.may.get('R:' + usr, frozenset())
+        if not found and final and 'R:' + value.key not in self.whole.flows:
             return self._class(value.cls)
         return found
 
     def _cast(self, value: Value, final: bool) -> set[Element]:
         inner, target = self.resolve(value.parts[0], final), self._class(value.cls)
         if not inner:
-            return target if final or value.parts[0].kind in ('none', 'class') else set()
+            return target if final or value.parts[0].kind in ('none', 'class', 'given') else set()
         found = set()
         for element in inner:
             if self.whole.is_a(self.cls(element), value.cls):
@@ -165,10 +221,8 @@ class Objects:
             held = set(self.held.get(element, ()))
             for above in self.whole.above(cls):
                 held |= self.held.get(Element('class', above), set())
-            if element.kind == 'class':
-                for other in list(self.held):
-                    if self.whole.is_a(self.cls(other), cls):
-                        held |= self.held[other]
+            for below in self.whole.below(cls) if element.kind == 'class' else ():
+                held |= self.held_by.get(below, set())
             found |= held
         fit = {e for e in found if not value.cls or self.whole.is_a(self.cls(e), value.cls) or self.whole.is_a(value.cls, self.cls(e))}
         return fit if fit or not final else self._class(value.cls)
@@ -181,13 +235,19 @@ class Objects:
             return key in seen or (flows is not None and all(self.is_null(f, seen | {key}) for f in flows))
         return value.kind == 'null' or (value.kind in ('any', 'cast') and all(self.is_null(part, seen) for part in value.parts))
 
-    def elements(self, value: Value, fallback: str = '') -> set[Element]:
+    def elements(self, value: Value, fallback: str = '') -> frozenset[Element]:
         """The elements of a value, where those of a class cover the places below it."""
+        known = self._elements.get((value, fallback))
+        if known is None:
+            known = self._elements[(value, fallback)] = frozenset(self._elements_of(value, fallback))
+        return known
+
+    def _elements_of(self, value: Value, fallback: str) -> set[Element]:
         found = self.resolve(value, True)
         if not found and fallback in self.whole.classes and not self.is_null(value):
             found = {Element('class', fallback)}
         tops = {e.key for e in found if e.kind == 'class'}
-        found = {e for e in found if not any(self.whole.is_a(self.cls(e), t) and e != Element('class', t) for t in tops)}
+        found = {e for e in found if not any(a in tops and e != Element('class', a) for a in self.whole.above(self.cls(e)))}
         return {Element('class', self.cls(e)) for e in found} if self.roles == 'class' else found
 
     # Roles
@@ -212,6 +272,12 @@ class Objects:
         """The element that stands for one in the program: of a class, or of the places that make a role."""
         if element.kind != 'site':
             return element
+        known = self._stands_for.get(element.key)
+        if known is None:
+            known = self._stands_for[element.key] = self._role(element)
+        return known
+
+    def _role(self, element: Element) -> Element:
         cls, whole = self.cls(element), self.whole
         if self.roles == 'class':
             return Element('class', cls)

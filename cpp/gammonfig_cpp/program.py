@@ -14,7 +14,7 @@ MOST_PARAMETERS = 8
 
 @dataclass(slots=True)
 class Step:
-    """A statement: `emit`, `call`, `set` or `delete`, on `this` where `on` is None."""
+    """A statement: `emit`, `call`, `set` or `delete`, on `this` where `on` is None. `is_own`: what is deleted is owned by this object."""
     kind: str
     member: Key
     on: Element | None = None
@@ -22,6 +22,7 @@ class Step:
     place: Place | None = None
     conditions: tuple[Condition, ...] = ()
     words: str = ''
+    is_own: bool = False
 
     def same(self) -> tuple[object, ...]:
         """What makes two steps one: where it stands plays no part."""
@@ -75,6 +76,7 @@ class Program:
         self.recursions: list[list[str]] = []
         # Slots that run an event loop of their own.
         self.modal: dict[Key, Place] = {}
+        self._owners: tuple[int, list[tuple[Element, Element, Place]]] | None = None
 
     # Roles
 
@@ -96,6 +98,19 @@ class Program:
 
     def is_this(self, element: Element, function: Function) -> bool:
         return element == Element('class', function.cls)
+
+    def owners(self) -> list[tuple[Element, Element, Place]]:
+        """Which objects may own which, by all that is known by now."""
+        if self._owners is None or self._owners[0] != len(self.whole.owns):
+            found: dict[tuple[Element, Element], Place] = {}
+            for owner, child, place in self.whole.owns:
+                if owner.kind == 'variable' and owner.key.startswith('P:') and owner.key not in self.whole.flows:
+                    continue
+                for a in self.objects.elements(owner):
+                    for b in self.objects.elements(child):
+                        found.setdefault((a, b), place)
+            self._owners = len(self.whole.owns), [(a, b, place) for (a, b), place in sorted(found.items(), key=lambda f: f[0])]
+        return self._owners[1]
 
     # Members
 

@@ -3,9 +3,9 @@ from __future__ import annotations
 
 from collections import defaultdict
 
-from .calling import owners_of
 from .objects import FREE, Element
 from .program import Key, Member, Program, Step, Wire
+from .relations import Related
 
 # Widgets that are hardly a parent: where all that is known of a parent is QWidget, these aren't taken for it.
 LEAVES = set('QLabel QPushButton QToolButton QCheckBox QRadioButton QLineEdit QSpinBox QDoubleSpinBox QComboBox QSlider QProgressBar '
@@ -16,9 +16,15 @@ class Pruning:
     def __init__(self, program: Program, lean: bool) -> None:
         self.program, self.lean = program, lean
         self.whole, self.objects = program.whole, program.objects
-        self.owners: dict[Element, set[Element]] = defaultdict(set)
-        for owner, child, _ in owners_of(program):
-            self.owners[owner].add(child)
+        # What an element owns, and what all elements of a class own.
+        self.owned: dict[Element, set[Element]] = defaultdict(set)
+        self.owned_by: dict[str, set[Element]] = defaultdict(set)
+        for owner, child, _ in program.owners():
+            self.owned[owner].add(child)
+            self.owned_by[self.objects.cls(owner)].add(child)
+        self._sites: dict[str, list[str]] = defaultdict(list)
+        for site, role in self.objects.role_of.items():
+            self._sites[role].append(site)
         self._closures: dict[Element, set[Element]] = {}
 
     def closure(self, element: Element) -> set[Element]:
@@ -36,25 +42,15 @@ class Pruning:
     def _children(self, element: Element) -> set[Element]:
         if element == FREE:
             return set()
-        cls, found = self.objects.cls(element), set(self.owners.get(element, ()))
-        for site, role in self.objects.role_of.items():
-            if role == element.key and element.kind == 'site':
-                found |= self.owners.get(Element('site', site), set())
+        cls, found = self.objects.cls(element), set(self.owned.get(element, ()))
+        for site in self._sites[element.key] if element.kind == 'site' else ():
+            found |= self.owned.get(Element('site', site), set())
         for above in self.whole.above(cls):
             if above == cls or element.kind == 'class' or self.whole.name(cls) not in LEAVES:
-                found |= self.owners.get(Element('class', above), set())
-        if element.kind == 'class':
-            for owner, children in self.owners.items():
-                if self.whole.is_a(self.objects.cls(owner), cls):
-                    found |= children
+                found |= self.owned.get(Element('class', above), set())
+        for below in self.whole.below(cls) if element.kind == 'class' else ():
+            found |= self.owned_by.get(below, set())
         return found
-
-    def related(self, one: Element, other: Element) -> bool:
-        """Whether an object may be of both."""
-        if one == other or FREE in (one, other):
-            return one == other
-        a, b = self.objects.cls(one), self.objects.cls(other)
-        return (other.kind == 'class' and self.whole.is_a(a, b)) or (one.kind == 'class' and self.whole.is_a(b, a))
 
     def all(self) -> None:
         program = self.program
@@ -69,17 +65,18 @@ class Pruning:
     def _only_what_is_connected(self) -> None:
         """Takes out what leads to nothing and what nothing leads to."""
         program = self.program
-        live = set(program.members)
-        used = self._used(live)
+        used = self._used(set(program.members))
+        heard = {w.signal for w in program.wires}
         program.members = {k: m for k, m in program.members.items()
-                           if k in used or m.steps or m.notify is not None or (m.kind == 'signal' and self._is_heard(k))}
+                           if k in used or m.steps or m.notify is not None or (m.kind == 'signal' and k in heard)}
 
     def _only_what_leads_on(self) -> None:
         """Takes out what leads to nothing, though something may lead to it."""
         program = self.program
         live = set(program.members)
         while True:
-            dead = {key for key in live if not self._is_live(program.members[key], live)}
+            heard = {w.signal for w in program.wires}
+            dead = {key for key in live if not self._is_live(program.members[key], live, heard)}
             if not dead:
                 break
             live -= dead
@@ -87,16 +84,13 @@ class Pruning:
         self._drop_loose(live)
         program.members = {key: m for key, m in program.members.items() if key in live}
 
-    def _is_live(self, member: Member, live: set[Key]) -> bool:
+    def _is_live(self, member: Member, live: set[Key], heard: set[Key]) -> bool:
         """Whether a member may lead to something."""
         if member.kind == 'slot':
             return bool(member.steps)
         if member.kind == 'property':
             return member.notify in live or any(member.key in b.sources or member.key == b.target for b in self.program.bound)
-        return self._is_heard(member.key)
-
-    def _is_heard(self, key: Key) -> bool:
-        return any(w.signal == key for w in self.program.wires)
+        return member.key in heard
 
     def _drop(self, live: set[Key]) -> None:
         """Takes out what leads to what is dead."""
@@ -107,25 +101,30 @@ class Pruning:
         senders: dict[Key, set[Element]] = defaultdict(set)
         for wire in program.wires:
             senders[wire.signal].add(wire.sender)
-        acting = {program.members[key].owner for key in live if program.members[key].kind == 'slot'}
+        heard = {signal: Related(self.objects, who) for signal, who in senders.items()}
+        seen = self._deaths_that_are_seen(live)
         for key in live:
             member = program.members[key]
-            member.steps = [s for s in member.steps if self._stays(s, member, live, senders, acting)]
+            member.steps = [s for s in member.steps if self._stays(s, member, live, heard, seen)]
 
-    def _stays(self, step: Step, member: Member, live: set[Key], senders: dict[Key, set[Element]], acting: set[Element]) -> bool:
+    @staticmethod
+    def _stays(step: Step, member: Member, live: set[Key], heard: dict[Key, Related], seen: set[Element]) -> bool:
         if step.kind == 'delete':
-            element = step.on or member.owner
-            return element != FREE and self._hits(element, acting)
+            return (step.on or member.owner) in seen
         if step.member not in live:
             return False
         if step.kind != 'emit':
             return True
-        return any(self.related(member.owner, s) for s in senders.get(step.member, ()))
+        return step.member in heard and heard[step.member].has(member.owner)
 
-    def _hits(self, element: Element, acting: set[Element]) -> bool:
-        """Whether what dies may have a slot that runs, or somebody who listens."""
-        watched = any(w.signal[0] == 'signal' and self.whole.name(self.whole.class_of(w.signal[1])) == 'QObject' for w in self.program.wires)
-        return watched or any(self.related(x, a) for x in self.closure(element) for a in acting)
+    def _deaths_that_are_seen(self, live: set[Key]) -> set[Element]:
+        """What is deleted of which something may have a slot that runs, or somebody who listens."""
+        members = [self.program.members[key] for key in live]
+        dying = {s.on or m.owner for m in members for s in m.steps if s.kind == 'delete'} - {FREE}
+        if any(w.signal[0] == 'signal' and self.whole.name(self.whole.class_of(w.signal[1])) == 'QObject' for w in self.program.wires):
+            return dying
+        acting = Related(self.objects, {m.owner for m in members if m.kind == 'slot'})
+        return {d for d in dying if acting.has_any(self.closure(d))}
 
     def _drop_loose(self, live: set[Key]) -> None:
         """Takes out what nothing leads to, where it can't be the slot of a deletion either."""
@@ -174,17 +173,16 @@ class Pruning:
         """The owners that matter: those of what may be deleted."""
         program = self.program
         targets = {s.on or m.owner for m in program.members.values() for s in m.steps if s.kind == 'delete'}
-        dying = {x for t in targets for x in self.closure(t)}
-        kept: dict[tuple[Element, Element], tuple[Element, Element, object]] = {}
-        acting = {m.owner for m in program.members.values()}
-        for owner, child, place in owners_of(program):
-            if not any(self.related(owner, d) for d in dying):
+        dying = Related(self.objects, {x for t in targets for x in self.closure(t)})
+        acting = Related(self.objects, {m.owner for m in program.members.values()})
+        kept: set[tuple[Element, Element]] = set()
+        for owner, child, place in program.owners():
+            if not dying.has(owner) or (self.lean and not acting.has_any(self.closure(child))):
                 continue
-            if not self.lean or any(self.related(x, a) for x in self.closure(child) for a in acting):
-                a, b = program.role(owner), program.role(child)
-                if (a, b) not in kept:
-                    kept[(a, b)] = (a, b, place)
-                    program.owns.append((a, b, place))
+            a, b = program.role(owner), program.role(child)
+            if (a, b) not in kept:
+                kept.add((a, b))
+                program.owns.append((a, b, place))
 
 
 def unique(steps: list[Step]) -> list[Step]:

@@ -8,7 +8,7 @@ from dataclasses import dataclass, field
 from .errors import ReadError
 from .whole import Whole
 
-# Functions by which an object becomes the owner of an argument.
+# Functions by which an object becomes the owner of its arguments, where the table doesn't say of which.
 TAKING = {'addWidget', 'insertWidget', 'setCentralWidget', 'setWidget', 'addTab', 'insertTab', 'addPage', 'setPage', 'setMenuBar',
           'setStatusBar', 'addDockWidget', 'setLayout', 'addLayout', 'insertLayout', 'addToolBar', 'addSubWindow', 'setCellWidget',
           'setItemWidget', 'setIndexWidget', 'setCornerWidget', 'addItem', 'addPermanentWidget', 'addRow', 'setTitleBarWidget', 'addMenu',
@@ -23,20 +23,27 @@ WIRE = re.compile(r'wire\s+(\w+)\.(\w+)\s*->\s*(\w+)\.(\w+)$')
 @dataclass
 class Entry:
     """What one function does: names of signals, of those of objects in this one, of virtual functions, of what is posted, of what is
-    deleted; and whether it runs an event loop. A name with `C::` before it is of any object of the class C."""
+    deleted at once or later, the arguments that it owns, what it gives away; and whether it runs an event loop. A name with `C::`
+    before it is of any object of the class C."""
     emits: list[str] = field(default_factory=list)
     inside: list[str] = field(default_factory=list)
     calls: list[str] = field(default_factory=list)
     posts: list[str] = field(default_factory=list)
     deletes: list[str] = field(default_factory=list)
+    later: list[str] = field(default_factory=list)
+    owns: list[str] = field(default_factory=list)
+    takes: list[str] = field(default_factory=list)
     modal: bool = False
 
     def add(self, clause: str, names: list[str]) -> None:
-        """A clause of a line. What is deleted later brings about nothing at once; owners are known from the calls."""
-        to = {'emits': self.emits, 'rarely': self.emits, 'inside': self.inside, 'calls': self.calls, 'posts': self.posts,
-              'deletes': self.deletes}.get(clause)
-        if to is not None:
-            to.extend(n for n in names if n not in to)
+        """A clause of a line."""
+        to: list[str] = self.emits if clause == 'rarely' else getattr(self, clause)
+        to.extend(n for n in names if n not in to)
+
+
+    def has_effects(self, writes: bool) -> bool:
+        """Whether the function, which `writes` a property that notifies, does anything that is seen."""
+        return bool(writes or self.emits or self.inside or self.calls or self.posts or self.deletes or self.later)
 
 
 class Table:
@@ -71,8 +78,10 @@ class Table:
             return False
         entry = self.entries.setdefault((found[1], found[2]), Entry())
         for clause, names in clauses:
-            entry.modal = entry.modal or clause == 'modal'
-            entry.add(clause, names)
+            if clause == 'modal':
+                entry.modal = True
+            else:
+                entry.add(clause, names)
         return True
 
 

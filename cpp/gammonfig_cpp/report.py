@@ -6,6 +6,7 @@ import os
 import subprocess
 from dataclasses import dataclass, field
 from typing import Any
+from urllib.parse import quote
 
 from .errors import ReadError
 from .places import Places
@@ -60,11 +61,23 @@ def checker(here: str) -> list[str]:
     return [path]
 
 
-def judge(program: str, places: Places) -> Verdict:
-    """What the checker says of a program, with its places in C++."""
-    command = checker(os.path.dirname(os.path.abspath(__file__))) + ['verdict', '--json']
-    with open(program, encoding='utf-8') as text:
-        done = subprocess.run(command, stdin=text, stdout=subprocess.PIPE, text=True, check=False)
+USAGE = 1
+
+
+def judge(program: str, places: Places, wide: bool = False) -> Verdict:
+    """What the checker says of a program, with its places in C++. A `wide` one is over the standard limits."""
+    command = checker(os.path.dirname(os.path.abspath(__file__)))
+    # The script takes `--wide` behind the word, and the built program in front of it.
+    forms = [['verdict', '--wide', '--json'], ['--wide', 'verdict', '--json']] if wide else [['verdict', '--json']]
+    for form in forms:
+        with open(program, encoding='utf-8') as text:
+            done = subprocess.run(command + form, stdin=text, stdout=subprocess.PIPE, stderr=subprocess.PIPE if wide else None, text=True,
+                                  check=False)
+        if done.returncode != USAGE:
+            break
+    if wide and done.returncode == USAGE:
+        raise ReadError(f'{program}: the program is over the standard limits, and {command[0]} gives no verdict with --wide: '
+                        'read it with --slice, or take a newer checker')
     try:
         told = json.loads(done.stdout)
     except ValueError as wrong:
@@ -91,27 +104,53 @@ def finding_of(told: dict[str, Any], places: Places) -> Finding:
     if not spot.file:
         first = next((s.spot for s in chain if s.spot.file), None)
         spot = first or spot
-    return Finding(spot, str(told['rule']), int(told['number']), str(told['message']), str(told.get('help') or ''), chain)
+    return Finding(spot, str(told['rule']), int(told.get('number', 0)), str(told['message']), str(told.get('help') or ''), chain,
+                   str(told.get('severity', 'error')))
 
 
 RESTS = ('each step hands on the value that it was given, and only a change is told: this comes to rest, where the setters '
          'that were read as properties compare; that is not proved')
 
 
-def add_warnings(path: str, verdict: Verdict) -> None:
-    """Adds what the reader warned of, but for rules that the verdict has itself; and tells of circles that come to rest."""
-    try:
-        with open(path, encoding='utf-8') as file:
-            told = json.load(file)
-        found, resting = told['findings'], [set(names) for names in told['resting']]
-    except (OSError, ValueError, KeyError) as wrong:
-        raise ReadError(f'{path}: the warnings can\'t be read') from wrong
-    own = {f.rule for f in verdict.findings}
-    for finding in verdict.findings:
-        names = {s.from_ for s in finding.chain}
-        if finding.rule == 'cycle' and any(names <= known for known in resting):
-            finding.note = RESTS
-    verdict.findings += [warning_of(f) for f in found if f['rule'] not in own]
+OF_OWN = ('what is deleted is held by a member of the object that deletes it: another object of its class, unless it owns itself; '
+          'that is not proved')
+
+
+@dataclass
+class Warnings:
+    """What the reader warned of, the circles that it takes to come to rest, where objects delete what they own, and whether the program
+    is over the standard limits."""
+    found: list[dict[str, Any]]
+    resting: list[set[str]]
+    own: set[tuple[str, int, int]]
+    wide: bool
+
+    @staticmethod
+    def read(path: str) -> Warnings:
+        try:
+            with open(path, encoding='utf-8') as file:
+                told = json.load(file)
+            own = {(str(file), int(line), int(column)) for file, line, column in told['own']}
+            return Warnings(told['findings'], [set(names) for names in told['resting']], own, bool(told['wide']))
+        except (OSError, ValueError, KeyError, TypeError) as wrong:
+            raise ReadError(f'{path}: the warnings can\'t be read') from wrong
+
+    def add_to(self, verdict: Verdict) -> None:
+        """Adds the warnings, but for rules that the verdict has itself; and tells of circles that come to rest."""
+        own = {f.rule for f in verdict.findings}
+        for finding in verdict.findings:
+            names = {s.from_ for s in finding.chain}
+            if finding.rule == 'cycle' and any(names <= known for known in self.resting):
+                finding.note = RESTS
+            elif finding.rule == 'destroy-path' and self._is_of_own(finding):
+                finding.note, finding.severity = OF_OWN, 'note'
+        verdict.findings += [warning_of(f) for f in self.found if f['rule'] not in own]
+
+
+    def _is_of_own(self, finding: Finding) -> bool:
+        """Whether a slot deletes by a statement of its own what its object owns: no other object stands between."""
+        spot = finding.chain[0].spot if len(finding.chain) == 1 else None
+        return spot is not None and (spot.file, spot.line, spot.column) in self.own
 
 
 def warning_of(told: dict[str, Any]) -> Finding:
@@ -124,10 +163,12 @@ def warning_of(told: dict[str, Any]) -> Finding:
 
 
 class Teller:
-    """Tells a verdict. `context` is how many lines of C++ are shown around each place."""
+    """Tells a verdict. `context` is how many lines of C++ are shown around each place; `program` is the file that was judged."""
 
-    def __init__(self, root: str, context: int) -> None:
+    def __init__(self, root: str, context: int, program: str) -> None:
         self.root, self.context = root, context
+        path = os.path.realpath(program)
+        self.program = os.path.relpath(path, root) if path.startswith(root + os.sep) else path
 
     def text(self, verdict: Verdict) -> str:
         lines: list[str] = []
@@ -196,13 +237,21 @@ class Teller:
     # SARIF
 
     @staticmethod
-    def _location(spot: Spot, message: str) -> dict[str, object]:
+    def _at(file: str, line: int, column: int) -> dict[str, object]:
+        artifact = {'uri': quote(file), 'uriBaseId': '%SRCROOT%'} if not os.path.isabs(file) else {'uri': 'file://' + quote(file)}
+        return {'artifactLocation': artifact, 'region': {'startLine': line, 'startColumn': max(1, column)}}
+
+    def _location(self, spot: Spot, message: str) -> dict[str, object]:
         told: dict[str, object] = {'message': {'text': message}}
-        file, line, column = (spot.file, spot.line, spot.column) if spot.file else ('', 0, 0)
-        if file and not os.path.isabs(file):
-            told['physicalLocation'] = {'artifactLocation': {'uri': file.replace(' ', '%20'), 'uriBaseId': '%SRCROOT%'},
-                                        'region': {'startLine': line, 'startColumn': max(1, column)}}
+        if spot.file:
+            told['physicalLocation'] = self._at(spot.file, spot.line, spot.column)
         return told
+
+    def _related(self, finding: Finding) -> list[dict[str, object]]:
+        """Where a finding stands in the program that was judged."""
+        spots = [s for s in (finding.spot, *(step.spot for step in finding.chain)) if s.program is not None]
+        return [{'physicalLocation': self._at(self.program, *s.program), 'message': {'text': 'in the program that was judged'}}
+                for s in spots[:1] if s.program is not None]
 
     def sarif(self, verdict: Verdict) -> str:
         rules = sorted({f.rule for f in verdict.findings})
@@ -211,11 +260,14 @@ class Teller:
             steps = [{'location': self._location(s.spot, self._step(s)[0].split(': note: ', 1)[-1])} for s in finding.chain]
             result: dict[str, object] = {'ruleId': finding.rule, 'level': finding.severity, 'message': {'text': finding.message},
                                          'locations': [self._location(finding.spot, finding.message)]}
+            related = self._related(finding)
+            if related:
+                result['relatedLocations'] = related
             if steps:
                 result['codeFlows'] = [{'threadFlows': [{'locations': steps}]}]
             results.append(result)
         run = {'tool': {'driver': {'name': 'gammonfig read', 'rules': [{'id': r} for r in rules]}}, 'results': results,
-               'originalUriBaseIds': {'%SRCROOT%': {'uri': 'file://' + self.root.replace(' ', '%20') + '/'}},
+               'originalUriBaseIds': {'%SRCROOT%': {'uri': 'file://' + quote(self.root) + '/'}},
                'properties': {'more': verdict.more, 'accepted': verdict.accepted}}
         whole = {'$schema': 'https://json.schemastore.org/sarif-2.1.0.json', 'version': '2.1.0', 'runs': [run]}
         return json.dumps(whole, indent=1, ensure_ascii=False) + '\n'

@@ -2,12 +2,15 @@
 from __future__ import annotations
 
 from collections import defaultdict
+from typing import Iterable, Mapping
 
 from .graph import Graph, Node
 from .graphs import components
 from .naming import Naming
+from .objects import Element
 from .program import Key, Program
 from .pruning import Pruning
+from .relations import Related
 
 
 def keep_slice(program: Program) -> None:
@@ -20,9 +23,9 @@ def keep_slice(program: Program) -> None:
         member.steps = [s for s in member.steps if s.kind == 'delete' or s.member in keep]
     program.wires = [w for w in program.wires if w.signal in keep and w.method in keep]
     program.bound = [b for b in program.bound if b.target in keep and any(s in keep for s in b.sources)]
-    owners = {m.owner for m in program.members.values()}
+    owners = Related(program.objects, {m.owner for m in program.members.values()})
     pruning = Pruning(program, True)
-    program.owns = [o for o in program.owns if any(pruning.related(x, a) for x in pruning.closure(o[1]) for a in owners)]
+    program.owns = [o for o in program.owns if owners.has_any(pruning.closure(o[1]))]
 
 
 def _deadly(program: Program, graph: Graph) -> set[Key]:
@@ -32,18 +35,21 @@ def _deadly(program: Program, graph: Graph) -> set[Key]:
     for node, to in graph.edges.items():
         for other in to:
             before[other].add(node)
+    by_deaths: dict[frozenset[Element], set[Node]] = defaultdict(set)
     for node, dying in graph.dying.items():
-        classes = {x for d in dying for x in pruning.closure(d)}
-        back, todo = {node}, [node]
-        while todo:
-            new = before[todo.pop()] - back
-            back |= new
-            todo += new
-        starts = {n for n in back if program.members[n[1]].kind == 'slot' and any(pruning.related(n[0], c) for c in classes)}
-        forth, todo = set(starts), list(starts)
-        while todo:
-            new = {n for n in graph.edges[todo.pop()] if n in back} - forth
-            forth |= new
-            todo += new
-        keep |= {key for _, key in forth}
+        by_deaths[frozenset(dying)].add(node)
+    for deaths, nodes in by_deaths.items():
+        classes = Related(program.objects, {x for d in deaths for x in pruning.closure(d)})
+        back = _reached(before, nodes, None)
+        starts = {n for n in back if program.members[n[1]].kind == 'slot' and classes.has(n[0])}
+        keep |= {key for _, key in _reached(graph.edges, starts, back)}
     return keep
+
+
+def _reached(edges: Mapping[Node, Iterable[Node]], starts: set[Node], within: set[Node] | None) -> set[Node]:
+    found, todo = set(starts), list(starts)
+    while todo:
+        new = {n for n in edges.get(todo.pop(), ()) if n not in found and (within is None or n in within)}
+        found |= new
+        todo += new
+    return found

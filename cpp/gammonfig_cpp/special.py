@@ -3,8 +3,7 @@ from __future__ import annotations
 
 from .context import Context
 from .libclang import NAMES, Cursor, K, T, expressions, first_text, is_written, strip
-from .model import Value
-from .qtmodel import TAKING
+from .model import Handed, Value
 
 NESTED = {'exec', 'processEvents', 'exec_'}
 DIALOGS = {('QMessageBox', n) for n in ('information', 'warning', 'critical', 'question', 'about', 'aboutQt')} | \
@@ -89,24 +88,34 @@ class Special:
             text = first_text(given[0])
             if text:
                 context.facts.object_names.append((on, text))
-        elif name == 'setAttribute' and given and 'WA_DeleteOnClose' in context.text(given[0]):
+        elif self._dies_by_itself(name, given):
             context.add('close', call, on)
         elif name == 'setParent' and given:
             context.facts.owns.append((context.values.of(given[0]), on, context.place(call)))
-        elif name in TAKING:
-            self._take(call, on, given)
+        else:
+            self._hand(call, name, on, given)
         if name in WIRING:
             context.note('wiring of Qt', call, f'{parent}::{name}: {context.text(call, 60)}')
 
-    def _take(self, call: Cursor, on: Value, given: list[Cursor]) -> None:
-        for argument in given:
-            cls = self.context.classes.of(argument.type)
-            kind = argument.type.get_canonical().kind
-            if is_written(argument) and cls and kind == T.POINTER and self.context.classes.is_object(cls):
-                value = self.context.values.of(argument)
+    def _dies_by_itself(self, name: str, given: list[Cursor]) -> bool:
+        """Whether an object is told to delete itself, when it is closed or has run."""
+        words = [self.context.text(argument) for argument in given if is_written(argument)]
+        if name == 'setAttribute':
+            return bool(words) and words[0].endswith('WA_DeleteOnClose') and words[1:] != ['false']
+        return name == 'start' and bool(words) and words[0].endswith('DeleteWhenStopped')
+
+    def _hand(self, call: Cursor, name: str, on: Value, given: list[Cursor]) -> None:
+        """Objects that are handed to a function of Qt, which may become their owner."""
+        context, handed = self.context, list[tuple[int, Value]]()
+        for at, argument in enumerate(given, 1):
+            cls = context.classes.of(argument.type)
+            if is_written(argument) and cls and argument.type.get_canonical().kind == T.POINTER and context.classes.is_handed_over(cls):
+                value = context.values.of(argument)
                 if value.kind not in ('null', 'none'):
-                    self.context.facts.owns.append((on, value, self.context.place(call)))
-                    self.context.facts.contents.append((on, value))
+                    handed.append((at, value))
+        if handed:
+            cls = context.classes.note(call.referenced.semantic_parent)
+            context.facts.handed.append(Handed(cls, name, on, tuple(handed), context.place(call)))
 
     # Bindable properties
 

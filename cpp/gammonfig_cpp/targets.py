@@ -17,7 +17,6 @@ class Targets:
     def __init__(self, program: Program, calling: Calling) -> None:
         self.program, self.calling = program, calling
         self.whole, self.objects = program.whole, program.objects
-        self.watched: list[Element] = []
 
     def named(self, named: Named, seen: tuple[str, ...] = ()) -> list[Named]:
         """What a parameter that holds a function may be."""
@@ -94,8 +93,3 @@ class Targets:
             reached = self.calling.reached(usr, method.shown, name, {element}, True)
             return [t for e, u in reached for t in self._one(e, u, name)]
         return self._one(element, usr, name)
-
-    def is_watched(self, element: Element) -> bool:
-        """Whether something is connected to `destroyed` of an object, or of one that it may be."""
-        cls = self.objects.cls(element)
-        return any(self.whole.is_a(cls, self.objects.cls(w)) or self.whole.is_a(self.objects.cls(w), cls) for w in self.watched)

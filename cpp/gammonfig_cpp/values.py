@@ -1,6 +1,8 @@
 """Which objects an expression may be, and which value it hands on."""
 from __future__ import annotations
 
+import re
+
 from .classes import CONTAINERS, SMART
 from .context import Context, sort_of
 from .libclang import CASTS, NAMES, RECORDS, REFERENCES, VARIABLES, Cursor, K, T, bare, expressions, is_written, strip
@@ -16,8 +18,9 @@ FACTORIES = {'addAction', 'addMenu', 'addToolBar', 'addButton', 'nextPendingConn
 FACTORY_CLASSES = {'QAction', 'QMenu', 'QToolBar', 'QPushButton', 'QTcpSocket', 'QLocalSocket', 'QNetworkReply', 'QGraphicsProxyWidget',
                    'QGraphicsRectItem', 'QGraphicsTextItem', 'QGraphicsLineItem', 'QGraphicsEllipseItem', 'QGraphicsPixmapItem',
                    'QGraphicsPathItem', 'QGraphicsSimpleTextItem', 'QGraphicsPolygonItem', 'QThread', 'QMdiSubWindow'}
-HELD = {'widget', 'currentWidget', 'centralWidget', 'itemAt', 'activeSubWindow', 'currentSubWindow', 'takeAt', 'cellWidget', 'indexWidget',
-        'takeCentralWidget', 'takeWidget'}
+HELD = {'widget', 'currentWidget', 'centralWidget', 'itemAt', 'activeSubWindow', 'currentSubWindow', 'takeAt', 'cellWidget', 'indexWidget'}
+# Functions of Qt that may give away what an object has owned: the table says which of them do.
+GIVING_AWAY = re.compile('(take|remove|replace|set)[A-Z]')
 
 
 class Values:
@@ -109,7 +112,10 @@ class Values:
             if name in HANDING_ON:
                 return self.of(given[0], depth + 1)
         if not inside and name.startswith(('make_unique', 'make_shared')):
-            return self.made_by_call(cursor, cls)
+            made = self.made_by_call(cursor, cls)
+            if self.context.facts.classes[cls].inside:
+                self.context.calls.note_construction('', made, given)
+            return made
         parent = called.semantic_parent
         if parent is not None and parent.kind in RECORDS + (K.CLASS_TEMPLATE,):
             found = self._of_member(cursor, cls, depth)
@@ -133,6 +139,8 @@ class Values:
             return Value('content', cls=cls, parts=(holder,))
         if name in FACTORIES and self.context.facts.classes[cls].name in FACTORY_CLASSES:
             return self.made_by_call(cursor, cls)
+        if GIVING_AWAY.match(name):
+            return Value('given', name, cls, (self.of(on, depth + 1) if on is not None else self.context.this,))
         return None
 
     # Values that are handed on

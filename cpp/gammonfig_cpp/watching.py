@@ -5,13 +5,16 @@ from __future__ import annotations
 
 import json
 
-from .graph import Graph, Node, Why
+from .graph import Graph, Node, Why, path
 from .graphs import components
 from .naming import Naming
 from .places import Places
 from .program import Program
 from .settling import Settling
 
+# Signals for which an object waits for an answer: it doesn't emit them again meanwhile.
+ANSWERED = {('QSslSocket', 'sslErrors'), ('QSslSocket', 'preSharedKeyAuthenticationRequired'), ('QSslSocket', 'handshakeInterruptedOnError'),
+            ('QAbstractSocket', 'proxyAuthenticationRequired')}
 # What a user does is kept from a window while a modal dialog is open, so it is no way back into a slot that opens one.
 BY_HAND = ('QWidget', 'QAction', 'QShortcut', 'QGuiApplication', 'QGraphicsItem', 'QSystemTrayIcon')
 
@@ -21,10 +24,17 @@ class Watching:
         self.program, self.places = program, places
         self.graph = Graph(program, names, queued=True)
 
-    def text(self) -> str:
-        """The warnings, as the findings of a verdict in JSON."""
+    def text(self, wide: bool = False) -> str:
+        """The warnings, as the findings of a verdict in JSON; and whether commands take the program with `--wide` alone."""
         resting = Settling(self.program, Graph(self.program, self.graph.names)).sets()
-        return json.dumps({'findings': self._queued_cycles() + self._re_entries(), 'resting': resting}, indent=1, ensure_ascii=False) + '\n'
+        told = {'findings': self._queued_cycles() + self._re_entries(), 'resting': resting, 'own': self._own(), 'wide': wide}
+        return json.dumps(told, indent=1, ensure_ascii=False) + '\n'
+
+    def _own(self) -> list[list[object]]:
+        """Where in C++ objects delete what they own."""
+        places = {(self.places.relative(s.place.file), s.place.line, s.place.column) for m in self.program.members.values()
+                  for s in m.steps if s.is_own and s.place is not None}
+        return [list(place) for place in sorted(places)]
 
     def _told(self, why: Why) -> dict[str, object]:
         place = why.place
@@ -56,7 +66,8 @@ class Watching:
             best: list[Node] | None = None
             for one in sorted(members):
                 for two, why in self.graph.edges[one].items():
-                    way = self.graph.way([two], one, members) if why.queued and two in members else None
+                    most = len(best) - 2 if best is not None else len(members)
+                    way = self.graph.way([two], one, members, most) if why.queued and two in members else None
                     if way is not None and (best is None or len(way) + 1 < len(best)):
                         best = [one, *way]
             if best is not None:
@@ -67,12 +78,13 @@ class Watching:
 
     def _re_entries(self) -> list[dict[str, object]]:
         """Slots that run an event loop, in which they may be called again."""
-        starts, found = self._by_the_loop(), []
+        found, before = [], self.graph.ways(self._by_the_loop())
+        circling = set().union(*components({n: list(to) for n, to in self.graph.edges.items()}))
         for node in self.graph.edges:
             place = self.program.modal.get(node[1])
             if place is None or node[0] != self.program.members[node[1]].owner:
                 continue
-            way = self.graph.way([n for n in starts if n != node], node) or self._back(node)
+            way = path(before, node) if node in before else self._back(node) if node in circling else None
             if way is not None:
                 told = self._finding('re-entry', f'`{self.graph.name(node)}` runs an event loop, in which it may be called again', way)
                 spot = {'file': self.places.relative(place.file), 'line': place.line, 'column': place.column, 'words': place.words}
@@ -99,6 +111,9 @@ class Watching:
                 continue
             cls = whole.class_of(key[1]) if key[0] == 'signal' else ''
             by_hand = any(whole.is_named(cls, name) for name in BY_HAND) if cls else False
-            if by_qt or (cls and not whole.is_inside(cls) and not by_hand and objects.cls(node[0]) in whole.classes):
+            name = self.program.members[key].name.removeprefix('posted_')
+            is_answered = (whole.name(cls or objects.cls(node[0])), name) in ANSWERED
+            of_qt = cls and not whole.is_inside(cls) and not by_hand and objects.cls(node[0]) in whole.classes
+            if not is_answered and (by_qt or of_qt):
                 starts.append(node)
         return starts

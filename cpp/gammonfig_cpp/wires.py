@@ -4,11 +4,14 @@ from __future__ import annotations
 import re
 from collections import defaultdict
 from dataclasses import replace
+from typing import Iterable
 
 from .calling import Calling
 from .model import Connect, Forward, Named, Parameter, Value
 from .objects import FREE, Element
+from .owning import of_each_object
 from .program import Key, Program, Wire
+from .relations import Related
 from .targets import Target, Targets
 
 Source = tuple[Element, str]
@@ -32,6 +35,17 @@ def handed(connect: Connect, call: Forward) -> Connect:
 
     return replace(connect, sender=value(connect.sender), signal=named(connect.signal), receiver=value(connect.receiver),
                    slot=named(connect.slot), place=call.place, function=call.caller)
+
+
+def together(found: Iterable[list[Wire] | str]) -> list[Wire] | str:
+    """All wires; where there are none, the reason of one that has none."""
+    wires, reason = list[Wire](), ''
+    for one in found:
+        if isinstance(one, str):
+            reason = one
+        else:
+            wires += one
+    return wires if wires or not reason else reason
 
 
 class Wires:
@@ -58,8 +72,9 @@ class Wires:
             else:
                 self.understood += 1
                 self.program.wires += found
-        self.targets.watched = [w.sender for w in self.program.wires if w.signal[0] == 'signal'
-                                and self.whole.name(self.whole.class_of(w.signal[1])) == 'QObject']
+        self.calling.watched = Related(self.objects, [Element('class', self.objects.cls(w.sender)) for w in self.program.wires
+                                                      if w.signal[0] == 'signal'
+                                                      and self.whole.name(self.whole.class_of(w.signal[1])) == 'QObject'])
         self._of_qt()
 
     # One connection
@@ -68,16 +83,16 @@ class Wires:
         """The wires of a connection; where a helper makes it of what it is handed, those of each call of the helper."""
         keys = [n.key for n in (connect.signal, connect.slot) if n.kind == 'parameter' and n.key.startswith('P:')]
         calls = self.whole.forwards.get(keys[0][2:].rsplit(':', 1)[0], []) if keys and depth < 4 else []
-        if not calls:
-            return self._connection(connect)
-        wires, reason = list[Wire](), ''
-        for call in calls:
-            found = self._forwarded(handed(connect, call), depth + 1)
-            if isinstance(found, str):
-                reason = found
-            else:
-                wires += found
-        return wires if wires or not reason else reason
+        if calls:
+            return together(self._forwarded(handed(connect, call), depth + 1) for call in calls)
+        return together(self._connection(one) for one in self._of_each_object(connect))
+
+    def _of_each_object(self, connect: Connect) -> list[Connect]:
+        """A connection that a constructor makes between its object and what it is handed, for each object on which it runs."""
+        sender, receiver = connect.sender, connect.receiver
+        if sender.kind == 'this':
+            return [replace(connect, sender=this, receiver=given) for given, this in of_each_object(receiver, sender, self.whole)]
+        return [replace(connect, sender=given, receiver=this) for given, this in of_each_object(sender, receiver, self.whole)]
 
     def _connection(self, connect: Connect) -> list[Wire] | str:
         signals = self.targets.named(connect.signal)
@@ -95,7 +110,10 @@ class Wires:
         targets = self.targets.of(connect.slot, connect.receiver, connect.receiver_class)
         if not targets:
             return f'no such slot: {connect.slot.name or connect.slot.key}'
-        return [w for s in sources for t in targets for w in self._wire(connect, s, t)]
+        pairs = [(s, t) for s in sources for t in targets]
+        if connect.is_same:
+            pairs = [(s, t) for s, t in pairs if self.program.role(s[0]) == self.program.role(t[0])] or pairs
+        return [w for s, t in pairs for w in self._wire(connect, s, t)]
 
     def _sources(self, connect: Connect) -> list[Source] | str:
         senders = sorted(self.objects.elements(connect.sender, connect.sender_class))
@@ -163,22 +181,26 @@ class Wires:
             for element in self.objects.elements(value):
                 if element.kind == 'site':
                     named[element.key].add(text)
+        sites: dict[str, list[str]] = defaultdict(list)
+        for key, site in whole.sites.items():
+            for name in sorted(named[key] | {site.hint}):
+                sites[name].append(key)
         out: list[Connect] = []
         for cls in [c for c in whole.classes.values() if c.inside] if uses else ():
             for usr, method in cls.methods.items():
                 if method.kind == 'slot' and method.name.startswith('on_'):
-                    out += self._named_slot(cls.key, usr, named)
+                    out += self._named_slot(cls.key, usr, sites)
         return out
 
-    def _named_slot(self, cls: str, usr: str, named: dict[str, set[str]]) -> list[Connect]:
+    def _named_slot(self, cls: str, usr: str, sites: dict[str, list[str]]) -> list[Connect]:
         whole, method = self.whole, self.whole.methods[usr][1]
         types = method.shown[method.shown.index('(') + 1:-1]
         out = []
-        for key, site in whole.sites.items():
-            for name in sorted(named[key] | {site.hint}):
-                if not name or not method.name.startswith(f'on_{name}_') or site.cls not in whole.classes:
-                    continue
-                signal = whole.signal(site.cls, method.name[len(name) + 4:], types or None)
+        # An object's name may have underscores: each place where one stands may be the end of it.
+        for end in [at for at in range(4, len(method.name)) if method.name[at] == '_']:
+            for key in sites.get(method.name[3:end], ()):
+                site = whole.sites[key]
+                signal = whole.signal(site.cls, method.name[end + 1:], types or None) if site.cls in whole.classes else None
                 if signal is not None:
                     out.append(Connect(Value('site', key, site.cls), site.cls, Named('method', signal, whole.class_of(signal)),
                                        Value('class', cls=cls), cls, Named('method', usr, cls, method.name), 'auto', method.place, '', 'name'))
@@ -186,17 +208,19 @@ class Wires:
 
     def _emitted_in_threads(self) -> set[str]:
         """Signals that only run() of a QThread emits, or what only run() calls."""
-        whole, callers = self.whole, defaultdict(set)
+        whole, callers, called = self.whole, defaultdict(set), defaultdict(set)
         for function in whole.functions.values():
             for statement in function.statements:
                 if statement.kind == 'call':
                     callers[statement.function].add(function.key)
+                    called[function.key].add(statement.function)
         inside = {k for k, f in whole.functions.items() if f.name == 'run' and f.cls and whole.is_named(f.cls, 'QThread')}
-        while True:
-            more = {k for k in whole.functions if k not in inside and k not in self.objects.outside and callers[k] and callers[k] <= inside}
-            if not more:
-                break
+        todo = list(inside)
+        while todo:
+            more = {k for k in called[todo.pop()] if k in whole.functions and k not in inside and k not in self.objects.outside
+                    and callers[k] <= inside}
             inside |= more
+            todo += more
         emitted: set[str] = set()
         elsewhere: set[str] = set()
         for function in whole.functions.values():

@@ -5,14 +5,13 @@ from collections import defaultdict
 from dataclasses import dataclass
 
 from .model import Condition, Parameter, Place, Term
+from .limits import Size
 from .naming import Naming, free_name, parameter_names
 from .objects import FREE, Element
 from .places import Places
 from .program import Key, Member, Program, Step
 
 MOST_REFERENCES = 24
-LIMITS = {'classes': 256, 'wires': 1000, 'owns': 1000, 'bindings': 1000, 'bytes': 1 << 20}
-MOST_METHODS, MOST_PROPERTIES = 64, 32
 
 
 @dataclass
@@ -21,7 +20,7 @@ class Written:
     places: Places
     names: Naming
     lines_of: dict[Key, int]
-    too_much: list[str]
+    size: Size
 
 
 class Writing:
@@ -29,11 +28,10 @@ class Writing:
         self.program, self.names = program, Naming(program)
         self.places = Places(root, roots)
         self.lines: list[str] = []
-        self.counts: dict[str, int] = defaultdict(int)
-        self.too_much: list[str] = []
+        self.size = Size()
         self.paths: dict[tuple[Element, Element], str] = {}
         self.references: dict[Element, list[Element]] = {}
-        self.hubs: list[Element] = []
+        self.hubs: dict[Element, int] = {}
         self.hub = free_name('Hub', {n.rstrip('0123456789') for n in self.names.classes.values()})
         self.declared: dict[Element, set[str]] = defaultdict(set)
         self.lines_of: dict[Key, int] = {}
@@ -48,13 +46,10 @@ class Writing:
         self._bindings()
         for owner, child, place in self.program.owns:
             self.out(f'owns {self.names.classes[owner]} {self.names.classes[child]};', place)
-            self.counts['owns'] += 1
+            self.size.count('owns')
         text = ''.join(line + '\n' for line in self.lines)
-        self.counts['bytes'] = len(text)
-        for what, most in LIMITS.items():
-            if self.counts[what] > most:
-                self.too_much.append(f'{self.counts[what]:,} {what}, where {most:,} are allowed')
-        return Written(text, self.places, self.names, self.lines_of, self.too_much)
+        self.size.count('bytes', len(text))
+        return Written(text, self.places, self.names, self.lines_of, self.size)
 
     def out(self, text: str, place: Place | None = None, conditions: tuple[Condition, ...] = ()) -> None:
         self.lines.append(text)
@@ -87,19 +82,18 @@ class Writing:
             for target in own:
                 name = 'to_' + self.names.classes[target]
                 if len(own) > MOST_REFERENCES:
-                    if target not in self.hubs:
-                        self.hubs.append(target)
-                    name = f'{self.hub.lower()}{self.hubs.index(target) // MOST_REFERENCES}.{name}'
+                    at = self.hubs.setdefault(target, len(self.hubs))
+                    name = f'{self.hub.lower()}{at // MOST_REFERENCES}.{name}'
                 self.paths[(role, target)] = name
 
     def _hub_classes(self) -> None:
         """Classes that hold references for those that have too many of their own."""
         for at in range(0, len(self.hubs), MOST_REFERENCES):
             self.out(f'class {self.hub}{at // MOST_REFERENCES} {{')
-            for target in self.hubs[at:at + MOST_REFERENCES]:
+            for target in list(self.hubs)[at:at + MOST_REFERENCES]:
                 self.out(f'    property {self.names.classes[target]}* to_{self.names.classes[target]};')
             self.out('}')
-            self.counts['classes'] += 1
+            self.size.count('classes')
 
     def path(self, owner: Element, step: Step) -> str:
         target = self.target(owner, step)
@@ -113,17 +107,14 @@ class Writing:
         place = None
         if role != FREE:
             place = whole.sites[role.key].place if role.kind == 'site' else whole.classes[role.key].place
-        self.counts['classes'] += 1
+        self.size.count('classes')
         self.out(f'class {name}{" : " + names.classes[above[0]] if above else ""} {{', place)
         count = self._properties(role, above)
         members = [k for k in names.sorted_members(role) if self.program.members[k].kind != 'property']
         for key in members:
             self._method(role, key)
         self.out('}')
-        if len(members) > MOST_METHODS:
-            self.too_much.append(f'{len(members)} methods of {name}, where {MOST_METHODS} are allowed')
-        if count > MOST_PROPERTIES:
-            self.too_much.append(f'{count} properties of {name}, where {MOST_PROPERTIES} are allowed')
+        self.size.classes.append((name, len(members), count))
 
     def _properties(self, role: Element, above: list[Element]) -> int:
         """The properties of a class: those that are set, and references to what its bodies name."""
@@ -201,7 +192,7 @@ class Writing:
             sender, receiver = self.names.classes[wire.sender], self.names.classes[wire.receiver]
             self.out(f'wire {sender} {self.signature(wire.signal)} -> {receiver} {self.signature(wire.method)} {wire.how};'
                      + (f'  // {wire.words}' if wire.words else ''), wire.place)
-            self.counts['wires'] += 1
+            self.size.count('wires')
 
     def _bindings(self) -> None:
         taken: set[str] = set()
@@ -213,4 +204,4 @@ class Writing:
             name = free_name(f'binding_{bound.place.line}', taken)
             taken.add(name)
             self.out(f'binding {name} {self.names.classes[target.owner]}.{self.names.names[bound.target]} ({formals}) = {reads};', bound.place)
-            self.counts['bindings'] += 1
+            self.size.count('bindings')

@@ -35,6 +35,12 @@ def output(command: Sequence[str], folder: Path | None = None, variables: Mappin
     return ran.stdout
 
 
+def jobs() -> int:
+    """How many processes at once: as many as RT_JOBS says, or else as there are hardware threads."""
+    given = os.environ.get("RT_JOBS", "")
+    return int(given) if given.isdigit() and int(given) else os.cpu_count() or 1
+
+
 def outside(folder: Path) -> Path:
     """The folder, if it isn't in the repository: what is fetched or built stays out of it."""
     whole = folder.resolve()

@@ -10,7 +10,7 @@ from functools import cache
 from pathlib import Path
 
 sys.path.insert(0, str(Path(__file__).resolve().parent))
-from needs import Missing, output, program
+from needs import Missing, jobs, output, program
 
 MODULES = ["Qt6Widgets", "Qt6Network", "Qt6Gui", "Qt6Core"]
 STANDARD = ["-std=c++17", "-fPIC"]
@@ -51,10 +51,6 @@ def qt_tool(name: str) -> str:
     if not path.is_file():
         raise Missing(f"{path} isn't there: it is in Debian's package qt6-base-dev-tools.")
     return str(path)
-
-
-def jobs() -> int:
-    return max(1, (os.cpu_count() or 1) - 1)
 
 
 def compiled(sources: Sequence[Path], folder: Path, flags: Sequence[str], salt: str = "") -> list[Path]:

@@ -10,8 +10,9 @@ from dataclasses import dataclass
 
 HERE = os.path.dirname(os.path.abspath(__file__))
 CASES = os.path.join(HERE, 'cases')
-sys.path.insert(0, os.path.dirname(HERE))
+sys.path[:0] = [os.path.dirname(HERE), HERE]
 
+from needs import jobs  # noqa: E402
 from gammonfig_cpp.gather import gather  # noqa: E402
 from gammonfig_cpp.linking import Linked, link  # noqa: E402
 from gammonfig_cpp.model import Facts  # noqa: E402
@@ -31,8 +32,8 @@ def flags(package: str) -> tuple[str, ...]:
 def facts() -> dict[str, Facts]:
     """The facts of each case."""
     names = sorted(name for name in os.listdir(CASES) if name.endswith('.cpp'))
-    units = [Unit(os.path.join(CASES, name), flags('Qt6Widgets' if name == 'widgets.cpp' else 'Qt6Core')) for name in names]
-    return dict(zip((name[:-4] for name in names), gather(units, [CASES], None, os.cpu_count() or 1, True)))
+    units = [Unit(os.path.join(CASES, name), flags('Qt6Widgets' if name in ('ends.cpp', 'widgets.cpp') else 'Qt6Core')) for name in names]
+    return dict(zip((name[:-4] for name in names), gather(units, [CASES], None, jobs(), True)))
 
 
 @dataclass

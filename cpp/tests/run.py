@@ -12,6 +12,8 @@ import subprocess
 import sys
 
 HERE = os.path.dirname(os.path.abspath(__file__))
+# The folders with modules of their own.
+BESIDE = ('dynamic', 'examples', 'large', 'programs', 'qt_table')
 PACKAGES = ('python3-clang', 'libclang1', 'libclang-common-14-dev', 'qt6-base-dev', 'qt6-base-private-dev', 'python3-pytest', 'mypy',
             'pkg-config')
 
@@ -46,8 +48,10 @@ def install() -> None:
 
 def types() -> bool:
     """Whether the types hold."""
-    sources = [os.path.join(HERE, n) for n in sorted(os.listdir(HERE)) if n.endswith('.py')]
-    done = subprocess.run(['mypy', '--strict', os.path.join(os.path.dirname(HERE), 'gammonfig_cpp'), *sources], check=False)
+    folders = [HERE, *(os.path.join(HERE, name) for name in BESIDE)]
+    sources = [os.path.join(f, n) for f in folders for n in sorted(os.listdir(f)) if n.endswith('.py')]
+    done = subprocess.run(['mypy', '--strict', os.path.join(os.path.dirname(HERE), 'gammonfig_cpp'), *sources], check=False,
+                          env={**os.environ, 'MYPYPATH': os.pathsep.join(folders)})
     return done.returncode == 0
 
 

@@ -3,6 +3,7 @@ import json
 import os
 import pathlib
 import re
+import shutil
 import stat
 import subprocess
 
@@ -64,6 +65,21 @@ def test_a_second_run_reads_nothing_anew(written: pathlib.Path) -> None:
     assert done.returncode == 0 and 'units read' not in done.stderr
 
 
+def test_a_changed_file_is_read_anew_and_no_other(tmp_path: pathlib.Path) -> None:
+    project(tmp_path)
+    (tmp_path / 'b.h').write_text('#include <QObject>\nclass Bell : public QObject {\n    Q_OBJECT\nsignals:\n    void rung();\n};\n')
+    for name in ('b.cpp', 'c.cpp'):
+        (tmp_path / name).write_text(f'#include "b.h"\nvoid ring_{name[0]}(Bell *bell) {{ emit bell->rung(); }}\n')
+    entries = json.loads((tmp_path / 'compile_commands.json').read_text())
+    more = [{**entries[0], 'file': name, 'arguments': ['c++', *flags('Qt6Core'), '-c', name]} for name in ('b.cpp', 'c.cpp')]
+    (tmp_path / 'compile_commands.json').write_text(json.dumps([*entries, *more]))
+    assert '3 of 3 units read' in run(tmp_path, '-p', '.', '-o', 'out', *TABLE).stderr
+    (tmp_path / 'b.cpp').write_text((tmp_path / 'b.cpp').read_text() + '\n')
+    assert '1 of 1 units read' in run(tmp_path, '-p', '.', '-o', 'out', *TABLE).stderr, 'the unit of a source that changed'
+    (tmp_path / 'b.h').write_text((tmp_path / 'b.h').read_text() + '\n')
+    assert '2 of 2 units read' in run(tmp_path, '-p', '.', '-o', 'out', *TABLE).stderr, 'the units that include a header that changed'
+
+
 def test_explain(written: pathlib.Path) -> None:
     told = run(written, '-p', '.', '--explain', 'Desk.end', '--quiet', *TABLE).stdout
     assert 'deletes this: a.cpp:13: delete this, if `m_dial`' in told
@@ -101,6 +117,17 @@ def test_a_verdict_in_lines_of_cpp(written: pathlib.Path) -> None:
     assert (step['file'], step['line'], step['conditions']) == ('a.cpp', 13, ['if `m_dial`'])
 
 
+def test_an_object_that_deletes_its_own(written: pathlib.Path, tmp_path: pathlib.Path) -> None:
+    """A slot that deletes what its object owns deletes another object of its class: that is a note, and no error."""
+    shutil.copytree(written / 'out', tmp_path / 'out')
+    path = tmp_path / 'out/app.warnings.json'
+    named = checker(tmp_path, line_of(written, 'delete this;'))
+    assert ': error: m [destroy-path]' in run(tmp_path, '--verdict', 'out', GAMMONFIG=named).stdout
+    path.write_text(json.dumps(json.loads(path.read_text()) | {'own': [['a.cpp', 13, 30]]}))
+    told = run(tmp_path, '--verdict', 'out', GAMMONFIG=named).stdout
+    assert ': note: m [destroy-path]' in told and 'unless it owns itself' in told
+
+
 def test_a_verdict_as_sarif(written: pathlib.Path) -> None:
     named = checker(written, line_of(written, 'delete this;'))
     told = json.loads(run(written, '--verdict', 'out', '--sarif', GAMMONFIG=named).stdout)
@@ -108,6 +135,25 @@ def test_a_verdict_as_sarif(written: pathlib.Path) -> None:
     step = result['codeFlows'][0]['threadFlows'][0]['locations'][0]['location']
     assert step['physicalLocation']['artifactLocation'] == {'uri': 'a.cpp', 'uriBaseId': '%SRCROOT%'}
     assert step['physicalLocation']['region']['startLine'] == 13
+    related = result['relatedLocations'][0]['physicalLocation']
+    assert related['artifactLocation']['uri'] == 'out/app.gf'
+    assert related['region']['startLine'] == 1, 'where the finding stands in the program'
+
+
+@pytest.mark.parametrize('form', ['--wide verdict', 'verdict --wide'])
+def test_a_program_over_the_standard_limits(written: pathlib.Path, tmp_path: pathlib.Path, form: str) -> None:
+    """The checker takes it with --wide, in front of the word or behind it; one that doesn't is told of."""
+    shutil.copytree(written / 'out', tmp_path / 'out')
+    warnings = json.loads((tmp_path / 'out/app.warnings.json').read_text())
+    assert warnings['wide'] is False
+    (tmp_path / 'out/app.warnings.json').write_text(json.dumps(warnings | {'wide': True}))
+    named = checker(tmp_path, line_of(written, 'delete this;'))
+    only = f'#!/bin/sh\n[ "$*" = "{form} --json" ] || exit 1\n'
+    pathlib.Path(named).write_text(pathlib.Path(named).read_text().replace('#!/bin/sh\n', only))
+    assert run(tmp_path, '--verdict', 'out', GAMMONFIG=named).returncode == 3
+    pathlib.Path(named).write_text('#!/bin/sh\nexit 1\n')
+    done = run(tmp_path, '--verdict', 'out', GAMMONFIG=named)
+    assert done.returncode == 2 and 'gives no verdict with --wide' in done.stderr
 
 
 def refused(done: 'subprocess.CompletedProcess[str]', sentence: str, folder: pathlib.Path) -> None:
@@ -143,6 +189,9 @@ def test_other_bad_input(tmp_path: pathlib.Path) -> None:
     refused(run(tmp_path, '-o', 'out'), '-p DIR names the build', tmp_path)
     refused(run(tmp_path, '-p', '.', '--root', 'nowhere', '-o', 'out'), 'there is no such folder', tmp_path)
     project(tmp_path)
+    for text, sentence in (('[]', 'is empty'), ('{', 'is no list of compile commands'), ('[{"file": "a.cpp"}]', 'is no list')):
+        (tmp_path / 'commands.json').write_text(text)
+        refused(run(tmp_path, '-p', 'commands.json', '-o', 'out'), sentence, tmp_path)
     refused(run(tmp_path, '-p', '.', '-o', 'out', '--table', 'nowhere'), 'the table of what Qt does', tmp_path)
     (tmp_path / 'file').write_text('')
     assert "can't be written" in run(tmp_path, '-p', '.', '-o', 'file/out', *TABLE).stderr
@@ -153,3 +202,24 @@ def test_no_libclang(tmp_path: pathlib.Path) -> None:
     for name in ('dirname', 'readlink'):
         (tmp_path / name).symlink_to(os.popen(f'command -v {name}').read().strip())
     refused(run(tmp_path, '-p', '.', '-o', 'out', PATH=str(tmp_path)), 'python3-clang', tmp_path)
+
+
+def test_a_library_of_clang_that_is_not_there(tmp_path: pathlib.Path) -> None:
+    """Python's module is there, and the library that it loads isn't."""
+    project(tmp_path)
+    (tmp_path / 'clang').mkdir()
+    (tmp_path / 'clang/__init__.py').write_text('')
+    (tmp_path / 'clang/cindex.py').write_text('class LibclangError(Exception):\n    pass\n\n\nclass Conf:\n    @property\n'
+                                              '    def lib(self):\n        raise LibclangError()\n\n\nconf = Conf()\n')
+    refused(run(tmp_path, '-p', '.', '-o', 'out', PYTHONPATH=str(tmp_path)), "install Debian's package libclang1", tmp_path)
+
+
+def test_what_was_written_before_stays(written: pathlib.Path, tmp_path: pathlib.Path) -> None:
+    """A refusal leaves the files of an earlier run as they are."""
+    project(tmp_path)
+    shutil.copytree(written / 'out', tmp_path / 'out')
+    before = {path.name: path.read_text() for path in (tmp_path / 'out').iterdir()}
+    (tmp_path / 'a.cpp').write_text('nothing(;\n')
+    done = run(tmp_path, '-p', '.', '-o', 'out', *TABLE)
+    assert done.returncode == 2
+    assert {path.name: path.read_text() for path in (tmp_path / 'out').iterdir()} == before

@@ -12,7 +12,7 @@ from gammonfig_cpp.writing import Writing
 from reading import facts
 
 FOUND = {'cycle', 'destroy-path', 'chain-too-long'}
-NAMES = ('bindings', 'bodies', 'connects', 'deletions', 'roles', 'setters', 'threads', 'widgets')
+NAMES = ('bindings', 'bodies', 'connects', 'deletions', 'ends', 'roles', 'setters', 'threads', 'widgets')
 
 
 def rules(text: str, folder: pathlib.Path) -> set[str]:

@@ -7,10 +7,15 @@ import subprocess
 import sys
 import tempfile
 from concurrent.futures import ThreadPoolExecutor
+from pathlib import Path
 from typing import Any
 
 import pytest
+from needs import jobs
 from reading import HERE
+
+sys.path.insert(0, os.path.join(HERE, 'dynamic'))
+import program_graph  # noqa: E402
 
 PROGRAMS = os.path.join(HERE, 'programs')
 NAMES = sorted(n for n in os.listdir(PROGRAMS) if os.path.exists(os.path.join(PROGRAMS, n, 'expected.json'))) \
@@ -32,7 +37,7 @@ def read(program: tuple[str, str]) -> 'subprocess.CompletedProcess[str]':
     name, variant = program
     build = os.path.join(prepared(), name, variant)
     return subprocess.run([READ, '-p', build, '--root', os.path.join(PROGRAMS, name, variant), '--verdict', '--json', '--no-cache',
-                           '--quiet'], capture_output=True, text=True, check=False)
+                           '--quiet', '--jobs', '1'], capture_output=True, text=True, check=False)
 
 
 @functools.cache
@@ -40,7 +45,7 @@ def all_read() -> dict[tuple[str, str], 'subprocess.CompletedProcess[str]']:
     """All programs, several at once."""
     prepared()
     programs = [(name, variant) for name in NAMES for variant in ('faulty', 'repaired')]
-    with ThreadPoolExecutor(os.cpu_count() or 1) as pool:
+    with ThreadPoolExecutor(jobs()) as pool:
         return dict(zip(programs, pool.map(read, programs)))
 
 
@@ -59,6 +64,29 @@ def test_the_fault_is_found_at_its_line(name: str) -> None:
     places = {(f['rule'], spot.get('file'), spot.get('line')) for f in found for spot in [f, *f['chain']]}
     wanted = {(rule, expected['file'], expected['line']) for rule in expected['rules']}
     assert places & wanted, found
+
+
+def recorded() -> list[tuple[str, str, str]]:
+    """What really happened in runs, as `dynamic/dynamic_check.py` compares it: a program, and a signal at once within another."""
+    with open(os.path.join(HERE, 'dynamic', 'pairs.json'), encoding='utf-8') as file:
+        told: dict[str, list[str]] = json.load(file)
+    found = []
+    for name, pairs in told.items():
+        for pair in pairs:
+            outer, _, inner = pair.partition(' > ')
+            if inner and not outer.startswith('loop'):
+                found.append((name, outer, inner))
+    return found
+
+
+@pytest.mark.parametrize('name, outer, inner', recorded())
+def test_what_happened_in_a_run_is_a_way_that_was_read(name: str, outer: str, inner: str) -> None:
+    program, variant = name.split('/')
+    all_read()
+    graph = program_graph.read(Path(prepared()) / program / variant / 'gammonfig' / 'app.gf')
+    starts, ends = (graph.signals(*signal.rsplit('.', 1)) for signal in (outer, inner))
+    assert starts and ends
+    assert graph.reach(starts) & ends
 
 
 @pytest.mark.parametrize('name', NAMES)

@@ -61,14 +61,46 @@ def test_deletions() -> None:
                        ('byScoped', 'Part_m_scoped'), ('byAll', 'Part_m_list'), ('byScope', 'Part_m_unique'), ('byClear', 'Part')):
         assert f'delete this.to_{role};' in found.body(slot), slot
         assert f'call this.to_{role}.Part_gone();' in found.body(slot), slot
-    assert found.body('itself') == ['delete this;']
+    assert found.body('itself') == ['delete this;', 'call this.Machine_parts_gone();']
 
 
 def test_what_is_no_deletion() -> None:
     found = case('deletions')
-    assert 'slot later(' not in found.text, 'a later deletion brings about nothing at once'
+    assert found.body('later_') == ['emit posted_28();'], 'a later deletion brings about nothing at once'
+    assert 'wire Machine posted_28() -> Functions delete_Part() queued;' in found.wires()
     assert 'slot given(' not in found.text, 'what is returned is given away'
     assert not any(s.startswith('delete') for s in found.body('fresh')), 'what the function made itself is no object of others'
+
+
+def test_what_an_object_deletes_of_its_own() -> None:
+    program = case('deletions').linked.program
+    own = {m.name: [s.is_own for s in m.steps if s.kind == 'delete'] for m in program.members.values()}
+    assert own['cut'] == [True], 'an object is not its own child'
+    assert own['cutAbove'] == [False], 'what a member only knows of may be above'
+    assert own['cutOther'] == [False], 'the child of another object may be this one'
+
+
+def test_what_ends_without_a_statement() -> None:
+    found = case('ends')
+    assert found.body('cut') == ['delete this.to_Branch;', 'call this.to_Branch.Branch_parts_gone();']
+    assert found.body('Branch_parts_gone') == ['call this.to_Leaf_m_child.Leaf_gone();', 'call this.to_Leaf_m_member.Leaf_gone();'], \
+        'members and children end with their owner'
+    assert found.body('guards') == ['call this.to_Guard.Guard_made("");', 'call this.to_Guard.Guard_gone();'], 'a local leaves its scope'
+    assert found.body('sinks') == ['delete this.to_Leaf_39;', 'call this.to_Leaf_39.Leaf_gone();'], 'an argument that is owned ends'
+    assert 'Leaf_39' not in ' '.join(found.body('hands')), 'what is handed on is given away'
+
+
+def test_what_the_event_loop_deletes() -> None:
+    found = case('ends')
+    assert found.body('delete_Branch') == ['delete this.to_Branch;', 'call this.to_Branch.Branch_parts_gone();']
+    assert 'wire Tree posted_40() -> Functions delete_Branch() queued;' in found.wires()
+    assert any(w.startswith('wire Closing posted_deletion_of_Closing() -> Functions delete_Closing() queued;') for w in found.wires())
+    assert 'delete_Staying' not in found.text, 'only what has WA_DeleteOnClose deletes itself when it is closed'
+
+
+def test_what_is_taken_out_is_what_was_put_in() -> None:
+    assert case('ends').body('drop') == ['delete this.to_QLabel;']
+    assert 'owns Branch Leaf_m_child;' in case('ends').text and 'owns Branch Leaf;' not in case('ends').text
 
 
 def test_owners() -> None:
@@ -90,6 +122,17 @@ def test_sender_is_what_is_connected() -> None:
     assert case('roles').body('answer') == ['call this.to_Cell_left.poke();']
 
 
+def test_a_constructor_is_read_for_each_object() -> None:
+    wires = case('roles').wires()
+    assert 'wire Cell_m_first poked() -> Bell_m_bell ring() auto;' in wires
+    assert 'wire Cell_m_second poked() -> Chime ring_2() auto;' in wires, 'also through the constructor of a class below'
+    assert 'wire Cell_m_second poked() -> Bell_m_bell ring() auto;' not in wires
+    for cell in ('Cell_m_first', 'Cell_m_second'):
+        assert f'wire {cell} poked() -> Bell_m_unseen ring() auto;' in wires, 'what is made in a list isn\'t seen'
+    for cell, bell in (('Cell_m_first', 'Bell_m_initial'), ('Cell_m_second', 'Bell_m_unique')):
+        assert [w for w in wires if f'-> {bell} ' in w] == [f'wire {cell} poked() -> {bell} ring() auto;']
+
+
 def test_a_role_for_each_class_or_place() -> None:
     by_class, by_site = case('roles', 'class'), case('roles', 'site')
     assert by_class.body('pokeLeft') == ['call this.to_Cell.poke();', 'call this.to_Loud.poke_2();']
@@ -106,6 +149,19 @@ def test_conditions_stand_beside_statements() -> None:
     assert conditions['emit other()'] == ['unless `value == 0`']
     assert conditions['emit given->high()'] == ['blocked by `blocker(given)`']
     assert conditions['emit given->low()'] == ['blocked by `given->blockSignals(true)`']
+
+
+def test_switches_and_loops_are_conditions() -> None:
+    lines = [line.split('\t') for line in case('bodies').written.places.text().split('\n')]
+    conditions = {line[5]: line[6:] for line in lines if len(line) > 6}
+    assert conditions['emit small()'] == ['case `1, 2` of `kind`']
+    assert conditions['emit middle()'] == ['case `3` of `kind`']
+    assert conditions['emit large()'] == ['case `3, default` of `kind`'], 'a case without an end goes on into the next'
+    assert conditions['emit each(value)'] == ['in `for (int value : list)`']
+    assert conditions['emit counted()'] == ['in `for (int at = 0; at < 3; ++at)`', 'unless `at == 1`']
+    assert conditions['emit turned()'] == ['in `while (m_is_on)`']
+    assert conditions['emit once()'] == ['in `do .. while (m_is_on)`']
+    assert conditions['emit either()'] == ['if `m_is_on`']
 
 
 def test_recursion_is_folded_and_listed() -> None:

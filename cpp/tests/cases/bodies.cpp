@@ -29,3 +29,47 @@ signals:
 private:
     bool m_again = false;
 };
+
+class Conditions : public QObject {
+    Q_OBJECT
+public:
+    void chooses(int kind) {
+        switch (kind) {
+        case 1:
+        case 2:
+            emit small();
+            break;
+        case 3:
+            emit middle();
+        default:
+            emit large();
+        }
+    }
+    void repeats(const QList<int> &list) {
+        for (int value : list)
+            emit each(value);
+        for (int at = 0; at < 3; ++at) {
+            if (at == 1)
+                continue;
+            emit counted();
+        }
+        while (m_is_on)
+            emit turned();
+        do
+            emit once();
+        while (m_is_on);
+        m_is_on ? emit either() : emit neither();
+    }
+signals:
+    void small();
+    void middle();
+    void large();
+    void each(int);
+    void counted();
+    void turned();
+    void once();
+    void either();
+    void neither();
+private:
+    bool m_is_on = false;
+};

@@ -36,3 +36,17 @@ private:
     std::vector<std::unique_ptr<Part>> m_many;
     QList<Part *> m_list { new Part };
 };
+
+class Knot : public QObject {
+    Q_OBJECT
+public:
+    explicit Knot(Knot *above = nullptr) : m_above(above) {}
+    ~Knot() override { qDeleteAll(m_below); }
+    void grow() { m_below.append(new Knot(this)); }
+    void cut() { delete m_below.takeLast(); }
+    void cutAbove() { delete m_above; }
+    void cutOther(Knot *other) { delete other->m_below.takeLast(); }
+private:
+    Knot *m_above;
+    QList<Knot *> m_below;
+};

@@ -52,3 +52,35 @@ private:
     Cell *base;
     QList<Cell *> cells;
 };
+
+class Bell : public QObject {
+    Q_OBJECT
+public:
+    explicit Bell(Cell *cell) { connect(cell, &Cell::poked, this, &Bell::ring); }
+    virtual void ring() { emit rung(); }
+signals:
+    void rung();
+};
+
+class Chime : public Bell {
+    Q_OBJECT
+public:
+    explicit Chime(Cell *cell) : Bell(cell) {}
+    void ring() override { emit struck(); }
+signals:
+    void struck();
+};
+
+class Tower : public QObject {
+    Q_OBJECT
+public:
+    Tower() { m_bell = new Bell(m_first); m_chime = new Chime(m_second); }
+private:
+    Cell *m_first = new Cell;
+    Cell *m_second = new Cell;
+    Bell *m_bell;
+    Chime *m_chime;
+    Bell *m_initial = new Bell(m_first);
+    std::unique_ptr<Bell> m_unique = std::make_unique<Bell>(m_second);
+    QList<Bell *> m_unseen { new Bell(m_first) };
+};

@@ -9,7 +9,6 @@ an example that can't be prepared failed."""
 import argparse
 import concurrent.futures
 import json
-import os
 import shutil
 import sys
 import tarfile
@@ -19,7 +18,7 @@ from pathlib import Path
 sys.path.insert(0, str(Path(__file__).resolve().parent.parent))
 sys.path.insert(0, str(Path(__file__).resolve().parent))
 from debian_sources import fetch
-from needs import Missing, cache, outside
+from needs import Missing, cache, jobs, outside
 from prepared import Example, prepare, tools
 
 GROUPS = ["corelib", "network", "widgets"]
@@ -71,7 +70,7 @@ def arguments() -> argparse.Namespace:
     parser.add_argument("--only", default="*", help="a pattern of names, as `network/torrent`")
     parser.add_argument("--build", action="store_true", help="build the programs too")
     parser.add_argument("--list", action="store_true", help="name the examples and do no more")
-    parser.add_argument("--jobs", type=int, default=os.cpu_count() or 1, help="examples prepared at once")
+    parser.add_argument("--jobs", type=int, default=jobs(), help="examples prepared at once")
     return parser.parse_args()
 
 

@@ -14,8 +14,7 @@ from pathlib import Path
 sys.path.insert(0, str(Path(__file__).resolve().parent.parent))
 sys.path.insert(0, str(Path(__file__).resolve().parent))
 sys.path.insert(0, str(Path(__file__).resolve().parent.parent / "dynamic"))
-from needs import Missing, cache, outside
-from qt_flags import jobs
+from needs import Missing, cache, jobs, outside
 from small_programs import VARIANTS, built, expected, marked, names, prepare
 from spied import BadRecord, library, run
 

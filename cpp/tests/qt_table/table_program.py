@@ -10,8 +10,8 @@ from dataclasses import dataclass, field
 from pathlib import Path
 
 sys.path.insert(0, str(Path(__file__).resolve().parent.parent))
-from needs import Missing, output, program
-from qt_flags import compile_flags, compiled, jobs, linked, offscreen, python_with_clang, query
+from needs import Missing, jobs, output, program
+from qt_flags import compile_flags, compiled, linked, offscreen, python_with_clang, query
 
 HERE = Path(__file__).resolve().parent
 # Classes that others come from: their functions are called on those.

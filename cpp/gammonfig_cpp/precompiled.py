@@ -1,0 +1,103 @@
+"""Qt's headers, parsed once for all units that are compiled alike: most of the time that reading takes goes into them."""
+from __future__ import annotations
+
+import hashlib
+import os
+import pickle
+import re
+from dataclasses import dataclass
+
+from .libclang import cindex
+from .units import ANNOTATIONS, PATHS, Unit
+
+# So many units have to be read before it pays to parse all headers of the modules that they may include.
+LEAST = 6
+ERROR = 3
+# The folder of a module's headers, and the header in it that includes them all.
+MODULE = re.compile(r'Qt[A-Z]\w*$')
+
+
+@dataclass(frozen=True)
+class Kind:
+    """What units have in common that can share headers: the modules of Qt that they may include, and the flags that decide what those say."""
+    modules: tuple[str, ...]
+    flags: tuple[str, ...]
+
+    def name(self) -> str:
+        words = '\0'.join((*self.modules, '', *self.flags, '', *ANNOTATIONS))
+        return 'headers-' + hashlib.sha256(words.encode()).hexdigest()[:40]
+
+
+@dataclass(frozen=True)
+class Headers:
+    """Parsed headers, and the files that they were parsed of."""
+    path: str
+    files: tuple[str, ...]
+
+
+def kind_of(unit: Unit) -> Kind | None:
+    """What headers a unit can share; none where it forces a header of its own on itself, or includes nothing of Qt."""
+    modules, kept = list[str](), list[str]()
+    words = iter(unit.flags)
+    for word in words:
+        option = next((p for p in PATHS if word.startswith(p)), '')
+        if word == '-include':
+            return None
+        if not option:
+            kept += [word, next(words, '')] if word in ('-D', '-U') else [word]
+            continue
+        folder = word[len(option):] or next(words, '')
+        name = os.path.basename(folder)
+        if MODULE.match(name) and os.path.exists(os.path.join(folder, name)):
+            modules.append(name)
+        if MODULE.match(name) or os.path.exists(os.path.join(folder, 'QtCore', 'QtCore')):
+            kept += [option, folder]
+    return Kind(tuple(dict.fromkeys(modules)), tuple(kept)) if modules else None
+
+
+def stamp(path: str) -> tuple[int, int]:
+    try:
+        status = os.stat(path)
+    except OSError:
+        return 0, 0
+    return status.st_size, status.st_mtime_ns
+
+
+def kept(kind: Kind, folder: str) -> Headers | None:
+    """The headers that were parsed before, where none of their files has changed."""
+    path = os.path.join(folder, kind.name())
+    try:
+        with open(path + '.files', 'rb') as file:
+            stamps: list[tuple[str, tuple[int, int]]] = pickle.load(file)
+    except (OSError, EOFError, pickle.UnpicklingError, ValueError):
+        return None
+    valid = os.path.exists(path + '.pch') and all(stamp(name) == known for name, known in stamps)
+    return Headers(path + '.pch', tuple(name for name, _ in stamps)) if valid else None
+
+
+def parse(kind: Kind, folder: str) -> bool:
+    """Parses the headers of a kind, and keeps them; false where that can't be done, and each unit reads them by itself."""
+    try:
+        return _parse(kind, os.path.join(folder, kind.name()))
+    except (OSError, cindex.TranslationUnitLoadError, cindex.TranslationUnitSaveError):
+        return False
+
+
+def _parse(kind: Kind, path: str) -> bool:
+    text = ''.join(f'#include <{module}/{module}>\n' for module in kind.modules)
+    # The file has to stay as it is: clang compares its time.
+    if not os.path.exists(path + '.h'):
+        with open(path + '.h', 'w', encoding='utf-8') as file:
+            file.write(text)
+    tree = cindex.Index.create().parse(path + '.h', args=['-x', 'c++-header', *kind.flags, *ANNOTATIONS],
+                                       options=cindex.TranslationUnit.PARSE_INCOMPLETE)
+    if any(found.severity >= ERROR for found in tree.diagnostics):
+        return False
+    beside = f'{path}.{os.getpid()}'
+    tree.save(beside)
+    names = sorted({os.path.realpath(i.include.name) for i in tree.get_includes()} | {path + '.h'})
+    with open(beside + '.files', 'wb') as file_of_names:
+        pickle.dump([(name, stamp(name)) for name in names], file_of_names)
+    os.replace(beside, path + '.pch')
+    os.replace(beside + '.files', path + '.files')
+    return True
