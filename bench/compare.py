@@ -98,9 +98,7 @@ def main():
     unknown = [it for it in given.cases if it not in CASES]
     if unknown:
         sys.exit(f"no such case: {' '.join(unknown)}; there are {' '.join(CASES)}")
-    if not given.ours:
-        measure.build()
-    programs = [PLAIN, os.path.abspath(given.ours or measure.PROGRAM)]
+    programs = [PLAIN, os.path.abspath(given.ours or measure.build())]
     subprocess.run(["cargo", "build", "--quiet", "--release"], cwd=f"{HERE}/plain", check=True)
     differ = []
     with tempfile.TemporaryDirectory() as room:

@@ -18,9 +18,9 @@ ROWS = {
 SMALL, LARGE = 100, 300
 
 
-def counted(path):
-    """The instructions and the lines of a run on this input."""
-    words = ["valgrind", "--tool=callgrind", "--callgrind-out-file=/dev/null", measure.PROGRAM, *measure.RUN]
+def counted(program, path):
+    """The instructions and the lines of a run of the program on this input."""
+    words = ["valgrind", "--tool=callgrind", "--callgrind-out-file=/dev/null", program, *measure.RUN]
     with open(path, "rb") as text:
         ran = subprocess.run(words, stdin=text, capture_output=True)
     found = re.search(rb"Collected : (\d+)", ran.stderr)
@@ -34,7 +34,7 @@ def main():
     unknown = [row for row in rows if row not in ROWS]
     if unknown:
         sys.exit(f"no such row: {' '.join(unknown)}; there are {' '.join(ROWS)}")
-    measure.build()
+    program = measure.build()
     with tempfile.TemporaryDirectory() as room:
         for row in rows:
             runs = []
@@ -42,7 +42,7 @@ def main():
                 path = os.path.join(room, f"{row}{count}")
                 with open(path, "w") as text:
                     text.write(ROWS[row](count))
-                runs.append(counted(path))
+                runs.append(counted(program, path))
             (few, lines), (many, more) = runs
             print(f"{row:24} {(many - few) // (more - lines):6} instructions a line", flush=True)
 

@@ -191,6 +191,48 @@ def calls(depth, count):
     return joined(program, script + [f"call n0.f({i})" for i in range(count)])
 
 
+TREE = "class N { } class X : N { property int x; } class Y : N { property int y; } owns N N; binding b Y.y (X a) = a.x + 1;"
+
+
+def back_and_forth(root, moves):
+    """So many moves of an object to the event loop `io`, and back to `main`."""
+    return [f"move {root} {'main' if i % 2 else 'io'}" for i in range(moves)]
+
+
+def moved_tree(objects, moves):
+    """A parent that is moved again and again, with so many objects below it."""
+    script = ["loop io", "new r N"] + [f"new {short(i)} N\nadopt r {short(i)}" for i in range(objects)]
+    return joined(NODES, script + back_and_forth("r", moves))
+
+
+def moved_beside_items(items, moves):
+    """An object for which a call was posted once is moved again and again, while so many items wait for others."""
+    program = "class A { signal s(); slot f() { } } wire A s() -> A f() queued;"
+    script = ["loop io", "new a A", "new o A", "connect a s() o f() queued", "emit a.s()", "turn main"]
+    script += [f"new {short(i)} A\nlater {short(i)}" for i in range(items)]
+    return joined(program, script + back_and_forth("o", moves))
+
+
+def moved_bound(bindings, moves):
+    """A parent is moved again and again, below which are so many bindings, each of an object to another."""
+    script = ["loop io", "new r N"]
+    for i in range(bindings):
+        x, y = short(2 * i), short(2 * i + 1)
+        script += [f"new {x} X\nadopt r {x}", f"new {y} Y\nadopt r {y}", f"bind b {y} {x}"]
+    return joined(TREE, script + back_and_forth("r", moves))
+
+
+def dead_bound(bindings):
+    """Objects with a binding each, which are deleted one by one."""
+    script = [f"new {short(2 * i)} X\nnew {short(2 * i + 1)} Y\nbind b {short(2 * i + 1)} {short(2 * i)}" for i in range(bindings)]
+    return joined(TREE, script + [f"delete {short(2 * i)}" for i in range(bindings)])
+
+
+def posted_last(objects):
+    """A call is posted for the last of so many objects."""
+    return joined("class A { }", [f"new {short(i)} A" for i in range(objects)] + [f"later {short(objects - 1)}"])
+
+
 def large_program(slots):
     """A program of so many slots, each of which takes about 240 bytes and calls the next one."""
     classes = []
@@ -247,6 +289,32 @@ def joined_classes(count, is_chain, part):
     return classes(count, is_chain, part) + "\n".join(lines) + "\n"
 
 
+# The largest program that `--wide` takes, as a tool writes one: so many classes, of which eight stand below one another, wires
+# and statements. A class has eight slots of its own, and inherits those of the classes above.
+WIDE_CLASSES, WIDE_WIRES, WIDE_STATEMENTS, CHAINED = 8192, 16384, 200000, 8
+
+
+def largest(part):
+    """The largest wide program, or a part of it: a slot writes a property, whose signal tells so, and calls the next slot. What
+    wires lead to has a later place in its class, so there is no cycle."""
+    drawn = random.Random(0)
+    count, lines = WIDE_CLASSES // part, []
+    more = WIDE_STATEMENTS // part - 3 * CHAINED * count
+    for number in range(count):
+        base = f" : C{number - 1}" if number % CHAINED else ""
+        lines.append(f"class C{number}{base} {{")
+        for at in range(CHAINED):
+            here, after = f"{number}_{at}", f"{number}_{at + 1}"
+            last = f"emit s{here}(v); later this;" if at + 1 == CHAINED else f"if (v > {at}) {{ call this.f{after}(v - 1); }}"
+            again = f" set this.p{here} = v + 1;" if at + 1 == CHAINED and number < more else ""
+            lines.append(f"property int p{here} notify s{here}(int); signal s{here}(int); slot f{here}(int v) {{ set this.p{here} = v; {last}{again} }}")
+        lines.append("}")
+    for _ in range(WIDE_WIRES // part):
+        (a, b), (x, y) = (drawn.choices(range(count), k=2), sorted(drawn.sample(range(CHAINED), 2)))
+        lines.append(f"wire C{a} s{a}_{x}(int) -> C{b} f{b}_{y}(int) direct;")
+    return "\n".join(lines) + "\n"
+
+
 # Each row's input, or a part of it: 2 stands for half the size.
 ROWS = {
     "followed": lambda part: joined(FOLLOWED, followers(1000 // part) + [f"set x.x {i + 1}" for i in range(1000)]),
@@ -271,6 +339,12 @@ ROWS = {
     "long": lambda part: long(20000 // part),
     "body": lambda part: bodies(5000 // part),
     "calls": lambda part: calls(60, 20000 // part),
+    "moved-tree": lambda part: moved_tree(20000 // part, 2000),
+    "moved-beside-items": lambda part: moved_beside_items(20000 // part, 2000),
+    "moved-bound": lambda part: moved_bound(4000 // part, 20),
+    "dead-bound": lambda part: dead_bound(4000 // part),
+    "bound-shared": lambda part: joined(FOLLOWED, followers(8000 // part)),
+    "posted-last": lambda part: posted_last(80000 // part),
     "parse-program": lambda part: large_program(3600 // part),
     "parse-script": lambda part: large_script(15500 // part),
     "group": lambda part: group(26000 // part),
@@ -279,6 +353,12 @@ ROWS = {
     "check-big": lambda part: joined_classes(64, True, part),
     "certify-flat": lambda part: joined_classes(256, False, part),
     "check-flat": lambda part: joined_classes(256, False, part),
+    "certify-wide-quarter": lambda part: largest(4 * part),
+    "certify-wide-half": lambda part: largest(2 * part),
+    "certify-wide": largest,
+    "check-wide-quarter": lambda part: largest(4 * part),
+    "check-wide-half": lambda part: largest(2 * part),
+    "check-wide": largest,
 }
 # The words of those rows that aren't runs.
 WORDS = {
@@ -287,6 +367,7 @@ WORDS = {
     "check-big": ["check"],
     "certify-flat": ["certify"],
     "check-flat": ["check"],
+    **{f"{word}-wide{part}": ["--wide", word] for word in ("certify", "check") for part in ("", "-half", "-quarter")},
 }
 
 
@@ -298,9 +379,10 @@ def write_input(row, part, program, path):
     """Writes a row's input, or a part of it. Where a program is checked, its certificate is what `certify` gives."""
     with open(path, "w") as text:
         text.write(ROWS[row](part))
-    if words(row) == ["check"]:
+    *front, word = words(row)
+    if word == "check":
         with open(path) as text:
-            made = subprocess.run([program, "certify"], stdin=text, capture_output=True, check=True)
+            made = subprocess.run([program, *front, "certify"], stdin=text, capture_output=True, check=True)
         with open(path, "ab") as text:
             text.write(b"%%\n" + made.stdout)
 
