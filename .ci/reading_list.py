@@ -2,20 +2,26 @@
 """Lists what a reader of the headline has to read: the definitions in specs/ to which the clauses of a function lead, part by
 part and page by page, with the number of lines that they take and of the comments beside them, and the sums.
 Usage: reading_list.py [--names] [ROOT [FILE FUNCTION]]
-(default: the current folder, object_machine/src/machine.rt, run; --names prints the definitions of each page too)
+(default: the current folder, trace_tool/src/runs.rt, run; --names prints the definitions of each page too)
 
 A definition is followed by its words, as the `use` lines of its page say where they stand. A comment above a definition or
-in it belongs to it; `use` lines, headings and blank lines count for nothing. What the headline doesn't say of a run is named and not followed: the premises
-(what a certificate has to fulfil, what natives promise), and why a machine stops whose program has no certificate; the
-sentence on the claims says that a checked one stops at a limit alone. Types of the code
-(`specs.declared`) and words of the standard library are met by their names. The script fails where a definition leads to
-specs/code, which a reader needn't know."""
+in it belongs to it; `use` lines, headings and blank lines count for nothing. What the headline doesn't say of a run is named
+and not followed, as docs/theorem.md, "How much there is to read", tells: when `run` accepts (how texts are read and loaded,
+when a certificate is valid, which natives fit), what natives promise, why a machine stops whose program has no certificate
+(the sentence on the claims says that a checked one stops at a limit alone), and what is written where nothing runs. Types of
+the code (`specs.declared`) and words of the standard library are met by their names. The script fails where a definition
+leads to specs/code, which a reader needn't know."""
 import os, re, sys
 
-BESIDE = ['IsChecked', 'AreKept', 'StopsFor']
+BESIDE = ['program_commands/specs/Loading: LoadsCertified', 'script_lang/specs/Reads: ReadsScript',  # when `run` accepts
+          'rank_check/specs/Checks: Examines', 'native_slots/specs/Misfits: Fits',
+          'object_machine/specs/Checked: IsChecked', 'object_machine/specs/Seen: AreKept',  # what natives promise
+          'object_machine/specs/Causes: StopsFor',  # why an unchecked machine stops
+          'program_commands/specs/Outcomes: outcome_text', 'program_commands/specs/Outcomes: outcome_status']  # where nothing runs
 PARTS = [('the claims, and runs', r'object_machine/specs/(?!Causes|Events|Takes)|machine_rules/specs/Good'),
          ('why a run stops', r'object_machine/specs/Causes|machine_rules/specs/Faults'),
          ('events', r'object_machine/specs/(Events|Takes)'), ('rules', r'machine_rules|statement_meaning'), ('the state', r'machine_state|change_lines|trace_entries'),
+         ('what is accepted, and written', r'trace_tool|machine_commands|program_commands|command_lines|basic_types/specs/Spelling|class_lang|texts|rank_check'),
          ('objects, connections, event loops, bindings', r'object_tree|connections|event_loops|binding_graph|binding_plans|prop_bindings|delete_later'),
          ('values, expressions, classes', r'')]
 WORD = re.compile(r'[^\s(){},;.\[\]]+')
@@ -69,7 +75,8 @@ class Item:
 
 class Reading:
     """What has to be read, in the order in which it is met."""
-    def __init__(self, root): self.root, self.pages, self.items, self.types, self.code = root, {}, [], set(), set()
+    def __init__(self, root):
+        self.root, self.pages, self.items, self.types, self.code, self.beside = root, {}, [], set(), set(), set()
 
     def page(self, module):
         module = self.passed_on(module)
@@ -90,7 +97,6 @@ class Reading:
         return module
 
     def follow(self, page, text):
-        for word in BESIDE: text = re.sub(rf'(?<![\w.]){word}(?!\w)', '', text)
         words = set(WORD.findall(text))
         for name, (module, item) in page.names.items():
             if name.replace('◌', '') in words: self.meet(module, item)
@@ -106,6 +112,8 @@ class Reading:
 
     def need(self, item):
         if item in self.items: return
+        place = f'{item.page.path[len(self.root) + 8:-5]}: {item.name}'
+        if place in BESIDE: return self.beside.add(place)
         if '/specs/code/' in item.page.path: self.code.add(f'{item.page.path}: {item.name}')
         self.items.append(item)
         self.follow(item.page, item.text())
@@ -123,7 +131,7 @@ def contract_of(path, function):
 def main():
     words = [word for word in sys.argv[1:] if word != '--names']
     root = words[0] if words else '.'
-    file, function = words[1:3] if len(words) > 2 else ('object_machine/src/machine.rt', 'run')
+    file, function = words[1:3] if len(words) > 2 else ('trace_tool/src/runs.rt', 'run')
     reading = Reading(root)
     reading.follow(*contract_of(f'{root}/crates/{file}', function))
     def told(items, what): print('{:5} {:4}  {}'.format(*(sum(sizes) for sizes in zip(*(item.size() for item in items))), what))
@@ -138,7 +146,7 @@ def main():
             told(items, f'    {path}')
             if '--names' in sys.argv: print('               ' + ', '.join(item.name for item in items))
     told(reading.items, 'in all')
-    print('named and not followed:', ', '.join(BESIDE))
+    print('named and not followed:', ', '.join(place for place in BESIDE if place in reading.beside))
     print('types of the code:', ', '.join(sorted(reading.types)))
     if reading.code: print('in specs/code:', ', '.join(sorted(code[len(root) + 8:] for code in reading.code)))
     sys.exit(bool(reading.code))
