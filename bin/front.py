@@ -12,7 +12,7 @@ import texts
 import words
 from told import NAME, Ended, Fault, say, write, write_to
 
-VERSION = "0.1.0"
+VERSION = "0.4.0"
 
 
 class Streams:

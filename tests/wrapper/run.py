@@ -397,7 +397,7 @@ class Tests:
                 wanted, found = place.run(words), place.run(words, program=command, env=environment)
                 self.count.check(found == wanted, lambda: f"installed {command} {words}: {found}, wanted {wanted}")
         found = place.run(["--version"], program="gammonfig", env=environment)
-        self.count.check(found == (0, "gammonfig 0.1.0, proved with rattle-kit-13f\n", ""), lambda: f"installed --version: {found}")
+        self.count.check(found == (0, "gammonfig 0.4.0, proved with rattle-kit-13f\n", ""), lambda: f"installed --version: {found}")
         self.count.check(not os.path.exists(f"{place.folder}/nobody"), lambda: "an installed wrapper needs a cache")
         for name in ("share/bash-completion/completions/gammonfig", "share/zsh/site-functions/_gammonfig", "share/doc/gammonfig/docs/commands.md", "bin/trace_view"):
             self.count.check(os.path.isfile(f"{prefix}/{name}"), lambda: f"{name} isn't installed")

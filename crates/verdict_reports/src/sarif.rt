@@ -19,7 +19,7 @@ const FORMAT: &str = "2.1.0";
 /// The tool's name, and its version.
 const TOOL: &str = "gammonfig";
 
-const VERSION: &str = "0.1.0";
+const VERSION: &str = "0.4.0";
 
 /// A log file.
 #[derive(Drop, Serialize)]
