@@ -1,4 +1,4 @@
--- Which command lines judge no program (docs/explanations.md, "Beside a yes").
+-- Which command lines judge no program (docs/explanations.md, "After a success").
 use Rattle.std.specs.Prelude.{◌≡◌, ℕ, List, [], ◌∷◌, ◌⊎◌, codes}
 
 -- `meta`, and each line whose second word is `--unchecked`

@@ -1,4 +1,4 @@
--- What warnings say of wires (docs/explanations.md, "Beside a yes").
+-- What warnings say of wires (docs/explanations.md, "After a success").
 use Rattle.std.specs.Prelude.{◌≡◌, ◌≢◌, ◌↔◌, ◌⊎◌, ℕ, Some, slice_get}
 use Rattle.basic_types.specs.declared.sig.Sig.{Sig}
 use Rattle.basic_types.specs.declared.kind.Kind.{Kind}

@@ -1,5 +1,5 @@
 //! What a person is told beside a yes: how deep a program's chains are, and what in a program that has a certificate is worth
-//! a warning (docs/explanations.md, "Beside a yes").
+//! a warning (docs/explanations.md, "After a success").
 #![tactic(auto)]
 
 mod bodies;
