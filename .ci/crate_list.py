@@ -1,6 +1,6 @@
 #!/usr/bin/env python3
-"""Whether the list of crates in docs/map.md is made of crates.txt, which has their order and their layers, and of the first
-sentence of each crate's README. `--write` writes it. Usage: .ci/crate_list.py [--write]. The last line is
+"""Whether the list of crates in docs/map.md is made of crates.txt, which has their order and their layers, and of the
+beginning of each crate's README. `--write` writes it. Usage: .ci/crate_list.py [--write]. The last line is
 `N passed, M failed`, with a count for each crate."""
 from __future__ import annotations
 
@@ -44,8 +44,14 @@ def page(told: dict[str, str]) -> str:
     parts = [ABOUT]
     for layer, names in layers():
         parts.append(f"\n### {layer[0].upper()}{layer[1:]}\n\n")
-        parts += [f"- [`{it}`](../crates/{it}/README.md): {behind_colon(told[it])}\n" for it in names]
+        parts += [f"- [`{it}`](../crates/{it}/README.md): {behind_colon(briefly(told[it]))}\n" for it in names]
     return "".join(parts) + "\n"
+
+
+def briefly(sentence: str) -> str:
+    """A sentence up to its first colon or semicolon, where that says enough: its README has the rest."""
+    first = re.split(r"[;:](?= )", sentence, maxsplit=1)[0]
+    return first if len(first.split()) >= 3 else sentence
 
 
 def behind_colon(sentence: str) -> str:
