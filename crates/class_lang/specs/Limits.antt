@@ -12,15 +12,16 @@ use Rattle.syntax_trees.specs.declared.program.Wire.{Wire}
 use Rattle.syntax_trees.specs.declared.program.Site.{Site}
 use Rattle.syntax_trees.specs.declared.program.Program.{Program}
 use Rattle.texts.specs.Limits.{most_bytes}
+use Rattle.class_lang.specs.Names.{HasShortNames}
 use Rattle.class_lang.specs.declared.size.Limits.{Limits}
 
 -- those of a program that a person writes
 abbrev pub standard : Limits
-standard = record { bytes = most_bytes; classes = 256; methods = 64; properties = 32; natives = 64; wires = 1000; owns = 1000; sites = 1000 }
+standard = record { bytes = most_bytes; name = most_bytes; classes = 256; methods = 64; properties = 32; natives = 64; wires = 1000; owns = 1000; sites = 1000 }
 
 -- those of a program that a tool writes, as one that is read from C++
 abbrev pub wide : Limits
-wide = record { bytes = 33554432; classes = 8192; methods = 1024; properties = 256; natives = 64; wires = 16384; owns = 16384; sites = 16384 }
+wide = record { bytes = 33554432; name = 255; classes = 8192; methods = 1024; properties = 256; natives = 64; wires = 16384; owns = 16384; sites = 16384 }
 
 -- the signatures in a slot's body, and those that a native may emit
 abbrev pub signatures_at_work : SlotWork → List Sig
@@ -82,3 +83,4 @@ pub record IsWithinLimits (limits : Limits) (program : Program) : Type 0 where
   pub wires : length program.wires ≤ limits.wires
   pub owns : length program.owns ≤ limits.owns
   pub sites : length program.sites ≤ limits.sites
+  pub names : HasShortNames limits.name program

@@ -5,6 +5,7 @@ mod declarations;
 mod fault;
 mod limits;
 mod members;
+mod names;
 mod natives;
 mod parameters;
 mod reader;

@@ -4,6 +4,7 @@ ghost use Rattle.std.specs.Prelude.{◌≡◌, ◌↔◌, IsTrue, IfSome, All};
 ghost use Rattle.syntax_trees.specs.Connections.{HasFewTypes};
 ghost use Rattle.class_lang.specs.Limits.{is_native, natives_among, HaveFewNatives, signatures_at_work, SlotHasFewParameters, ClassHasFewParameters, WireHasFewParameters, HasFewParameters, ClassIsWithinLimits, IsWithinLimits};
 
+use crate::names::has_short_names;
 use crate::size::Limits;
 use basic_types::MOST_PARAMETERS;
 use slot_lang::body_has_few_parameters;
@@ -135,7 +136,7 @@ pub fn has_few_parameters(program: &Program) -> bool
 }
 
 /// Whether the program has no more classes, methods and properties in each, natives in all of them, wires, `owns` and bindings
-/// than these limits say.
+/// than these limits say, and declares no longer name.
 pub fn is_within_limits(program: &Program, limits: Limits) -> bool
     ensures { IsTrue result ↔ IsWithinLimits limits program.now }
 {
@@ -149,4 +150,5 @@ pub fn is_within_limits(program: &Program, limits: Limits) -> bool
             .iter()
             .all(|class| class_is_within(class, limits))
         && have_few_natives(program.classes.as_slice(), limits.natives)
+        && has_short_names(program, limits.name)
 }

@@ -10,6 +10,8 @@ use texts::MOST_BYTES;
 pub struct Limits {
     /// Bytes of its text.
     pub bytes: usize,
+    /// Bytes of each name that it declares.
+    pub name: usize,
     /// Classes.
     pub classes: usize,
     /// Signals, slots and natives of a class, counted together.
@@ -33,6 +35,7 @@ impl Limits {
     {
         Limits {
             bytes: MOST_BYTES,
+            name: MOST_BYTES,
             classes: 256,
             methods: 64,
             properties: 32,
@@ -49,6 +52,7 @@ impl Limits {
     {
         Limits {
             bytes: 33_554_432,
+            name: 255,
             classes: 8192,
             methods: 1024,
             properties: 256,

@@ -93,7 +93,7 @@ impl Limit {
     }
 }
 
-/// The first declaration with which there are more than these limits say.
+/// The first declaration with which there are more than these limits say, or else the first name that is longer.
 pub fn count_flaw(
     alloc: Global,
     limits: Limits,
@@ -101,14 +101,35 @@ pub fn count_flaw(
     trail: &Trail,
 ) -> Result<Option<Flaw>, AllocError> {
     let Some((limit, excess)) = first_excess(limits, source, trail) else {
-        return Ok(None);
+        return name_flaw(alloc, limits.name, source);
     };
     let sentence = excess_sentence(alloc, source, &limit, &excess)?;
     let mut flaw = Flaw::with_advice(alloc, source.place(excess.at), sentence, None)?;
-    if first_excess(Limits::wide(), source, trail).is_none() {
+    let wide = Limits::wide();
+    if first_excess(wide, source, trail).is_none() && long_name(wide.name, source).is_none() {
         flaw.advice = Some(wide_advice(alloc, limit.wide)?);
     }
     Ok(Some(flaw))
+}
+
+/// The first name with more bytes than this.
+fn name_flaw(alloc: Global, most: usize, source: Source) -> Result<Option<Flaw>, AllocError> {
+    let Some((at, length)) = long_name(most, source) else {
+        return Ok(None);
+    };
+    let sentence = format!(in alloc; "this name has {length} bytes: at most {most} may be")?;
+    Ok(Some(Flaw::with_advice(alloc, source.place(at), sentence, None)?))
+}
+
+/// The number of the first token that is a name with more bytes than this, and how many it has.
+fn long_name(most: usize, source: Source) -> Option<(usize, usize)> {
+    for at in 0..source.tokens.len() {
+        let length = source.spelled(at).len();
+        if length > most && source.is_name(at) {
+            return Some((at, length));
+        }
+    }
+    None
 }
 
 /// The first declaration that goes over one of these limits, and over which, if one does.
