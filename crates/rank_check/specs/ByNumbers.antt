@@ -4,7 +4,7 @@ use Rattle.std.specs.List.{Contains}
 use Rattle.meta_model.specs.Loaded.{Loaded}
 use Rattle.effect_scan.specs.declared.node.Node.{Node}
 use Rattle.effect_scan.specs.declared.node.Member.TheVariants.{Destruction}
-use Rattle.effect_scan.specs.Rows.{Edge}
+use Rattle.effect_scan.specs.Rows.{row, Edge}
 use Rattle.effect_scan.specs.Destroying.{Closure}
 use Rattle.class_sets.specs.Marks.{IsMarked, IsWithin}
 use Rattle.rank_check.specs.declared.causes.NodeLine.{NodeLine}
@@ -37,6 +37,10 @@ abbrev pub Fall : List (List ℕ) → List Entry → Type 0
 Fall rows entries =
     (a b : ℕ) (x y : Entry) → slice_get entries a ≡ Some x → Edge rows a b → slice_get entries b ≡ Some y → y.rank < x.rank
 
+-- they fall along those of the nodes before this one
+abbrev pub FallFirst : List (List ℕ) → List Entry → ℕ → Type 0
+FallFirst rows entries end = (a : ℕ) → a < end → (x : Entry) → slice_get entries a ≡ Some x → AreLower (row rows a) entries x.rank
+
 -- ranks don't fall along this edge
 pub record IsRiseIn (rows : List (List ℕ)) (entries : List Entry) (rise : Rise) : Type 0 where
   pub edge : Edge rows rise.from.node rise.to.node
@@ -51,6 +55,10 @@ pub record IsRiseIn (rows : List (List ℕ)) (entries : List Entry) (rise : Rise
 -- the sets of these nodes are within this one
 abbrev pub AreWithin : List ℕ → List Entry → List Bool → Type 0
 AreWithin targets entries set = (b : ℕ) (y : Entry) → Contains targets b → slice_get entries b ≡ Some y → IsWithin y.destroys set
+
+-- the sets of the nodes that those before this one may lead to are within theirs
+abbrev pub PassFirst : List (List ℕ) → List Entry → ℕ → Type 0
+PassFirst rows entries end = (a : ℕ) → a < end → (x : Entry) → slice_get entries a ≡ Some x → AreWithin (row rows a) entries x.destroys
 
 -- the set of the node at this place, which is one of these, has a class that isn't in this one
 pub record HasLost (targets : List ℕ) (entries : List Entry) (set : List Bool) (place : NodeLine) (d : ℕ) : Type 0 where

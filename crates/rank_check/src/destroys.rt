@@ -2,17 +2,19 @@
 
 ghost use Rattle.std.specs.Prelude.{ℕ, ◌≡◌, ◌↔◌, ◌<◌, length, IsTrue, MatchOption};
 ghost use Rattle.std.specs.List.{Contains};
-ghost use Rattle.effect_scan.specs.Rows.{Edge};
+ghost use Rattle.effect_scan.specs.Rows.{row, Edge};
 ghost use Rattle.class_sets.specs.Marks.{IsMarked};
 ghost use Rattle.effect_scan.specs.Scans.{IsScan};
 ghost use Rattle.rank_check.specs.Valid.{RunsBody};
-ghost use Rattle.rank_check.specs.ByNumbers.{AreWithin, HasLost, HoldsOwn, IsOwnMistake, Hold, IsMistakeIn};
+ghost use Rattle.rank_check.specs.ByNumbers.{AreWithin, PassFirst, HasLost, HoldsOwn, IsOwnMistake, Hold, IsMistakeIn};
 
 use crate::causes::{Mistake, NodeLine};
 use crate::entries::Entry;
+use crate::twins::earlier_twin;
 use class_sets::ClassSet;
 use effect_scan::{Member, Node, Scan, row_at};
 use meta_model::{Meta, Work};
+use sqlite_items::at;
 
 /// What is wrong with the first set that doesn't hold what it has to, in the order of nodes: the set of each node that it
 /// may lead to; for the destruction of a class its closure; for a slot or native not its own class.
@@ -33,11 +35,45 @@ pub fn first_mistake(meta: &Meta, scan: &Scan, entries: &[Entry]) -> Option<Mist
         if let Some(mistake) = own_mistake(meta, scan, *node, set, place) {
             return Some(mistake);
         }
-        if let Some((to, class)) = lost_class(scan.targets(number), entries, set) {
+        if let Some((to, class)) = lost_from(scan, entries, number, set) {
             return Some(Mistake::Lost(place, to, class));
         }
     }
     None
+}
+
+/// The first class of the sets of those that the node of this number may lead to that isn't in this one, which is the node's, with
+/// the place of the node that has it. Where a node before it leads to the same ones and its set is within this one, they have been
+/// looked at.
+fn lost_from(
+    scan: &Scan,
+    entries: &[Entry],
+    node: usize,
+    set: &ClassSet,
+) -> Option<(NodeLine, usize)>
+    requires inside { (b : ℕ) → Edge scan.now.rows node b → b < length entries.now }
+    requires before { PassFirst scan.now.rows entries.now node }
+    ensures { MatchOption result (AreWithin (row scan.now.rows node) entries.now set.now)
+        (λ lost. HasLost (row scan.now.rows node) entries.now set.now lost.0 lost.1) }
+{
+    if holds_twin(scan, entries, node, set) {
+        return None;
+    }
+    lost_class(scan.targets(node), entries, set)
+}
+
+/// Whether a node before this one leads to the same ones, and its set is within this one.
+fn holds_twin(scan: &Scan, entries: &[Entry], node: usize, set: &ClassSet) -> bool
+    requires { PassFirst scan.now.rows entries.now node }
+    ensures { IsTrue result → AreWithin (row scan.now.rows node) entries.now set.now }
+{
+    match earlier_twin(scan, node) {
+        Some(twin) => match at(entries, twin) {
+            Some(entry) => entry.destroys.get().first_lost(set).is_none(),
+            None => false,
+        },
+        None => false,
+    }
 }
 
 /// The first class of the sets of these nodes that isn't in this one, with the place of the node that has it.

@@ -12,6 +12,7 @@ mod no;
 mod places;
 mod ranks;
 mod sets;
+mod twins;
 
 pub use causes::{Cause, Extra, Loose, Mistake, NodeLine, Rise};
 pub use certificate_lang::{

@@ -1,16 +1,18 @@
 //! Ranks that don't fall along edges, or aren't below the bound.
 
-ghost use Rattle.std.specs.Prelude.{ℕ, ◌<◌, length, MatchOption};
+ghost use Rattle.std.specs.Prelude.{ℕ, ◌<◌, length, IsTrue, MatchOption};
 ghost use Rattle.std.specs.List.{Contains};
-ghost use Rattle.effect_scan.specs.Rows.{Edge};
+ghost use Rattle.effect_scan.specs.Rows.{row, Edge};
 ghost use Rattle.rank_check.specs.Valid.{IsBounded};
 ghost use Rattle.rank_check.specs.Causes.{IsLoose};
-ghost use Rattle.rank_check.specs.ByNumbers.{AreLower, IsAsHigh, Fall, IsRiseIn};
+ghost use Rattle.rank_check.specs.ByNumbers.{AreLower, IsAsHigh, Fall, FallFirst, IsRiseIn};
 
 use crate::causes::{Loose, NodeLine, Rise};
 use crate::entries::Entry;
+use crate::twins::earlier_twin;
 use certificate_lang::Certificate;
 use effect_scan::Scan;
+use sqlite_items::at;
 use texts::MOST_DEPTH;
 
 /// The greatest bound of a valid certificate: as many activations as nest at most.
@@ -22,7 +24,7 @@ pub fn first_rise(scan: &Scan, entries: &[Entry]) -> Option<Rise>
     ensures { MatchOption result (Fall scan.now.rows entries.now) (IsRiseIn scan.now.rows entries.now) }
 {
     for (node, entry) in entries.iter().enumerate() {
-        if let Some(to) = first_as_high(scan.targets(node), entries, entry.rank) {
+        if let Some(to) = first_risen(scan, entries, node, entry.rank) {
             let from = NodeLine {
                 node,
                 line: entry.line,
@@ -31,6 +33,34 @@ pub fn first_rise(scan: &Scan, entries: &[Entry]) -> Option<Rise>
         }
     }
     None
+}
+
+/// The first node that the node of this number may lead to and that hasn't a rank below this one, which is the node's. Where a
+/// node before it leads to the same ones and has no higher rank, they have been looked at.
+fn first_risen(scan: &Scan, entries: &[Entry], node: usize, rank: u32) -> Option<NodeLine>
+    requires inside { (b : ℕ) → Edge scan.now.rows node b → b < length entries.now }
+    requires before { FallFirst scan.now.rows entries.now node }
+    ensures { MatchOption result (AreLower (row scan.now.rows node) entries.now rank)
+        (IsAsHigh (row scan.now.rows node) entries.now rank) }
+{
+    if is_above_twin(scan, entries, node, rank) {
+        return None;
+    }
+    first_as_high(scan.targets(node), entries, rank)
+}
+
+/// Whether a node before this one leads to the same ones, and has a rank that isn't above this one.
+fn is_above_twin(scan: &Scan, entries: &[Entry], node: usize, rank: u32) -> bool
+    requires { FallFirst scan.now.rows entries.now node }
+    ensures { IsTrue result → AreLower (row scan.now.rows node) entries.now rank }
+{
+    match earlier_twin(scan, node) {
+        Some(twin) => match at(entries, twin) {
+            Some(entry) => entry.rank <= rank,
+            None => false,
+        },
+        None => false,
+    }
 }
 
 /// The first of these nodes that hasn't a rank below this one.

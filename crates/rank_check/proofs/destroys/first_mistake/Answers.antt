@@ -1,5 +1,4 @@
-use Rattle.std.proofs.Common.{◌<◌, ℕ, List, length, refl, ap, subst, arith}
-use Rattle.std.specs.List.{Contains}
+use Rattle.std.proofs.Common.{◌<◌, List, length, refl, ap, arith}
 use Rattle.effect_scan.specs.declared.node.Node.{Node}
 use Rattle.effect_scan.specs.declared.node.Member.TheVariants.{Method}
 use Rattle.effect_scan.specs.Nodes.{node}
@@ -7,16 +6,19 @@ use Rattle.rank_check.proofs.Elements.{at_index}
 use Rattle.rank_check.proofs.Conditions.{mistake_of_one, hold_more, hold_all}
 use Rattle.rank_check.proofs.destroys.first_mistake.Goals as goal
 
-pub lost_class-requires : goal.lost_class-requires
-lost_class-requires c = λ b h. c.requires.inside c.loop-number.number b (subst (λ (ts : List ℕ). Contains ts b) c.targets.ensures h)
+pub lost_from-requires-clause-inside : goal.lost_from-requires-clause-inside
+lost_from-requires-clause-inside c = λ b edge. c.requires.inside c.loop-number.number b edge
 
-pub returns-in-Some-lost_class : goal.returns-in-Some-lost_class
-returns-in-Some-lost_class c =
+pub lost_from-requires-clause-before : goal.lost_from-requires-clause-before
+lost_from-requires-clause-before c = c.loop-number.invariant.within
+
+pub returns-in-Some-lost_from : goal.returns-in-Some-lost_from
+returns-in-Some-lost_from c =
     let count = ap (λ (ns : List Node). length ns) c.nodes-node-items.ensures in
     let inside : c.loop-number.number < length c.args.entries.now = omega (arith, count, c.requires.count, c.loop-number-test.true) in
-    let lost = rw c.get-set.ensures at c.in-Some-lost_class.ensures in
+    let lost = rw c.get-set.ensures at c.in-Some-lost_from.ensures in
     record {
-      edge = subst (λ (ts : List ℕ). Contains ts c.in-Some-lost_class.to.node) c.targets.ensures lost.held;
+      edge = lost.held;
       upper = c.index-entries-number.result;
       upper_is = record { stands = at_index c.args.entries.now c.loop-number.number c.index-entries-number.result inside c.index-entries-number.is; line = refl };
       lower = lost.entry;
@@ -41,7 +43,7 @@ loop-number-preserved c =
     let inside : c.loop-number.number < length c.args.entries.now = omega (arith, count, c.requires.count, c.loop-number-test.true) in
     let here = at_index c.args.entries.now c.loop-number.number c.index-entries-number.result inside c.index-entries-number.is in
     hold_more c.args.meta.now c.args.scan.now.nodes c.args.scan.now.rows c.args.entries.now c.nodes-node-items.result.now c.loop-number.number (node 0 (Method 0)) c.index-entries-number.result _ _ c.nodes-node-items.ensures c.loop-number-test.true here
-    c.targets.ensures c.get-set.ensures c.in_default-lost_class.ensures c.in_default.ensures c.loop-number.invariant
+    refl c.get-set.ensures c.in_default-lost_from.ensures c.in_default.ensures c.loop-number.invariant
 
 pub returns : goal.returns
 returns c =

@@ -1,5 +1,4 @@
-use Rattle.std.proofs.Common.{ℕ, List, refl, subst, below_more, arith}
-use Rattle.std.specs.List.{Contains}
+use Rattle.std.proofs.Common.{refl, subst, below_more, arith}
 use Rattle.std.proofs.lemmas.Option.{slice_get_within}
 use Rattle.effect_scan.specs.Rows.{row}
 use Rattle.rank_check.specs.declared.entries.Entry.{Entry}
@@ -7,14 +6,14 @@ use Rattle.rank_check.specs.ByNumbers.{AreLower}
 use Rattle.rank_check.proofs.Elements.{at_index, same_index}
 use Rattle.rank_check.proofs.ranks.first_rise.Goals as goal
 
-pub first_as_high-requires : goal.first_as_high-requires
-first_as_high-requires c = λ b h. c.requires c.loop-node.node b (subst (λ (ts : List ℕ). Contains ts b) c.targets.ensures h)
+pub first_risen-requires-clause-inside : goal.first_risen-requires-clause-inside
+first_risen-requires-clause-inside c = λ b edge. c.requires c.loop-node.node b edge
 
 pub returns-in-Some : goal.returns-in-Some
 returns-in-Some c =
     let high = c.in-Some.ensures in
     record {
-      edge = subst (λ (ts : List ℕ). Contains ts c.in-Some.to.node) c.targets.ensures high.held;
+      edge = high.held;
       upper = c.index-entries-node.result;
       upper_is = record { stands = at_index c.args.entries.now c.loop-node.node c.index-entries-node.result c.loop-node-test.true c.index-entries-node.is; line = refl };
       lower = high.entry;
@@ -28,7 +27,7 @@ loop-node-preserved c =
     (λ x at.
     subst (λ (z : Entry). AreLower (row c.args.scan.now.rows c.loop-node.node) c.args.entries.now z.rank)
     (same_index c.args.entries.now c.loop-node.node c.index-entries-node.result x c.loop-node-test.true c.index-entries-node.is at)
-    (subst (λ (ts : List ℕ). AreLower ts c.args.entries.now c.index-entries-node.result.rank) c.targets.ensures c.in_default.ensures))
+    c.in_default.ensures)
 
 pub returns : goal.returns
 returns c = λ a b x y at_x edge at_y.
