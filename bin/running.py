@@ -19,6 +19,8 @@ UNTOLD = ("session", "verdict", "import")
 ENDLESS = ("view",)
 # How a program ends that says what is wrong with a text.
 EXPLAINED = (2, 3)
+# How `verdict` ends that reports findings on a program that loads, or that there are none.
+JUDGED = (0, 3)
 # Python ignores these two, and a program shall not.
 NOT_OURS = (signal.SIGPIPE, signal.SIGXFSZ)
 FORWARDED = (signal.SIGINT, signal.SIGTERM, signal.SIGHUP)
@@ -136,7 +138,7 @@ def run(front, path: str, own: list[str], given: Given, call: words.Call) -> Non
         closed.discard(0)
     end = None
     if given.files or given.places or call.command.program != words.PROGRAM:
-        end = named(path, own, given, call, closed, front.streams)
+        end = named(front, path, own, given, call, closed)
         if given.places and call.command.program == words.PROGRAM and end in EXPLAINED:
             tell_places(front, given, call)
     elif not call.files and has_file:
@@ -164,14 +166,14 @@ def tell_places(front, given: Given, call: words.Call) -> None:
         write_to(2, told)
 
 
-def named(path: str, own: list[str], given: Given, call: words.Call, closed: set[int], streams) -> int:
+def named(front, path: str, own: list[str], given: Given, call: words.Call, closed: set[int]) -> int:
     """Runs the program beside this process, and names the files in what it says. What a session writes names lines too, and around
-    places lines of files may be asked for: that is written behind the run, and where it fails it ends as the program does then.
-    Gives how the program ended."""
+    places lines of files may be asked for, and scripts beside findings: that is written behind the run, and where it fails it ends
+    as the program does then. Gives how the program ended."""
     names = naming.Naming(given.files, NAME.encode())
     ours, theirs = os.pipe2(os.O_CLOEXEC)
     changed, output = {2: theirs}, None
-    if call.command.word == "session" or call.has(words.CONTEXT.name) or given.program:
+    if call.command.word == "session" or call.has(words.CONTEXT.name) or call.has(words.WITNESS.name) or given.program:
         output = changed[1] = os.memfd_create("output")
     told = []
 
@@ -188,15 +190,24 @@ def named(path: str, own: list[str], given: Given, call: words.Call, closed: set
 
     end = spawned(path, own, changed, closed - set(changed), listen)
     if output is not None:
-        streams.write_output(written(content(output), given, call))
+        found = content(output)
+        form = next((it for it in call.values if call.command.option(it).group == "form"), "")
+        if call.has(words.WITNESS.name) and end in JUDGED:
+            found = witnessing().Witnesses(front, path, own, given, call).told(found, form)
+        front.streams.write_output(written(found, form, given, call))
         write_to(2, b"".join(told))
     return end
 
 
-def written(output: bytes, given: Given, call: words.Call) -> bytes:
-    """What is written of a program's output."""
+def witnessing():
+    import witnessing as found
+
+    return found
+
+
+def written(output: bytes, form: str, given: Given, call: words.Call) -> bytes:
+    """What is written of a program's output in this form."""
     if given.program:
-        form = next((it for it in call.values if call.command.option(it).group == "form"), "")
         output = given.program.told(output, "program", form) if output else b""
     if call.has(words.CONTEXT.name):
         return placed.Surroundings(int(call.values[words.CONTEXT.name])).shown(output)

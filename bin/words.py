@@ -51,6 +51,8 @@ RECORD = Option("--record", "writes what came of each event into the script, as 
 WIDE = Option("--wide", "takes a program as large as one that a tool writes: 8,192 classes, 16,384 wires, 32 MiB", first=True)
 PLACES = Option("--places", "tells places by this file, and without it by NAME.places beside NAME.gf", "FILE", text="places")
 CONTEXT = Option("--context", "with N lines of the file around each place", "N", MOST_CONTEXT, group="form", here=True)
+WITNESS = Option("--witness", "writes scripts that show cycles and paths, and tells which are shown", here=True)
+OUT = Option("--out", "the folder for these scripts, the current one without it", "DIR", here=True)
 USAGE = (1, "the words are no command, or something can't be read or written")
 REFUSED = (2, "a text is refused, or a file can't be read")
 INVALID = (3, "the certificate isn't valid")
@@ -80,7 +82,7 @@ COMMANDS = [
              Option("--rules", "writes the table of rules as JSON, and reads nothing", group="form"),
              Option("--error", "these rules are errors", "RULE,..", repeats=True), Option("--warning", "these rules are warnings", "RULE,..", repeats=True),
              Option("--off", "these rules are off", "RULE,..", repeats=True),
-             CONTEXT, PLACES,
+             CONTEXT, WITNESS, OUT, PLACES,
              Option("--accept", "counts the edges of this list on cycles, and finds them no more", "LIST", text="list", group="list"),
              Option("--baseline", "the same, and leaves out warnings and notes on these edges", "LIST", text="list", group="list")),
             ("program", "certificate"), 1, ((0, "no errors"), USAGE, REFUSED, (3, "there are errors")), "docs/verdict.md", parts=True,
@@ -161,6 +163,10 @@ def parse(words: list[str]) -> Call:
         if not option:
             raise NoCommand
         take(call, option, rest)
+    if call.has(WITNESS.name) and call.has("--accept-all"):
+        raise Excluded(f"`--accept-all` and `{WITNESS.name}` exclude one another: `{call.command.word}` takes one of them")
+    if call.has(OUT.name) and not call.has(WITNESS.name):
+        raise Excluded(f"`{OUT.name}` is for what `{WITNESS.name}` writes: `{call.command.word}` takes it beside that alone")
     call.files = rest
     call.texts = texts_of(call)
     return call

@@ -29,7 +29,7 @@ PROPERTIES = {
     "rule": {"id": "text", "shortDescription": "words", "help": "words", "defaultConfiguration": "configuration", "properties": "bag"},
     "configuration": {"level": "level"},
     "words": {"text": "text"},
-    "result": {"ruleId": "text", "level": "level", "message": "message", "locations": ["location"], "relatedLocations": ["location"], "codeFlows": ["flow"], "partialFingerprints": "texts"},
+    "result": {"ruleId": "text", "level": "level", "message": "message", "locations": ["location"], "relatedLocations": ["location"], "codeFlows": ["flow"], "partialFingerprints": "texts", "properties": "bag"},
     "message": {"text": "literal"},
     "location": {"physicalLocation": "physical", "message": "message"},
     "physical": {"artifactLocation": "artifact", "region": "region"},

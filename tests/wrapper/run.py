@@ -4,6 +4,7 @@ what reaches the program, what comes back, and what the wrapper says of its own 
 
 Usage: tests/wrapper/run.py. The last line is `N passed, M failed`."""
 import errno
+import json
 import os
 import pty
 import re
@@ -16,7 +17,9 @@ from first_minute import FirstMinute
 from place import Place
 from reading import Reading
 
-sys.path.insert(0, f"{built.ROOT}/bin")
+sys.path[:0] = [f"{built.ROOT}/bin", f"{built.ROOT}/tests/tools"]
+import sarif
+import schema
 import several
 
 LAMP = """class Lamp {
@@ -29,6 +32,26 @@ LOOSE = LAMP.replace("(int v)", "(int v").replace("}\n", "}")
 CYCLE = LAMP + "wire Lamp changed(int) -> Lamp dim(int) direct;\n"
 SCRIPT = "new a Lamp\ncall a.dim(3)\n"
 TRACE = "event 1\nevent 2\n1 call a.dim(3)\n2 set a.level 3\n3 emit a.changed(3)\n"
+# Two circles, of which the second one comes to rest, and two slots that lead to the deletion of their own object: the second
+# one by a slot that nothing else calls, behind a slot that calls itself.
+SHOWN = """class A {
+    property int level notify changed(int);
+    signal changed(int);
+    slot up(int v) { set this.level = v + 1; }
+    slot same(int v) { if (v != this.level) { set this.level = v; } }
+}
+class Owner {
+    slot drop(Dialog* d) { delete d; }
+}
+class Dialog {
+    property Owner* owner;
+    slot close() { call this.owner.drop(this); }
+    slot again() { call this.again(); }
+    slot gone() { if (false) { delete this; } }
+}
+wire A changed(int) -> A up(int) direct;
+wire A changed(int) -> A same(int) direct;
+"""
 USAGE = "usage\n"
 # What is told beside a yes to the first program, and a line behind it that is worth a warning.
 DEPTH = "13 members, deepest chain 3: Lamp.dim(int) -> Lamp.level -> Lamp.changed(int)\n"
@@ -101,10 +124,12 @@ class Tests:
         for words in (["run", "--steps", "0"], ["certify", "--fast"], ["draw", "app.gf"], ["graph", "--json", "app.gf", "app.gf"]):
             self.check(words, 1, USAGE, "this is no command")
         self.check([], 1, USAGE, "a runtime of signals and slots")
-        for word, one, other in ("verdict", "--json", "--sarif"), ("verdict", "--sarif", "--accept-all"), ("view", "--html", "--plain"), ("session", "--tap", "--record"):
+        for word, one, other in ("verdict", "--json", "--sarif"), ("verdict", "--sarif", "--accept-all"), ("verdict", "--accept-all", "--witness"), ("view", "--html", "--plain"), ("session", "--tap", "--record"):
             told = f"gammonfig: `{one}` and `{other}` exclude one another: `{word}` takes one of them\n"
             found = self.place.run([word, one, other, "app.gf"])
             self.count.check(found == (2, "", told), lambda: f"{word} {one} {other}: {found}")
+        for words in (["--accept", "cycle.gf", "--baseline", "cycle.gf", "app.gf"], ["--context", "1", "--json", "app.gf"]):
+            self.check(["verdict", *words], 2, "", f"`{words[0]}` and `{words[2]}` exclude one another")
 
     def input(self):
         """Standard input reaches the program as it is."""
@@ -273,7 +298,7 @@ class Tests:
         self.check(["verdict", "--off", "cycle", "cycle.gf"], 0, "no findings\n")
         self.check(["verdict", "--warning", "none", "cycle.gf"], 2, "", "a rule that isn't there")
         self.check(["verdict", "--accept", "none.txt", "app.gf"], 2, "", "none.txt: this file can't be read")
-        for words in (["--accept", "accepted.txt"], ["--accept"], ["--fast", "app.gf"], ["app.gf", "app.gfc", "app.gfc"], ["--rules", "app.gf"], ["--accept", "old.txt", "--baseline", "old.txt", "app.gf"]):
+        for words in (["--accept", "accepted.txt"], ["--accept"], ["--fast", "app.gf"], ["app.gf", "app.gfc", "app.gfc"], ["--rules", "app.gf"]):
             self.check(["verdict", *words], 1, USAGE, "this is no command")
 
     def other_text(self):
@@ -303,7 +328,7 @@ class Tests:
         self.check(["certify", "--places", "read/app.places"], 3, self.program(["certify"], CYCLE), "no certificate", step, text=CYCLE)
         self.check(["certify", "--places", "wrong.places", "cycle.gf"], 3, self.program(["certify"], CYCLE), "wrong.places:3: this is no place")
         self.check(["certify", "--places", "read/app.places", "app.gf"], 0, self.program(["certify"], LAMP), DEPTH)
-        for words in (["--context", "0", "read"], ["--context", "1", "--json", "read"], ["--places"]):
+        for words in (["--context", "0", "read"], ["--places"]):
             self.check(["verdict", *words], 1, USAGE, "this is no command")
 
     def wide(self):
@@ -343,6 +368,70 @@ class Tests:
         self.check(["verdict", "--places", "base.places", "base.gf", "derived.gf"], 2, "", "`--places` is for a program in one file: 2 are named")
         found = self.place.run(["verdict", "--context", "1", "derived.gf", "base.gf"])
         self.count.check(found[0] == 3 and f">     1 | {base}" in found[1], lambda: f"--context: {found}")
+
+    def shown(self, name):
+        with open(f"{self.place.folder}/{name}") as file:
+            return file.read()
+
+    def witnesses(self):
+        """`verdict --witness` writes a script beside each finding that one shows, and tells that in each form."""
+        self.place.write({"shown.gf": SHOWN})
+        plain = self.place.run(["verdict", "shown.gf"])
+        told = self.place.run(["verdict", "--witness", "shown.gf"])
+        extra = [it for it in told[1].splitlines() if re.match("  (not )?shown", it)]
+        wanted = ["  shown: shown.witness-1.gfs", "  not shown; it may come to rest", "  shown: shown.witness-2.gfs", "  shown: shown.witness-3.gfs", "  not shown; it may come to rest"]
+        holds = extra == wanted and "".join(it for it in told[1].splitlines(keepends=True) if it[:-1] not in wanted) == plain[1] and told[::2] == plain[::2]
+        self.count.check(holds, lambda: f"--witness: {told}, and without it {plain}")
+        for number, fault, event in (1, 61, "emit o1.changed(1)\n"), (2, 61, "call o3.again()\n"), (3, 63, "call o3.close()\n"):
+            name = f"shown.witness-{number}.gfs"
+            script = self.shown(name)
+            first, second, *_ = script.split("\n")
+            run = f"gammonfig run --unchecked 256 shown.gf {name}"
+            holds = first.startswith("// A script of `gammonfig verdict --witness`: `") and second == f"// Its run ends with fault {fault}: {run}" and script.endswith(event)
+            ran = self.place.run(run.split()[1:])
+            self.count.check(holds and ran[0] == 4 and ran[1].endswith(f"fault {fault}\n"), lambda: f"{name}: {script}, {ran}")
+        found = json.loads(self.place.run(["verdict", "--witness", "--json", "shown.gf"])[1])
+        tried = [(it["rule"], it["witness"]) for it in found["findings"]]
+        files = {it.get("file"): it.get("fault") for _, it in tried if it["shown"]}
+        holds = files == {"shown.witness-1.gfs": 61, "shown.witness-2.gfs": 61, "shown.witness-3.gfs": 63} and [it["shown"] for _, it in tried] == [True, False, True, True, False]
+        with open(f"{built.ROOT}/docs/verdict.schema.json") as file:
+            faults = schema.faults(found, json.load(file))
+        self.count.check(holds and not faults, lambda: f"--witness --json: {tried}, {faults}")
+        log = json.loads(self.place.run(["verdict", "--witness", "--sarif", "shown.gf"])[1])
+        noted = [(it["ruleId"], it["properties"]["witness"]) for it in log["runs"][0]["results"]]
+        self.count.check(noted == tried and not sarif.faults(log), lambda: f"--witness --sarif: {noted}, {sarif.faults(log)}")
+        told = self.place.run(["verdict", "--witness", "--junit", "shown.gf"])[1]
+        self.count.check(re.findall(r"\n  ((?:not )?shown.*)\n</failure>", told) == [it[2:] for it in wanted], lambda: f"--witness --junit: {told}")
+
+    def witness_files(self):
+        """Its scripts go where that is asked for, and into no place of another file."""
+        self.place.write({"mine.witness-1.gfs": SCRIPT, "mine.gf": SHOWN, "up.gf": SHOWN.split("class Owner")[0], "wires.gf": "wire A changed(int) -> A up(int) direct;\n"})
+        self.check(["verdict", "--witness", "mine.gf"], 1, "", "mine.witness-1.gfs: `verdict --witness` didn't write this file, and leaves it")
+        holds = self.shown("mine.witness-1.gfs") == SCRIPT and not os.path.exists(f"{self.place.folder}/mine.witness-2.gfs")
+        self.count.check(holds, lambda: "a file in the way is written over, or another one is written")
+        found = self.place.run(["verdict", "--witness", "--out", "in/it", "mine.gf"])
+        again = self.place.run(["verdict", "--witness", "--out", "in/it", "mine.gf"])
+        files = sorted(os.listdir(f"{self.place.folder}/in/it"))
+        self.count.check(found == again and "  shown: in/it/mine.witness-1.gfs\n" in found[1] and files == [f"mine.witness-{it}.gfs" for it in (1, 2, 3)], lambda: f"--out: {found}, {again}, {files}")
+        self.check(["verdict", "--witness", "--out", "mine.gf", "mine.gf"], 1, "", "mine.gf/mine.witness-1.gfs: the script can't be written")
+        found = self.place.run(["verdict", "--witness", "--out", "in"], SHOWN)
+        self.count.check("  shown: in/program.witness-1.gfs\n" in found[1] and "\n// Its run ends with fault 61\nnew" in self.shown("in/program.witness-1.gfs"), lambda: f"standard input: {found}")
+        found = self.place.run(["verdict", "--witness", "--out", "in", "up.gf", "wires.gf"])
+        self.count.check(found[1].startswith("wires.gf:1:1: error: ") and "  shown: in/up.witness-1.gfs\n1 finding" in found[1], lambda: f"two files: {found}")
+        found = self.place.run(["verdict", "--witness", "--out", "in", "--context", "1", "read"])
+        self.count.check("      4 | four\n" in found[1] and "\n  not shown; it may come to rest\n1 finding" in found[1], lambda: f"another text: {found}")
+        listed = self.place.run(["verdict", "--accept-all", "shown.gf"])[1]
+        self.place.write({"known.txt": "".join(it for it in listed.splitlines(keepends=True) if "again" not in it)})
+        found = self.place.run(["verdict", "--witness", "--out", "in", "--accept", "known.txt", "shown.gf"])
+        rest = [it for it in found[1].splitlines() if it.startswith("  shown") or it.startswith("  not")]
+        self.count.check(rest == ["  shown: in/shown.witness-1.gfs", "  shown: in/shown.witness-2.gfs", "  not shown; it may come to rest"], lambda: f"accepted: {found}")
+        self.check(["verdict", "--witness", "app.gf"], 0, "no findings\n")
+        self.check(["verdict", "--witness", "--off", "cycle", "cycle.gf"], 0, "no findings\n")
+        told = self.program(["verdict", "--program", "loose.gf"], LOOSE, "qt_tools")
+        self.check(["verdict", "--witness", "loose.gf"], 2, told, "a text is refused")
+        self.check(["verdict", "--out", "in", "app.gf"], 2, "", "`--out` is for what `--witness` writes")
+        for words in (["--rules", "--witness"], ["--witness", "--witness", "app.gf"], ["--witness", "--out"]):
+            self.check(["verdict", *words], 1, USAGE, "this is no command")
 
     def joined(self, *names):
         """The texts of these files, as one input."""
@@ -440,7 +529,7 @@ class Tests:
 def main():
     tests = Tests()
     first = FirstMinute(tests.count)
-    for part in ("files", "places", "refused", "input", "terminal", "graph", "session", "sessions", "record", "view", "views", "verdict", "other_text", "wide", "parts", "witness", "import_classes", "effects", "install", "drivers", "built"):
+    for part in ("files", "places", "refused", "input", "terminal", "graph", "session", "sessions", "record", "view", "views", "verdict", "other_text", "wide", "parts", "witnesses", "witness_files", "witness", "import_classes", "effects", "install", "drivers", "built"):
         if part == "built":
             Reading(tests.place, tests.count).run()
         getattr(tests, part)()
