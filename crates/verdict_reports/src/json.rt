@@ -1,10 +1,10 @@
 //! A verdict as JSON (docs/verdict.md).
 
 use crate::names::{Names, name_text};
+use crate::pretty::json_text;
 use crate::spots::origin;
 use findings::{Finding, Severity, Step, TextKind, TextPlace, Verdict};
 use serde::Serialize;
-use serde_json::to_string_pretty;
 use std::alloc::{AllocError, Global};
 
 /// The version of the form: it rises where a field goes or means something else.
@@ -29,17 +29,8 @@ struct Entry<'v> {
     message: &'v str,
     #[serde(skip_serializing_if = "Option::is_none")]
     help: Option<&'v str>,
-    file: String,
-    #[serde(skip_serializing_if = "Option::is_none")]
-    line: Option<usize>,
-    #[serde(skip_serializing_if = "Option::is_none")]
-    column: Option<usize>,
-    #[serde(skip_serializing_if = "Option::is_none")]
-    words: Option<String>,
-    #[serde(skip_serializing_if = "Vec::is_empty")]
-    conditions: Vec<String>,
-    #[serde(skip_serializing_if = "Option::is_none")]
-    program: Option<Spot>,
+    #[serde(flatten)]
+    standing: Standing,
     chain: Vec<StepEntry<'v>>,
 }
 
@@ -52,17 +43,8 @@ struct StepEntry<'v> {
     #[serde(skip_serializing_if = "Option::is_none")]
     queued: Option<bool>,
     message: &'v str,
-    file: String,
-    #[serde(skip_serializing_if = "Option::is_none")]
-    line: Option<usize>,
-    #[serde(skip_serializing_if = "Option::is_none")]
-    column: Option<usize>,
-    #[serde(skip_serializing_if = "Option::is_none")]
-    words: Option<String>,
-    #[serde(skip_serializing_if = "Vec::is_empty")]
-    conditions: Vec<String>,
-    #[serde(skip_serializing_if = "Option::is_none")]
-    program: Option<Spot>,
+    #[serde(flatten)]
+    standing: Standing,
 }
 
 /// A place of a text.
@@ -76,11 +58,15 @@ struct Spot {
 }
 
 /// Where something stands: in the other text, where that is known, and then in the program too.
-#[derive(Drop)]
+#[derive(Drop, Serialize)]
 struct Standing {
+    #[serde(flatten)]
     spot: Spot,
+    #[serde(skip_serializing_if = "Option::is_none")]
     words: Option<String>,
+    #[serde(skip_serializing_if = "Vec::is_empty")]
     conditions: Vec<String>,
+    #[serde(skip_serializing_if = "Option::is_none")]
     program: Option<Spot>,
 }
 
@@ -102,9 +88,7 @@ pub fn json_report(
         more: verdict.more(),
         accepted: verdict.accepted,
     };
-    let mut text = to_string_pretty(alloc, &report).map_err(|_| AllocError)?;
-    text.push_str("\n")?;
-    Ok(text)
+    json_text(alloc, &report)
 }
 
 /// A finding, with its steps.
@@ -118,24 +102,13 @@ fn entry_of<'v>(
     for step in finding.chain.as_slice() {
         chain.push(step_of(alloc, step, names)?)?;
     }
-    let Standing {
-        spot: Spot { file, line, column },
-        words,
-        conditions,
-        program,
-    } = standing_at(alloc, names, finding.text, finding.place)?;
     Ok(Entry {
         rule: finding.rule.id(),
         number: finding.rule.number(),
         severity: severity.word(),
         message: finding.message.as_str(),
         help: help_of(finding),
-        file,
-        line,
-        column,
-        words,
-        conditions,
-        program,
+        standing: standing_at(alloc, names, finding.text, finding.place)?,
         chain,
     })
 }
@@ -146,24 +119,13 @@ fn step_of<'v>(
     step: &'v Step,
     names: Names<'_>,
 ) -> Result<StepEntry<'v>, AllocError> {
-    let Standing {
-        spot: Spot { file, line, column },
-        words,
-        conditions,
-        program,
-    } = standing_at(alloc, names, TextKind::Program, step.place)?;
     Ok(StepEntry {
         from: step.from.as_str(),
         to: step.to.as_str(),
         by: step.link.word(),
         queued: if step.is_posted { Some(true) } else { None },
         message: step.message.as_str(),
-        file,
-        line,
-        column,
-        words,
-        conditions,
-        program,
+        standing: standing_at(alloc, names, TextKind::Program, step.place)?,
     })
 }
 

@@ -4,6 +4,7 @@
 mod json;
 mod junit;
 mod names;
+mod pretty;
 mod rules;
 mod sarif;
 mod spots;

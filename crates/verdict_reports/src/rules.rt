@@ -1,8 +1,8 @@
 //! The table of rules as JSON (docs/rules.md).
 
+use crate::pretty::json_text;
 use findings::Rule;
 use serde::Serialize;
-use serde_json::to_string_pretty;
 use std::alloc::{AllocError, Global};
 
 /// The page that has a part for each rule, headed by its name.
@@ -36,9 +36,7 @@ pub fn rules_report(alloc: Global) -> Result<String, AllocError> {
             page: page_of(alloc, rule)?,
         })?;
     }
-    let mut text = to_string_pretty(alloc, &rules).map_err(|_| AllocError)?;
-    text.push_str("\n")?;
-    Ok(text)
+    json_text(alloc, &rules)
 }
 
 /// Where the pages say more of the rule.

@@ -2,12 +2,12 @@
 //! there, and how they are made.
 
 use crate::names::Names;
+use crate::pretty::json_text;
 use crate::rules::page_of;
 use crate::spots::{origin, step_text, told_at};
 use crate::uri::uri_of;
 use findings::{Finding, Rule, Severity, Step, TextKind, TextPlace, Verdict};
 use serde::Serialize;
-use serde_json::to_string_pretty;
 use std::alloc::{AllocError, Global};
 
 /// Where the format's schema stands.
@@ -185,9 +185,7 @@ pub fn sarif_report(
         version: FORMAT,
         runs,
     };
-    let mut text = to_string_pretty(alloc, &log).map_err(|_| AllocError)?;
-    text.push_str("\n")?;
-    Ok(text)
+    json_text(alloc, &log)
 }
 
 /// The run whose findings these are, with its rules.
