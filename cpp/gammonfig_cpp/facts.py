@@ -10,9 +10,10 @@ from . import model
 from .bodies import Bodies
 from .calls import Calls
 from .classes import Classes
+from .cleaning import mark_used
 from .connects import Connects
 from .context import Context
-from .libclang import cindex
+from .libclang import cindex, version
 from .model import Class, Facts
 from .naming_callees import Callees
 from .precompiled import Headers, stamp
@@ -90,6 +91,7 @@ class Cache:
         for name in READERS:
             with open(os.path.join(here, name + '.py'), 'rb') as file:
                 whole.update(file.read())
+        whole.update(version().encode())
         self.reader = whole.hexdigest()
         self._sums: dict[str, str] = {}
         self._outside: dict[str, str] = {}
@@ -126,6 +128,7 @@ class Cache:
         if any(self.stamp(path, roots) != stamp for path, stamp in stamps):
             return None
         assert isinstance(facts, Facts)
+        mark_used(self.path(unit, roots))
         return facts
 
     def keep(self, unit: Unit, roots: list[str], facts: Facts) -> None:

@@ -10,6 +10,7 @@ from concurrent.futures import ProcessPoolExecutor, as_completed
 from concurrent.futures.process import BrokenProcessPool
 from typing import Iterator
 
+from .cleaning import clean
 from .errors import ReadError
 from .facts import Cache, read_unit
 from .model import Class, Facts
@@ -69,6 +70,8 @@ def gather(units: list[Unit], roots: list[str], cache: Cache | None, jobs: int, 
             if cache is not None and not facts.errors:
                 cache.keep(unit, roots, facts)
             bar.step(unit.source)
+    if cache is not None:
+        clean(cache.folder)
     return [found[unit] for unit in units]
 
 

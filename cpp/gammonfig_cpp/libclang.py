@@ -26,6 +26,15 @@ def load() -> Any:
 
 
 cindex = load()
+
+
+def version() -> str:
+    """Which libclang this is: what one of another version has parsed or told isn't taken."""
+    ask = cindex.conf.lib.clang_getClangVersion
+    ask.restype, ask.errcheck = cindex._CXString, cindex._CXString.from_result
+    return str(ask())
+
+
 K = cindex.CursorKind
 T = cindex.TypeKind
 

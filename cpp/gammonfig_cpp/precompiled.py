@@ -7,7 +7,8 @@ import pickle
 import re
 from dataclasses import dataclass
 
-from .libclang import cindex
+from .cleaning import mark_used
+from .libclang import cindex, version
 from .units import ANNOTATIONS, PATHS, Unit
 
 # So many units have to be read before it pays to parse all headers of the modules that they may include.
@@ -24,7 +25,7 @@ class Kind:
     flags: tuple[str, ...]
 
     def name(self) -> str:
-        words = '\0'.join((*self.modules, '', *self.flags, '', *ANNOTATIONS))
+        words = '\0'.join((*self.modules, '', *self.flags, '', *ANNOTATIONS, '', version()))
         return 'headers-' + hashlib.sha256(words.encode()).hexdigest()[:40]
 
 
@@ -71,8 +72,10 @@ def kept(kind: Kind, folder: str) -> Headers | None:
             stamps: list[tuple[str, tuple[int, int]]] = pickle.load(file)
     except (OSError, EOFError, pickle.UnpicklingError, ValueError):
         return None
-    valid = os.path.exists(path + '.pch') and all(stamp(name) == known for name, known in stamps)
-    return Headers(path + '.pch', tuple(name for name, _ in stamps)) if valid else None
+    if not os.path.exists(path + '.pch') or any(stamp(name) != known for name, known in stamps):
+        return None
+    mark_used(path + '.files')
+    return Headers(path + '.pch', tuple(name for name, _ in stamps))
 
 
 def parse(kind: Kind, folder: str) -> bool:
