@@ -122,12 +122,14 @@ class Calling:
         return key
 
     def _library_steps(self, element: Element, name: str, parameters: list[Parameter], entry: Entry, written: list[Written]) -> list[Step]:
-        cls, steps, told = self.objects.cls(element), [], set()
+        cls, steps, told, names = self.objects.cls(element), [], set(), set()
         for one in written:
             usr = self.whole.signal(cls, one.notify)
-            step = self._write(cls, one, usr, parameters) if usr is not None else None
+            # A property that a class declares again, with another signal, is set once.
+            step = self._write(one, usr, parameters, one.name not in names) if usr is not None else None
             if step is not None and one.notify not in told:
                 told.add(one.notify)
+                names.add(one.name)
                 steps.append(step)
         for signal in entry.emits:
             if signal not in told:
@@ -158,14 +160,14 @@ class Calling:
             program.wires.append(Wire(element, key, on, program.adapted(target, []), 'queued', None, f'Qt posts {name}'))
         return [Step('emit', key)]
 
-    def _write(self, cls: str, one: Written, usr: str, parameters: list[Parameter]) -> Step | None:
+    def _write(self, one: Written, usr: str, parameters: list[Parameter], is_first: bool) -> Step | None:
         """A property of Qt is set: it compares first, and tells what it was given."""
         signal = self.whole.methods[usr][1]
         if self.whole.name(self.whole.class_of(usr)) == 'QObject':
             return None
         fits = not signal.parameters or (len(parameters) == 1 and len(signal.parameters) == 1
                                          and signal.parameters[0].type == parameters[0].type)
-        if not fits or len(parameters) != 1:
+        if not fits or len(parameters) != 1 or not is_first:
             return Step('emit', self.program.signal(usr))
         owner = self.program.of_class(self.whole.class_of(usr))
         key = self.program.property((self.whole.class_of(usr), one.name), owner, one.name, parameters[0].sort, self.program.signal(usr), None)

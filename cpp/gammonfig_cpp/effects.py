@@ -6,7 +6,7 @@ from dataclasses import replace
 from typing import Callable
 
 from .calling import Calling
-from .model import Field, Function, Named, Statement, Value
+from .model import Field, Function, Named, Statement, Value, exclude
 from .objects import FREE, Element
 from .owning import is_of_member
 from .program import Key, Program, Step, Wire
@@ -45,7 +45,18 @@ class Effects:
                 self.bindable.append((statement, function))
             if kind is not None:
                 steps += kind(statement, function)
-        return steps
+        return [self._alone(step, steps) if step.kind == 'set' and step.on is None else step for step in steps]
+
+    def _alone(self, step: Step, steps: list[Step]) -> Step:
+        """A property that is set, where the same body emits its signal too, each in a branch without the other: it tells nobody twice, so
+        it is written as an emission."""
+        known = self.program.members.get(step.member)
+        signal = known.notify if known is not None else None
+        others = [s for s in steps if s.kind == 'emit' and s.member == signal]
+        if signal is None or not others or not all(exclude(step.conditions, s.conditions) for s in others):
+            return step
+        terms = step.terms if self.program.members[signal].parameters else ()
+        return Step('emit', signal, None, terms, step.place, step.conditions)
 
     # Properties that setters compare
 

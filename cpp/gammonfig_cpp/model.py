@@ -61,6 +61,12 @@ class Condition:
         return f'{self.how} `{self.words}`' + (f' of `{self.of}`' if self.of else '')
 
 
+def exclude(one: tuple[Condition, ...], other: tuple[Condition, ...]) -> bool:
+    """Whether two places are in branches of one condition of which only one runs."""
+    taken = {(c.words, c.line): c.how for c in one}
+    return any({taken.get((c.words, c.line)), c.how} == {'if', 'unless'} for c in other)
+
+
 @dataclass(frozen=True, slots=True)
 class Named:
     """What an argument of `connect` names: `text`, `name` (of a signal), `method`, `static`, `free`, `lambda`, `bound` (a method

@@ -133,12 +133,12 @@ class QtModel:
         return known
 
     def entry(self, cls: str, name: str) -> tuple[str, Entry, list[Written]] | None:
-        """The class whose function it is, with what it does; None where nothing is known."""
-        for above in self.whole.above(cls):
-            if self.whole.is_inside(above) or above not in self.whole.classes:
-                continue
-            entry = self.table.entries.get((self.whole.name(above), name))
-            written = self.written(above).get(name, [])
-            if entry is not None or written:
-                return above, entry or Entry(), written
+        """The class whose function it is, with what it does; None where nothing is known. That a property which it writes notifies stands
+        in the header of the class that has the property, which may be one above."""
+        above = [one for one in self.whole.above(cls) if one in self.whole.classes and not self.whole.is_inside(one)]
+        for at, nearest in enumerate(above):
+            entry = self.table.entries.get((self.whole.name(nearest), name))
+            if entry is not None or name in self.written(nearest):
+                written = [each for one in above[at:] for each in self.written(one).get(name, [])]
+                return nearest, entry or Entry(), written
         return None

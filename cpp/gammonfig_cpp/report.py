@@ -114,15 +114,17 @@ RESTS = ('each step hands on the value that it was given, and only a change is t
 
 OF_OWN = ('what is deleted is held by a member of the object that deletes it: another object of its class, unless it owns itself; '
           'that is not proved')
+DIES_ONCE = 'an object dies on each way round, and each dies once: this goes on only while others are made; that is not proved'
 
 
 @dataclass
 class Warnings:
-    """What the reader warned of, the circles that it takes to come to rest, where objects delete what they own, and whether the program
-    is over the standard limits."""
+    """What the reader warned of, the circles that it takes to come to rest, where objects delete what they own, what is on circles only by
+    the death of an object, and whether the program is over the standard limits."""
     found: list[dict[str, Any]]
     resting: list[set[str]]
     own: set[tuple[str, int, int]]
+    by_death: set[str]
     wide: bool
 
     @staticmethod
@@ -131,7 +133,7 @@ class Warnings:
             with open(path, encoding='utf-8') as file:
                 told = json.load(file)
             own = {(str(file), int(line), int(column)) for file, line, column in told['own']}
-            return Warnings(told['findings'], [set(names) for names in told['resting']], own, bool(told['wide']))
+            return Warnings(told['findings'], [set(names) for names in told['resting']], own, set(told['by_death']), bool(told['wide']))
         except (OSError, ValueError, KeyError, TypeError) as wrong:
             raise ReadError(f'{path}: the warnings can\'t be read') from wrong
 
@@ -145,7 +147,9 @@ class Warnings:
             elif finding.rule == 'destroy-path' and self._is_of_own(finding):
                 finding.note, finding.severity = OF_OWN, 'note'
         verdict.findings += [warning_of(f) for f in self.found if f['rule'] not in own]
-
+        for finding in verdict.findings:
+            if finding.rule == 'queued-cycle' and all(s.from_ in self.by_death for s in finding.chain):
+                finding.note, finding.severity = DIES_ONCE, 'note'
 
     def _is_of_own(self, finding: Finding) -> bool:
         """Whether a slot deletes by a statement of its own what its object owns: no other object stands between."""

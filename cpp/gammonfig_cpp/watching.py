@@ -27,7 +27,8 @@ class Watching:
     def text(self, wide: bool = False) -> str:
         """The warnings, as the findings of a verdict in JSON; and whether commands take the program with `--wide` alone."""
         resting = Settling(self.program, Graph(self.program, self.graph.names)).sets()
-        told = {'findings': self._queued_cycles() + self._re_entries(), 'resting': resting, 'own': self._own(), 'wide': wide}
+        told = {'findings': self._queued_cycles() + self._re_entries(), 'resting': resting, 'own': self._own(), 'by_death': self._by_death(),
+                'wide': wide}
         return json.dumps(told, indent=1, ensure_ascii=False) + '\n'
 
     def _own(self) -> list[list[object]]:
@@ -35,6 +36,15 @@ class Watching:
         places = {(self.places.relative(s.place.file), s.place.line, s.place.column) for m in self.program.members.values()
                   for s in m.steps if s.is_own and s.place is not None}
         return [list(place) for place in sorted(places)]
+
+    def _by_death(self) -> list[str]:
+        """Members that lead back to themselves, but only by what runs because an object dies."""
+        edges, functions = self.graph.edges, self.program.whole.functions
+        dying = {node for node in edges if node[1][0] in ('with', 'later')
+                 or (node[1][0] == 'function' and functions[node[1][1]].kind == 'destructor')}
+        circling = set[Node]().union(*components({n: list(to) for n, to in edges.items()}))
+        living = components({n: [m for m in to if m not in dying] for n, to in edges.items() if n not in dying})
+        return sorted(self.graph.name(node) for node in circling.difference(*living))
 
     def _told(self, why: Why) -> dict[str, object]:
         place = why.place

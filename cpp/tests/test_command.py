@@ -91,9 +91,10 @@ VERDICT = {'findings': [{'rule': 'destroy-path', 'number': 75, 'message': 'm', '
     {'from': 'Desk.end()', 'to': '~Desk', 'by': 'statement', 'message': 's', 'file': 'x', 'line': 0, 'column': 9}]}], 'more': 0, 'accepted': 0}
 
 
-def checker(folder: pathlib.Path, line: int) -> str:
+def checker(folder: pathlib.Path, line: int, rule: str = 'destroy-path', severity: str = 'error') -> str:
     """A program in the place of the checker, which gives a verdict that is known."""
     verdict = json.loads(json.dumps(VERDICT))
+    verdict['findings'][0] |= {'rule': rule, 'severity': severity}
     verdict['findings'][0]['chain'][0]['line'] = line
     path = folder / 'checker'
     path.write_text(f"#!/bin/sh\ncat > /dev/null\ncat << 'TXT'\n{json.dumps(verdict)}\nTXT\nexit 3\n")
@@ -126,6 +127,17 @@ def test_an_object_that_deletes_its_own(written: pathlib.Path, tmp_path: pathlib
     path.write_text(json.dumps(json.loads(path.read_text()) | {'own': [['a.cpp', 13, 30]]}))
     told = run(tmp_path, '--verdict', 'out', GAMMONFIG=named).stdout
     assert ': note: m [destroy-path]' in told and 'unless it owns itself' in told
+
+
+def test_a_circle_by_deaths(written: pathlib.Path, tmp_path: pathlib.Path) -> None:
+    """A circle through an event loop that goes only by deaths is a note: each object dies once."""
+    shutil.copytree(written / 'out', tmp_path / 'out')
+    path = tmp_path / 'out/app.warnings.json'
+    named = checker(tmp_path, line_of(written, 'delete this;'), 'queued-cycle', 'warning')
+    assert ': warning: m [queued-cycle]' in run(tmp_path, '--verdict', 'out', GAMMONFIG=named).stdout
+    path.write_text(json.dumps(json.loads(path.read_text()) | {'by_death': ['Desk.end()']}))
+    told = run(tmp_path, '--verdict', 'out', GAMMONFIG=named).stdout
+    assert ': note: m [queued-cycle]' in told and 'each dies once' in told
 
 
 def test_a_verdict_as_sarif(written: pathlib.Path) -> None:

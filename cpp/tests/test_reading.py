@@ -1,5 +1,8 @@
 """What is read of each form that C++ has for it."""
+import json
+
 from reading import case
+from gammonfig_cpp.watching import Watching
 
 
 def test_each_form_of_connect_is_a_wire() -> None:
@@ -46,6 +49,12 @@ def test_setters_that_do_not_compare_emit() -> None:
     assert found.body('setOther') == ['emit otherChanged(0);'], 'another value is kept than the one that was compared'
     assert found.body('setClamped') == ['emit clampedChanged(0);'], 'the parameter is changed first'
     assert found.body('setInner') == ['emit innerChanged(to);'], 'a further condition stands before the emission'
+
+
+def test_setters_that_emit_beside() -> None:
+    found = case('setters')
+    assert found.body('setShare') == ['emit shareChanged(0);', 'emit shareChanged(to);'], 'in another branch: nobody is told twice'
+    assert found.body('setTwice') == ['set this.twice = to;', 'emit twiceChanged(0);']
 
 
 def test_values_that_are_handed_on() -> None:
@@ -198,9 +207,18 @@ def test_bindings() -> None:
     assert case('bindings').body('grow') == ['set this.m_width = 0;']
 
 
+def test_circles_by_deaths() -> None:
+    """A circle that goes only by the end of an object is told apart from one that goes without."""
+    found = case('ends')
+    told = json.loads(Watching(found.linked.program, found.written.names, found.written.places).text())
+    assert {f['chain'][0]['from'] for f in told['findings']} == {'Ring.posted_83()', 'Ring.turned()'}
+    assert 'Ring.next()' in told['by_death'] and 'Ring.turn()' not in told['by_death']
+
+
 def test_classes_of_qt() -> None:
     found = case('widgets')
     assert found.body('setValue', 'QSlider') == ['set this.value = a1;'], 'WRITE and NOTIFY come from the header'
+    assert found.body('setValue', 'QScrollBar') == ['set this.value = a1;', 'emit rangeChanged(0, 0);'], 'also where the table has a line for a class below'
     assert found.body('click', 'QPushButton') == ['emit pressed();', 'emit released();', 'emit clicked(0);', 'emit toggled(0);']
     assert found.body('close', 'Form') == ['call this.to_Form.closeEvent("");'], 'Qt calls a virtual function back'
     assert 'wire QAction triggered(int) -> Form go() auto;' in found.wires(), 'addAction connects'

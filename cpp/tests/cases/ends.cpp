@@ -72,3 +72,18 @@ private:
     QScrollArea *m_area = new QScrollArea(this);
     QLabel *m_label = new QLabel;
 };
+
+class Ring : public QObject {
+    Q_OBJECT
+public:
+    Ring() {
+        connect(m_leaf, &Leaf::falling, this, &Ring::next);
+        connect(this, &Ring::turned, this, &Ring::turn, Qt::QueuedConnection);
+    }
+    void next() { m_leaf->deleteLater(); }
+    void turn() { emit turned(); }
+signals:
+    void turned();
+private:
+    Leaf *m_leaf = new Leaf;
+};

@@ -13,6 +13,10 @@ public:
     void setAlways(int to) { m_always = to; emit alwaysChanged(to); }
     void setOther(int to) { if (m_other == to) return; m_other = to + 1; emit otherChanged(m_other); }
     void setClamped(int to) { to = qBound(0, to, 9); if (m_clamped == to) return; m_clamped = to; emit clampedChanged(to); }
+    void setShare(int to) {
+        if (to < 0) { emit shareChanged(0); } else if (m_share != to) { m_share = to; emit shareChanged(to); }
+    }
+    void setTwice(int to) { if (m_twice != to) { m_twice = to; emit twiceChanged(to); } emit twiceChanged(0); }
     void setInner(int to) { if (m_inner == to) return; m_inner = to; if (to > 3) emit innerChanged(to); }
 signals:
     void levelChanged(int to);
@@ -23,8 +27,10 @@ signals:
     void otherChanged(int to);
     void clampedChanged(int to);
     void innerChanged(int to);
+    void shareChanged(int to);
+    void twiceChanged(int to);
 private:
-    int m_level = 0, m_always = 0, m_other = 0, m_clamped = 0, m_inner = 0;
+    int m_level = 0, m_always = 0, m_other = 0, m_clamped = 0, m_inner = 0, m_share = 0, m_twice = 0;
     QString m_name;
     bool m_muted = false;
     double m_depth = 0;

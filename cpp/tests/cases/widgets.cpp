@@ -16,13 +16,14 @@ public:
         connect(m_button, &QPushButton::clicked, m_button, &QObject::deleteLater);
         m_button->setFlat(true);
     }
-    void go() { m_button->click(); m_box->setChecked(true); }
+    void go() { m_button->click(); m_box->setChecked(true); m_bar->setValue(3); }
     void closeEvent(QCloseEvent *) override { emit closing(); }
 signals:
     void closing();
 private:
     QSpinBox *m_spin = new QSpinBox;
     QSlider *m_slider = new QSlider;
+    QScrollBar *m_bar = new QScrollBar(this);
     QMenu *m_menu = new QMenu(this);
     QPushButton *m_button = new QPushButton(this);
     QCheckBox *m_box = new QCheckBox(this);
