@@ -120,11 +120,12 @@ DIES_ONCE = 'an object dies on each way round, and each dies once: this goes on 
 @dataclass
 class Warnings:
     """What the reader warned of, the circles that it takes to come to rest, where objects delete what they own, what is on circles only by
-    the death of an object, and whether the program is over the standard limits."""
+    the death of an object, what Qt itself posts, and whether the program is over the standard limits."""
     found: list[dict[str, Any]]
     resting: list[set[str]]
     own: set[tuple[str, int, int]]
     by_death: set[str]
+    by_qt: set[str]
     wide: bool
 
     @staticmethod
@@ -133,12 +134,15 @@ class Warnings:
             with open(path, encoding='utf-8') as file:
                 told = json.load(file)
             own = {(str(file), int(line), int(column)) for file, line, column in told['own']}
-            return Warnings(told['findings'], [set(names) for names in told['resting']], own, set(told['by_death']), bool(told['wide']))
+            resting = [set(names) for names in told['resting']]
+            return Warnings(told['findings'], resting, own, set(told['by_death']), set(told['by_qt']), bool(told['wide']))
         except (OSError, ValueError, KeyError, TypeError) as wrong:
             raise ReadError(f'{path}: the warnings can\'t be read') from wrong
 
     def add_to(self, verdict: Verdict) -> None:
-        """Adds the warnings, but for rules that the verdict has itself; and tells of circles that come to rest."""
+        """Adds the warnings, but for rules that the verdict has itself; and tells of circles that come to rest. That what Qt posts to an
+        object is dropped with it isn't told: so Qt does it with each event."""
+        verdict.findings = [f for f in verdict.findings if f.rule != 'deletes-connected' or not {s.from_ for s in f.chain} & self.by_qt]
         own = {f.rule for f in verdict.findings}
         for finding in verdict.findings:
             names = {s.from_ for s in finding.chain}
@@ -148,7 +152,7 @@ class Warnings:
                 finding.note, finding.severity = OF_OWN, 'note'
         verdict.findings += [warning_of(f) for f in self.found if f['rule'] not in own]
         for finding in verdict.findings:
-            if finding.rule == 'queued-cycle' and all(s.from_ in self.by_death for s in finding.chain):
+            if finding.rule == 'queued-cycle' and finding.chain and all(s.from_ in self.by_death for s in finding.chain):
                 finding.note, finding.severity = DIES_ONCE, 'note'
 
     def _is_of_own(self, finding: Finding) -> bool:

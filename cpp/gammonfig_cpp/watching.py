@@ -28,7 +28,7 @@ class Watching:
         """The warnings, as the findings of a verdict in JSON; and whether commands take the program with `--wide` alone."""
         resting = Settling(self.program, Graph(self.program, self.graph.names)).sets()
         told = {'findings': self._queued_cycles() + self._re_entries(), 'resting': resting, 'own': self._own(), 'by_death': self._by_death(),
-                'wide': wide}
+                'by_qt': self._by_qt(), 'wide': wide}
         return json.dumps(told, indent=1, ensure_ascii=False) + '\n'
 
     def _own(self) -> list[list[object]]:
@@ -45,6 +45,11 @@ class Watching:
         circling = set[Node]().union(*components({n: list(to) for n, to in edges.items()}))
         living = components({n: [m for m in to if m not in dying] for n, to in edges.items() if n not in dying})
         return sorted(self.graph.name(node) for node in circling.difference(*living))
+
+    def _by_qt(self) -> list[str]:
+        """What Qt's own functions post."""
+        members = self.program.members
+        return sorted({self.graph.name(node) for node in self.graph.edges if node[1][0] == 'posted' and members[node[1]].library})
 
     def _told(self, why: Why) -> dict[str, object]:
         place = why.place

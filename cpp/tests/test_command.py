@@ -140,6 +140,16 @@ def test_a_circle_by_deaths(written: pathlib.Path, tmp_path: pathlib.Path) -> No
     assert ': note: m [queued-cycle]' in told and 'each dies once' in told
 
 
+def test_what_qt_posts_to_a_dead_object(written: pathlib.Path, tmp_path: pathlib.Path) -> None:
+    """What Qt posts to an object is dropped with it, as each event is: that is told only of what the application posts."""
+    shutil.copytree(written / 'out', tmp_path / 'out')
+    path = tmp_path / 'out/app.warnings.json'
+    named = checker(tmp_path, line_of(written, 'delete this;'), 'deletes-connected', 'note')
+    assert ': note: m [deletes-connected]' in run(tmp_path, '--verdict', 'out', GAMMONFIG=named).stdout
+    path.write_text(json.dumps(json.loads(path.read_text()) | {'by_qt': ['Desk.end()']}))
+    assert 'deletes-connected' not in run(tmp_path, '--verdict', 'out', GAMMONFIG=named).stdout
+
+
 def test_a_verdict_as_sarif(written: pathlib.Path) -> None:
     named = checker(written, line_of(written, 'delete this;'))
     told = json.loads(run(written, '--verdict', 'out', '--sarif', GAMMONFIG=named).stdout)
