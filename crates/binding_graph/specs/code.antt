@@ -3,6 +3,7 @@ pub mod Keys
 pub mod Lists
 pub mod Orders
 pub mod Numbering
+pub mod Turns
 pub mod Ranks
 pub mod Graph
 pub mod Touched

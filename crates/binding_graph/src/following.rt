@@ -1,6 +1,7 @@
 //! What follows from some properties: what chains of bindings lead to from them.
 
 ghost use Rattle.std.specs.Prelude.{◌≡◌, map, IfOk, OnOk};
+ghost use Rattle.std.specs.BinaryHeap.{IsHeap, heap_items};
 ghost use Rattle.std.specs.Option.{is_some};
 ghost use Rattle.indexmap.specs.IndexMap.{get};
 ghost use Rattle.binding_graph.specs.declared.place.Place.{Place};
@@ -9,19 +10,25 @@ ghost use Rattle.binding_graph.specs.Bindings.{binding_at, without_all};
 ghost use Rattle.binding_graph.specs.code.Graph.{IsGraph, bindings_of, reader_keys};
 ghost use Rattle.binding_graph.specs.code.Keys.{key_of, same_key};
 ghost use Rattle.binding_graph.specs.code.Lists.{place_at};
-ghost use Rattle.binding_graph.specs.code.Numbering.{Gains, IsNumbering, IsReach, places_of};
 ghost use Rattle.binding_graph.specs.code.Orders.{IsAffected};
 ghost use Rattle.binding_graph.specs.code.Ranks.{rank_of};
+ghost use Rattle.binding_graph.specs.code.Turns.{AddsReaders, by_turn, is_turn};
 
 use crate::graph::Graph;
-use crate::numbering::{Numbered, put_in};
 use crate::place::{Place, contains};
 use basic_types::Value;
 use indexmap::IndexMap;
 use std::alloc::{AllocError, Global};
+use std::cmp::Reverse;
+use std::collections::BinaryHeap;
+
+/// Readers that wait for their turn, with their numbers, of which the lowest comes first. One waits once for each of its
+/// sources.
+type Turns = BinaryHeap<Reverse<(usize, (usize, usize))>>;
 
 /// What chains of the other bindings lead to from these properties, each once, a source before its reader. These have the
-/// given values, so that none of them follows. Nothing else is looked at.
+/// given values, so that none of them follows. Nothing else is looked at. None has its turn before one whose readers aren't
+/// found yet, since a source's number is below its reader's.
 pub fn followers(
     alloc: Global,
     graph: &Graph,
@@ -33,15 +40,35 @@ pub fn followers(
     ensures { IfOk result (λ found. IsAffected
         (binding_at (without_all from.now (bindings_of graph.now))) from.now found.items) }
 {
-    let found = reach(alloc, graph, from)?;
-    let mut places = Vec::with_capacity(alloc, found.len())?;
-    for each in &found {
-        if is_given(from, given, &each.place) {
+    let mut turns = BinaryHeap::new(alloc);
+    for source in from {
+        add_readers(graph, source, &mut turns)?;
+    }
+    let mut found = Vec::new(alloc);
+    let mut last = None;
+    'turns: while let Some(Reverse((number, key))) = turns.pop() {
+        let place = Place::at(key);
+        if is_turn(last, number) {
             continue;
         }
-        places.push(each.place)?;
+        if is_given(from, given, &place) {
+            continue;
+        }
+        last = Some(number);
+        found.push(place)?;
+        add_readers(graph, &place, &mut turns)?;
     }
-    Ok(places)
+    Ok(found)
+}
+
+/// Whether this number's turn was the last one.
+fn is_turn(last: Option<usize>, number: usize) -> bool
+    ensures { result ≡ is_turn number last }
+{
+    match last {
+        Some(taken) => taken == number,
+        None => false,
+    }
 }
 
 /// So many properties are sooner compared than looked up.
@@ -59,41 +86,19 @@ fn is_given(from: &[Place], given: &IndexMap<(usize, usize), Value>, place: &Pla
     }
 }
 
-/// What chains of bindings lead to from these properties, which may be some of these, with the numbers in whose order they
-/// are evaluated: first the readers of these, then those of each that was found, in that order, so that none comes before
-/// one whose readers are added already.
-fn reach(alloc: Global, graph: &Graph, from: &[Place]) -> Result<Vec<Numbered>, AllocError>
-    requires { IsGraph graph.now }
-    ensures { IfOk result (λ found. IsReach (binding_at (bindings_of graph.now))
-        (rank_of graph.now.ranks) from.now found.items found.items) }
-{
-    let mut found = Vec::new(alloc);
-    for source in from {
-        add_readers(graph, source, &mut found)?;
-    }
-    let mut i = 0;
-    while i < found.len() {
-        let source = found[i].place;
-        add_readers(graph, &source, &mut found)?;
-        i += 1;
-    }
-    Ok(found)
-}
-
 /// Adds the readers of a source.
-fn add_readers(graph: &Graph, source: &Place, found: &mut Vec<Numbered>) -> Result<(), AllocError>
+fn add_readers(graph: &Graph, source: &Place, turns: &mut Turns) -> Result<(), AllocError>
     requires graph { IsGraph graph.now }
-    requires numbered { IsNumbering (rank_of graph.now.ranks) found.old.items }
-    ensures { OnOk result (Gains (binding_at (bindings_of graph.now)) (rank_of graph.now.ranks)
-        source.now (map place_at (reader_keys graph.now.readers source.now)) found.old.items found.new.items) }
+    requires heap { IsHeap by_turn (heap_items turns.old) }
+    ensures { OnOk result (AddsReaders (binding_at (bindings_of graph.now)) (rank_of graph.now.ranks)
+        source.now (map place_at (reader_keys graph.now.readers source.now)) (heap_items turns.old) (heap_items turns.new)) }
 {
     let readers = graph.readers.of(source);
     for key in readers {
-        let place = Place::at(*key);
-        let Some(number) = graph.rank_of_reader(&place, source) else {
+        let Some(number) = graph.rank_of_reader(&Place::at(*key), source) else {
             continue;
         };
-        put_in(found, Numbered { number, place })?;
+        turns.push(Reverse((number, *key)))?;
     }
     Ok(())
 }
