@@ -1,4 +1,4 @@
 pub mod Scheduled
 pub mod Forgotten
-pub mod Agreeing
 pub mod Moving
+pub use Rattle.prop_bindings.proofs.Agreeing

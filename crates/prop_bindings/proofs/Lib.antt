@@ -6,6 +6,7 @@ pub mod There
 pub mod More
 pub mod Homes
 pub mod Leaving
+pub mod Agreeing
 pub mod Once
 pub mod Assigned
 pub mod Staying

@@ -18,6 +18,9 @@ pub use binding_plans::{
     WriteFault,
 };
 pub use bindings::Bindings;
-pub use laws::{installed_once, left_agree, written_once};
+pub use laws::{
+    adopted_agree, blocked_agree, created_agree, installed_once, left_agree, scheduled_agree,
+    unbound_agree, written_once,
+};
 pub use preparing::fits;
 pub use uncounted::UncountedBindings;

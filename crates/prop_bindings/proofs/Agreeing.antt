@@ -1,21 +1,25 @@
--- Living objects keep their classes, values and event loops, so that what agrees goes on to, where an object is created or adopted, is
--- blocked, or its deletion is scheduled.
-use Rattle.std.proofs.Common.{◌≡◌, ℕ, zero, suc, List, [], ◌∷◌, ◌++◌, Option, None, Some, refl, ap, ◌∙◌}
+-- Living objects keep their classes, values and event loops, so that what agrees goes on to, where an object is created or
+-- adopted, is blocked, or its deletion is scheduled.
+use Rattle.std.proofs.Common.{◌≡◌, ℕ, zero, suc, List, [], ◌∷◌, ◌++◌, Option, None, Some, refl, ap, sym, ◌∙◌, subst, inl, inr}
 use Rattle.std.specs.Prelude.{slice_get}
 use Rattle.std.specs.Option.{option_map}
+use Rattle.std.proofs.lemmas.Bool.{cases_eq}
 use Rattle.std.proofs.lemmas.Option.{same_Some}
 use Rattle.basic_types.specs.declared.value.Value.{Value}
 use Rattle.meta_model.specs.Loaded.{Loaded}
 use Rattle.object_tree.specs.declared.life.Life.{Life}
 use Rattle.object_tree.specs.declared.object.Object.{Object}
 use Rattle.object_tree.specs.Family.{moved, put_under}
-use Rattle.object_tree.specs.Objects.{life_of, change_life, with_life}
+use Rattle.object_tree.specs.Creating.{fresh, initial_values}
+use Rattle.object_tree.specs.Objects.{blocked, life_of, change_life, scheduled, with_life}
 use Rattle.object_tree.specs.Typed.{AreTyped}
 use Rattle.object_tree.proofs.Changing.{life-of-lives, lives-of-life, life-part, part-change}
 use Rattle.object_tree.proofs.Families.{moved-part}
+use Rattle.object_tree.proofs.TypedObjects.{typed-change, typed-created, typed-moved}
 use Rattle.binding_graph.specs.declared.binding.Binding.{Binding}
-use Rattle.prop_bindings.specs.Fits.{Agree}
-use Rattle.prop_bindings.proofs.Leaving.{Stays, agree-living}
+use Rattle.binding_plans.specs.Fits.{Agree}
+use Rattle.prop_bindings.specs.Laws.{UnboundAgree, CreatedAgree, AdoptedAgree, BlockedAgree, ScheduledAgree}
+use Rattle.prop_bindings.proofs.Leaving.{Stays, agree-living, agree-none}
 
 abbrev pub LiveOn : List Object → List Object → Type 0
 LiveOn old new = (o : ℕ) → Stays old new o
@@ -75,3 +79,36 @@ pub live-created : (objects : List Object) (z : Object) → LiveOn objects (obje
 live-created objects z o l is =
     let found = lives-of-life objects o l is in
     (l, life-of-lives {objects = objects ++ z ∷ []} {o = o} {x = found.0} {l = l} (record { is = get-before objects z found.0 o found.1.is; lives = found.1.lives }), refl, refl, refl)
+
+-- ---- the laws
+pub unbound_agree : UnboundAgree
+unbound_agree p objects typed = agree-none p objects typed
+
+pub created_agree : CreatedAgree
+created_agree p bs old new name class home o agree is =
+    subst (λ (l : List Object). Agree p l bs) (sym is.appended)
+    (agree-on p old _ (live-created old (fresh name is.number home (initial_values is.kind))) bs (typed-created p old name is.number home is.kind is.may.is is.may.begins agree.typed) agree)
+
+pub adopted_agree : AdoptedAgree
+adopted_agree p bs old new parent child life agree is = by_parent life.parent refl
+  where
+    after : Agree p (moved parent child old) bs
+    after = agree-on p old (moved parent child old) (live-moved parent child old) bs (typed-moved p parent child old agree.typed) agree
+
+    at : (l : List Object) → new ≡ l → Agree p l bs → Agree p new bs
+    at l e a = subst (λ (m : List Object). Agree p m bs) (sym e) a
+
+    by_parent : (up : Option ℕ) → life.parent ≡ up → Agree p new bs
+    by_parent None e = at (moved parent child old) (is.other (λ same. let none : None ≡ Some parent = sym e ∙ same in absurd (cc none))) after
+    by_parent (Some b) e = elim (cases_eq b parent) [
+      | inl same ↦ at old (is.same (e ∙ ap Some same)) agree
+      | inr other ↦ at (moved parent child old) (is.other (λ same. other (same_Some b parent (sym e ∙ same)))) after
+    ]
+
+pub blocked_agree : BlockedAgree
+blocked_agree p bs objects o on agree =
+    agree-on p objects (change_life o (blocked on) objects) (live-change o (blocked on) objects (λ l. refl)) bs (typed-change p o (blocked on) objects (λ l. refl) agree.typed) agree
+
+pub scheduled_agree : ScheduledAgree
+scheduled_agree p bs objects o agree =
+    agree-on p objects (change_life o scheduled objects) (live-change o scheduled objects (λ l. refl)) bs (typed-change p o scheduled objects (λ l. refl) agree.typed) agree
