@@ -1,4 +1,5 @@
 pub mod Adding
+pub mod Climbing
 pub mod Containing
 pub mod Joined
 pub mod Listing

@@ -153,22 +153,7 @@ ordered_is numbers first sorted last list e p s d f =
       increasing = subst IsStrictlyIncreasing (sym is) (IsStrictlyIncreasing-dedup sorted s);
     }
 
--- ---- lists of classes below
-pub rows_push : (P : ℕ → List ℕ → Type 0) (rows more : List (List ℕ)) (r : List ℕ) (n : ℕ) → length rows ≡ n → ((c : ℕ) → c < n → P c (row rows c)) → P n r → more ≡ rows ++ r ∷ []
-    → (length more ≡ n + 1) × ((c : ℕ) → c < n + 1 → P c (row more c))
-unfolding row
-rows_push P rows more r n count before new e = (
-  ap length e ∙ length-append rows (r ∷ []) ∙ omega (arith, count),
-  λ c low.
-      elim (cases_lt c (length rows)) [
-        | inl l ↦ subst (P c) (sym (ap (λ (l : List (List ℕ)). get_or l c []) e ∙ get_or_append_left rows (r ∷ []) [] c l)) (before c (omega arith))
-        | inr m ↦
-            let at : c ≡ length rows = omega arith in
-            let is : c ≡ n = at ∙ count in
-            subst (P c) (sym (ap (λ (l : List (List ℕ)). get_or l c []) e ∙ ap (λ (k : ℕ). get_or (rows ++ r ∷ []) k []) at ∙ get_or-append_seam rows r [] [])) (subst (λ (k : ℕ). P k r) (sym is) new)
-      ],
-)
-
+-- ---- lists of numbers of nodes
 pub some_low : {X : Type 0} (P : X → ℕ → Type 0) (xs : List X) (rows : List (List ℕ)) (from sources : List ℕ) → ((x : X) (n : ℕ) → P x n → n < length rows) → AreJust (OfSome P xs) from → sources ≡ from → (a : ℕ) → Contains sources a → a < length rows
 some_low P xs rows from sources low just e a h =
     let found = (just a).0 (subst (λ (l : List ℕ). Contains l a) e h) in low found.0 a found.2

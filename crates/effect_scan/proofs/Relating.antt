@@ -323,17 +323,6 @@ module _ (p : Loaded) where
   below_last c d (same is) = slice_get_within p.classes c _ is.is
   below_last c d (under base rest) = below_last _ d rest
 
-  pub lineage_is : (lineage : List (List ℕ)) (n : ℕ) → length lineage ≡ n → n ≡ length p.classes → ((c : ℕ) → c < n → Lists (λ d. Below p d c) (length p.classes) (row lineage c)) → IsLineage p lineage
-  lineage_is lineage n count all lists = record {
-    count = count ∙ all;
-    members = λ c d. (
-      λ h. let low = edge_inside lineage c d h in (((lists c (omega arith)).members d).0 h).1,
-      λ h.
-          let low = below_last d c h in
-          ((lists c (omega arith)).members d).1 (below_first d c h, h),
-    );
-  }
-
   length_from : (xs : List MetaObject) (c : ℕ) → slice_get xs c ≡ None → length xs ≤ c
   length_from [] c e = omega arith
   length_from (x ∷ xs) zero e = absurd (none-some x (sym e))

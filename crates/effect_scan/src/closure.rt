@@ -9,7 +9,8 @@ ghost use Rattle.effect_scan.specs.code.Places.{IsLineage, Lists};
 ghost use Rattle.effect_scan.specs.Destroying.{AreClosures};
 ghost use Rattle.effect_scan.specs.code.Relations.{IsSquare, IsEmpty, Extends, IsClosed, Passes, IsOwned, IsOwn, AreListed};
 
-use crate::rows::row_at;
+use crate::rows::targets_at;
+use crate::targets::Targets;
 use class_sets::ClassSet;
 use meta_model::{Meta, MetaOwns};
 use sqlite_items::Items;
@@ -20,7 +21,7 @@ use std::alloc::{AllocError, Global};
 pub fn closures(
     alloc: Global,
     meta: &Meta,
-    lineage: &[Items<usize>],
+    lineage: &[Targets],
 ) -> Result<Items<Items<usize>>, AllocError>
     requires { IsLineage meta.now lineage.now }
     ensures { IfOk result (AreClosures meta.now) }
@@ -33,7 +34,7 @@ pub fn closures(
 fn close_owned(
     alloc: Global,
     meta: &Meta,
-    lineage: &[Items<usize>],
+    lineage: &[Targets],
     relation: &mut [ClassSet],
 ) -> Result<Items<Items<usize>>, AllocError>
     requires lineage { IsLineage meta.now lineage.now }
@@ -59,14 +60,14 @@ fn empty_relation(alloc: Global, count: usize) -> Result<Vec<ClassSet>, AllocErr
 }
 
 /// Relates each class to those that its objects may be the parents of.
-fn relate_owned(lineage: &[Items<usize>], owned: &[MetaOwns], relation: &mut [ClassSet])
+fn relate_owned(lineage: &[Targets], owned: &[MetaOwns], relation: &mut [ClassSet])
     requires inside { (c d : ℕ) → Contains (row lineage.now c) d → d < length relation.old }
     requires square { IsSquare (length relation.old) relation.old }
     ensures { Extends (IsOwned lineage.now owned.now) relation.old relation.new }
 {
     for owns in owned {
-        let parents = row_at(lineage, owns.parent);
-        let children = row_at(lineage, owns.child);
+        let parents = targets_at(lineage, owns.parent);
+        let children = targets_at(lineage, owns.child);
         relate(relation, parents, children);
     }
 }

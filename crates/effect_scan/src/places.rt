@@ -21,7 +21,7 @@ pub struct Places {
     /// The nodes, with their numbers.
     pub numbering: Numbering,
     /// For each class, those that are it or below it.
-    pub lineage: Items<Items<usize>>,
+    pub lineage: Items<Targets>,
 }
 
 impl Places {
