@@ -5,11 +5,11 @@ use Rattle.std.proofs.lemmas.Bool.{cases_eq, cases_lt, or_cases, or_left, or_rig
 use Rattle.std.proofs.lemmas.List.{get_or-set_same, get_or-set_other, take_more, take_all, length-set, reverse-append}
 use Rattle.std.proofs.lemmas.List.Elements.{Contains-push, Contains-push_cases, Contains-append_left, Contains-get_or}
 use Rattle.rank_graph.specs.Bits.{has}
-use Rattle.effect_scan.specs.Rows.{row, Edge}
+use Rattle.effect_scan.specs.Rows.{row, Edge, AreAlike}
 use Rattle.rank_graph.specs.Graphs.{InRange}
 use Rattle.rank_graph.specs.Walks.{LeadsBy, AreDistinct}
 use Rattle.rank_graph.specs.Entries.{owns}
-use Rattle.rank_graph.specs.Searching.{state_of, Joins, room, Finished, NoneOpen, OnPath, AreOnce, Visiting, Held, Searching, Grows, Visited, Since, left, left_below, Climbs, LeadsRound}
+use Rattle.rank_graph.specs.Searching.{state_of, Joins, room, Finished, NoneOpen, OnPath, AreOnce, Visiting, Held, Searching, Grows, Visited, Since, IsKnown, IsBegun, left, left_below, Climbs, LeadsRound}
 use Rattle.rank_graph.specs.declared.bits.Bits.{Bits}
 use Rattle.rank_graph.specs.declared.path.Entry.{Entry}
 use Rattle.rank_graph.specs.declared.path.State.{State}
@@ -121,6 +121,52 @@ joins_none own states a s is = record {
   source = λ c h. inl (s, is, h);
 }
 
+-- what the edges of a node that is done give is what those of one with the same edges give, with its own classes
+pub joins_twin : (own : List Bits) (states : List State) (a t : ℕ) (seen : List ℕ) (s : Bits) (e f : Entry) → Joins own states t seen e → ((c : ℕ) → owns own t c → owns own a c) → slice_get own a ≡ Some s → f.rank ≡ e.rank → ((c : ℕ) → has f.classes c ≡ (has s c || has e.classes c)) → Joins own states a seen f
+unfolding owns
+joins_twin own states a t seen s e f j within is rank both = record {
+  falls = λ b h. let x = j.falls b h in (x.0, x.1, omega (arith, x.2, rank), λ c has_it. both c ∙ or_right (has s c) (has e.classes c) (x.3 c has_it));
+  tight = elim j.tight [ inl z ↦ inl (rank ∙ z) | inr x ↦ inr (x.0, x.1, x.2, x.3, x.4 ∙ sym rank) ];
+  itself = λ c h. let same : h.0 ≡ s = cc (h.1, is) in both c ∙ or_left (has s c) (has e.classes c) (subst (λ (x : Bits). has x c ≡ true) same h.2);
+  source = λ c h.
+      elim (or_cases (has s c) (has e.classes c) (sym (both c) ∙ h)) [
+        | inl mine ↦ inl (s, is, mine)
+        | inr theirs ↦ elim (j.source c theirs) [ inl z ↦ inl (within c z) | inr x ↦ inr x ]
+      ];
+}
+
+-- a node is entered with what is known of one that is told to be alike
+pub begun_known : (rows : List (List ℕ)) (alike : List ℕ) (own : List Bits) (states : List State) (a : ℕ) (s : Bits) (e f : Entry) (r : List ℕ) → AreAlike rows alike → Finished rows own states → IsKnown alike own states a e → r ≡ row rows a → slice_get own a ≡ Some s → f.rank ≡ e.rank → ((c : ℕ) → has f.classes c ≡ (has s c || has e.classes c))
+    → IsBegun rows own states a (record { node = a; next = length r; entry = f })
+begun_known rows alike own states a s e f r are finished known row_is is rank both =
+    let same = are.each a known.twin known.is in
+    let joins = joins_twin own states a known.twin (row rows a) s e f (subst (λ (seen : List ℕ). Joins own states known.twin seen e) same (finished.joins known.twin e known.done)) known.within is rank both in
+    let count : length r ≡ length (row rows a) = ap (λ (l : List ℕ). length l) row_is in
+    record {
+      node = refl;
+      joins = subst (λ (seen : List ℕ). Joins own states a seen f) (sym (take_all (length r) (row rows a) (omega (arith, count)))) joins;
+      ranked = omega (arith, rank, finished.ranked known.twin e known.done);
+      placed = omega (arith, count);
+    }
+
+-- .. or with none of its edges followed
+pub begun_none : (rows : List (List ℕ)) (own : List Bits) (states : List State) (a : ℕ) (s : Bits) → length states ≡ length rows → slice_get own a ≡ Some s → IsBegun rows own states a (record { node = a; next = 0; entry = record { rank = 0; classes = s } })
+begun_none rows own states a s len is = record {
+  node = refl;
+  joins = joins_none own states a s is;
+  ranked = omega (arith, room_le states, len);
+  placed = omega arith;
+}
+
+-- of two sets one of which adds nothing to the other, that one is within it
+pub owns_within : (own : List Bits) (a t : ℕ) (mine theirs both : Bits) → slice_get own a ≡ Some mine → slice_get own t ≡ Some theirs → both ≡ mine → ((c : ℕ) → has both c ≡ (has theirs c || has mine c)) → (c : ℕ) → owns own t c → owns own a c
+unfolding owns
+owns_within own a t mine theirs both is_mine is_theirs same union c h =
+    let there : h.0 ≡ theirs = cc (h.1, is_theirs) in
+    let held : has theirs c ≡ true = subst (λ (x : Bits). has x c ≡ true) there h.2 in
+    let all : has both c ≡ true = union c ∙ or_left (has theirs c) (has mine c) held in
+    (mine, is_mine, subst (λ (x : Bits). has x c ≡ true) same all)
+
 pub visiting_grows : (rows : List (List ℕ)) (own : List Bits) (states after : List State) (v : Visit) → Grows states after → room after ≤ room states → state_of after v.node ≡ Open → Visiting rows own states v → Visiting rows own after v
 visiting_grows rows own states after v grows less opened x = record {
   joins = joins_grow own states after v.node (take v.next (row rows v.node)) v.entry grows x.joins;
@@ -203,8 +249,18 @@ step_over rows own states path at d f t s more reads is rank both =
       only = s.only;
     }
 
-pub step_into : (rows : List (List ℕ)) (own : List Bits) (states : List State) (path : List Visit) (at : Visit) (t : ℕ) (x : Bits) → Searching rows own states path at → length states ≡ length rows → at.next < length (row rows at.node) → get_or (row rows at.node) at.next 0 ≡ t → t < length rows → state_of states t ≡ New → slice_get own t ≡ Some x → Searching rows own (set states t Open) (at ∷ path) (record { node = t; next = 0; entry = record { rank = 0; classes = x } })
-step_into rows own states path at t x s len more reads inside fresh is_own =
+-- a node is entered
+begun_visiting : (rows : List (List ℕ)) (own : List Bits) (states after : List State) (t : ℕ) (v : Visit) → Grows states after → room after ≡ room states → state_of after t ≡ Open → t < length rows → IsBegun rows own states t v → Visiting rows own after v
+begun_visiting rows own states after t v grows same opened inside b = record {
+  joins = subst (λ (n : ℕ). Joins own after n (take v.next (row rows n)) v.entry) (sym b.node) (joins_grow own states after t (take v.next (row rows t)) v.entry grows b.joins);
+  ranked = omega (arith, b.ranked, same);
+  placed = subst (λ (n : ℕ). v.next ≤ length (row rows n)) (sym b.node) b.placed;
+  opened = subst (λ (n : ℕ). state_of after n ≡ Open) (sym b.node) opened;
+  inside = omega (arith, b.node, inside);
+}
+
+pub step_into : (rows : List (List ℕ)) (own : List Bits) (states : List State) (path : List Visit) (at : Visit) (t : ℕ) (v : Visit) → Searching rows own states path at → length states ≡ length rows → at.next < length (row rows at.node) → get_or (row rows at.node) at.next 0 ≡ t → t < length rows → state_of states t ≡ New → IsBegun rows own states t v → Searching rows own (set states t Open) (at ∷ path) v
+step_into rows own states path at t v s len more reads inside fresh begun =
     let within : t < length states = omega arith in
     let after : List State = set states t Open in
     let grows : Grows states after = grows_set states t Open (λ d is. let no : New ≡ Done d = sym fresh ∙ is in cc) in
@@ -214,30 +270,26 @@ step_into rows own states path at t x s len more reads inside fresh is_own =
       | inl e ↦ subst (λ (y : ℕ). state_of after y ≡ Open) (sym e) (state-set_same states t Open within)
       | inr ne ↦ state-set_other states t a Open ne ∙ is
     ] in
+    let off : ¬ OnPath t (at ∷ path) = λ on.
+    elim on [
+      | inl e ↦ let no : New ≡ Open = sym fresh ∙ subst (λ (y : ℕ). state_of states y ≡ Open) (sym e) s.visiting.opened in cc
+      | inr below ↦ let no : New ≡ Open = sym fresh ∙ held_open rows own states at.node path t s.held below in cc
+    ] in
     record {
       finished = finished_open rows own states t within fresh s.finished;
-      visiting = record {
-        joins = joins_none own after t x is_own;
-        ranked = omega (arith, s.visiting.ranked);
-        placed = omega arith;
-        opened = state-set_same states t Open within;
-        inside = inside;
-      };
+      visiting = begun_visiting rows own states after t v grows same (state-set_same states t Open within) inside begun;
       held = (
         record {
           visiting = visiting_grows rows own states after at grows (omega arith) (still at.node s.visiting.opened) s.visiting;
           more = more;
-          leads = reads;
+          leads = reads ∙ sym begun.node;
           once = s.once;
         },
         held_grows rows own states after at.node path grows (omega arith) (λ a on. still a) s.held,
       );
-      once = λ on. elim on [
-        | inl e ↦ let no : New ≡ Open = sym fresh ∙ subst (λ (y : ℕ). state_of states y ≡ Open) (sym e) s.visiting.opened in cc
-        | inr below ↦ let no : New ≡ Open = sym fresh ∙ held_open rows own states at.node path t s.held below in cc
-      ];
+      once = λ on. off (subst (λ (n : ℕ). OnPath n (at ∷ path)) begun.node on);
       only = λ a is. elim (cases_eq a t) [
-        | inl e ↦ inl e
+        | inl e ↦ inl (e ∙ sym begun.node)
         | inr ne ↦ inr (s.only a (sym (state-set_other states t a Open ne) ∙ is))
       ];
     }
@@ -298,24 +350,18 @@ not_done_new states t fresh d is = let no : New ≡ Done d = sym fresh ∙ is in
 pub not_done_open : (states : List State) (t : ℕ) → state_of states t ≡ Open → (d : Entry) → state_of states t ≡ Done d → ⊥
 not_done_open states t opened d is = let no : Open ≡ Done d = sym opened ∙ is in cc
 
-pub begins : (rows : List (List ℕ)) (own : List Bits) (states : List State) (root : ℕ) (path : List Visit) (x : Bits) → path ≡ [] → length states ≡ length rows → root < length rows → state_of states root ≡ New → Finished rows own states → NoneOpen states → slice_get own root ≡ Some x
-    → Searching rows own (set states root Open) path (record { node = root; next = 0; entry = record { rank = 0; classes = x } }) × Since states root (set states root Open)
-begins rows own states root path x none len inside fresh f closed is_own =
+pub begins : (rows : List (List ℕ)) (own : List Bits) (states : List State) (root : ℕ) (path : List Visit) (v : Visit) → path ≡ [] → length states ≡ length rows → root < length rows → state_of states root ≡ New → Finished rows own states → NoneOpen states → IsBegun rows own states root v
+    → Searching rows own (set states root Open) path v × Since states root (set states root Open)
+begins rows own states root path v none len inside fresh f closed begun =
     let within : root < length states = omega arith in
     let less : room (set states root Open) ≡ room states = room-set_open states root within fresh in (
       record {
         finished = finished_open rows own states root within fresh f;
-        visiting = record {
-          joins = joins_none own (set states root Open) root x is_own;
-          ranked = omega (arith, room_le states);
-          placed = omega arith;
-          opened = state-set_same states root Open within;
-          inside = inside;
-        };
-        held = subst (λ (p : List Visit). Held rows own (set states root Open) root p) (sym none) tt;
-        once = λ on. subst (λ (p : List Visit). OnPath root p) none on;
+        visiting = begun_visiting rows own states (set states root Open) root v (grows_set states root Open (not_done_new states root fresh)) less (state-set_same states root Open within) inside begun;
+        held = subst (λ (p : List Visit). Held rows own (set states root Open) v.node p) (sym none) tt;
+        once = λ on. subst (λ (p : List Visit). OnPath v.node p) none on;
         only = λ a is. elim (cases_eq a root) [
-          | inl e ↦ inl e
+          | inl e ↦ inl (e ∙ sym begun.node)
           | inr ne ↦ absurd (closed a (sym (state-set_other states root a Open ne) ∙ is))
         ];
       },
@@ -331,13 +377,13 @@ pub over_step : (rows : List (List ℕ)) (own : List Bits) (before states : List
 over_step rows own before states root path at r d f s e more is rank both =
     (step_over rows own states path at d f (get_or r at.next 0) s.0 (subst (λ (x : List ℕ). at.next < length x) e more) (subst (λ (x : List ℕ). get_or x at.next 0 ≡ get_or r at.next 0) e refl) is rank both, s.1)
 
-pub into_step : (rows : List (List ℕ)) (own : List Bits) (before states : List State) (root : ℕ) (path after : List Visit) (at : Visit) (r : List ℕ) (x : Bits) → Searching rows own states path at × Since before root states → length before ≡ length rows → InRange rows → r ≡ row rows at.node → at.next < length r → state_of states (get_or r at.next 0) ≡ New → slice_get own (get_or r at.next 0) ≡ Some x → after ≡ at ∷ path
-    → Searching rows own (set states (get_or r at.next 0) Open) after (record { node = get_or r at.next 0; next = 0; entry = record { rank = 0; classes = x } }) × Since before root (set states (get_or r at.next 0) Open)
-into_step rows own before states root path after at r x s len range e more fresh is_own pushed =
+pub into_step : (rows : List (List ℕ)) (own : List Bits) (before states : List State) (root : ℕ) (path after : List Visit) (at v : Visit) (r : List ℕ) → Searching rows own states path at × Since before root states → length before ≡ length rows → InRange rows → r ≡ row rows at.node → at.next < length r → state_of states (get_or r at.next 0) ≡ New → IsBegun rows own states (get_or r at.next 0) v → after ≡ at ∷ path
+    → Searching rows own (set states (get_or r at.next 0) Open) after v × Since before root (set states (get_or r at.next 0) Open)
+into_step rows own before states root path after at v r s len range e more fresh begun pushed =
     let inside : get_or r at.next 0 < length rows = target_inside rows at.node at.next r e range more in
     let same : length states ≡ length rows = s.1.len ∙ len in (
-      subst (λ (p : List Visit). Searching rows own (set states (get_or r at.next 0) Open) p (record { node = get_or r at.next 0; next = 0; entry = record { rank = 0; classes = x } })) (sym pushed)
-          (step_into rows own states path at (get_or r at.next 0) x s.0 same (subst (λ (y : List ℕ). at.next < length y) e more) (subst (λ (y : List ℕ). get_or y at.next 0 ≡ get_or r at.next 0) e refl) inside fresh is_own),
+      subst (λ (p : List Visit). Searching rows own (set states (get_or r at.next 0) Open) p v) (sym pushed)
+          (step_into rows own states path at (get_or r at.next 0) v s.0 same (subst (λ (y : List ℕ). at.next < length y) e more) (subst (λ (y : List ℕ). get_or y at.next 0 ≡ get_or r at.next 0) e refl) inside fresh begun),
       since_set before states root (get_or r at.next 0) Open (omega arith) (λ is. let no : Open ≡ New = is in cc) (not_done_new states (get_or r at.next 0) fresh) s.1,
     )
 
@@ -369,12 +415,13 @@ ends rows own before states root path at r s len e all none =
       len = since.len;
     }
 
-pub into_smaller : (rows : List (List ℕ)) (own : List Bits) (before states : List State) (root : ℕ) (path after : List Visit) (at : Visit) (r : List ℕ) → Searching rows own states path at × Since before root states → length before ≡ length rows → InRange rows → r ≡ row rows at.node → at.next < length r → state_of states (get_or r at.next 0) ≡ New → after ≡ at ∷ path
-    → left rows (set states (get_or r at.next 0) Open) + left_below rows after + (length (row rows (get_or r at.next 0)) - 0) < left rows states + left_below rows path + (length (row rows at.node) - at.next)
-into_smaller rows own before states root path after at r s len range e more fresh pushed =
+pub into_smaller : (rows : List (List ℕ)) (own : List Bits) (before states : List State) (root : ℕ) (path after : List Visit) (at v : Visit) (r : List ℕ) → Searching rows own states path at × Since before root states → length before ≡ length rows → InRange rows → r ≡ row rows at.node → at.next < length r → state_of states (get_or r at.next 0) ≡ New → v.node ≡ get_or r at.next 0 → after ≡ at ∷ path
+    → left rows (set states (get_or r at.next 0) Open) + left_below rows after + (length (row rows v.node) - v.next) < left rows states + left_below rows path + (length (row rows at.node) - at.next)
+into_smaller rows own before states root path after at v r s len range e more fresh node pushed =
     let inside : get_or r at.next 0 < length rows = target_inside rows at.node at.next r e range more in
     let less = left-set_open rows states (get_or r at.next 0) (s.1.len ∙ len) inside fresh in
     let long : at.next < length (row rows at.node) = subst (λ (x : List ℕ). at.next < length x) e more in
+    let rest : length (row rows v.node) ≡ length (row rows (get_or r at.next 0)) = ap (λ (n : ℕ). length (row rows n)) node in
     let below : left_below rows after ≡ (length (row rows at.node) - at.next) + 1 + left_below rows path = ap (left_below rows) pushed in
     omega arith
 

@@ -1,5 +1,5 @@
 -- What a search knows.
-use Rattle.std.specs.Prelude.{◌≡◌, ℕ, suc, ◌+◌, ◌-◌, ◌≤◌, ◌<◌, true, ◌⊎◌, List, [], ◌∷◌, ◌++◌, length, take, slice_index_or}
+use Rattle.std.specs.Prelude.{◌≡◌, ℕ, suc, ◌+◌, ◌-◌, ◌≤◌, ◌<◌, true, ◌⊎◌, List, [], ◌∷◌, ◌++◌, length, take, Some, slice_get, slice_index_or}
 use Rattle.std.specs.List.{Contains}
 use Rattle.rank_graph.specs.Bits.{has}
 use Rattle.effect_scan.specs.Rows.{row, Edge}
@@ -22,6 +22,13 @@ pub record Joins (own : List Bits) (states : List State) (a : ℕ) (seen : List 
   pub itself : (c : ℕ) → owns own a c → has e.classes c ≡ true
   pub source : (c : ℕ) → has e.classes c ≡ true → owns own a c ⊎ ((b : ℕ) × (d : Entry) × Contains seen b × (state_of states b ≡ Done d) × (has d.classes c ≡ true))
 
+-- the entry of a node that is done and told to be alike, and has no class itself that this one hasn't
+pub record IsKnown (alike : List ℕ) (own : List Bits) (states : List State) (a : ℕ) (e : Entry) : Type 0 where
+  pub twin : ℕ
+  pub is : slice_get alike a ≡ Some twin
+  pub done : state_of states twin ≡ Done e
+  pub within : (c : ℕ) → owns own twin c → owns own a c
+
 -- how many nodes are not done
 abbrev pub room : List State → ℕ
 room [] = 0
@@ -36,6 +43,13 @@ pub record Finished (rows : List (List ℕ)) (own : List Bits) (states : List St
 
 abbrev pub NoneOpen : List State → Type 0
 NoneOpen states = (a : ℕ) → state_of states a ≡ Open → ⊥
+
+-- a visit with which a node is entered
+pub record IsBegun (rows : List (List ℕ)) (own : List Bits) (states : List State) (a : ℕ) (v : Visit) : Type 0 where
+  pub node : v.node ≡ a
+  pub joins : Joins own states a (take v.next (row rows a)) v.entry
+  pub ranked : v.entry.rank + room states ≤ length rows
+  pub placed : v.next ≤ length (row rows a)
 
 -- a node is on the path
 abbrev pub OnPath : ℕ → List Visit → Type 0

@@ -1,7 +1,7 @@
 //! Classes in groups of 128, for each of which the graph is searched.
 
 ghost use Rattle.std.specs.Prelude.{◌≡◌, ℕ, ◌<◌, length, IfOk, IfErr};
-ghost use Rattle.effect_scan.specs.Rows.{Edge};
+ghost use Rattle.effect_scan.specs.Rows.{Edge, AreAlike};
 ghost use Rattle.rank_graph.specs.Graphs.{InRange};
 ghost use Rattle.rank_graph.specs.Faults.{IsUnranked};
 ghost use Rattle.rank_graph.specs.Groups.{HasGroup, AreGroup, IsGroup};
@@ -17,14 +17,17 @@ use std::alloc::{AllocError, Global};
 
 /// The ranks of the nodes, and the classes that they lead to, where each has the classes of its row of `own` itself, all of
 /// them below `classes`. `Cycle` comes where some nodes are a cycle, and `Memory` only where a growth of memory was refused.
-/// Takes time linear in the nodes, edges and own classes, for each 128 classes.
+/// Takes time linear in the nodes, own classes and edges, for each 128 classes. `alike` tells for each node one that has the same
+/// edges, which count once where it is visited first.
 pub fn solve(
     alloc: Global,
     rows: &[Targets],
+    alike: &[usize],
     own: &[Items<usize>],
     classes: usize,
 ) -> Result<Solution, Unranked>
     requires inside { InRange rows.now }
+    requires alike { AreAlike rows.now alike.now }
     requires own { length own.now ≡ length rows.now }
     requires classes { (a c : ℕ) → Edge own.now a c → c < classes }
     ensures ranks { IfOk result (λ solution. AreRanks rows.now (rank_of solution)) }
@@ -34,7 +37,7 @@ pub fn solve(
     let mut groups = Items::new(alloc);
     for group in 0..classes / SIZE + 1 {
         let bits = group_of(alloc, own, group)?;
-        let entries = search(alloc, rows, bits.as_slice())?;
+        let entries = search(alloc, rows, alike, bits.as_slice())?;
         groups.push(entries)?;
     }
     Ok(Solution::of(groups))

@@ -1,11 +1,12 @@
 //! Search in depth: the ranks of the nodes, and the classes of a group that they lead to.
 
-ghost use Rattle.std.specs.Prelude.{◌≡◌, ℕ, ◌<◌, ◌+◌, ◌^◌, ◌||◌, length, max, IfOk, IfErr, OnOk};
+ghost use Rattle.std.specs.Prelude.{◌≡◌, ℕ, ◌<◌, ◌+◌, ◌^◌, ◌||◌, length, max, IfOk, IfErr, IfSome, IsTrue, OnOk};
+ghost use Rattle.effect_scan.specs.Rows.{AreAlike};
 ghost use Rattle.rank_graph.specs.Bits.{has};
 ghost use Rattle.rank_graph.specs.Graphs.{InRange};
-ghost use Rattle.rank_graph.specs.Entries.{IsSearched};
+ghost use Rattle.rank_graph.specs.Entries.{IsSearched, owns};
 ghost use Rattle.rank_graph.specs.Faults.{IsUnranked};
-ghost use Rattle.rank_graph.specs.Searching.{AllDone, Finished, Visited, NoneOpen, state_of};
+ghost use Rattle.rank_graph.specs.Searching.{AllDone, Finished, Visited, NoneOpen, IsBegun, IsKnown, state_of};
 ghost use Rattle.rank_graph.specs.declared.path.State.TheVariants.{New};
 
 use crate::bits::Bits;
@@ -14,18 +15,25 @@ use crate::fault::Unranked;
 use crate::path::{Entry, Path, State, Visit};
 use crate::states::{Found, States};
 use effect_scan::{Targets, targets_at};
+use sqlite_items::at;
 use std::alloc::Global;
 
 /// The longest chains of the nodes, and the classes that they lead to, where each has these classes itself; or why there are
-/// none.
-pub fn search(alloc: Global, rows: &[Targets], own: &[Bits]) -> Result<Found, Unranked>
+/// none. The edges of nodes that are told to be alike are followed once.
+pub fn search(
+    alloc: Global,
+    rows: &[Targets],
+    alike: &[usize],
+    own: &[Bits],
+) -> Result<Found, Unranked>
+    requires alike { AreAlike rows.now alike.now }
     requires inside { InRange rows.now }
     requires own { length own.now ≡ length rows.now }
     ensures ok { IfOk result (IsSearched rows.now own.now) }
     ensures err { IfErr result (IsUnranked rows.now) }
 {
     let mut states = States::fresh(alloc, rows.len())?;
-    visit_all(alloc, rows, own, &mut states)?;
+    visit_all(alloc, rows, alike, own, &mut states)?;
     let found = states.found(alloc)?;
     Ok(found)
 }
@@ -34,9 +42,11 @@ pub fn search(alloc: Global, rows: &[Targets], own: &[Bits]) -> Result<Found, Un
 fn visit_all(
     alloc: Global,
     rows: &[Targets],
+    alike: &[usize],
     own: &[Bits],
     states: &mut States,
 ) -> Result<(), Unranked>
+    requires alike { AreAlike rows.now alike.now }
     requires inside { InRange rows.now }
     requires states { length states.old ≡ length rows.now }
     requires own { length own.now ≡ length rows.now }
@@ -47,7 +57,7 @@ fn visit_all(
 {
     for root in 0..rows.len() {
         if let State::New = states.get(root) {
-            visit(alloc, rows, own, states, root)?;
+            visit(alloc, rows, alike, own, states, root)?;
         }
     }
     Ok(())
@@ -65,15 +75,71 @@ fn over(entry: Entry, below: Entry) -> Entry
     }
 }
 
+/// The visit with which a node is entered. Where a node with the same edges is done, what they give is known, and none is left to
+/// follow.
+fn begun(rows: &[Targets], alike: &[usize], own: &[Bits], states: &States, node: usize) -> Visit
+    requires alike { AreAlike rows.now alike.now }
+    requires states { length states.now ≡ length rows.now }
+    requires own { length own.now ≡ length rows.now }
+    requires node { node < length rows.now }
+    requires finished { Finished rows.now own.now states.now }
+    ensures { IsBegun rows.now own.now states.now node result }
+{
+    let classes = own[node];
+    match known(alike, own, states, node) {
+        Some(entry) => Visit {
+            node,
+            next: targets_at(rows, node).len(),
+            entry: Entry {
+                rank: entry.rank,
+                classes: classes.union(entry.classes),
+            },
+        },
+        None => Visit {
+            node,
+            next: 0,
+            entry: Entry { rank: 0, classes },
+        },
+    }
+}
+
+/// The entry of the node that is told to be alike, if that is done, and has no class itself that this one hasn't.
+fn known(alike: &[usize], own: &[Bits], states: &States, node: usize) -> Option<Entry>
+    requires states { length states.now ≡ length own.now }
+    requires node { node < length own.now }
+    ensures { IfSome result (IsKnown alike.now own.now states.now node) }
+{
+    let twin = *at(alike, node)?;
+    if twin >= own.len() || !adds_nothing(own, twin, node) {
+        return None;
+    }
+    match states.get(twin) {
+        State::Done(entry) => Some(entry),
+        _ => None,
+    }
+}
+
+/// Whether each class that the first node has itself is one of those that the other one has itself.
+fn adds_nothing(own: &[Bits], first: usize, other: usize) -> bool
+    requires first { first < length own.now }
+    requires other { other < length own.now }
+    ensures { IsTrue result → (c : ℕ) → owns own.now first c → owns own.now other c }
+{
+    let classes = own[other];
+    own[first].union(classes).is_same(classes)
+}
+
 /// Follows the edges from a node, and from each node that is met for the first time, until all of these are done or a cycle is
 /// met.
 fn visit(
     alloc: Global,
     rows: &[Targets],
+    alike: &[usize],
     own: &[Bits],
     states: &mut States,
     root: usize,
 ) -> Result<(), Unranked>
+    requires alike { AreAlike rows.now alike.now }
     requires inside { InRange rows.now }
     requires states { length states.old ≡ length rows.now }
     requires own { length own.now ≡ length rows.now }
@@ -86,15 +152,8 @@ fn visit(
 {
     let _count = states.len();
     let mut path = Path::new(alloc);
+    let mut at = begun(rows, alike, own, states, root);
     states.enter(root);
-    let mut at = Visit {
-        node: root,
-        next: 0,
-        entry: Entry {
-            rank: 0,
-            classes: own[root],
-        },
-    };
     'search: loop {
         let row = targets_at(rows, at.node);
         if at.next < row.len() {
@@ -106,15 +165,8 @@ fn visit(
                 }
                 State::New => {
                     path.push(at)?;
+                    at = begun(rows, alike, own, states, target);
                     states.enter(target);
-                    at = Visit {
-                        node: target,
-                        next: 0,
-                        entry: Entry {
-                            rank: 0,
-                            classes: own[target],
-                        },
-                    };
                 }
                 State::Open => {
                     let cycle = back_to(alloc, path, at.node, target)?;

@@ -62,7 +62,7 @@ fn rank_rows(alloc: Global, meta: &Meta, scan: &Scan, own: &[Items<usize>]) -> R
 {
     // All edges are between nodes.
     edges_join_nodes(meta);
-    match solve(alloc, scan.rows(), own, meta.classes().len()) {
+    match solve(alloc, scan.rows(), scan.alike(), own, meta.classes().len()) {
         Ok(solution) => Ok(solution),
         Err(Unranked::Cycle(numbers)) => {
             let nodes = nodes_at(alloc, scan, numbers.as_slice())?;

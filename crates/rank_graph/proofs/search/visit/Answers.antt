@@ -1,5 +1,4 @@
 use Rattle.std.proofs.Common.{ℕ, ◌<◌, arith, get_or, length, List, subst, sym, ◌∙◌}
-use Rattle.std.proofs.lemmas.Option.{slice_get-get_or}
 use Rattle.std.specs.List.{Contains}
 use Rattle.std.proofs.lemmas.List.Elements.{Contains-get_or}
 use Rattle.rank_graph.specs.Searching.{state_of}
@@ -7,15 +6,10 @@ use Rattle.rank_graph.proofs.Searching.{begins, target_inside, over_step, into_s
 use Rattle.rank_graph.proofs.search.visit.Goals as goal
 
 pub search-init : goal.search-init
-search-init c =
-    let inside : c.args.root < length c.args.own.now = omega (arith, c.requires.root, c.requires.own) in
-    rw c.enter.ensures (begins _ _ _ _ _ _ c.new-path.ensures c.requires.states c.requires.root c.requires.fresh c.requires.finished c.requires.closed (slice_get-get_or _ _ _ inside))
+search-init c = rw c.enter.ensures (begins _ _ _ _ _ _ c.new-path.ensures c.requires.states c.requires.root c.requires.fresh c.requires.finished c.requires.closed c.begun-at.ensures)
 
-pub offset_bounds-own-target : goal.offset_bounds-own-target
-offset_bounds-own-target c =
-    let inside = target_inside _ _ _ _ c.targets_at-row.ensures c.requires.inside c.if-at-row.true in
-    let within : get_or c.targets_at-row.result.now c.search.at.next 0 < length c.args.own.now = omega (arith, inside, c.requires.own) in
-    omega arith
+pub begun-at-requires-in-New-clause-node : goal.begun-at-requires-in-New-clause-node
+begun-at-requires-in-New-clause-node c = target_inside _ _ _ _ c.targets_at-row.ensures c.requires.inside c.if-at-row.true
 
 pub get-requires : goal.get-requires
 get-requires c =
@@ -35,21 +29,13 @@ pub search-preserved-in-Done : goal.search-preserved-in-Done
 unfolding state_of
 search-preserved-in-Done c = over_step _ _ _ _ _ _ _ _ _ _ c.search.invariant c.targets_at-row.ensures c.if-at-row.true (sym c.get.ensures ∙ c.in-Done.is) c.over-at.ensures.rank c.over-at.ensures.classes
 
-pub bounds-own-target : goal.bounds-own-target
-bounds-own-target c =
-    let inside = target_inside _ _ _ _ c.targets_at-row.ensures c.requires.inside c.if-at-row.true in
-    omega (arith, inside, c.requires.own)
-
 pub search-smaller-in-New : goal.search-smaller-in-New
 unfolding state_of
-search-smaller-in-New c = rw c.enter-in-New.ensures (into_smaller _ _ _ _ _ _ _ _ _ c.search.invariant c.requires.states c.requires.inside c.targets_at-row.ensures c.if-at-row.true (sym c.get.ensures ∙ c.in-New.is) c.in_ok-push-in-New.ensures)
+search-smaller-in-New c = rw c.enter-in-New.ensures (into_smaller _ _ _ _ _ _ _ _ c.begun-at-in-New.result _ c.search.invariant c.requires.states c.requires.inside c.targets_at-row.ensures c.if-at-row.true (sym c.get.ensures ∙ c.in-New.is) c.begun-at-in-New.ensures.node c.in_ok-push-in-New.ensures)
 
 pub search-preserved-in-New : goal.search-preserved-in-New
 unfolding state_of
-search-preserved-in-New c =
-    let inside = target_inside _ _ _ _ c.targets_at-row.ensures c.requires.inside c.if-at-row.true in
-    let within : get_or c.targets_at-row.result.now c.search.at.next 0 < length c.args.own.now = omega (arith, inside, c.requires.own) in
-    rw c.enter-in-New.ensures (into_step _ _ _ _ _ _ _ _ _ _ c.search.invariant c.requires.states c.requires.inside c.targets_at-row.ensures c.if-at-row.true (sym c.get.ensures ∙ c.in-New.is) (slice_get-get_or _ _ _ within) c.in_ok-push-in-New.ensures)
+search-preserved-in-New c = rw c.enter-in-New.ensures (into_step _ _ _ _ _ _ _ _ _ _ c.search.invariant c.requires.states c.requires.inside c.targets_at-row.ensures c.if-at-row.true (sym c.get.ensures ∙ c.in-New.is) c.begun-at-in-New.ensures c.in_ok-push-in-New.ensures)
 
 pub returns-in-Open : goal.returns-in-Open
 returns-in-Open c =

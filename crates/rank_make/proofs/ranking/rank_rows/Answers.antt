@@ -9,6 +9,9 @@ use Rattle.rank_make.proofs.ranking.rank_rows.Goals as goal
 pub solve-requires-clause-inside : goal.solve-requires-clause-inside
 solve-requires-clause-inside c = rw c.rows.ensures (λ a b edge. edges_inside c.args.meta.now c.args.scan.now c.requires.scan (length c.args.scan.now.rows) c.requires.scan.edges.count a b edge)
 
+pub solve-requires-clause-alike : goal.solve-requires-clause-alike
+solve-requires-clause-alike c = rw c.rows.ensures c.alike.ensures
+
 pub solve-requires-clause-classes : goal.solve-requires-clause-classes
 solve-requires-clause-classes c =
     rw (c.requires.own, c.classes.ensures.value)
