@@ -1,6 +1,6 @@
 #!/usr/bin/env python3
-"""Inputs of the program `qt_tools` that are cheap to write and were dear to answer: each ends within bounds of time and memory,
-with what is wanted, or is refused with a reason. Standard library only.
+"""Inputs that are cheap to write and were dear to answer: each ends within bounds of time and memory, with what is wanted, or is
+refused with a reason. Standard library only.
 
 tests/tools/run.py tries them. Usage: tests/tools/costs.py tries them alone, on the build by LLVM, and prints the processor seconds
 that each takes. The last line is `N passed, M failed`."""
@@ -90,6 +90,26 @@ def long_with_cycle():
     return "\n".join([*classes, "class Last { slot f() { call this.f(); } }"]).encode()
 
 
+def many_bindings(below, formals):
+    """A thousand bindings, which read 32 properties each that so many subclasses have, by so many formal sources."""
+    def properties(name):
+        return " ".join(f"property int {name}{it};" for it in range(32))
+
+    lines = [f"class B {{ {properties('p')} }}"] + [f"class S{it} : B {{ }}" for it in range(below)]
+    lines += [f"class T {{ {properties('q')} }}"] + [f"class U{it} : T {{ }}" for it in range(254 - below)]
+    sources = ", ".join(f"B a{it}" for it in range(formals))
+    for it in range(1000):
+        reads = " + ".join(f"a{read % formals}.p{(read + it) % 32}" for read in range(32))
+        lines.append(f"binding b{it} T.q{it % 32} ({sources}) = {reads};")
+    return "\n".join(lines).encode()
+
+
+def long_certificate(size):
+    """A program with a certificate of so many bytes, one line again and again."""
+    line = b"QObject.destroyed(QObject*) 0\n"
+    return b"class A { }\n%%\ncertificate 2\nbound 2\n" + line * (size // len(line))
+
+
 def largest():
     """A program of 256 classes with a certificate, as large as may be: properties that notify, slots that set them, and wires."""
     members = " ".join(f"property int p{it} notify s{it}(int); signal s{it}(int); slot f{it}(int v) {{ set this.p{it} = v; }}" for it in range(28))
@@ -104,15 +124,28 @@ class Costs:
     def __init__(self, bench, count, program):
         self.bench, self.count, self.program, self.measured = bench, count, program, []
 
-    def run(self, name, words, text):
-        """What a run comes to; whether it keeps to the bounds is counted."""
+    def run(self, name, words, text, program=None):
+        """What a run of this program, or of the one that is tried, comes to; whether it keeps to the bounds is counted."""
         with built.limited({resource.RLIMIT_AS: MEMORY}):
-            found = self.bench.run(self.program, words, text)
+            found = self.bench.run(program or self.program, words, text)
         seconds = SECONDS * (OWN_FACTOR if self.program.endswith(".by-rattle") else 1)
         within = found.status is not None and found.status >= 0 and found.seconds <= seconds
         self.measured.append((name, words, found.seconds))
         self.count.check(within and b"out of memory" not in found.errors, lambda: f"{name}: {found.seconds:.1f} s, {found}")
         return found
+
+    def beside(self):
+        """The program `gammonfig` of the same build."""
+        return built.BUILDS[1 if self.program.endswith(".by-rattle") else 0]
+
+    def certificates(self):
+        for below, formals in (254, 1), (127, 1), (127, 8):
+            name, text = f"1,000 bindings over {below} subclasses, by {formals}", many_bindings(below, formals)
+            made = self.run(name, ["certify"], text, self.beside())
+            found = self.run(name, ["check"], text + b"\n%%\n" + made.output, self.beside())
+            self.count.check((made.status, found.output) == (0, b"yes\n"), lambda: f"{name}: {made}, {found}")
+        found = self.run("a certificate of 60 MB", ["check"], long_certificate(60_000_000), self.beside())
+        self.count.check((found.status, found.output) == (3, b"no 72\n"), lambda: f"a long certificate: {found}")
 
     def graphs(self):
         for name, text, edges in (
@@ -172,8 +205,8 @@ class Costs:
 
     def largest_program(self):
         """A graph of 256 classes is judged in at most twice what `certify` takes."""
-        text, certify = largest(), built.BUILDS[1 if self.program.endswith(".by-rattle") else 0]
-        certified = [self.bench.run(certify, ["certify"], text) for _ in range(3)]
+        text = largest()
+        certified = [self.bench.run(self.beside(), ["certify"], text) for _ in range(3)]
         found = [self.bench.run(self.program, ["verdict"], text) for _ in range(3)]
         least, taken = (min(it.seconds for it in runs) for runs in (certified, found))
         self.measured.append(("256 classes, beside `certify`", ["verdict"], taken))
@@ -184,6 +217,7 @@ class Costs:
 
 def try_all(bench, count, program):
     costs = Costs(bench, count, program)
+    costs.certificates()
     costs.graphs()
     costs.imports()
     costs.verdicts()
