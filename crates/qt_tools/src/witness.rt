@@ -3,6 +3,7 @@
 use crate::fault::ToolFault;
 use crate::streams::{program, write};
 use class_lang::Limits;
+use native_slots::Natives;
 use run_witness::{Sought, find_witness};
 
 /// Writes such a script for the program on standard input, which is read by these limits.
@@ -14,7 +15,8 @@ pub fn witness(rt: &HostRuntime, limits: Limits, words: &[&str]) -> Result<(), T
         Ok(program) => program,
         Err(reason) => return Err(ToolFault::Unread(reason)),
     };
-    let script = match find_witness(rt.alloc(), limits, program.as_slice())? {
+    let natives = Natives::of(Vec::new(rt.alloc()));
+    let script = match find_witness(rt.alloc(), limits, program.as_slice(), &natives)? {
         Sought::Found(script) => script,
         Sought::NotFound => return Err(ToolFault::NoWitness),
         Sought::Certified => return Err(ToolFault::Certified),

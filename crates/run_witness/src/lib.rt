@@ -4,8 +4,10 @@
 
 mod choice;
 mod events;
+mod lent;
 mod names;
 mod search;
 mod stage;
+mod trials;
 
 pub use search::{Sought, WitnessFault, find_witness};

@@ -1,25 +1,22 @@
 //! The search for a script, and what of it is needed.
 
-ghost use Rattle.std.specs.Prelude.{◌<◌, ◌≤◌, ◌^◌};
+ghost use Rattle.std.specs.Prelude.{IfOk};
+ghost use Rattle.run_witness.specs.Shows.{IsCertified, IsSought, Shows};
 
 use crate::choice::{Choice, Part};
 use crate::events::{push_begins, push_joints};
 use crate::stage::push_stage;
+use crate::trials::Trials;
 use class_lang::Limits;
 use effect_scan::Node;
+use machine_commands::FittingNatives;
 use meta_model::Meta;
-use native_slots::Natives;
-use program_commands::load_program;
+use program_commands::{Refusal, load_program};
 use rank_make::{Why, make};
 use std::alloc::{AllocError, Global};
-use texts::MOST_DEPTH;
 use thiserror::Error;
-use trace_tool::{Fault, Outcome, unchecked_run_outcome};
 
-/// The depth to which runs are tried, which is the greatest that there is.
-const DEPTH: usize = MOST_DEPTH as usize;
-
-/// How many rules a run uses at most.
+/// How many rules a run uses at most, as many as `run` uses where it isn't told.
 const STEPS: u64 = 1_000_000;
 
 /// How many rules a run uses at most by which it is tried whether events can be left out.
@@ -30,6 +27,9 @@ const TRIED_BYTES: usize = 33_554_432;
 
 /// So many trials are made at most.
 const MOST_TRIALS: usize = 4096;
+
+/// So many events are left out at once where they can be, the largest parts first.
+const PARTS: [usize; 7] = [4096, 1024, 256, 64, 16, 4, 1];
 
 /// What was found.
 #[derive(Drop)]
@@ -59,114 +59,108 @@ impl From<AllocError> for WitnessFault {
     }
 }
 
-/// A script whose run of this program, which is read by these limits, unchecked and without natives, ends as the reason warns
-/// for which the program has no certificate: with fault 61, 62 or 63. There is an object of each class, the wires and bindings
-/// of the chain that the reason names are used, and each of its members is begun with; events that aren't needed are left out,
-/// as far as a bounded number of trials finds them.
-pub fn find_witness(alloc: Global, limits: Limits, program: &[u8]) -> Result<Sought, WitnessFault> {
-    let meta = match load_program(alloc, limits, program) {
-        Ok(meta) => meta,
-        Err(refusal) => {
-            return Err(match refusal.number() {
-                Some(number) => WitnessFault::Refused(number),
-                None => WitnessFault::Memory,
-            });
+impl From<Refusal> for WitnessFault {
+    fn from(refusal: Refusal) -> WitnessFault {
+        match refusal.number() {
+            Some(number) => WitnessFault::Refused(number),
+            None => WitnessFault::Memory,
         }
-    };
+    }
+}
+
+/// A script whose run of this program, which is read by these limits, unchecked and with the natives that are lent, ends as the
+/// reason warns for which the program has no certificate: with fault 61, 62 or 63, at a depth of 256 and within 1,000,000 rules.
+/// There is an object of each class, the wires and bindings of the chain that the reason names are used, and each of its
+/// members is begun with; events that aren't needed are left out, as far as a bounded number of trials finds them.
+pub fn find_witness<N: FittingNatives>(
+    alloc: Global,
+    limits: Limits,
+    program: &[u8],
+    natives: &N,
+) -> Result<Sought, WitnessFault>
+    ensures { let heads = N.heads natives.now in
+        IfOk result (IsSought
+        (λ script. Shows limits heads (N.gives natives.now) program.now script 1000000)
+        (IsCertified limits program.now)) }
+{
+    let meta = load_program(alloc, limits, program)?;
     match make(alloc, &meta) {
         Ok(_) => Ok(Sought::Certified),
         Err(Why::Memory) => Err(WitnessFault::Memory),
         Err(Why::Wire(_) | Why::BodyType(_)) => Ok(Sought::NotFound),
         Err(Why::Cycle(nodes) | Why::DestroyPath(nodes) | Why::TooHigh(nodes)) => {
-            let text = Text { limits, program };
-            let sought = search(alloc, text, &meta, nodes.as_slice())?;
+            let trials = Trials {
+                limits,
+                program,
+                natives,
+            };
+            let sought = trials.search(alloc, &meta, nodes.as_slice())?;
             Ok(sought)
         }
     }
 }
 
-/// A program's text, and how large it may be.
-#[derive(Clone, Copy)]
-struct Text<'t> {
-    limits: Limits,
-    program: &'t [u8],
-}
-
-/// Tries the events for these members, and leaves out those that aren't needed.
-fn search(
-    alloc: Global,
-    text: Text<'_>,
-    meta: &Meta,
-    nodes: &[Node],
-) -> Result<Sought, AllocError> {
-    let mut events = Vec::new(alloc);
-    push_stage(alloc, meta, &mut events)?;
-    push_joints(alloc, meta, nodes, &mut events)?;
-    push_begins(alloc, meta, nodes, &mut events)?;
-    let mut choice = Choice::of(alloc, events)?;
-    if !ends_so(
-        alloc,
-        text,
-        choice.script(alloc, Part::NONE)?.as_str(),
-        STEPS,
-    ) {
-        return Ok(Sought::NotFound);
+impl<N: FittingNatives> Trials<'_, N> {
+    /// Tries the events for these members, and leaves out those that aren't needed.
+    fn search(&self, alloc: Global, meta: &Meta, nodes: &[Node]) -> Result<Sought, AllocError>
+        ensures { let heads = N.heads self.now.natives.now in
+            IfOk result (IsSought
+            (λ script. Shows self.now.limits heads (N.gives self.now.natives.now)
+            self.now.program.now script 1000000)
+            (IsCertified self.now.limits self.now.program.now)) }
+    {
+        let mut events = Vec::new(alloc);
+        push_stage(alloc, meta, &mut events)?;
+        push_joints(alloc, meta, nodes, &mut events)?;
+        push_begins(alloc, meta, nodes, &mut events)?;
+        let mut choice = Choice::of(alloc, events)?;
+        let whole = choice.script(alloc, Part::NONE)?;
+        if !self.ends_so(alloc, whole.as_bytes(), STEPS) {
+            return Ok(Sought::NotFound);
+        }
+        self.leave_out(alloc, &mut choice)?;
+        let script = choice.script(alloc, Part::NONE)?;
+        let sought = self.judge(alloc, script);
+        Ok(sought)
     }
-    leave_out(alloc, text, &mut choice)?;
-    let script = choice.script(alloc, Part::NONE)?;
-    if ends_so(alloc, text, script.as_str(), STEPS) {
-        Ok(Sought::Found(script))
-    } else {
-        Ok(Sought::NotFound)
+
+    /// This script, if its run ends so.
+    fn judge(&self, alloc: Global, script: String) -> Sought
+        ensures { let heads = N.heads self.now.natives.now in
+            IsSought
+            (λ script. Shows self.now.limits heads (N.gives self.now.natives.now)
+            self.now.program.now script 1000000)
+            (IsCertified self.now.limits self.now.program.now)
+            result }
+    {
+        if self.ends_so(alloc, script.as_bytes(), STEPS) {
+            Sought::Found(script)
+        } else {
+            Sought::NotFound
+        }
     }
-}
 
-/// So many events are left out at once where they can be, the largest parts first.
-const PARTS: [usize; 7] = [4096, 1024, 256, 64, 16, 4, 1];
-
-/// Leaves out what isn't needed, in smaller and smaller parts, each time from the last one on, until the trials are used up.
-fn leave_out(alloc: Global, text: Text<'_>, choice: &mut Choice) -> Result<(), AllocError> {
-    let mut trials = (TRIED_BYTES / text.program.len().max(1)).min(MOST_TRIALS);
-    for size in PARTS {
-        let count = choice.len().checked_div(size).unwrap_or(0);
-        for place in (0..=count).rev() {
-            let start = place.saturating_mul(size);
-            let end = start.saturating_add(size);
-            let part = Part { start, end };
-            if trials == 0 {
-                return Ok(());
-            }
-            if choice.has_some(part) {
-                trials = trials.saturating_sub(1);
-                let script = choice.script(alloc, part)?;
-                if ends_so(alloc, text, script.as_str(), TRIAL_STEPS) {
-                    choice.leave_out(part);
+    /// Leaves out what isn't needed, in smaller and smaller parts, each time from the last one on, until the trials are used up.
+    fn leave_out(&self, alloc: Global, choice: &mut Choice) -> Result<(), AllocError> {
+        let mut trials = (TRIED_BYTES / self.program.len().max(1)).min(MOST_TRIALS);
+        for size in PARTS {
+            let count = choice.len().checked_div(size).unwrap_or(0);
+            for place in (0..=count).rev() {
+                let start = place.saturating_mul(size);
+                let end = start.saturating_add(size);
+                let part = Part { start, end };
+                if trials == 0 {
+                    return Ok(());
+                }
+                if choice.has_some(part) {
+                    trials = trials.saturating_sub(1);
+                    let script = choice.script(alloc, part)?;
+                    if self.ends_so(alloc, script.as_bytes(), TRIAL_STEPS) {
+                        choice.leave_out(part);
+                    }
                 }
             }
         }
-    }
-    Ok(())
-}
-
-/// Whether the run of the script, by so many rules at most (1 to 2^63 - 1), ends with fault 61, 62 or 63.
-fn ends_so(alloc: Global, text: Text<'_>, script: &str, steps: u64) -> bool
-    requires steps { (1 ≤ steps) × (steps < 2 ^ 63) }
-{
-    let natives = Natives::of(Vec::new(alloc));
-    let outcome = unchecked_run_outcome(
-        alloc,
-        text.limits,
-        text.program,
-        script.as_bytes(),
-        natives,
-        DEPTH,
-        steps,
-    );
-    match &outcome {
-        Outcome::Ran(ran) => matches!(
-            ran.ended,
-            Err(Fault::TooDeep | Fault::BindingLoop | Fault::InUse)
-        ),
-        _ => false,
+        Ok(())
     }
 }
