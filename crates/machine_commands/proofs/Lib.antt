@@ -1,4 +1,5 @@
 pub mod Accepted
 pub mod Answering
 pub mod Preparing
+mod Reading
 mod Streaming

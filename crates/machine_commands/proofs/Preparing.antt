@@ -1,6 +1,6 @@
 -- What is prepared, done and written.
 use Rattle.std.proofs.Common.{◌≡◌, ℕ, List, [], ◌++◌, Option, Result, Ok, Err, refl, sym, ap, ◌∙◌, subst, append_assoc}
-use Rattle.std.specs.Prelude.{IfErr}
+use Rattle.std.specs.Prelude.{IfErr, OnErr}
 use Rattle.std.proofs.lemmas.List.Concat.{flat_map-append}
 use Rattle.script_lang.specs.declared.event.Event.{Event}
 use Rattle.meta_model.specs.Loaded.{Loaded}
@@ -16,6 +16,9 @@ use Rattle.program_commands.specs.Refusals.{fault_line}
 use Rattle.command_lines.specs.Lines.{entry_line, trace_text}
 use Rattle.command_lines.specs.Sent.{TakesWith}
 use Rattle.command_lines.specs.declared.output.Output.{Output}
+use Rattle.command_lines.specs.declared.usage.UsageFault.TheVariants.{Words}
+use Rattle.command_lines.specs.declared.watched.Failing.{Failing}
+use Rattle.machine_commands.specs.Failed.{HasFailed, IfUnread}
 use Rattle.machine_commands.specs.Outcomes.{Writes, outcome_text, outcome_status, run_text, run_status, seen_outcome}
 use Rattle.machine_commands.specs.declared.outcome.Outcome.{Outcome}
 use Rattle.machine_commands.specs.declared.outcome.Outcome.TheVariants.{Usage, NoInput, Program, Ran as OfRun, Memory}
@@ -62,24 +65,24 @@ module _ {N : Type 0} {gives : N → NativeAnswers} {machine : Seen N} {loaded :
 
 -- ---- what was done
 
-pub carried-as : {N E : Type 0} {ComesTo GoesTo : Outcome (Seen N) → Type 0} {before after : Option (List ℕ)} {left : Outcome (Seen N)} {written : Result ℕ E} → ((end : Outcome (Seen N)) → ComesTo end → GoesTo end) →
-    CarriesOut ComesTo before after left written → CarriesOut GoesTo before after left written
-carried-as go x = record { gone = x.gone; comes = go _ x.comes; takes = x.takes }
+pub carried-as : {N E : Type 0} {ComesTo GoesTo : Outcome (Seen N) → Type 0} {before after : Option (List ℕ)} {left : Outcome (Seen N)} {written : Result ℕ E} {writing : Failing} → ((end : Outcome (Seen N)) → ComesTo end → GoesTo end) →
+    CarriesOut ComesTo before after left written writing → CarriesOut GoesTo before after left written writing
+carried-as go x = record { gone = x.gone; comes = go _ x.comes; takes = x.takes; failed = x.failed }
 
 -- .. is what had been prepared
-pub carried-of : {N E : Type 0} {takes : N → Takes} {gives : N → NativeAnswers} {ComesTo : Outcome (Seen N) → Type 0} {prepared : Prepared (Seen N)} {before after : Option (List ℕ)} {left : Outcome (Seen N)} {written : Result ℕ E} → Prepares takes gives ComesTo prepared →
-    CarriesOut (ComesOf gives prepared) before after left written → CarriesOut ComesTo before after left written
+pub carried-of : {N E : Type 0} {takes : N → Takes} {gives : N → NativeAnswers} {ComesTo : Outcome (Seen N) → Type 0} {prepared : Prepared (Seen N)} {before after : Option (List ℕ)} {left : Outcome (Seen N)} {written : Result ℕ E} {writing : Failing} → Prepares takes gives ComesTo prepared →
+    CarriesOut (ComesOf gives prepared) before after left written writing → CarriesOut ComesTo before after left written writing
 carried-of prepares x = carried-as prepares.comes x
 
 -- .. which was done at once
-pub carried-at-once : {M N E : Type 0} (seen : M → Seen N) (gives : N → NativeAnswers) {ComesTo : Outcome (Seen N) → Type 0} {prepared : Prepared M} {outcome : Outcome M} {before after : Option (List ℕ)} {left : Outcome (Seen N)} {written : Result ℕ E} → prepared ≡ Done outcome → ComesTo (seen_outcome seen outcome) →
-    CarriesOut (ComesOf gives (seen_prepared seen prepared)) before after left written → CarriesOut ComesTo before after left written
+pub carried-at-once : {M N E : Type 0} (seen : M → Seen N) (gives : N → NativeAnswers) {ComesTo : Outcome (Seen N) → Type 0} {prepared : Prepared M} {outcome : Outcome M} {before after : Option (List ℕ)} {left : Outcome (Seen N)} {written : Result ℕ E} {writing : Failing} → prepared ≡ Done outcome → ComesTo (seen_outcome seen outcome) →
+    CarriesOut (ComesOf gives (seen_prepared seen prepared)) before after left written writing → CarriesOut ComesTo before after left written writing
 carried-at-once {M} {N} seen gives {ComesTo = ComesTo} is came x =
     let At : Prepared M → Type 0 = λ p. (end : Outcome (Seen N)) → ComesOf gives (seen_prepared seen p) end → ComesTo end in
     carried-as (subst At (sym is) (λ end same. subst ComesTo (sym same) came)) x
 
 -- .. and was written
-pub carried-writes : {N E : Type 0} {ComesTo : Outcome (Seen N) → Type 0} {before after : Option (List ℕ)} {left : Outcome (Seen N)} {written answer : Result ℕ E} → CarriesOut ComesTo before after left written → answer ≡ written → Writes ComesTo before after answer
+pub carried-writes : {N E : Type 0} {ComesTo : Outcome (Seen N) → Type 0} {before after : Option (List ℕ)} {left : Outcome (Seen N)} {written answer : Result ℕ E} {writing : Failing} → CarriesOut ComesTo before after left written writing → answer ≡ written → Writes ComesTo before after answer
 carried-writes {E = E} {ComesTo = ComesTo} {before = before} {after = after} {left = left} x is =
     let At : Result ℕ E → Type 0 = λ r. Writes ComesTo before after r in
     subst At (sym is) (record { outcome = with_gone x.gone left; comes = x.comes; takes = x.takes })
@@ -100,14 +103,15 @@ status-seen seen (Program outcome) = refl
 status-seen seen (OfRun end) = refl
 status-seen seen Memory = refl
 
-pub carried-done : {M N E : Type 0} (seen : M → Seen N) {ComesTo : Outcome (Seen N) → Type 0} {before after : Option (List ℕ)} {written : Result ℕ E} (outcome : Outcome M) → ComesTo (seen_outcome seen outcome) →
-    TakesWith before after (outcome_text (seen_outcome seen outcome)) (outcome_status outcome) written → CarriesOut ComesTo before after (seen_outcome seen outcome) written
-carried-done {M} {N} seen {ComesTo = ComesTo} {before = before} {after = after} {written = written} outcome comes takes =
+pub carried-done : {M N E : Type 0} (seen : M → Seen N) {ComesTo : Outcome (Seen N) → Type 0} {before after : Option (List ℕ)} {written : Result ℕ E} {writing : Failing} (outcome : Outcome M) → ComesTo (seen_outcome seen outcome) →
+    TakesWith before after (outcome_text (seen_outcome seen outcome)) (outcome_status outcome) written → OnErr written (HasFailed writing) →
+    CarriesOut ComesTo before after (seen_outcome seen outcome) written writing
+carried-done {M} {N} seen {ComesTo = ComesTo} {before = before} {after = after} {written = written} outcome comes takes failed =
     let is : Outcome (Seen N) = seen_outcome seen outcome in
     let Status : ℕ → Type 0 = λ status. TakesWith before after (outcome_text is) status written in
     let Written : Outcome (Seen N) → Type 0 = λ o. TakesWith before after (outcome_text o) (outcome_status o) written in
     let same = sym (none-gone is) in
-    record { gone = []; comes = subst ComesTo same comes; takes = subst Written same (subst Status (sym (status-seen seen outcome)) takes) }
+    record { gone = []; comes = subst ComesTo same comes; takes = subst Written same (subst Status (sym (status-seen seen outcome)) takes); failed = failed }
 
 -- ---- a run that was written out while it went on
 
@@ -117,15 +121,35 @@ run-text-front gone rest (Ok done) = flat_map-append entry_line gone rest
 run-text-front gone rest (Err fault) =
     ap (λ (l : List ℕ). l ++ fault_line (fault_number fault)) (flat_map-append entry_line gone rest) ∙ append_assoc (trace_text gone) (trace_text rest) (fault_line (fault_number fault))
 
-pub carried-run : {N W E : Type 0} {gives : N → NativeAnswers} {contents : W → Option (List ℕ)} {m n : Seen N} {events : List Event} {ended : Result (Unit {0}) Fault} {a b : Output W (List ℕ)} {before after : Option (List ℕ)} {written : Result ℕ E} →
+pub carried-run : {N W E : Type 0} {gives : N → NativeAnswers} {contents : W → Option (List ℕ)} {m n : Seen N} {events : List Event} {ended : Result (Unit {0}) Fault} {a b : Output W (List ℕ)} {before after : Option (List ℕ)} {written : Result ℕ E} {writing : Failing} →
     (streams : Streams gives contents m events ended n a b) → (IsChecked gives m → IfErr ended (StopsAtLimit m)) →
-    TakesWith before after (trace_text streams.gone ++ run_text n.world.trace ended) (run_status ended) written →
-    CarriesOut (ComesOfRun gives m events) before after (OfRun (record { machine = n; ended = ended })) written
-carried-run {N} {n = n} {ended = ended} {before = before} {after = after} {written = written} streams limits takes =
+    TakesWith before after (trace_text streams.gone ++ run_text n.world.trace ended) (run_status ended) written → OnErr written (HasFailed writing) →
+    CarriesOut (ComesOfRun gives m events) before after (OfRun (record { machine = n; ended = ended })) written writing
+carried-run {N} {n = n} {ended = ended} {before = before} {after = after} {written = written} streams limits takes failed =
     let whole : Ran (Seen N) = record { machine = with_front streams.gone n; ended = ended } in
     let Written : List ℕ → Type 0 = λ text. TakesWith before after text (run_status ended) written in
     record {
       gone = streams.gone;
       comes = (whole, record { ran = streams.ran; limits = limits }, refl);
       takes = subst Written (sym (run-text-front streams.gone n.world.trace ended)) takes;
+      failed = failed;
     }
+
+-- ---- what comes only of a read that failed
+
+unread-of : {M N : Type 0} (seen : M → Seen N) (gone : List Entry) (outcome : Outcome M) (P : Type 0) → IfUnread (with_gone gone (seen_outcome seen outcome)) P → IfUnread outcome P
+unread-of seen gone (Usage fault) P x = x
+unread-of seen gone (NoInput fault) P x = x
+unread-of seen gone (Program outcome) P x = x
+unread-of seen gone (OfRun end) P x = x
+unread-of seen gone Memory P x = x
+
+-- this is so of what is left where it is of all that it came to
+pub unread-left : {M N E : Type 0} (seen : M → Seen N) {ComesTo : Outcome (Seen N) → Type 0} {before after : Option (List ℕ)} (left : Outcome M) {written : Result ℕ E} {writing : Failing} (P : Type 0) →
+    CarriesOut ComesTo before after (seen_outcome seen left) written writing → ((end : Outcome (Seen N)) → ComesTo end → IfUnread end P) → IfUnread left P
+unread-left seen left P x go = unread-of seen x.gone left P (go _ x.comes)
+
+-- .. as where the words were no command
+pub usage-left : {M N E : Type 0} (seen : M → Seen N) (gives : N → NativeAnswers) {prepared : Prepared M} {before after : Option (List ℕ)} (left : Outcome M) {written : Result ℕ E} {writing : Failing} (P : Type 0) → prepared ≡ Done (Usage Words) →
+    CarriesOut (ComesOf gives (seen_prepared seen prepared)) before after (seen_outcome seen left) written writing → IfUnread left P
+usage-left {M} {N} seen gives left P is x = unread-left seen left P (carried-at-once seen gives {ComesTo = λ (o : Outcome (Seen N)). IfUnread o P} is tt x) (λ end comes. comes)

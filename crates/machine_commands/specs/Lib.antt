@@ -1,4 +1,5 @@
 pub mod Commands
+pub mod Failed
 pub mod Outcomes
 pub mod Prepared
 pub mod code

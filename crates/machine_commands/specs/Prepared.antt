@@ -1,6 +1,6 @@
 -- What a command line is about to do, and what is left of it when its run was written out while it went on (docs/commands.md,
 -- "Exit status").
-use Rattle.std.specs.Prelude.{◌≡◌, ℕ, List, Option, Result, IfErr}
+use Rattle.std.specs.Prelude.{◌≡◌, ℕ, List, Option, Result, IfErr, OnErr}
 use Rattle.script_lang.specs.declared.event.Event.{Event}
 use Rattle.native_slots.specs.Promises.{Takes}
 use Rattle.trace_entries.specs.declared.entry.Entry.{Entry}
@@ -8,6 +8,8 @@ use Rattle.machine_rules.specs.Natives.{NativeAnswers}
 use Rattle.object_machine.specs.Checked.{IsChecked, StopsAtLimit}
 use Rattle.object_machine.specs.Seen.{Seen, AreKept, RunsAll, with_front}
 use Rattle.command_lines.specs.Sent.{TakesWith}
+use Rattle.command_lines.specs.declared.watched.Failing.{Failing}
+use Rattle.machine_commands.specs.Failed.{HasFailed}
 use Rattle.machine_commands.specs.Outcomes.{outcome_text, outcome_status, seen_outcome}
 use Rattle.machine_commands.specs.declared.outcome.Outcome.{Outcome}
 use Rattle.machine_commands.specs.declared.outcome.Outcome.TheVariants.{Ran as OfRun}
@@ -54,9 +56,10 @@ abbrev pub with_gone : {N : Type 0} → List Entry → Outcome (Seen N) → Outc
 with_gone gone (OfRun ran) = OfRun (record ran { machine = with_front gone ran.machine })
 with_gone gone outcome = outcome
 
--- what it comes to was written, and this is left of it
+-- what it comes to was written, and this is left of it; only where a write failed there is no exit status
 pub record CarriesOut {N E : Type 0} (ComesTo : Outcome (Seen N) → Type 0) (before after : Option (List ℕ)) (left : Outcome (Seen N)) (written : Result ℕ E)
-    : Type 0 where
+    (writing : Failing) : Type 0 where
   pub gone : List Entry
   pub comes : ComesTo (with_gone gone left)
   pub takes : TakesWith before after (outcome_text (with_gone gone left)) (outcome_status (with_gone gone left)) written
+  pub failed : OnErr written (HasFailed writing)

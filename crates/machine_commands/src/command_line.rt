@@ -4,6 +4,7 @@ ghost use Rattle.std.specs.Prelude.{◌≡◌, map};
 ghost use Rattle.command_lines.specs.declared.usage.UsageFault.TheVariants.{Words};
 ghost use Rattle.command_lines.specs.Words.{IsLine, IsWithinLimits};
 ghost use Rattle.command_lines.specs.declared.words.CommandLine.{CommandLine as ALine};
+ghost use Rattle.machine_commands.specs.Failed.{HasFailed, IfUnread};
 ghost use Rattle.machine_commands.specs.Outcomes.{seen_outcome};
 ghost use Rattle.machine_commands.specs.declared.outcome.Outcome.TheVariants.{Program, Usage};
 ghost use Rattle.machine_commands.specs.Commands.{CommandComesTo, ReadsAndComesTo, InputComesTo, limits_of, read_of};
@@ -30,12 +31,16 @@ pub struct Answered<M: Drop> {
     /// The bytes that were read, no more than a byte past the largest input; `None` where the words are no command, or the
     /// input can't be read.
     pub input: Option<Vec<u8>>,
+    /// Whether a read failed.
+    pub reading: Failing,
     /// What the command line came to, and whether that could be written.
     pub carried: Carried<M>,
 }
 
 /// Does what a command line's words say, on the bytes that the reader has left, as `trace_tool`'s `command` does, and hands
-/// back what that came to, for those who explain it. For words that are no command nothing is read.
+/// back what that came to, for those who explain it. For words that are no command nothing is read. Only where a read failed it
+/// comes to `Unread`, and only where a write failed to a `WriteFault`: that one did is noted where the reader or the writer is
+/// called, and nowhere else.
 pub fn answer<N: FittingNatives, M: ObjectMachine<Natives = N>, R: Read, W: Write>(
     alloc: Global,
     words: &[&str],
@@ -46,29 +51,34 @@ pub fn answer<N: FittingNatives, M: ObjectMachine<Natives = N>, R: Read, W: Writ
     ensures answers { let said = map (λ word. word.now) words.now in
         let heads = N.heads natives in
         CarriesOut (ReadsAndComesTo N.gives heads natives said (R.remaining reader.old))
-        (W.contents w.old) (W.contents w.new) (seen_outcome M.seen result.carried.outcome) result.carried.written }
+        (W.contents w.old) (W.contents w.new) (seen_outcome M.seen result.carried.outcome)
+        result.carried.written result.carried.writing }
+    ensures failed { IfUnread result.carried.outcome (HasFailed result.reading) }
     ensures unread { let said = map (λ word. word.now) words.now in
         ((line : ALine) → IsLine said line → ⊥) → reader.new ≡ reader.old }
 {
     let Some(_) = CommandLine::of(words) else {
         return Answered {
             input: None,
+            reading: Failing::none(),
             carried: prepared_usage().carry_out(alloc, w),
         };
     };
-    let mut failing = Failing::none();
-    match read_input(alloc, reader, &mut failing) {
+    let mut reading = Failing::none();
+    match read_input(alloc, reader, &mut reading) {
         Ok(input) => {
             let carried = prepare_for(alloc, words, Ok(input.as_slice()), natives).carry_out(
                 alloc, w,
             );
             Answered {
                 input: Some(input),
+                reading,
                 carried,
             }
         }
         Err(fault) => Answered {
             input: None,
+            reading,
             carried: prepare_for(alloc, words, Err(fault), natives).carry_out(alloc, w),
         },
     }

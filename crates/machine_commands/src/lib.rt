@@ -9,10 +9,10 @@ mod prepared;
 mod runs;
 
 pub use command_line::{Answered, answer, limits_of, prepare_for};
-pub use command_lines::{InputFault, LARGEST_INPUT, UsageFault, WriteFault};
+pub use command_lines::{Failing, InputFault, LARGEST_INPUT, UsageFault, WriteFault};
 pub use natives::FittingNatives;
 pub use object_machine::ObjectMachine;
-pub use outcome::{Outcome, Ran};
+pub use outcome::{Outcome, Ran, Sent};
 pub use prepared::{Carried, Prepared, Ready, written};
 pub use program_commands::{Outcome as ProgramOutcome, Refusal, Why};
 pub use runs::{prepare_run, prepare_unchecked_run};

@@ -1,10 +1,11 @@
 //! What a command line comes to, and how it is written.
 
-ghost use Rattle.std.specs.Prelude.{◌≡◌};
+ghost use Rattle.std.specs.Prelude.{◌≡◌, OnErr};
 ghost use Rattle.command_lines.specs.Sent.{Puts, TakesWith};
+ghost use Rattle.machine_commands.specs.Failed.{HasFailed};
 ghost use Rattle.machine_commands.specs.Outcomes.{outcome_text, outcome_status, run_text, run_status, seen_outcome};
 
-use command_lines::{InputFault, Output, UsageFault, WriteFault};
+use command_lines::{Failing, InputFault, Output, UsageFault, WriteFault};
 use object_machine::ObjectMachine;
 use program_commands::Outcome as ProgramOutcome;
 use std::alloc::Global;
@@ -40,6 +41,15 @@ pub enum Outcome<M: Drop> {
     Ran(Ran<M>),
     /// There was no memory for a machine.
     Memory,
+}
+
+/// How the writing of an outcome ended.
+#[derive(Clone, Copy)]
+pub struct Sent {
+    /// The exit status, or why the output couldn't be written.
+    pub status: Result<u8, WriteFault>,
+    /// Whether a write failed.
+    pub writing: Failing,
 }
 
 impl<M: ObjectMachine> Ran<M> {
@@ -100,14 +110,19 @@ impl<M: ObjectMachine> Outcome<M> {
         }
     }
 
-    /// Writes its lines, and answers the exit status. There is a `WriteFault` only where a write failed: what was taken by
-    /// then is the beginning of the lines, and nothing is written after that.
-    pub fn write<W: Write>(&self, alloc: Global, w: &mut W) -> Result<u8, WriteFault>
-        ensures { TakesWith (W.contents w.old) (W.contents w.new)
-            (outcome_text (seen_outcome M.seen self.now)) (outcome_status self.now) result }
+    /// Writes its lines. There is a `WriteFault` only where a write failed: what was taken by then is the beginning of the
+    /// lines, and nothing is written after that.
+    pub fn write<W: Write>(&self, alloc: Global, w: &mut W) -> Sent
+        ensures takes { TakesWith (W.contents w.old) (W.contents w.new)
+            (outcome_text (seen_outcome M.seen self.now)) (outcome_status self.now) result.status }
+        ensures failed { OnErr result.status (HasFailed result.writing) }
     {
         let mut output = Output::new(alloc, w);
         self.put(&mut output);
-        output.finish(self.status())
+        let status = output.finish(self.status());
+        Sent {
+            status,
+            writing: output.failing(),
+        }
     }
 }

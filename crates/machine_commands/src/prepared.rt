@@ -8,7 +8,7 @@ ghost use Rattle.machine_commands.specs.Prepared.{ComesOf, ComesOfRun, CarriesOu
 ghost use Rattle.machine_commands.specs.code.Streaming.{Streams};
 
 use crate::outcome::{Outcome, Ran};
-use command_lines::{Output, WriteFault};
+use command_lines::{Failing, Output, WriteFault};
 use object_machine::ObjectMachine;
 use script_lang::Event;
 use sqlite_items::Items;
@@ -46,6 +46,8 @@ pub struct Carried<M: Drop> {
     pub refused: Trace,
     /// The exit status, or why the output couldn't be written.
     pub written: Result<u8, WriteFault>,
+    /// Whether a write failed.
+    pub writing: Failing,
 }
 
 /// What events came to that were written out one by one.
@@ -75,7 +77,7 @@ impl<M: ObjectMachine> Prepared<M> {
         requires { MayBeDone M.Natives.takes M.Natives.gives (seen_prepared M.seen self) }
         ensures { CarriesOut (ComesOf M.Natives.gives (seen_prepared M.seen self))
             (W.contents w.old) (W.contents w.new)
-            (seen_outcome M.seen result.outcome) result.written }
+            (seen_outcome M.seen result.outcome) result.written result.writing }
     {
         match self {
             Prepared::Done(outcome) => {
@@ -84,7 +86,8 @@ impl<M: ObjectMachine> Prepared<M> {
                     outcome,
                     last: Trace::new(alloc),
                     refused: Trace::new(alloc),
-                    written,
+                    written: written.status,
+                    writing: written.writing,
                 }
             }
             Prepared::Ready(ready) => ready.stream(alloc, w),
@@ -112,7 +115,7 @@ impl<M: ObjectMachine> Ready<M> {
         requires { AreKept M.Natives.takes M.Natives.gives (M.seen self.machine) }
         ensures { CarriesOut (ComesOfRun M.Natives.gives (M.seen self.machine) self.events)
             (W.contents w.old) (W.contents w.new)
-            (seen_outcome M.seen result.outcome) result.written }
+            (seen_outcome M.seen result.outcome) result.written result.writing }
     {
         let Ready {
             mut machine,
@@ -133,6 +136,7 @@ impl<M: ObjectMachine> Ready<M> {
             last,
             refused,
             written,
+            writing: output.failing(),
         }
     }
 }
@@ -146,6 +150,7 @@ pub fn written<M: ObjectMachine>(carried: Carried<M>) -> Result<u8, WriteFault>
         last: _,
         refused: _,
         written,
+        writing: _,
     } = carried;
     written
 }

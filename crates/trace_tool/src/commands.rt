@@ -29,9 +29,11 @@ pub fn command<R: Read, W: Write>(
     ensures unread { let said = map (λ word. word.now) words.now in
         ((line : ALine) → IsLine said line → ⊥) → reader.new ≡ reader.old }
 {
-    let Answered { input: _, carried } = answer::<Natives, Machine<Natives>, R, W>(
-        alloc, words, reader, natives, w,
-    );
+    let Answered {
+        input: _,
+        reading: _,
+        carried,
+    } = answer::<Natives, Machine<Natives>, R, W>(alloc, words, reader, natives, w);
     written(carried)
 }
 

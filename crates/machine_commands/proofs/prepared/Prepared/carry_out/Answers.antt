@@ -3,7 +3,7 @@ use Rattle.machine_commands.proofs.Preparing.{carried-done}
 use Rattle.machine_commands.proofs.prepared.Prepared.carry_out.Goals as goal
 
 pub returns-in-Done : goal.returns-in-Done
-returns-in-Done g c = rw c.in-Done.is (carried-done _ c.in-Done.outcome refl c.write-written.ensures)
+returns-in-Done g c = rw c.in-Done.is (carried-done _ c.in-Done.outcome refl c.write-written.ensures.takes c.write-written.ensures.failed)
 
 pub stream-requires : goal.stream-requires
 stream-requires g c = rw c.in-Ready.is at c.requires

@@ -1,5 +1,5 @@
 use Rattle.std.proofs.Common.{rules}
-use Rattle.command_lines.proofs.Sending.{sent, finished}
+use Rattle.command_lines.proofs.Sending.{sent, finished, finished_faults}
 use Rattle.machine_commands.proofs.Preparing.{carried-run}
 use Rattle.machine_commands.proofs.prepared.Ready.stream.Goals as goal
 
@@ -9,3 +9,4 @@ returns g c =
     let streams = rw c.as_slice.ensures at streamed.streams in
     carried-run streams streamed.limits
     (finished c.new-output.ensures.begun (sent streams.puts c.put.ensures) (rw c.status.ensures at c.finish-written.ensures) (search rules))
+    (finished_faults c.new-output.ensures.begun (sent streams.puts c.put.ensures) c.finish-written.ensures c.failing.ensures)
