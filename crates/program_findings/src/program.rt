@@ -3,13 +3,13 @@
 use crate::chains::gather_chain;
 use crate::cycles::gather_cycles;
 use crate::deletions::{deletions, gather_deletions};
-use crate::located::Located;
 use crate::remarks::remarks;
 use crate::search::Search;
 use crate::typing_flaws::{gather_types, gather_wires};
 use edge_walks::{Graph, knots};
 use effect_scan::Scan;
 use findings::{Edge, Finding, Verdict};
+use program_places::Located;
 use std::alloc::AllocError;
 
 /// Adds what is wrong with the program, and answers what is worth a warning or a note; cycles on the list are counted alone.

@@ -1,12 +1,12 @@
 //! Cycles: members that may lead to one another without end.
 
-use crate::located::Located;
 use crate::search::Search;
 use crate::sentences::push_names;
 use edge_walks::{Graph, knots, knots_of_nodes};
 use effect_scan::{Member, Node};
 use findings::{Edge, Finding, Link, PlacedEdge, Rule, Step, TextKind, TextPlace, Verdict};
 use program_flaws::{breaking, node_text};
+use program_places::Located;
 use std::alloc::AllocError;
 use std::collections::BTreeSet;
 

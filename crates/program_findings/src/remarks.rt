@@ -2,12 +2,12 @@
 
 use crate::deletions::{Deletion, add_lost_senders};
 use crate::dropped::add_dropped_calls;
-use crate::located::Located;
 use crate::posts::Posts;
 use crate::search::Search;
 use crate::turns::{add_queued_cycles, add_re_entries};
 use diagnostics::TextPlace;
 use findings::{Finding, Rule, TextKind};
+use program_places::Located;
 use program_warnings::{Warning, warning_text, warnings};
 use std::alloc::AllocError;
 

@@ -1,6 +1,5 @@
 //! Wires that don't fit, and literals, bodies and bindings that aren't typed.
 
-use crate::located::Located;
 use crate::sentences::Told;
 use basic_types::fits;
 use diagnostics::TextPlace;
@@ -8,6 +7,7 @@ use effect_scan::Node;
 use findings::{Finding, Rule, TextKind, Verdict};
 use meta_model::{Meta, MetaWire};
 use program_flaws::{flaw_text, unfit_text};
+use program_places::Located;
 use std::alloc::AllocError;
 use type_check::{Spot, flaw_at};
 

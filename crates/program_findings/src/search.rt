@@ -1,8 +1,8 @@
 //! A program whose edges are searched.
 
-use crate::located::Located;
 use edge_walks::Graph;
 use effect_scan::{Node, Scan};
+use program_places::Located;
 use std::alloc::AllocError;
 
 /// A program, its nodes and edges, and its knots.

@@ -1,7 +1,6 @@
 //! Slots and natives that may lead to the deletion of an object of their own class, and signals that may lead to that of their
 //! sender: told by what deletes.
 
-use crate::located::{Declared, Located};
 use crate::search::Search;
 use edge_reasons::{Reason, reason_for};
 use edge_walks::{Hops, marks};
@@ -9,6 +8,7 @@ use effect_scan::{Member, Node, row_at};
 use findings::{Finding, Rule, Step, TextKind, Verdict};
 use meta_model::{DESTROYED, Meta, Work};
 use program_flaws::{class_text, node_text};
+use program_places::{Declared, Located};
 use std::alloc::AllocError;
 
 /// What deletes objects, and the members that lead to it while they are active in an object that may be one of these.

@@ -1,6 +1,5 @@
 //! What members lead to later: calls that queued wires post, and deletions that `later` schedules.
 
-use crate::located::Located;
 use crate::search::Search;
 use basic_types::Kind;
 use edge_walks::Graph;
@@ -8,6 +7,7 @@ use effect_scan::{Member, Node, Scan, named};
 use findings::{Link, Step, TextPlace};
 use meta_model::{Meta, MetaPath, MetaRoot, MetaWire, Statement};
 use program_flaws::{node_text, wire_text};
+use program_places::Located;
 use program_warnings::OwnSlot;
 use std::alloc::{AllocError, Global};
 use std::ops::Range;

@@ -1,11 +1,11 @@
 //! Chains of direct calls that are longer than any bound.
 
-use crate::located::Located;
 use crate::search::Search;
 use edge_walks::{marks, set_mark};
 use effect_scan::Node;
 use findings::{Finding, Rule, TextKind, Verdict};
 use program_flaws::node_text;
+use program_places::Located;
 use rank_check::MOST_BOUND;
 use std::alloc::AllocError;
 
