@@ -26,7 +26,7 @@ class Graph:
     def __init__(self, program: Program, names: Naming, queued: bool = False) -> None:
         self.program, self.names, self.queued = program, names, queued
         self.at: dict[Element, list[Key]] = defaultdict(list)
-        for key, member in program.members.items():
+        for key, member in sorted(program.members.items(), key=lambda m: m[0]):
             for role in [member.owner, *self.names.below[member.owner]]:
                 self.at[role].append(key)
         self.edges: dict[Node, dict[Node, Why]] = {(r, k): {} for r, keys in self.at.items() for k in keys}

@@ -7,7 +7,7 @@ from .bindings import Bindings
 from .calling import Calling
 from .effects import Effects
 from .model import Connect, Facts
-from .objects import Objects
+from .objects import Element, Objects
 from .owning import find_owners
 from .program import Program
 from .pruning import Pruning, unique_wires
@@ -25,6 +25,14 @@ class Linked:
     objects: Objects
     understood: int
     dropped: list[tuple[str, Connect]]
+    # The roles that there were before owners were asked.
+    roles: set[Element]
+
+    def make_lean(self) -> None:
+        """Leaves out what leads to nothing, though something leads to it."""
+        self.program.owns.clear()
+        self.program.roles = set(self.roles)
+        Pruning(self.program, True).all()
 
 
 def link(units: list[Facts], table: Table, roles: str, lean: bool) -> Linked:
@@ -42,5 +50,6 @@ def link(units: list[Facts], table: Table, roles: str, lean: bool) -> Linked:
     Bindings(program, effects).all()
     fold(program)
     program.wires = unique_wires(program.wires)
+    before = set(program.roles)
     Pruning(program, lean).all()
-    return Linked(program, whole, objects, wires.understood, wires.dropped)
+    return Linked(program, whole, objects, wires.understood, wires.dropped, before)

@@ -96,7 +96,8 @@ def write_program(facts: list[Facts], roots: list[str], options: argparse.Namesp
     over = written.size.over(STANDARD)
     if over and not options.lean and not options.slice:
         say(f'the whole program is over a limit of the language ({"; ".join(over)}): members that lead to nothing are left out')
-        linked, written = _written(facts, table, roots, options.roles, True, False)
+        linked.make_lean()
+        written = Writing(linked.program, *roots).write()
         over = written.size.over(STANDARD)
     too_wide = written.size.over(WIDE)
     rest = 'what is on a circle or on a way to a deletion' if options.slice else 'the program'

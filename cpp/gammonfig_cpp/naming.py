@@ -43,7 +43,7 @@ class Naming:
         self.program, self.whole, self.objects = program, program.whole, program.objects
         self.used = self._used()
         self.second: set[tuple[str, str]] = set()
-        self.above = {role: self._chain(role) for role in self.used}
+        self.above = {role: self._chain(role) for role in sorted(self.used)}
         self.below: dict[Element, list[Element]] = defaultdict(list)
         for role, chain in self.above.items():
             for up in chain:

@@ -118,6 +118,7 @@ class QtModel:
     def __init__(self, whole: Whole, table: Table) -> None:
         self.whole, self.table = whole, table
         self._written: dict[str, dict[str, list[Written]]] = {}
+        self._entries: dict[tuple[str, str], tuple[str, Entry, list[Written]] | None] = {}
 
     def written(self, cls: str) -> dict[str, list[Written]]:
         """By the name of a WRITE function the properties that it writes and that notify."""
@@ -135,6 +136,11 @@ class QtModel:
     def entry(self, cls: str, name: str) -> tuple[str, Entry, list[Written]] | None:
         """The class whose function it is, with what it does; None where nothing is known. That a property which it writes notifies stands
         in the header of the class that has the property, which may be one above."""
+        if (cls, name) not in self._entries:
+            self._entries[cls, name] = self._entry(cls, name)
+        return self._entries[cls, name]
+
+    def _entry(self, cls: str, name: str) -> tuple[str, Entry, list[Written]] | None:
         above = [one for one in self.whole.above(cls) if one in self.whole.classes and not self.whole.is_inside(one)]
         for at, nearest in enumerate(above):
             entry = self.table.entries.get((self.whole.name(nearest), name))

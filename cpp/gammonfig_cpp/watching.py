@@ -27,7 +27,9 @@ class Watching:
     def text(self, wide: bool = False) -> str:
         """The warnings, as the findings of a verdict in JSON; and whether commands take the program with `--wide` alone."""
         resting = Settling(self.program, Graph(self.program, self.graph.names)).sets()
-        told = {'findings': self._queued_cycles() + self._re_entries(), 'resting': resting, 'own': self._own(), 'by_death': self._by_death(),
+        found = sorted(self._queued_cycles() + self._re_entries(), key=lambda f: [str(f.get(k, '')) for k in ('rule', 'file')]
+                       + [f"{f.get('line', 0):>9}", str(f['message'])])
+        told = {'findings': found, 'resting': resting, 'own': self._own(), 'by_death': self._by_death(),
                 'by_qt': self._by_qt(), 'wide': wide}
         return json.dumps(told, indent=1, ensure_ascii=False) + '\n'
 

@@ -31,9 +31,9 @@ private:
 '''
 
 
-def project(folder: pathlib.Path, text: str = SOURCE) -> pathlib.Path:
+def project(folder: pathlib.Path, text: str = SOURCE, package: str = 'Qt6Core') -> pathlib.Path:
     (folder / 'a.cpp').write_text(text)
-    entry = {'directory': str(folder), 'file': 'a.cpp', 'arguments': ['c++', *flags('Qt6Core'), '-c', 'a.cpp']}
+    entry = {'directory': str(folder), 'file': 'a.cpp', 'arguments': ['c++', *flags(package), '-c', 'a.cpp']}
     (folder / 'compile_commands.json').write_text(json.dumps([entry]))
     return folder
 
@@ -63,6 +63,16 @@ def test_what_is_written(written: pathlib.Path) -> None:
 def test_a_second_run_reads_nothing_anew(written: pathlib.Path) -> None:
     done = run(written, '-p', '.', '-o', 'out', *TABLE)
     assert done.returncode == 0 and 'units read' not in done.stderr
+
+
+def test_each_run_writes_the_same(tmp_path: pathlib.Path) -> None:
+    """The order in which sets are walked differs from run to run, and what is written doesn't."""
+    project(tmp_path, pathlib.Path(CASES, 'ends.cpp').read_text(), 'Qt6Widgets')
+    for seed in '123':
+        done = run(tmp_path, '-p', '.', '-o', seed, PYTHONHASHSEED=seed)
+        assert done.returncode == 0, done.stderr
+    first, *others = ({path.name: path.read_text() for path in (tmp_path / seed).iterdir()} for seed in '123')
+    assert len(first) == 4 and all(other == first for other in others)
 
 
 def test_a_changed_file_is_read_anew_and_no_other(tmp_path: pathlib.Path) -> None:
