@@ -59,7 +59,7 @@ def tests(path: str, words: list[str]) -> tuple[int, int]:
     """How many tests pass, and how many fail."""
     done = subprocess.run([path, '-m', 'pytest', '-q', '-p', 'no:cacheprovider', HERE, *words], text=True, check=False, stdout=subprocess.PIPE)
     print(done.stdout, end='', flush=True)
-    counts = {word: int(number) for number, word in re.findall(r'(\d+) (passed|failed|error)', done.stdout.rsplit('\n', 2)[-2])}
+    counts = {word: int(number) for number, word in re.findall(r'(\d+) (passed|failed|error)', done.stdout.rstrip('\n').rsplit('\n', 1)[-1])}
     failed = counts.get('failed', 0) + counts.get('error', 0)
     return counts.get('passed', 0), failed if failed or done.returncode == 0 else 1
 

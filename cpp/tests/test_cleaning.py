@@ -3,9 +3,11 @@ import os
 import pathlib
 
 import pytest
+from reading import flags
 from gammonfig_cpp import precompiled
 from gammonfig_cpp.cleaning import AT_ONCE, DAY, UNUSED, clean
-from gammonfig_cpp.precompiled import Kind
+from gammonfig_cpp.precompiled import kind_of
+from gammonfig_cpp.units import Unit
 
 NOW = 2_000_000_000.0
 FACTS = ['0' * 64, '1' * 64, '2' * 64]
@@ -76,7 +78,8 @@ def test_other_files_stay(tmp_path: pathlib.Path) -> None:
 
 def test_another_libclang(monkeypatch: pytest.MonkeyPatch) -> None:
     """Headers that another version of libclang has parsed are other headers."""
-    kind = Kind(('QtCore',), ())
+    kind = kind_of(Unit('a.cpp', flags('Qt6Core')))
+    assert kind is not None
     own = kind.name()
     monkeypatch.setattr(precompiled, 'version', lambda: 'clang version 99')
     assert kind.name() != own
