@@ -6,7 +6,7 @@ which it makes bodies that are typed. The scripts of the examples are recorded, 
 recorded is met, and the same. And `graph` is given changed programs: it draws those that `meta` takes, as JSON that can be read,
 whose edges join nodes that are drawn. So is `verdict`: it finds nothing where `gammonfig certify` makes a certificate, and else
 what its reason says too; what it lists of cycles it accepts; and its SARIF has what the schema asks, and its JSON becomes a code
-quality report. What was dear once keeps to bounds (costs.py).
+quality report. Each rule is found, and its forms say one thing (forms.py). What was dear once keeps to bounds (costs.py).
 
 Usage: tests/tools/run.py. The last line is `N passed, M failed`."""
 import json
@@ -21,6 +21,7 @@ sys.path.insert(0, os.path.dirname(os.path.dirname(os.path.abspath(__file__))))
 import built
 import case_files
 import costs
+import forms
 import sarif
 import schema
 
@@ -360,6 +361,7 @@ def main():
         report(bench, count, program)
         name_files(bench, count, program)
         tell_places(bench, count, program)
+        forms.try_all(bench, count, program, SCHEMA, FOLDER, text_of, [("a chain of 257", chained(257))])
         costs.try_all(bench, count, program)
     count.end()
 
