@@ -47,6 +47,8 @@ class Front:
     def __init__(self, root: str):
         self.root, self.streams = root, Streams()
         self.tries = is_set("GAMMONFIG_TRY")
+        # An answer for which several programs run says once that it is of the unproved build.
+        self.is_unproved = False
         # An installed wrapper has its programs beside it, and no sources.
         self.is_installed = os.path.isfile(f"{root}/programs/kit")
 
@@ -149,9 +151,11 @@ class Front:
             import making
 
             found = making.make(self.root, name, place)
-        beside = store.Lock(place, store.BUILDING).going_on()
-        beside = f"it is being proved ({beside})" if beside else f"`{NAME} prove` proves it"
-        say(f"this answer is of the unproved build, which is checked as it runs: {beside}")
+        if not self.is_unproved:
+            self.is_unproved = True
+            beside = store.Lock(place, store.BUILDING).going_on()
+            beside = f"it is being proved ({beside})" if beside else f"`{NAME} prove` proves it"
+            say(f"this answer is of the unproved build, which is checked as it runs: {beside}")
         return found
 
 
