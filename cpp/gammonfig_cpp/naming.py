@@ -10,12 +10,14 @@ from .program import Key, Program
 
 RESERVED = set('class property signal slot native wire owns binding notify reads emits sets set emit call if else connect disconnect '
                'delete later this true false null const auto direct queued unique single int bool QString QObject group'.split())
+# A declared name has at most 255 bytes (docs/language.md, "Limits"): room is left for what tells it from others, as `_2`.
+LONGEST = 240
 OF_OBJECT = ('destroyed', 'objectNameChanged', 'deleteLater', 'objectName')
 
 
 def identifier(words: str) -> str:
     """A name of the language for a name of C++."""
-    name = re.sub(r'\W', '_', words.replace('~', 'not_'), flags=re.ASCII).strip('_') or 'x'
+    name = re.sub(r'\W', '_', words.replace('~', 'not_'), flags=re.ASCII).strip('_')[:LONGEST] or 'x'
     if name[0].isdigit():
         name = '_' + name
     return name + '_' if name in RESERVED else name

@@ -7,6 +7,7 @@ import pytest
 from reading import CASES
 from gammonfig_cpp.errors import ReadError
 from gammonfig_cpp.model import Condition, Place
+from gammonfig_cpp.naming import LONGEST, free_name, identifier
 from gammonfig_cpp.places import Places
 from gammonfig_cpp.qtmodel import Table
 from gammonfig_cpp.units import flags_of, is_generated, units_of
@@ -96,3 +97,11 @@ def test_a_bad_table(tmp_path: pathlib.Path, line: str) -> None:
     (tmp_path / 't').write_text('# first\n' + line + '\n')
     with pytest.raises(ReadError, match=':2: this is no line'):
         Table.read(str(tmp_path / 't'))
+
+
+def test_a_long_name_is_cut_and_stays_a_name_of_its_own() -> None:
+    long = 'std::map<' + 'a' * 300 + '>'
+    name = identifier(long)
+    assert name.isidentifier() and len(name) == LONGEST
+    other = free_name(name, {name})
+    assert other != name and len(other) <= 255
