@@ -222,10 +222,24 @@ def moved_bound(bindings, moves):
     return joined(TREE, script + back_and_forth("r", moves))
 
 
+def bound(bindings):
+    """Objects with a binding each, of an object of its own to it."""
+    return [f"new {short(2 * i)} X\nnew {short(2 * i + 1)} Y\nbind b {short(2 * i + 1)} {short(2 * i)}" for i in range(bindings)]
+
+
 def dead_bound(bindings):
     """Objects with a binding each, which are deleted one by one."""
-    script = [f"new {short(2 * i)} X\nnew {short(2 * i + 1)} Y\nbind b {short(2 * i + 1)} {short(2 * i)}" for i in range(bindings)]
-    return joined(TREE, script + [f"delete {short(2 * i)}" for i in range(bindings)])
+    return joined(TREE, bound(bindings) + [f"delete {short(2 * i)}" for i in range(bindings)])
+
+
+def written_bound(bindings):
+    """Bindings that are ended one by one, each by a write of its property."""
+    return joined(TREE, bound(bindings) + [f"set {short(2 * i + 1)}.y {i}" for i in range(bindings)])
+
+
+def bound_again(bindings):
+    """Bindings that are replaced one by one, each by another of its property."""
+    return joined(TREE, bound(bindings) + [f"bind b {short(2 * i + 1)} {short(2 * i)}" for i in range(bindings)])
 
 
 def posted_last(objects):
@@ -343,6 +357,8 @@ ROWS = {
     "moved-beside-items": lambda part: moved_beside_items(20000 // part, 2000),
     "moved-bound": lambda part: moved_bound(4000 // part, 20),
     "dead-bound": lambda part: dead_bound(4000 // part),
+    "written-bound": lambda part: written_bound(4000 // part),
+    "bound-again": lambda part: bound_again(4000 // part),
     "bound-shared": lambda part: joined(FOLLOWED, followers(8000 // part)),
     "posted-last": lambda part: posted_last(80000 // part),
     "parse-program": lambda part: large_program(3600 // part),

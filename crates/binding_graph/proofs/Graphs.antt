@@ -5,15 +5,13 @@ use Rattle.std.proofs.lemmas.Option.{same_Some}
 use Rattle.binding_graph.specs.declared.place.Place.{Place}
 use Rattle.binding_graph.specs.declared.binding.Binding.{Binding}
 use Rattle.binding_graph.specs.declared.graph.Graph.{Graph}
-use Rattle.binding_graph.specs.declared.installed.Installed.{Installed}
 use Rattle.binding_graph.specs.Places.{In, same_place}
 use Rattle.binding_graph.specs.Bindings.{binding_at, AreApart, Reads, read_by, touches, without, replaced}
-use Rattle.binding_graph.specs.code.Graph.{AreKeyed, AreNamed, AreTouched, IsGraph, IsIndexed, KeepReaders, KeepTouched, LosesPlace, LosesTarget, Named, NamesTouched, RankOfReader, Touched, bindings_in, bindings_of, position_of}
+use Rattle.binding_graph.specs.code.Graph.{AreKeyed, AreNamed, AreTouched, IsGraph, IsIndexed, KeepReaders, KeepTouched, LosesPlace, LosesTarget, Named, NamesTouched, RankOfReader, Touched, bindings_of}
 use Rattle.binding_graph.specs.code.Orders.{bound}
 use Rattle.binding_graph.specs.code.Ranks.{AreRanked, KeepRanks, RankAll, rank_of}
 use Rattle.binding_graph.proofs.Apart.{apart-fewer, apart-replaced}
 use Rattle.binding_graph.proofs.Replaced.{installed-is, without-at, without-fewer}
-use Rattle.binding_graph.proofs.Keyed.{position-target}
 use Rattle.binding_graph.proofs.Numbers.{IsOneToOne}
 use Rattle.binding_graph.proofs.Places.{decide_place, different, same_place-refl}
 use Rattle.binding_graph.proofs.Ranking.{numbered-at, ranked-fewer, ranked-none}
@@ -22,13 +20,6 @@ use Rattle.binding_graph.proofs.Walks.{bound-same, bound-other}
 -- ---- numbers
 pub ranks-apart : (g : Graph) → IsGraph g → IsOneToOne (rank_of g.ranks)
 ranks-apart g h = h.ranks.apart
-
-pub positions-apart : (bs : List Binding) → IsOneToOne (position_of bs)
-positions-apart bs p q i a b =
-    let x = position-target bs p i a in
-    let y = position-target bs q i b in
-    let same : x.0 ≡ y.0 = same_Some x.0 y.0 (sym x.1 ∙ y.1) in
-    sym x.2 ∙ ap (λ (z : Binding). z.target) same ∙ y.2
 
 pub rank-short : (g : Graph) → IsGraph g → (p : Place) (i : ℕ) → rank_of g.ranks p ≡ Some i → i < g.ranks.next
 rank-short g h p i is = h.ranks.below p i is

@@ -1,8 +1,8 @@
 -- Bindings that join objects with others are among those that are named under the objects.
-use Rattle.std.proofs.Common.{◌≡◌, ℕ, zero, suc, ◌+◌, ◌<◌, arith, take, drop, get_or, length, MatchOption, eqb, ◌||◌, ◌&&◌, not, cond, Bool, true, false, List, [], ◌∷◌, ◌++◌, Option, None, inl, inr, Some, refl, ap, sym, ◌∙◌, subst}
+use Rattle.std.proofs.Common.{◌≡◌, ℕ, suc, ◌+◌, ◌<◌, arith, take, get_or, length, eqb, ◌||◌, ◌&&◌, not, cond, Bool, true, false, List, [], ◌∷◌, ◌++◌, Option, None, inl, inr, Some, refl, ap, sym, ◌∙◌}
 use Rattle.std.specs.Prelude.{slice_get}
 use Rattle.std.specs.List.{list_any}
-use Rattle.std.proofs.lemmas.Bool.{cases_Bool, and_from, and_parts, eq-eqb, eqb-true, false≢true, ne_eqb}
+use Rattle.std.proofs.lemmas.Bool.{cases_Bool, and_parts, eq-eqb, eqb-true, false≢true, ne_eqb}
 use Rattle.std.proofs.lemmas.List.{take_more}
 use Rattle.std.proofs.lemmas.Option.{same_Some}
 use Rattle.indexmap.specs.IndexSet.{IndexSet, contains}
@@ -10,7 +10,7 @@ use Rattle.meta_model.specs.Among.{is_among}
 use Rattle.binding_graph.specs.declared.binding.Binding.{Binding}
 use Rattle.binding_graph.specs.declared.graph.Graph.{Graph}
 use Rattle.binding_graph.specs.declared.place.Place.{Place}
-use Rattle.binding_graph.specs.Bindings.{binding_at, AreApart, touches, joined_by, leads_out, lead_out}
+use Rattle.binding_graph.specs.Bindings.{binding_at, touches, joined_by, leads_out, lead_out}
 use Rattle.binding_graph.specs.Places.{same_place}
 use Rattle.binding_graph.specs.code.Graph.{IsGraph, bindings_of, target_keys}
 use Rattle.binding_graph.specs.code.Keys.{key_of, same_key}
@@ -185,24 +185,3 @@ module _ {S : Type 0} (g : Graph) (h : IsGraph g) (objects : List ℕ) (touched 
 
   pub joins-touched : lead_out_touched g test touched.keys ≡ lead_out objects bs
   joins-touched = both-ways (lead_out_touched g test touched.keys) (lead_out objects bs) found all-found
-
--- ---- one binding after the other
-module _ (test : Binding → Bool) where
-  pub hit-at : (xs : List Binding) (k : ℕ) (r : Bool) → MatchOption (slice_get xs k) (r ≡ false) (λ b. r ≡ test b) → r ≡ true → list_any test xs ≡ true
-  hit-at [] k r told hit = absurd (false≢true (sym told ∙ hit))
-  hit-at (x ∷ xs) zero r told hit = ap (λ (b : Bool). b || list_any test xs) (sym told ∙ hit)
-  hit-at (x ∷ xs) (suc k) r told hit = by_test (test x) (hit-at xs k r told hit)
-    where
-      by_test : (b : Bool) → list_any test xs ≡ true → (b || list_any test xs) ≡ true
-      by_test true rest = refl
-      by_test false rest = rest
-
-  passed : (xs : List Binding) (k : ℕ) (r : Bool) → MatchOption (slice_get xs k) (r ≡ false) (λ b. r ≡ test b) → r ≡ false → list_any test (drop (suc k) xs) ≡ list_any test (drop k xs)
-  passed [] zero r told away = refl
-  passed [] (suc k) r told away = refl
-  passed (x ∷ xs) zero r told away = sym (ap (λ (b : Bool). b || list_any test xs) (sym told ∙ away))
-  passed (x ∷ xs) (suc k) r told away = passed xs k r told away
-
-  pub passed-at : (xs : List Binding) (k : ℕ) (r : Bool) → MatchOption (slice_get xs k) (r ≡ false) (λ b. r ≡ test b) → r ≡ false → list_any test (drop (k + 1) xs) ≡ list_any test (drop k xs)
-  passed-at xs k r told away =
-      let on : k + 1 ≡ suc k = omega arith in ap (λ n. list_any test (drop n xs)) on ∙ passed xs k r told away

@@ -10,11 +10,13 @@ pub mod Several
 pub mod Numbers
 pub mod Sorting
 pub mod Keyed
+pub mod Slots
 pub mod Graphs
 pub mod Reaching
 pub mod Ranked
 pub mod Ranking
 pub mod Compacting
+pub mod Noted
 pub mod Dropping
 pub mod Joining
 pub mod OneByOne

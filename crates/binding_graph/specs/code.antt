@@ -1,5 +1,6 @@
 -- What the contracts of this crate's functions need besides: how bindings are kept, and orders of evaluation.
 pub mod Keys
+pub mod Slots
 pub mod Lists
 pub mod Orders
 pub mod Numbering

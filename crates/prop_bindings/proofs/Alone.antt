@@ -61,7 +61,7 @@ module _ (objects : List Object) (at : Place) (v : Value) where
     module _ (changed : List Place) (changes : AreChanged objects new (at ∷ []) changed) where
       alone-leads : LeadTo p objects bs (one at v) new changed 0
       alone-leads =
-          let all = lifted-changes objects new (at ∷ []) bs [] [] changed ((λ i. i), tt) agree.apart (tt, tt) (λ q. ((λ i. i), (λ i. i))) (λ q i j. j)
+          let all = lifted-changes objects new (at ∷ []) bs [] [] changed ((λ i. i), tt) agree.apart tt tt (λ q. ((λ i. i), (λ i. i))) (λ q i j. j)
           (rest-alike objects new new bs (at ∷ []) [] (wrote-other (one at v) objects) (λ q. refl) differ) changes in
           lead-to p bs objects new new (one at v) (at ∷ []) [] agree (fits, tt) refl refl affected (λ q. refl)
           changed 0 differ all (given-sound p objects bs at v (agree.typed, agree.fit) fits) refl

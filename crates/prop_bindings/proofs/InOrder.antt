@@ -7,16 +7,18 @@ use Rattle.std.proofs.lemmas.Option.{same_Some}
 use Rattle.object_tree.specs.declared.object.Object.{Object}
 use Rattle.binding_graph.specs.declared.place.Place.{Place}
 use Rattle.binding_graph.specs.declared.binding.Binding.{Binding}
+use Rattle.binding_graph.specs.declared.installed.Installed.{Installed}
 use Rattle.binding_graph.specs.declared.numbering.Numbered.{Numbered}
 use Rattle.binding_graph.specs.Places.{Distinct, In, is_in}
 use Rattle.binding_graph.specs.Bindings.{AreApart, without_all}
 use Rattle.binding_plans.specs.Changes.{in_order, ReadsAlike, AreChanged, none_changed, one_changed, one_stayed}
-use Rattle.binding_graph.specs.code.Graph.{position_of}
+use Rattle.binding_graph.specs.code.Graph.{AreKeyed, bindings_in, slot_of}
 use Rattle.binding_graph.specs.code.Numbering.{places_of, Above, Rises, AreBy, IsNumbering}
 use Rattle.binding_graph.proofs.Places.{decide_in, is_in-false}
-use Rattle.binding_graph.proofs.Keyed.{none-stands, position-target}
+use Rattle.binding_graph.proofs.Keyed.{none-stands}
 use Rattle.binding_plans.proofs.EachOnce.{distinct-once}
 use Rattle.binding_graph.proofs.Several.{is_in-not, left, without_all-left}
+use Rattle.prop_bindings.proofs.InSlots.{before, before-at, renumbered, renumbered-places, renumbered-rises}
 
 -- each is at its number among these, which begin at k
 abbrev Stand : ℕ → List Binding → List Numbered → Type 0
@@ -99,21 +101,25 @@ module _ (old new : List Object) (ps : List Place) where
           head-out b bs cs (elim (alike b 0 refl) [ inl t ↦ inl t | inr o ↦ elim o [ inl j ↦ absurd (out j) | inr a ↦ inr a ] ])
           (again (f ∷ fs) cs r tail away (λ d j at2. alike d (suc j) at2) h)
 
-stands : (bs : List Binding) (fs : List Numbered) → AreBy (position_of bs) fs → Stand 0 bs fs
-stands bs [] h = tt
-stands bs (f ∷ fs) h = let found = position-target bs f.place f.number h.0 in let zeroth : f.number ≡ 0 + f.number = omega arith in ((f.number, found.0, zeroth, found.1, found.2), stands bs fs h.1)
+stands : (x : Installed) → AreKeyed x → (fs : List Numbered) → AreBy (slot_of x) fs → Stand 0 (bindings_in x) (renumbered x.slots.items fs)
+stands x keyed [] h = tt
+stands x keyed (f ∷ fs) h =
+    let held = keyed.placed f.place f.number h.0 in
+    let place : ℕ = before x.slots.items f.number in
+    let zeroth : place ≡ 0 + place = omega arith in
+    ((place, held.0, zeroth, before-at x.slots.items f.number held.0 held.1, held.2), stands x keyed fs h.1)
 
 -- the first are changed, or not, and the rest are whatever they are of a longer list
 firsts-move : (old new : List Object) (ts xs ys cs : List Place) → AreChanged old new (ts ++ xs) cs → ((ds : List Place) → AreChanged old new xs ds → AreChanged old new ys ds) → AreChanged old new (ts ++ ys) cs
 firsts-move old new [] xs ys cs h more = more cs h
 firsts-move old new (t ∷ ts) xs ys cs h more = head-moves old new t (ts ++ xs) (ts ++ ys) cs h (λ ds g. firsts-move old new ts xs ys ds g more)
 
-pub lifted-changes : (old new : List Object) (ts : List Place) (bs : List Binding) (others : List Place) (sorted : List Numbered) (cs : List Place) → Distinct ts → AreApart bs → IsNumbering (position_of bs) sorted → ((q : Place) → In q (places_of sorted) ↔ In q others) → ((q : Place) → In q ts → In q others → ⊥) → ((q : Place) → (In q ts → ⊥) → (In q others → ⊥) → ReadsAlike old new q) → AreChanged old new (ts ++ places_of sorted) cs → AreChanged old new (in_order ts bs) cs
-lifted-changes old new ts bs others sorted cs different apart numbered same away alike h =
+pub lifted-changes : (old new : List Object) (ts : List Place) (bs : List Binding) (others : List Place) (sorted : List Numbered) (cs : List Place) → Distinct ts → AreApart bs → Rises sorted → Stand 0 bs sorted → ((q : Place) → In q (places_of sorted) ↔ In q others) → ((q : Place) → In q ts → In q others → ⊥) → ((q : Place) → (In q ts → ⊥) → (In q others → ⊥) → ReadsAlike old new q) → AreChanged old new (ts ++ places_of sorted) cs → AreChanged old new (in_order ts bs) cs
+lifted-changes old new ts bs others sorted cs different apart rises stand same away alike h =
     subst (λ (qs : List Place). AreChanged old new (qs ++ map (λ (b : Binding). b.target) (without_all ts bs)) cs) (sym (distinct-once ts different))
     (firsts-move old new ts (places_of sorted) (map (λ (b : Binding). b.target) (without_all ts bs)) cs h
     (λ ds g. subst (λ (xs : List Binding). AreChanged old new (map (λ (b : Binding). b.target) xs) ds) (sym (without_all-left ts bs))
-    (lifted old new ts bs 0 sorted ds numbered.0 (stands bs sorted numbered.1)
+    (lifted old new ts bs 0 sorted ds rises stand
     (λ q i. is_in-not ts q (λ j. away q j ((same q).0 i))) apart
     (λ b i at. elim (cases_Bool (is_in ts b.target)) [
       | inl t ↦ inl t
@@ -122,3 +128,10 @@ lifted-changes old new ts bs others sorted cs different apart numbered same away
         | inr out ↦ inr (inr (alike b.target (is_in-false ts b.target f) (λ j. out ((same b.target).1 j))))
       ]
     ]) g)))
+
+pub changes-in-slots : (old new : List Object) (ts : List Place) (x : Installed) (others : List Place) (sorted : List Numbered) (cs : List Place) → Distinct ts → AreKeyed x → AreApart (bindings_in x) → IsNumbering (slot_of x) sorted → ((q : Place) → In q (places_of sorted) ↔ In q others) → ((q : Place) → In q ts → In q others → ⊥) → ((q : Place) → (In q ts → ⊥) → (In q others → ⊥) → ReadsAlike old new q) → AreChanged old new (ts ++ places_of sorted) cs → AreChanged old new (in_order ts (bindings_in x)) cs
+changes-in-slots old new ts x others sorted cs different keyed apart numbered same away alike h =
+    let places = renumbered-places x.slots.items sorted in
+    lifted-changes old new ts (bindings_in x) others (renumbered x.slots.items sorted) cs different apart (renumbered-rises x keyed sorted numbered.1 numbered.0) (stands x keyed sorted numbered.1)
+    (λ q. subst (λ (ps : List Place). In q ps ↔ In q others) (sym places) (same q)) away alike
+    (subst (λ (ps : List Place). AreChanged old new (ts ++ ps) cs) (sym places) h)

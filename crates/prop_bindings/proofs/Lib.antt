@@ -18,10 +18,10 @@ pub mod Alone
 pub mod Short
 pub mod Covering
 pub mod Sited
+pub mod InSlots
 pub mod InOrder
 pub mod Counting
 pub mod Near
-pub mod Standing
 pub use Rattle.binding_plans.proofs.Values
 pub use Rattle.binding_plans.proofs.EachOnce
 pub use Rattle.binding_plans.proofs.Alive

@@ -72,7 +72,7 @@ impl Bindings {
     pub fn get(&self, position: usize) -> Option<&Binding>
         ensures { option_copied result ≡ slice_get self.now.installed position }
     {
-        match self.graph.installed.at(position) {
+        match self.graph.installed.nth(position) {
             Some(reader) => Some(reader.binding()),
             None => None,
         }

@@ -7,7 +7,7 @@ ghost use Rattle.binding_graph.specs.declared.place.Place.{Place};
 ghost use Rattle.binding_plans.specs.Values.{values_in};
 ghost use Rattle.binding_graph.specs.Bindings.{AreApart, binding_at, value_of};
 ghost use Rattle.binding_plans.specs.Changes.{DifferInValues};
-ghost use Rattle.binding_graph.specs.code.Graph.{AreKeyed, bindings_in, position_of};
+ghost use Rattle.binding_graph.specs.code.Graph.{AreKeyed, bindings_in, slot_of};
 ghost use Rattle.binding_graph.specs.code.Numbering.{AreNumbered};
 ghost use Rattle.binding_graph.specs.code.Orders.{AreBound, pass};
 ghost use Rattle.prop_bindings.specs.code.Parts.{IsSoundBySome, StaySound, ahead, value_ahead};
@@ -20,8 +20,8 @@ use indexmap::IndexMap;
 use object_tree::Tree;
 use std::alloc::{AllocError, Global};
 
-/// Each of these bound properties is to have its expression's value, in this order. It answers where their bindings stand
-/// among those that are installed. Its error is that memory was refused.
+/// Each of these bound properties is to have its expression's value, in this order. It answers the slots of their bindings.
+/// Its error is that memory was refused.
 pub fn evaluate_all(
     alloc: Global,
     installed: &Installed,
@@ -43,7 +43,7 @@ pub fn evaluate_all(
         (bindings_in installed.now)) }
     ensures counted { OnOk result (count.new ≡ count.old + length order.now) }
     ensures numbered { IfOk result (λ found.
-        AreNumbered (position_of (bindings_in installed.now)) order.now found.items) }
+        AreNumbered (slot_of installed.now) order.now found.items) }
 {
     let mut found = Vec::with_capacity(alloc, order.len())?;
     let mut likely: usize = 0;
@@ -64,16 +64,15 @@ pub fn evaluate_all(
     Ok(found)
 }
 
-/// The binding of a property, and where it is in the order, which likely is this place: a comparison tells that it is, and
-/// only where it isn't the binding is looked up.
+/// The binding of a property, and its slot, which likely is this one: a comparison tells that it is, and only where it isn't
+/// the binding is looked up.
 fn find_near<'i>(
     installed: &'i Installed,
     likely: usize,
     place: &Place,
 ) -> Option<(usize, &'i Reader)>
-    requires keyed { AreKeyed installed.now }
-    requires apart { AreApart (bindings_in installed.now) }
-    ensures position { option_map (λ f. f.0) result ≡ position_of (bindings_in installed.now) place.now }
+    requires { AreKeyed installed.now }
+    ensures slot { option_map (λ f. f.0) result ≡ slot_of installed.now place.now }
     ensures reader { option_map (λ f. f.1.now) result ≡ binding_at (bindings_in installed.now) place.now }
 {
     if let Some(reader) = installed.at(likely) {

@@ -1,6 +1,7 @@
--- How the crate keeps the installed bindings: by target, with the readers and the number of each property.
-use Rattle.std.specs.Prelude.{◌≡◌, ℕ, ◌<◌, ◌⊎◌, List, [], map, Option, None, Some, Bool, position, eqb, true, false}
-use Rattle.indexmap.specs.IndexMap.{keys, values, spare}
+-- How the crate keeps the installed bindings: in slots by target, with the readers and the number of each property.
+use Rattle.std.specs.Prelude.{◌≡◌, ℕ, ◌<◌, ◌⊎◌, List, [], Option, None, Some, Bool, eqb, true, false}
+use Rattle.std.specs.Vec.{vec_len, vec_capacity}
+use Rattle.indexmap.specs.IndexMap.{get, spare}
 use Rattle.binding_graph.specs.declared.place.Place.{Place}
 use Rattle.binding_graph.specs.declared.binding.Binding.{Binding}
 use Rattle.binding_graph.specs.declared.graph.Graph.{Graph}
@@ -10,24 +11,26 @@ use Rattle.binding_graph.specs.declared.touching.Touching.{Touching}
 use Rattle.binding_graph.specs.Places.{In}
 use Rattle.binding_graph.specs.code.Lists.{has, keys_under}
 use Rattle.binding_graph.specs.code.Keys.{key_of, same_key}
+use Rattle.binding_graph.specs.code.Slots.{filled, in_slot}
 use Rattle.binding_graph.specs.Bindings.{binding_at, AreApart, Reads, touches}
 use Rattle.binding_graph.specs.code.Ranks.{RankAll, rank_of}
 
 -- ---- the bindings
 abbrev pub bindings_in : Installed → List Binding
-bindings_in x = values x.by_target
+bindings_in x = filled x.slots.items
 
--- each stands under its target
-abbrev pub AreKeyed : Installed → Type 0
-AreKeyed x = keys x.by_target ≡ map (λ (b : Binding). key_of b.target) (bindings_in x)
+-- where the binding of a property is noted to be
+abbrev pub slot_of : Installed → Place → Option ℕ
+slot_of x p = get same_key x.by_target (key_of p)
+
+-- each is noted under its target, and nothing else is
+pub record AreKeyed (x : Installed) : Type 0 where
+  pub placed : (p : Place) (i : ℕ) → slot_of x p ≡ Some i → (b : Binding) × (in_slot x.slots.items i ≡ Some b) × (b.target ≡ p)
+  pub found : (b : Binding) (i : ℕ) → in_slot x.slots.items i ≡ Some b → slot_of x b.target ≡ Some i
 
 -- one more fits with no allocation
 abbrev pub HasRoom : Installed → Type 0
-HasRoom x = 0 < spare x.by_target
-
--- where the binding of a property stands among those that are installed
-abbrev pub position_of : List Binding → Place → Option ℕ
-position_of bs p = position (same_key (key_of p)) (map (λ (b : Binding). key_of b.target) bs)
+HasRoom x = (0 < spare x.by_target) × (vec_len x.slots < vec_capacity x.slots)
 
 -- ---- the readers of each property
 abbrev pub reader_keys : Readers → Place → List (ℕ × ℕ)

@@ -9,15 +9,15 @@ use Rattle.binding_plans.specs.Values.{values_in}
 use Rattle.binding_graph.specs.Bindings.{binding_at}
 use Rattle.binding_plans.specs.Changes.{AreChanged}
 use Rattle.binding_plans.specs.Plans.{assigned}
-use Rattle.binding_graph.specs.code.Graph.{bindings_in, position_of}
+use Rattle.binding_graph.specs.code.Graph.{bindings_in, slot_of}
 use Rattle.binding_graph.specs.code.Numbering.{places_of}
 use Rattle.binding_graph.specs.code.Orders.{pass}
 use Rattle.prop_bindings.specs.code.Parts.{IsSoundBySome, StaySound, ahead}
-use Rattle.binding_graph.proofs.Graphs.{positions-apart}
+use Rattle.binding_graph.proofs.Noted.{slots-apart}
 use Rattle.binding_graph.proofs.Sorting.{sorted-numbering, sorted-same}
 use Rattle.binding_plans.proofs.AssignedValues.{assigned-differs}
 use Rattle.prop_bindings.proofs.Evaluating.{rest-alike}
-use Rattle.prop_bindings.proofs.InOrder.{lifted-changes}
+use Rattle.prop_bindings.proofs.InOrder.{changes-in-slots}
 use Rattle.prop_bindings.proofs.changes.plan.Goals as goal
 
 pub evaluate_all-requires-clause-sound : goal.evaluate_all-requires-clause-sound
@@ -41,8 +41,8 @@ returns-clause-changed c =
     let each = c.in_ok-others.ensures.numbered in
     let moved = c.sort_unstable_by_key.ensures.permutation in
     let sorted : IsNonDecreasingBy (λ (f : Numbered). f.number) others = IsNonDecreasingBy-from_sort_by_key (λ (f : Numbered). f.number) _ c.sort_unstable_by_key.ensures.sorted (λ a r q k. search rules) in
-    let numbered = sorted-numbering (position_of (bindings_in c.args.installed.now)) (positions-apart (bindings_in c.args.installed.now)) c.args.followers.now found others each.are c.requires.distinct each.by moved sorted in
-    lifted-changes c.args.tree.now new c.args.targets.now (bindings_in c.args.installed.now) c.args.followers.now others c.in_ok-changed.changed c.requires.different c.requires.apart numbered (sorted-same c.args.followers.now found others each.are moved) c.requires.others
+    let numbered = sorted-numbering (slot_of c.args.installed.now) (slots-apart c.args.installed.now c.requires.keyed) c.args.followers.now found others each.are c.requires.distinct each.by moved sorted in
+    changes-in-slots c.args.tree.now new c.args.targets.now c.args.installed.now c.args.followers.now others c.in_ok-changed.changed c.requires.different c.requires.keyed c.requires.apart numbered (sorted-same c.args.followers.now found others each.are moved) c.requires.others
     (rest-alike c.args.tree.now (ahead c.args.given c.args.tree.now) new (bindings_in c.args.installed.now) c.args.targets.now c.args.followers.now c.requires.given values (assigned-differs c.evaluate_all.new.values.entries c.args.tree.now))
     (subst (λ (fs : List Numbered). AreChanged c.args.tree.now new (c.args.targets.now ++ places_of fs) c.in_ok-changed.changed) c.deref.ensures.value c.in_ok-changed.ensures)
 

@@ -10,7 +10,7 @@ use Rattle.binding_graph.specs.declared.place.Place.{Place}
 use Rattle.binding_plans.specs.Values.{values_in}
 use Rattle.binding_graph.specs.Bindings.{binding_at, value_of}
 use Rattle.binding_plans.specs.Changes.{valueless}
-use Rattle.binding_graph.specs.code.Graph.{bindings_in, position_of}
+use Rattle.binding_graph.specs.code.Graph.{bindings_in, slot_of}
 use Rattle.binding_graph.specs.code.Numbering.{AreNumbered, places_of}
 use Rattle.prop_bindings.specs.code.Parts.{StaySound, ahead, value_ahead}
 use Rattle.prop_bindings.proofs.Assigned.{ahead-env, ahead-more}
@@ -38,7 +38,7 @@ unreachable-requires-in-Err-BadType c = evaluated-there (ahead c.loop-place.valu
 
 pub loop-place-init : goal.loop-place-init
 loop-place-init c =
-    let P : Numbered → Type 0 = λ g. position_of (bindings_in c.args.installed.now) g.place ≡ Some g.number in
+    let P : Numbered → Type 0 = λ g. slot_of c.args.installed.now g.place ≡ Some g.number in
     record {
       passed = λ q. refl;
       objects = refl;
@@ -61,7 +61,7 @@ loop-place-preserved c =
     let has : value_of b (values_in old) ≡ Some c.in-Ok.value = subst (λ (e : Place → Option Value). value_of b e ≡ Some c.in-Ok.value) (ahead-env c.loop-place.values c.args.tree.now) (subst (λ (z : Binding). value_of z (value_ahead c.loop-place.values c.args.tree.now) ≡ Some c.in-Ok.value) c.binding.ensures c.in-Ok.ensures.value) in
     let stay : StaySound old (ahead c.insert.new.self c.args.tree.now) bs = subst (λ (xs : List Object). StaySound old xs bs) (sym more) (evaluated-sound old bs at b (sym c.in-Some.ensures.reader) c.in-Ok.value has) in
     let f : Numbered = record { number = c.in-Some.number; place = at } in
-    let P : Numbered → Type 0 = λ g. position_of bs g.place ≡ Some g.number in
+    let P : Numbered → Type 0 = λ g. slot_of c.args.installed.now g.place ≡ Some g.number in
     let cut = next-taken c.args.order.now c.loop-place.place-index at c.loop-place-test.true c.place-item.is in
     record {
       passed = λ q. pass-step (binding_at bs) at _ _ _ _ (next-is c.args.order.now c.loop-place.place-index at c.loop-place-test.true c.place-item.is)
@@ -69,7 +69,7 @@ loop-place-preserved c =
       objects = ap (λ (xs : List Object). map valueless xs) more ∙ written-differs at.object at.property c.in-Ok.value old ∙ c.loop-place.invariant.objects;
       numbered = record {
         are = ap (λ (fs : List Numbered). places_of fs) c.in_ok-push.ensures.items ∙ places-push c.loop-place.found.items f ∙ ap (λ (ps : List Place). ps ++ at ∷ []) c.loop-place.invariant.numbered.are ∙ sym cut;
-        by = subst (λ (fs : List Numbered). All P fs) (sym c.in_ok-push.ensures.items) (All-push P c.loop-place.found.items f c.loop-place.invariant.numbered.by (sym c.in-Some.ensures.position));
+        by = subst (λ (fs : List Numbered). All P fs) (sym c.in_ok-push.ensures.items) (All-push P c.loop-place.found.items f c.loop-place.invariant.numbered.by (sym c.in-Some.ensures.slot));
       };
       counted = omega (arith, c.value_of.ensures.counted, c.loop-place.invariant.counted);
       by = (c.loop-place.invariant.by.0, stay c.loop-place.invariant.by.0 c.loop-place.invariant.by.1);
@@ -78,5 +78,5 @@ loop-place-preserved c =
 
 pub returns-clause-numbered : goal.returns-clause-numbered
 returns-clause-numbered c =
-    subst (λ (ps : List Place). AreNumbered (position_of (bindings_in c.args.installed.now)) ps c.loop-place.found.items)
+    subst (λ (ps : List Place). AreNumbered (slot_of c.args.installed.now) ps c.loop-place.found.items)
     (taken-places c.args.order.now c.loop-place.place-index c.loop-place-test.false) c.loop-place.invariant.numbered

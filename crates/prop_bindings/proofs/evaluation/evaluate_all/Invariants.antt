@@ -3,7 +3,7 @@ use Rattle.binding_graph.specs.declared.place.Place.{Place}
 use Rattle.binding_plans.specs.Values.{values_in}
 use Rattle.binding_graph.specs.Bindings.{binding_at}
 use Rattle.binding_plans.specs.Changes.{DifferInValues}
-use Rattle.binding_graph.specs.code.Graph.{bindings_in, position_of}
+use Rattle.binding_graph.specs.code.Graph.{bindings_in, slot_of}
 use Rattle.binding_graph.specs.code.Numbering.{AreNumbered}
 use Rattle.binding_graph.specs.code.Orders.{pass}
 use Rattle.prop_bindings.specs.code.Parts.{IsSoundBySome, StaySound, ahead}
@@ -16,5 +16,5 @@ invariant-loop-place l = record {
   counted : l.count ≡ l.initial.count + l.place-index;
   by : IsSoundBySome (ahead l.values l.tree) (bindings_in l.installed);
   sound : StaySound (ahead l.initial.values l.tree) (ahead l.values l.tree) (bindings_in l.installed);
-  numbered : AreNumbered (position_of (bindings_in l.installed)) (take l.place-index l.order) l.found.items;
+  numbered : AreNumbered (slot_of l.installed) (take l.place-index l.order) l.found.items;
 }

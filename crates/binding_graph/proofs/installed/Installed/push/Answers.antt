@@ -1,24 +1,19 @@
-use Rattle.std.proofs.Common.{◌≡◌, ◌∙◌, ◌++◌, ◌∷◌, [], None, ℕ, List, ap, sym, subst}
-use Rattle.std.specs.Map.{values_of}
+use Rattle.std.proofs.Common.{◌≡◌, ◌∙◌, ℕ, Some, ap, sym}
 use Rattle.indexmap.specs.IndexMap.{get}
-use Rattle.indexmap.proofs.CallerLemmas.{insert_entry-new}
 use Rattle.binding_graph.specs.declared.binding.Binding.{Binding}
 use Rattle.binding_graph.specs.code.Keys.{key_of, same_key}
-use Rattle.binding_graph.proofs.Keyed.{Keyed, found-keyed, keyed-push, values-push}
+use Rattle.binding_graph.specs.code.Slots.{filled}
+use Rattle.binding_graph.proofs.Noted.{pushed-keyed}
+use Rattle.binding_graph.proofs.Slots.{filled-push}
 use Rattle.binding_graph.proofs.installed.Installed.push.Goals as goal
 
 pub returns-clause-pushed : goal.returns-clause-pushed
-returns-clause-pushed c =
-    let seen : c.reader.inside.binding ≡ c.args.reader = c.reader.view_is in
-    let key : c.key-key.result ≡ key_of c.args.reader.target = c.key-key.ensures ∙ ap (λ (z : Binding). key_of z.target) seen in
-    let none : get same_key c.args.self.now.by_target c.key-key.result ≡ None = ap (get same_key c.args.self.now.by_target) key ∙ found-keyed c.args.self.now.by_target.entries c.args.reader.target c.requires.keyed ∙ c.requires.unbound in
-    ap (λ (es : List ((ℕ × ℕ) × Binding)). values_of es) (c.in-Ok.ensures.entries ∙ insert_entry-new same_key c.args.self.now.by_target c.key-key.result c.args.reader none)
-    ∙ values-push c.args.self.now.by_target.entries c.key-key.result c.args.reader
+returns-clause-pushed c = ap filled c.in-Ok-push.ensures.items ∙ filled-push c.args.self.now.slots.items c.args.reader
 
 pub returns-clause-keyed : goal.returns-clause-keyed
 returns-clause-keyed c =
     let seen : c.reader.inside.binding ≡ c.args.reader = c.reader.view_is in
     let key : c.key-key.result ≡ key_of c.args.reader.target = c.key-key.ensures ∙ ap (λ (z : Binding). key_of z.target) seen in
-    let none : get same_key c.args.self.now.by_target c.key-key.result ≡ None = ap (get same_key c.args.self.now.by_target) key ∙ found-keyed c.args.self.now.by_target.entries c.args.reader.target c.requires.keyed ∙ c.requires.unbound in
-    subst Keyed (sym (c.in-Ok.ensures.entries ∙ insert_entry-new same_key c.args.self.now.by_target c.key-key.result c.args.reader none ∙ ap (λ (k : ℕ × ℕ). c.args.self.now.by_target.entries ++ (k, c.args.reader) ∷ []) key))
-    (keyed-push c.args.self.now.by_target.entries c.args.reader c.requires.keyed)
+    pushed-keyed c.args.self.now _ c.args.reader c.requires.keyed c.requires.unbound c.in-Ok-push.ensures.items
+    (ap (get same_key c.insert.new.self) (sym key) ∙ c.in-Ok.ensures.updates.1 ∙ ap (λ (n : ℕ). Some n) (c.len-slot.ensures ∙ c.args.self.now.slots.ok.0))
+    (λ q f. c.in-Ok.ensures.updates.2 (key_of q) (ap (λ (k : ℕ × ℕ). same_key k (key_of q)) key ∙ f))

@@ -1,8 +1,16 @@
-use Rattle.std.proofs.Common.{◌∙◌, ℕ, ap}
-use Rattle.std.specs.Map.{lookup}
+use Rattle.std.proofs.Common.{◌≡◌, ◌∙◌, None, Some, ap, sym}
+use Rattle.indexmap.specs.IndexMap.{get}
+use Rattle.binding_graph.specs.code.Graph.{slot_of}
 use Rattle.binding_graph.specs.code.Keys.{same_key}
-use Rattle.binding_graph.proofs.Keyed.{found-keyed}
+use Rattle.binding_graph.proofs.Noted.{reader-none, reader-there}
 use Rattle.binding_graph.proofs.installed.Installed.reader.Goals as goal
 
-pub returns : goal.returns
-returns c = c.get.ensures.value ∙ ap (λ (k : ℕ × ℕ). lookup (same_key k) c.args.self.now.by_target.entries) c.key.ensures ∙ found-keyed c.args.self.now.by_target.entries c.args.place.now c.requires
+pub returns-in-Some : goal.returns-in-Some
+returns-in-Some c =
+    let is : slot_of c.args.self.now c.args.place.now ≡ Some c.in-Some.slot.now = sym (c.in-Some.ensures.value ∙ ap (get same_key c.args.self.now.by_target) c.key.ensures) in
+    c.at.ensures ∙ reader-there c.args.self.now c.requires c.args.place.now c.in-Some.slot.now is
+
+pub returns-in-None : goal.returns-in-None
+returns-in-None c =
+    let none : slot_of c.args.self.now c.args.place.now ≡ None = sym (c.in-None.ensures.value ∙ ap (get same_key c.args.self.now.by_target) c.key.ensures) in
+    sym (reader-none c.args.self.now c.requires c.args.place.now none)
