@@ -1,7 +1,6 @@
 -- Objects of which nothing differs but values, and objects of which one is scheduled.
-use Rattle.std.proofs.Common.{◌≡◌, ◌≢◌, ⊎_elim, inl, ℕ, List, [], length, Option, None, Some, refl, sym, ap, ◌∙◌, arith}
+use Rattle.std.proofs.Common.{◌≡◌, inl, ℕ, List, [], length, Option, None, Some, refl, sym, ap, ◌∙◌, arith}
 use Rattle.std.specs.Option.{option_map}
-use Rattle.std.proofs.lemmas.Bool.{cases_eq}
 use Rattle.std.proofs.lemmas.List.{length-map}
 use Rattle.basic_types.specs.declared.value.Value.TheVariants.{Ref}
 use Rattle.meta_model.specs.Loaded.{Loaded}
@@ -9,13 +8,11 @@ use Rattle.object_tree.specs.declared.life.Life.{Life}
 use Rattle.object_tree.specs.declared.object.Object.{Object}
 use Rattle.object_tree.specs.Objects.{life_of, class_of, home_of, change_life, scheduled}
 use Rattle.object_tree.specs.Seen.{seen_reference}
-use Rattle.object_tree.proofs.TypedObjects.{typed-change}
 use Rattle.binding_graph.specs.declared.binding.Binding.{Binding}
 use Rattle.prop_bindings.specs.Changes.{valueless, DifferInValues}
 use Rattle.prop_bindings.specs.Fits.{Agree}
 use Rattle.prop_bindings.proofs.Alive.{lives-alike, seen-same}
-use Rattle.prop_bindings.proofs.Leaving.{Stays, agree-living}
-use Rattle.prop_bindings.proofs.Values.{life-changed, life-kept}
+use Rattle.prop_bindings.proofs.Agreeing.{scheduled_agree}
 use Rattle.machine_rules.specs.There.{NoneDied}
 use Rattle.machine_rules.specs.code.Keeps.{StayThere}
 
@@ -59,13 +56,6 @@ module _ (old new : List Object) (differ : DifferInValues old new) where
 
 -- ---- one is scheduled
 
-scheduled-stays : (objects : List Object) (x o : ℕ) → Stays objects (change_life x scheduled objects) o
-scheduled-stays objects x o l is = ⊎_elim
-    (λ (same : o ≡ x). (scheduled l, ap (life_of (change_life x scheduled objects)) same ∙ life-changed x scheduled objects ∙ ap (option_map scheduled) (ap (life_of objects) (sym same) ∙ is), refl, refl, refl))
-    (λ (other : o ≢ x). (l, life-kept x o scheduled objects other ∙ is, refl, refl, refl))
-    (cases_eq o x)
-
 -- properties and bindings go on to agree
 pub scheduled-agree : (p : Loaded) (objects : List Object) (bindings : List Binding) (x : ℕ) → Agree p objects bindings → Agree p (change_life x scheduled objects) bindings
-scheduled-agree p objects bindings x agree =
-    agree-living p objects (change_life x scheduled objects) bindings (typed-change p x scheduled objects (λ l. refl) agree.typed) (scheduled-stays objects x) agree
+scheduled-agree p objects bindings x agree = scheduled_agree p bindings objects x agree
