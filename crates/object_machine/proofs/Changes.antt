@@ -1,10 +1,9 @@
 -- What stays as it was where an object gets another parent, or is blocked.
 use Rattle.std.proofs.Common.{◌≡◌, ℕ, Bool, List, length, Option, None, Some, refl, sym, ap, ◌∙◌, subst, inl, inr}
 use Rattle.meta_model.specs.Loaded.{Loaded}
-use Rattle.object_tree.proofs.TypedObjects.{typed-change, typed-moved}
 use Rattle.binding_graph.specs.declared.binding.Binding.{Binding}
 use Rattle.prop_bindings.specs.Fits.{Agree}
-use Rattle.delete_later.proofs.Agreeing.{agree-on, live-change, live-moved}
+use Rattle.prop_bindings.proofs.Agreeing.{adopted_agree, blocked_agree}
 use Rattle.std.proofs.lemmas.Bool.{cases_eq}
 use Rattle.object_tree.specs.declared.life.Life.{Life}
 use Rattle.object_tree.specs.declared.object.Object.{Object}
@@ -38,9 +37,9 @@ length-moved a c objects =
 -- ---- properties and bindings go on to agree
 
 pub agree-adopted : {p : Loaded} {a c : ℕ} {y : Life} {old new : List Object} {bindings : List Binding} → Agree p old bindings → IsAdopted a c y old new → Agree p new bindings
-agree-adopted {p} {a} {c} {old = old} {bindings = bindings} agree is =
-    adopted-by (λ (l : List Object). Agree p l bindings) agree (agree-on p old (moved a c old) (live-moved a c old) bindings (typed-moved p a c old agree.typed) agree) is
+agree-adopted {p} {a} {c} {y} {old} {new} {bindings} agree is =
+    adopted_agree p bindings old new a c y agree is
 
 pub agree-blocked : {p : Loaded} {objects : List Object} {bindings : List Binding} (o : ℕ) (on : Bool) → Agree p objects bindings → Agree p (change_life o (blocked on) objects) bindings
 agree-blocked {p} {objects} {bindings} o on agree =
-    agree-on p objects (change_life o (blocked on) objects) (live-change o (blocked on) objects (λ l. refl)) bindings (typed-change p o (blocked on) objects (λ l. refl) agree.typed) agree
+    blocked_agree p bindings objects o on agree

@@ -1,14 +1,12 @@
 -- What events and rules count, and what runs keep.
 use Rattle.std.proofs.Common.{◌≡◌, ℕ, ◌+◌, ◌≤◌, List, [], Bool, true, false, Some, Ok, refl, sym, ap, subst, arith}
-use Rattle.std.proofs.lemmas.List.Elements.{All-from_recursion}
 use Rattle.script_lang.specs.declared.event.Event.{Event}
 use Rattle.script_lang.specs.declared.event.Event.TheVariants.{Loop, Turn, New, Adopt, Move, Connect, Disconnect, Set, Bind, Emit, Call, Block, Unblock, Delete, Later}
 use Rattle.script_lang.specs.declared.event.Input.{Input}
 use Rattle.meta_model.specs.Loaded.{Loaded}
 use Rattle.meta_model.specs.Sound.{IsSound}
-use Rattle.binding_graph.specs.Bindings.{binding_at, Chain, direct, further}
-use Rattle.prop_bindings.specs.Fits.{IsFit, IsInOneLoop, Agree}
-use Rattle.binding_graph.specs.declared.place.Place.{Place}
+use Rattle.prop_bindings.specs.Fits.{Agree}
+use Rattle.prop_bindings.proofs.Agreeing.{unbound_agree}
 use Rattle.trace_entries.specs.declared.fault.Answer.{Answer}
 use Rattle.machine_state.specs.declared.world.World.{World}
 use Rattle.machine_state.specs.Accepting.{accepted}
@@ -108,21 +106,9 @@ runs-pay (takes x rest) =
 pub invariant-at : {p : Loaded} (w : World) → IsSoundWorld p w → Invariant p (at w [])
 invariant-at w sound = record { sound = record { agree = sound.is.agree; joined = sound.is.joined; housed = sound.is.housed; waiting = sound.is.waiting }; stands = tt; emitted = tt; heard = tt }
 
--- where there is no binding, no chain leads anywhere
-no-chain : {from to : Place} → Chain (binding_at []) from to → ⊥
-no-chain (direct b is reads) = absurd (cc is)
-no-chain (further b chain is reads) = absurd (cc is)
-
--- .. and all agree where there is no object either
+-- where there is no object and no binding, all agree
 pub agree-none : (p : Loaded) → Agree p [] []
-agree-none p = record {
-  typed = λ o x l is. absurd (cc is.is);
-  fit = All-from_recursion (IsFit p []) [] tt;
-  one_loop = All-from_recursion (IsInOneLoop []) [] tt;
-  apart = tt;
-  acyclic = λ loop. no-chain loop.1;
-  settled = λ q b is. absurd (cc is);
-}
+agree-none p = unbound_agree p [] (λ o x l is. absurd (cc is.is))
 
 -- ---- values stay settled
 

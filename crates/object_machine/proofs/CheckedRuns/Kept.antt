@@ -1,13 +1,11 @@
 -- What every state of a run keeps, and what it excludes.
 use Rattle.std.proofs.Common.{◌≡◌, ℕ, suc, ◌≤◌, IsTrue, List, [], ◌∷◌, length, None, refl, sym, subst, arith}
-use Rattle.std.proofs.lemmas.List.Elements.{All-from_recursion}
 use Rattle.basic_types.specs.declared.value.Value.{Value}
 use Rattle.script_lang.specs.declared.event.Event.{Event}
 use Rattle.meta_model.specs.Loaded.{Loaded}
 use Rattle.meta_model.specs.Sound.{IsSound}
-use Rattle.binding_graph.specs.declared.place.Place.{Place}
-use Rattle.binding_graph.specs.Bindings.{binding_at, without, replaced, Chain, direct, further}
-use Rattle.prop_bindings.specs.Fits.{IsFit, IsInOneLoop, Agree}
+use Rattle.binding_graph.specs.Bindings.{binding_at, without, replaced}
+use Rattle.prop_bindings.proofs.Agreeing.{unbound_agree}
 use Rattle.effect_scan.specs.declared.node.Node.{Node}
 use Rattle.certificate_lang.specs.declared.certificate.Certificate.{Certificate}
 use Rattle.rank_check.specs.Valid.{IsValid}
@@ -49,23 +47,9 @@ use Rattle.object_machine.proofs.CheckedRuns.Leading.{occurs-sound, occurs-in}
 
 -- ---- the start
 
-no-chain : {a c : Place} → ¬ Chain (binding_at []) a c
-no-chain (direct b is reads) = absurd (cc is)
-no-chain (further b chain is reads) = absurd (cc is)
-
-agree-none : (p : Loaded) → Agree p [] []
-agree-none p = record {
-  typed = λ o x l is. absurd (cc is.is);
-  fit = All-from_recursion (IsFit p []) [] tt;
-  one_loop = All-from_recursion (IsInOneLoop []) [] tt;
-  apart = tt;
-  acyclic = λ loop. no-chain loop.1;
-  settled = λ q b is. absurd (cc is);
-}
-
 pub start-invariant : (p : Loaded) (steps : ℕ) → Invariant p (at (untouched steps) [])
 start-invariant p steps = record {
-  sound = record { agree = agree-none p; joined = tt; housed = record { has_main = omega arith; each = λ o home is. absurd (cc is) }; waiting = (tt, tt) };
+  sound = record { agree = unbound_agree p [] (λ o x l is. absurd (cc is.is)); joined = tt; housed = record { has_main = omega arith; each = λ o home is. absurd (cc is) }; waiting = (tt, tt) };
   stands = tt;
   emitted = tt;
   heard = tt;

@@ -27,10 +27,9 @@ use Rattle.event_loops.specs.Queues.{items_at, is_before, taken_before}
 use Rattle.object_tree.specs.declared.life.Life.{Life}
 use Rattle.object_tree.specs.declared.object.Object.{Object}
 use Rattle.object_tree.specs.Creating.{BeginsAs, BeginsWell, fresh, initial_values}
-use Rattle.object_tree.specs.Family.{moved}
-use Rattle.object_tree.specs.Objects.{life_of, class_with, change_life, blocked}
+use Rattle.object_tree.specs.Objects.{life_of, class_with}
 use Rattle.object_tree.specs.Seen.{seen}
-use Rattle.object_tree.proofs.TypedObjects.{typed-change, typed-moved, typed-created}
+use Rattle.object_tree.proofs.TypedObjects.{typed-created}
 use Rattle.binding_graph.specs.declared.binding.Binding.{Binding}
 use Rattle.binding_graph.specs.declared.place.Place.{Place}
 use Rattle.binding_graph.specs.Bindings.{binding_at, without, replaced, Loop as Closed}
@@ -40,7 +39,7 @@ use Rattle.effect_scan.specs.declared.node.Member.TheVariants.{Property}
 use Rattle.effect_scan.specs.Nodes.{node}
 use Rattle.certificate_lang.specs.declared.certificate.Certificate.{Certificate}
 use Rattle.rank_check.specs.Valid.{IsValid}
-use Rattle.delete_later.proofs.Agreeing.{live-change, live-moved, live-created}
+use Rattle.prop_bindings.proofs.Agreeing.{adopted_agree, blocked_agree, live-created}
 use Rattle.machine_state.specs.declared.endpoints.Endpoints.{Endpoints}
 use Rattle.trace_entries.specs.declared.refusal.Refusal.{Refusal}
 use Rattle.machine_state.specs.declared.turn.Turn.{Turn}
@@ -68,7 +67,6 @@ use Rattle.object_machine.proofs.Settling.{bound-within}
 use Rattle.object_machine.proofs.CheckedRuns.Invariant.{IsSited, IsCovered}
 use Rattle.object_machine.proofs.CheckedRuns.Binding.{may-fit}
 use Rattle.object_machine.proofs.CheckedRuns.Events.{HoldsSome, binding-sited}
-use Rattle.object_machine.proofs.Changes.{adopted-by}
 use Rattle.object_machine.proofs.Judged.{given-is}
 use Rattle.object_machine.proofs.Moving.{stores-agree}
 use Rattle.object_machine.proofs.Judging.Naming.{living-is, living-object}
@@ -214,9 +212,7 @@ module _ {p : Loaded} {certificate : Certificate} (valid : IsValid p certificate
 
   blocked-agrees : {t : State} (name : List ℕ) (on : Bool) → block s name on (Ok t) → Agree p t.objects t.bindings
   blocked-agrees name on (goes_on o lives given) =
-      agree-at _ (given-is given) (agree-living p s.objects (change_life o.number (blocked on) s.objects) s.bindings
-      (typed-change p o.number (blocked on) s.objects (λ l. refl) agree.typed)
-      (live-change o.number (blocked on) s.objects (λ l. refl)) agree)
+      agree-at _ (given-is given) (blocked_agree p s.bindings s.objects o.number on agree)
 
   -- an object more
   created-agrees : (name : List ℕ) (c home : ℕ) (class : MetaObject) → IsClass p c class → Agree p (s.objects ++ fresh name c home (initial_values class) ∷ []) s.bindings
@@ -225,11 +221,6 @@ module _ {p : Loaded} {certificate : Certificate} (valid : IsValid p certificate
       agree-living p s.objects (s.objects ++ z ∷ []) s.bindings
       (typed-created p s.objects name c home class is (begins-well valid sound s.objects c class is) agree.typed)
       (live-created s.objects z) agree
-
-  moved-agrees : (a c : ℕ) → Agree p (moved a c s.objects) s.bindings
-  moved-agrees a c =
-      agree-living p s.objects (moved a c s.objects) s.bindings (typed-moved p a c s.objects agree.typed)
-      (live-moved a c s.objects) agree
 
   -- a bind that may be closes no chain
   bind-closes-none : (classes : ℕ → Option ℕ) → IsCovered p classes s.objects s.connected.connections s.bindings → (b : Binding) → IsSited p classes b → ¬ Closed (binding_at (replaced s.bindings b))
@@ -243,7 +234,7 @@ module _ {p : Loaded} {certificate : Certificate} (valid : IsValid p certificate
   event-agrees t (New name class loop) held idle (goes_on _ free (goes_on c (finds is) (goes_on home lives (goes_on _ room given)))) =
       agree-at _ (given-is given) (created-agrees name c.number home c.it is.is)
   event-agrees t (Adopt parent child) held idle (goes_on a is_parent (goes_on c is_child (goes_on _ owns (goes_on _ over (goes_on _ home (becomes x)))))) =
-      agree-at _ x.gives (adopted-by (λ (l : List Object). Agree p l s.bindings) agree (moved-agrees a.number c.number) x.is)
+      agree-at _ x.gives (adopted_agree p s.bindings s.objects x.objects a.number c.number c.it agree x.is)
   event-agrees t (Move name loop) held idle (goes_on o lives (goes_on home is (goes_on _ root (goes_on _ alone (becomes x))))) =
       agree-at _ x.gives (stores-agree x.is agree)
   event-agrees t (ConnectEvent e how) held idle (goes_on f both (goes_on _ may given)) = agree-at _ (given-is given) agree

@@ -7,7 +7,7 @@ use Rattle.object_tree.specs.declared.fault.CreateFault.{CreateFault}
 use Rattle.object_tree.specs.declared.object.Object.{Object}
 use Rattle.object_tree.specs.Creating.{IsCreated, IsNotCreated, BeginsWell, name_used, no_class, too_many, bad_type, no_memory, begun, fresh, initial_values, most_objects}
 use Rattle.object_tree.specs.Objects.{IsFree, IsNamed}
-use Rattle.object_tree.proofs.TypedObjects.{typed-fresh, typed-created as typed-made, get-last}
+use Rattle.object_tree.proofs.TypedObjects.{typed-fresh, get-last}
 use Rattle.script_lang.specs.declared.event.Event.TheVariants.{New}
 use Rattle.trace_entries.specs.declared.fault.Fault.{Fault}
 use Rattle.trace_entries.specs.declared.fault.Fault.TheVariants.{BadType}
@@ -17,8 +17,6 @@ use Rattle.machine_state.specs.declared.world.World.{World}
 use Rattle.machine_state.specs.Accepting.{accepted}
 use Rattle.machine_state.specs.State.{State}
 use Rattle.machine_state.specs.Worlds.{at}
-use Rattle.prop_bindings.specs.Fits.{Agree}
-use Rattle.delete_later.proofs.Agreeing.{agree-on, live-created}
 use Rattle.machine_rules.specs.Good.{IsWell}
 use Rattle.machine_rules.proofs.Fields.{class-unique}
 use Rattle.machine_rules.specs.Judgement.{NothingIs, found, missing, holds, fails, gives, goes_on, ends}
@@ -42,12 +40,6 @@ module _ (p : Loaded) (w : World) (name class : List ℕ) (loop : Option (List �
   created is =
       let Family : List Object → Type 0 = λ l. create p (at w []) name class loop (Ok (record (accepted (at w [])) { objects = l })) in
       subst Family (sym is.appended) (creates is.may.free is.may.named is.may.is is.may.room)
-
-  pub agree-created : {o : ℕ} {new : List Object} → Agree p w.store.tree w.store.bindings → IsCreated p w.store.tree name class home o new → Agree p new w.store.bindings
-  agree-created agree is =
-      let Family : List Object → Type 0 = λ l. Agree p l w.store.bindings in
-      subst Family (sym is.appended)
-      (agree-on p w.store.tree _ (live-created w.store.tree (made name home is.number is.kind)) w.store.bindings (typed-made p w.store.tree name is.number home is.kind is.may.is is.may.begins agree.typed) agree)
 
   -- an initial value isn't of its property's type
   stops-ill : {number : ℕ} {kind : MetaObject} → IsFree w.store.tree name → IsClassNamed p class number → IsClass p number kind → length w.store.tree < most_objects → (¬ BeginsWell p w.store.tree number kind) → Stops p w (New name class loop) BadType

@@ -5,10 +5,9 @@ use Rattle.delete_later.specs.declared.store.Store.{Store}
 use Rattle.delete_later.specs.Scheduling.{deferred_to, scheduled_in, scheduled_with}
 use Rattle.event_loops.specs.Queues.{HasName}
 use Rattle.object_tree.specs.declared.life.Life.{Life}
-use Rattle.object_tree.specs.Objects.{change_life, scheduled}
+use Rattle.object_tree.specs.Objects.{scheduled}
 use Rattle.prop_bindings.specs.Fits.{Agree}
-use Rattle.delete_later.proofs.Agreeing.{agree-on, live-change}
-use Rattle.object_tree.proofs.TypedObjects.{typed-change}
+use Rattle.prop_bindings.proofs.Agreeing.{scheduled_agree}
 use Rattle.script_lang.specs.declared.event.Event.TheVariants.{Later}
 use Rattle.trace_entries.specs.declared.entry.Entry.{Entry}
 use Rattle.trace_entries.specs.declared.entry.Entry.TheVariants.{At}
@@ -64,7 +63,5 @@ module _ (p : Loaded) (w : World) (name : List ℕ) where
       pub later-once : {v : World} → Agree p w.store.tree w.store.bindings → w.turn ≡ None → v ≡ accepting_schedule w (At 0 (Scheduled loop name) ∷ []) o.number → TookQuietly p w (Later name) v (Ok answer.Done)
       later-once agree none v_is =
           let Agrees : Store → Type 0 = λ store. Agree p store.tree store.bindings in
-          let after : Agree p (change_life o.number scheduled w.store.tree) w.store.bindings =
-          agree-on p w.store.tree (change_life o.number scheduled w.store.tree) (live-change o.number scheduled w.store.tree (λ l. refl)) w.store.bindings (typed-change p o.number scheduled w.store.tree (λ l. refl) agree.typed) agree in
-          let agree_after : Agrees (scheduled_in o.number (store_of noted)) = subst Agrees (sym now) after in
+          let agree_after : Agrees (scheduled_in o.number (store_of noted)) = subst Agrees (sym now) (scheduled_agree p w.store.bindings w.store.tree o.number agree) in
           quietly-done (with_scheduled noted o.number) (Later name) once refl agree_after none v_is

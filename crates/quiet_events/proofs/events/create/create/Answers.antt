@@ -1,14 +1,15 @@
 use Rattle.std.proofs.Common.{[], refl}
 use Rattle.machine_state.specs.Accepting.{accepted}
 use Rattle.machine_state.specs.Worlds.{at}
-use Rattle.quiet_events.proofs.Judging.Creating.{created, agree-created, creation-stops, creation-refuses}
+use Rattle.prop_bindings.proofs.Agreeing.{created_agree}
+use Rattle.quiet_events.proofs.Judging.Creating.{created, creation-stops, creation-refuses}
 use Rattle.quiet_events.proofs.Quiet.{quietly-done, quietly-stopped, quietly-refused, quietly-refused-from}
 use Rattle.quiet_events.proofs.events.create.create.Goals as goal
 
 pub returns-in-Ok : goal.returns-in-Ok
 returns-in-Ok c =
     quietly-done (record (accepted (at c.args.world.now [])) { objects = c.accept_creation.new.world.store.tree }) _ (created c.args.context.now.meta c.args.world.now c.args.name.now c.args.class.now c.args.home.now c.in-Some.home c.in-Some.ensures c.in-Ok.ensures.objects) refl
-    (agree-created c.args.context.now.meta c.args.world.now c.args.name.now c.args.class.now c.args.home.now c.in-Some.home c.in-Some.ensures c.requires.keeps.sound.is.agree c.in-Ok.ensures.objects) c.requires.idle c.in-Ok.ensures.ok
+    (created_agree c.args.context.now.meta c.args.world.now.store.bindings c.args.world.now.store.tree _ c.args.name.now c.args.class.now c.in-Some.home _ c.requires.keeps.sound.is.agree c.in-Ok.ensures.objects) c.requires.idle c.in-Ok.ensures.ok
 
 pub returns-in_err-refusal-in-Err : goal.returns-in_err-refusal-in-Err
 returns-in_err-refusal-in-Err c =
