@@ -25,7 +25,7 @@ PARTS = [('the claims, and runs', r'object_machine/specs/(?!Causes|Events|Takes)
          ('objects, connections, event loops, bindings', r'object_tree|connections|event_loops|binding_graph|binding_plans|prop_bindings|delete_later'),
          ('values, expressions, classes', r'')]
 WORD = re.compile(r'[^\s(){},;.\[\]]+')
-HEAD = re.compile(r'^(?:\s*(?:pub )?(?:unfoldable |abbrev |data |record )+(?:pub )?|pub )(\S+)')
+HEAD = re.compile(r'^(?:\s*(?:pub )?(?:unfoldable |abbrev |data |record )+(?:pub )?|pub )([^\s{]\S*)')
 CASE = re.compile(r'^\s+([^\s:]+) :(?: |$)')
 
 class Page:
