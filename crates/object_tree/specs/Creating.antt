@@ -30,7 +30,7 @@ abbrev pub initials : List MetaProperty → List Value
 initials properties = map (λ (q : MetaProperty). q.initial) properties
 
 abbrev pub initial_values : MetaObject → List Value
-initial_values class = initials class.properties
+initial_values class = map (λ (q : MetaProperty). q.initial) class.properties
 
 -- the life of a new object
 abbrev pub begun : ℕ → ℕ → List Value → Life

@@ -34,6 +34,22 @@ pub data Above (objects : List Object) (a : ℕ) : ℕ → Type 0 where
   itself : Above objects a a
   over_parent : {o parent : ℕ} → IsChild objects parent o → Above objects a parent → Above objects a o
 
+-- a child leaves the children of its parent, if it has one
+abbrev pub leaves : Option ℕ → ℕ → List Object → List Object
+leaves None child objects = objects
+leaves (Some parent) child objects = change parent (λ (x : Object). record x { children = without child x.children }) objects
+
+-- the child comes last among the new parent's children, and leaves those of its old parent
+abbrev pub moved : ℕ → ℕ → List Object → List Object
+moved parent child objects =
+    change_life child (λ (l : Life). record l { parent = Some parent })
+    (leaves (parent_of objects child) child (change parent (λ (x : Object). record x { children = x.children ++ child ∷ [] }) objects))
+
+-- an object that lives no more leaves its parent's children; its own stay its children
+abbrev pub without_life : ℕ → List Object → List Object
+without_life o objects = change o (λ (x : Object). record x { life = None }) (leaves (parent_of objects o) o objects)
+
+-- ---- what happens to one object, as the code does it
 -- a child comes last among an object's children
 abbrev pub joined_by : ℕ → Object → Object
 joined_by child x = record x { children = x.children ++ child ∷ [] }
@@ -42,24 +58,9 @@ joined_by child x = record x { children = x.children ++ child ∷ [] }
 abbrev pub left_by : ℕ → Object → Object
 left_by child x = record x { children = without child x.children }
 
--- a child leaves the children of its parent, if it has one
-abbrev pub leaves : Option ℕ → ℕ → List Object → List Object
-leaves None child objects = objects
-leaves (Some parent) child objects = change parent (left_by child) objects
-
 abbrev pub put_under : ℕ → Life → Life
 put_under parent l = record l { parent = Some parent }
-
--- the child comes last among the new parent's children, and leaves those of its old parent
-abbrev pub moved : ℕ → ℕ → List Object → List Object
-moved parent child objects =
-    change_life child (put_under parent)
-    (leaves (parent_of objects child) child (change parent (joined_by child) objects))
 
 -- an object that lives no more
 abbrev pub dead : Object → Object
 dead x = record x { life = None }
-
--- an object that lives no more leaves its parent's children; its own stay its children
-abbrev pub without_life : ℕ → List Object → List Object
-without_life o objects = change o dead (leaves (parent_of objects o) o objects)

@@ -7,14 +7,14 @@ use Rattle.object_tree.specs.Children.{are_distinct}
 use Rattle.object_tree.specs.Objects.{change_life}
 use Rattle.object_tree.specs.Family.{IsChild, Above}
 
--- an object lives in this loop
-abbrev pub in_loop : ℕ → Life → Life
-in_loop home l = record l { home = home }
-
 -- each of these objects that lives is in this loop
 abbrev pub all_in_loop : List ℕ → ℕ → List Object → List Object
 all_in_loop [] home objects = objects
-all_in_loop (o ∷ os) home objects = all_in_loop os home (change_life o (in_loop home) objects)
+all_in_loop (o ∷ os) home objects = all_in_loop os home (change_life o (λ (l : Life). record l { home = home }) objects)
+
+-- an object lives in this loop
+abbrev pub in_loop : ℕ → Life → Life
+in_loop home l = record l { home = home }
 
 -- a child and its parent are both among these objects, or neither is
 abbrev pub AreWhole : List ℕ → List Object → Type 0
