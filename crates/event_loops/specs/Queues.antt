@@ -21,11 +21,9 @@ pub record Queues : Type 0 where
 abbrev pub start : Queues
 start = record { loops = record { name = codes "main"; items = [] } ∷ []; posted = 0 }
 
-abbrev pub name_at : List Loop → ℕ → Option (List ℕ)
-name_at loops home = option_map (λ (l : Loop). l.name) (slice_get loops home)
-
+-- the loop at a place has the name
 abbrev pub HasName : List Loop → List ℕ → ℕ → Type 0
-HasName loops name home = name_at loops home ≡ Some name
+HasName loops name home = option_map (λ (l : Loop). l.name) (slice_get loops home) ≡ Some name
 
 -- some loop has the name
 abbrev pub IsTaken : List Loop → List ℕ → Type 0
@@ -65,43 +63,28 @@ abbrev pub without_first : (Posted → Bool) → List Posted → List Posted
 without_first test [] = []
 without_first test (p ∷ items) = if test p then items else p ∷ without_first test items
 
--- all but the items for an object
-abbrev pub none_for : ℕ → List Posted → List Posted
-none_for object items = filter (λ p. not (is_for object p.item)) items
-
 -- a loop with another list of items
 abbrev pub with_items : (List Posted → List Posted) → Loop → Loop
 with_items f l = record l { items = f l.items }
 
--- a loop with an item more at its end, without the first item that was posted before the one of this number, and without
--- the items for an object
-abbrev pub with_item : Posted → Loop → Loop
-with_item p l = with_items (λ items. items ++ p ∷ []) l
-
-abbrev pub without_first_before : ℕ → Loop → Loop
-without_first_before number l = with_items (without_first (is_before number)) l
-
-abbrev pub without_object : ℕ → Loop → Loop
-without_object object l = with_items (none_for object) l
-
--- the next item, after so many were posted
-abbrev pub next_item : ℕ → Item → Posted
-next_item posted item = record { number = posted + 1; item = item }
+-- a loop without the items that pass the test
+abbrev pub without : (Posted → Bool) → Loop → Loop
+without test l = with_items (filter (λ p. not (test p))) l
 
 -- an item more, with the next number, in the loop at a place
 abbrev pub posted_to : ℕ → Item → Queues → Queues
 posted_to home item s = record {
-  loops = change home (with_item (next_item s.posted item)) s.loops;
+  loops = change home (with_items (λ items. items ++ record { number = s.posted + 1; item = item } ∷ [])) s.loops;
   posted = s.posted + 1;
 }
 
 -- the first item that was posted before the one of this number leaves the loop at a place
 abbrev pub taken_before : ℕ → ℕ → Queues → Queues
-taken_before home number s = record s { loops = change home (without_first_before number) s.loops }
+taken_before home number s = record s { loops = change home (with_items (without_first (is_before number))) s.loops }
 
 -- the items for an object leave all loops
 abbrev pub dropped : ℕ → Queues → Queues
-dropped object s = record s { loops = map (without_object object) s.loops }
+dropped object s = record s { loops = map (without (λ p. is_for object p.item)) s.loops }
 
 -- a loop more, with no items, which comes last
 abbrev pub with_loop : List ℕ → Queues → Queues
@@ -121,14 +104,36 @@ all_items (l ∷ loops) = l.items ++ all_items loops
 abbrev pub items_elsewhere : ℕ → List Loop → List Posted
 items_elsewhere home loops = all_items (change home (with_items (λ items. [])) loops)
 
--- a loop without the items for these objects
-abbrev pub without_objects : List ℕ → Loop → Loop
-without_objects objects l = with_items (λ items. filter (λ p. not (is_for_any objects p)) items) l
-
 -- the items for these objects leave all loops but the one at a place, whose own stay where they are; there they come last, in
 -- the order in which they stood, loop by loop
 abbrev pub rehomed : List ℕ → ℕ → Queues → Queues
 rehomed objects home s = record s {
   loops = change home (with_items (λ items. items_at s.loops home ++ filter (is_for_any objects) (items_elsewhere home s.loops)))
-      (map (without_objects objects) s.loops);
+      (map (without (is_for_any objects)) s.loops);
 }
+
+-- ---- parts of these, each as the code does it
+abbrev pub name_at : List Loop → ℕ → Option (List ℕ)
+name_at loops home = option_map (λ (l : Loop). l.name) (slice_get loops home)
+
+-- the next item, after so many were posted
+abbrev pub next_item : ℕ → Item → Posted
+next_item posted item = record { number = posted + 1; item = item }
+
+-- a loop with an item more at its end, without the first item that was posted before the one of this number, and without
+-- the items for an object, or for some objects
+abbrev pub with_item : Posted → Loop → Loop
+with_item p l = with_items (λ items. items ++ p ∷ []) l
+
+abbrev pub without_first_before : ℕ → Loop → Loop
+without_first_before number l = with_items (without_first (is_before number)) l
+
+-- all but the items for an object
+abbrev pub none_for : ℕ → List Posted → List Posted
+none_for object items = filter (λ p. not (is_for object p.item)) items
+
+abbrev pub without_object : ℕ → Loop → Loop
+without_object object l = with_items (none_for object) l
+
+abbrev pub without_objects : List ℕ → Loop → Loop
+without_objects objects l = without (is_for_any objects) l
