@@ -51,10 +51,6 @@ abbrev pub are_connected : ℕ → ℕ → ℕ → ℕ → Connected → Bool
 are_connected sender signal receiver method s =
     list_any (joins sender signal receiver method) s.connections
 
--- all but the connections that pass the test
-abbrev pub without : (Connection → Bool) → List Connection → List Connection
-without test connections = filter (λ c. not (test c)) connections
-
 -- a connection more, with the next number
 abbrev pub connected_by : Connected → ℕ → ℕ → ℕ → ℕ → Kind → Bool → Connected
 connected_by s sender signal receiver method kind single = record {
@@ -64,7 +60,11 @@ connected_by s sender signal receiver method kind single = record {
 
 -- the connections that pass the test are removed
 abbrev pub removed : (Connection → Bool) → Connected → Connected
-removed test s = record s { connections = without test s.connections }
+removed test s = record s { connections = filter (λ c. not (test c)) s.connections }
+
+-- all but the connections that pass the test
+abbrev pub without : (Connection → Bool) → List Connection → List Connection
+without test connections = filter (λ c. not (test c)) connections
 
 -- the connections, and how many were removed since the last sweep: these are marked
 pub record Held : Type 0 where
