@@ -39,7 +39,8 @@ begun class home values =
 
 -- a new object
 abbrev pub fresh : List ℕ → ℕ → ℕ → List Value → Object
-fresh name class home values = record { name = name; children = []; life = Some (begun class home values) }
+fresh name class home values =
+    record { name = name; children = []; life = Some (record { class = class; home = home; parent = None; blocked = false; scheduled = false; values = values }) }
 
 -- an object of this name and class may be created: the class has this number and this meta-object
 pub record MayCreate (p : Loaded) (objects : List Object) (name class : List ℕ) (number : ℕ) (kind : MetaObject)

@@ -57,13 +57,13 @@ change n f [] = []
 change zero f (x ∷ xs) = f x ∷ xs
 change (suc n) f (x ∷ xs) = x ∷ change n f xs
 
+-- the objects with the life of one of them changed; a number of no living object changes nothing
+abbrev pub change_life : ℕ → (Life → Life) → List Object → List Object
+change_life o f objects = change o (λ (x : Object). record x { life = option_map f x.life }) objects
+
 -- an object with its life changed, if it lives
 abbrev pub with_life : (Life → Life) → Object → Object
 with_life f x = record x { life = option_map f x.life }
-
--- the objects with the life of one of them changed; a number of no living object changes nothing
-abbrev pub change_life : ℕ → (Life → Life) → List Object → List Object
-change_life o f objects = change o (with_life f) objects
 
 abbrev pub blocked : Bool → Life → Life
 blocked b l = record l { blocked = b }

@@ -1,5 +1,5 @@
 -- What values read as: a reference to a dead object is null (docs/machine.md, "Objects").
-use Rattle.std.specs.Prelude.{ℕ, List, map, Option, None, Some, slice_get}
+use Rattle.std.specs.Prelude.{ℕ, List, Option, None, Some, slice_get}
 use Rattle.std.specs.Option.{option_map}
 use Rattle.basic_types.specs.declared.value.Value.{Value}
 use Rattle.basic_types.specs.declared.value.Value.TheVariants.{Int, Bool as Truth, Text, Ref}
@@ -21,6 +21,3 @@ seen objects (Int n) = Int n
 seen objects (Truth b) = Truth b
 seen objects (Text t) = Text t
 seen objects (Ref r) = Ref (seen_reference objects r)
-
-abbrev pub all_seen : List Object → List Value → List Value
-all_seen objects values = map (seen objects) values

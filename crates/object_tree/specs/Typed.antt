@@ -10,7 +10,7 @@ use Rattle.meta_model.specs.Values.{Has, HaveTypes}
 use Rattle.object_tree.specs.declared.life.Life.{Life}
 use Rattle.object_tree.specs.declared.object.Object.{Object}
 use Rattle.object_tree.specs.Objects.{Lives, class_of}
-use Rattle.object_tree.specs.Seen.{seen, all_seen}
+use Rattle.object_tree.specs.Seen.{seen}
 
 -- as it reads, the value has the type
 abbrev pub ReadsAs : Loaded → List Object → Value → ValueType → Type 0
@@ -18,7 +18,7 @@ ReadsAs p objects v kind = Has p (class_of objects) (seen objects v) kind
 
 -- as they read, there are as many values as types, each of its type
 abbrev pub ReadAs : Loaded → List Object → List Value → List ValueType → Type 0
-ReadAs p objects values kinds = HaveTypes p (class_of objects) (all_seen objects values) kinds
+ReadAs p objects values kinds = HaveTypes p (class_of objects) (map (seen objects) values) kinds
 
 -- the class is there, and the values are as many as its properties, each of its type
 pub record IsTyped (p : Loaded) (objects : List Object) (life : Life) : Type 0 where
