@@ -1,6 +1,6 @@
 -- Who is whose parent (docs/machine.md, "Objects"; Qt 6, "Object Trees & Ownership").
 use Rattle.std.specs.Prelude.{◌≡◌, ℕ, List, [], ◌∷◌, ◌++◌, Option, None, Some, slice_get}
-use Rattle.std.specs.Option.{option_and_then}
+use Rattle.std.specs.Option.{option_and_then, option_map_or}
 use Rattle.object_tree.specs.declared.life.Life.{Life}
 use Rattle.object_tree.specs.declared.object.Object.{Object}
 use Rattle.object_tree.specs.Children.{without}
@@ -10,13 +10,9 @@ use Rattle.object_tree.specs.Objects.{Lives, life_of, change, change_life}
 abbrev pub parent_of : List Object → ℕ → Option ℕ
 parent_of objects o = option_and_then (λ (l : Life). l.parent) (life_of objects o)
 
-abbrev pub children_in : Option Object → List ℕ
-children_in None = []
-children_in (Some x) = x.children
-
 -- the living children of an object, which may be dead, in the order of adoption
 abbrev pub children_of : List Object → ℕ → List ℕ
-children_of objects o = children_in (slice_get objects o)
+children_of objects o = option_map_or (λ (x : Object). x.children) (slice_get objects o) []
 
 -- object o lives, and this is its parent
 pub record IsChild (objects : List Object) (parent o : ℕ) : Type 0 where
@@ -49,7 +45,10 @@ moved parent child objects =
 abbrev pub without_life : ℕ → List Object → List Object
 without_life o objects = change o (λ (x : Object). record x { life = None }) (leaves (parent_of objects o) o objects)
 
--- ---- what happens to one object, as the code does it
+-- ---- what there is of one object, and what happens to it, as the code has it
+abbrev pub children_in : Option Object → List ℕ
+children_in found = option_map_or (λ (x : Object). x.children) found []
+
 -- a child comes last among an object's children
 abbrev pub joined_by : ℕ → Object → Object
 joined_by child x = record x { children = x.children ++ child ∷ [] }
