@@ -31,13 +31,13 @@ parent-is objects o parent child =
 above-down : (objects : List Object) (a o parent : ℕ) → Above objects a o → o ≢ a → parent_of objects o ≡ Some parent → Above objects a parent
 above-down objects a o parent itself other found = absurd (other refl)
 above-down objects a o parent (over_parent {parent = p} child above) other found =
-    let same : Some p ≡ Some parent = sym (parent-is objects o p child) ∙ found in
+    let same : Some p ≡ Some parent = sym child ∙ found in
     let is : p ≡ parent = cc same in
     subst (λ (q : ℕ). Above objects a q) is above
 
 pub above-parent : {Before : Type 0} (objects : List Object) (a o parent : ℕ) → parent_of objects o ≡ Some parent → o ≢ a → Before ↔ Above objects a o → Before ↔ Above objects a parent
 above-parent objects a o parent found other so_far =
-    (λ b. above-down objects a o parent (so_far.0 b) other found, λ above. so_far.1 (over_parent (child-is objects o parent found) above))
+    (λ b. above-down objects a o parent (so_far.0 b) other found, λ above. so_far.1 (over_parent found above))
 
 pub here-above : {Before : Type 0} (objects : List Object) (a o : ℕ) → o ≡ a → Before ↔ Above objects a o → IsTrue true ↔ Before
 here-above objects a o same so_far =
@@ -48,7 +48,7 @@ pub above-childless : (objects : List Object) (a o : ℕ) → IsChildless object
 above-childless objects a o none itself = refl
 above-childless objects a o none (over_parent {parent = p} child above) =
     let same : p ≡ a = sym (above-childless objects a p none above) in
-    absurd (none o (subst (λ (q : ℕ). IsChild objects q o) same child))
+    absurd (none o (subst (λ (q : ℕ). IsChild objects q o) same (child-is objects o p child)))
 
 pub same-above : {r : Bool} (objects : List Object) (a o : ℕ) → IsChildless objects a → r ≡ eqb a o → IsTrue r ↔ Above objects a o
 same-above objects a o none is =

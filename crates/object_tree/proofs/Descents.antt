@@ -1,6 +1,6 @@
 -- A walk down from an object: the objects that it has passed, and those that it has found and not passed yet.
 use Rattle.std.proofs.Common.{◌≡◌, ◌⊎◌, ⊎_elim, inl, inr, ℕ, zero, suc, ◌+◌, ◌-◌, ◌<◌, ◌≤◌, eqb, Bool, true, false, ◌||◌, ◌&&◌, not, List, [], ◌∷◌, ◌++◌, length, take, drop, get_or, Option, None, Some, refl, sym, ap, ◌∙◌, subst, arith, append-nil}
-use Rattle.std.specs.Prelude.{slice_get, IsSome}
+use Rattle.std.specs.Prelude.{IsSome}
 use Rattle.std.proofs.Math.ListN.{drop_of_length-le}
 use Rattle.std.proofs.lemmas.Bool.{eqb-true, eq-eqb}
 use Rattle.std.proofs.lemmas.List.{drop_more, take_more}
@@ -10,10 +10,10 @@ use Rattle.object_tree.specs.declared.object.Object.{Object}
 use Rattle.meta_model.specs.Among.{is_among}
 use Rattle.object_tree.specs.Children.{are_distinct}
 use Rattle.object_tree.specs.Objects.{Lives, life_of}
-use Rattle.object_tree.specs.Family.{parent_of, children_of, IsChild, Above, itself, over_parent}
+use Rattle.object_tree.specs.Family.{parent_of, children_of, Above, itself, over_parent}
 use Rattle.object_tree.specs.Forest.{Forest, is_the}
 use Rattle.object_tree.specs.Moving.{AreBelow}
-use Rattle.object_tree.proofs.Above.{child-is, parent-is}
+use Rattle.object_tree.proofs.Above.{child-is}
 use Rattle.object_tree.proofs.Changing.{lives-of-life}
 use Rattle.object_tree.proofs.Keeping.{the-is}
 use Rattle.object_tree.proofs.Walks.{few}
@@ -133,7 +133,7 @@ module _ (objects : List Object) (o : ℕ) where
 
       complete : {k : ℕ} → Above objects o k → is_among k done ≡ true
       complete itself = whole o w.root
-      complete (over_parent {o = c} {parent = p} child above) = whole c (w.closed p c (complete above) (parent-is objects c p child))
+      complete (over_parent {o = c} {parent = p} child above) = whole c (w.closed p c (complete above) child)
 
 module _ (objects : List Object) (forest : Forest objects) where
   among-child : (x k : ℕ) → parent_of objects k ≡ Some x → is_among k (children_of objects x) ≡ true
@@ -199,7 +199,7 @@ module _ (objects : List Object) (forest : Forest objects) (o : ℕ) (done rest 
         (either k rest (children_of objects x) t));
     sound = λ k e. ⊎_elim
         (λ (old : is_among k (done ++ (rest ++ x ∷ [])) ≡ true). w.sound k old)
-        (λ (c : is_among k (children_of objects x) ≡ true). over_parent (child-is objects k x (child-among objects forest x k c)) (w.sound x here))
+        (λ (c : is_among k (children_of objects x) ≡ true). over_parent (child-among objects forest x k c) (w.sound x here))
         (was k e);
     root = still o w.root;
     closed = λ k c e up. ⊎_elim
@@ -318,7 +318,7 @@ module _ (objects : List Object) (o : ℕ) where
   -- no more are passed than were created
   within : (there : o < length objects) (k : ℕ) → Above objects o k → k < length objects
   within there k itself = there
-  within there k (over_parent child above) = slice_get_within objects k child.object child.lives.is
+  within there k (over_parent {parent = p} child above) = let is = child-is objects k p child in slice_get_within objects k is.object is.lives.is
 
   walk-bound : (l : Life) → life_of objects o ≡ Some l → (done todo : List ℕ) → Walked objects o done todo → length done ≤ length objects
   walk-bound l lives done todo w =

@@ -36,7 +36,7 @@ parent-there objects parent child listed found =
 -- where each parent was the parent before, who is above whom was so before
 pub above-through : {old new : List Object} → ((parent child : ℕ) → IsChild new parent child → IsChild old parent child) → {a o : ℕ} → Above new a o → Above old a o
 above-through kept itself = itself
-above-through kept (over_parent {o} {parent} child above) = over_parent (kept parent o child) (above-through kept above)
+above-through {old} {new} kept (over_parent {o} {parent} child above) = over_parent (parent-is old o parent (kept parent o (child-is new o parent child))) (above-through kept above)
 
 above-over : {objects : List Object} {a b o : ℕ} → Above objects a b → Above objects b o → Above objects a o
 above-over above itself = above
@@ -304,7 +304,7 @@ module _ (objects : List Object) (a c : ℕ) (m : Moves objects a c) where
   above-apart x o itself apart = itself
   above-apart x o (over_parent {parent = p} is above) apart =
       let other : o ≢ c = λ e. apart (subst (λ (q : ℕ). Above objects c q) (sym e) itself) in
-      let was : IsChild objects p o = moved-child p o is other in
+      let was = parent-is objects o p (moved-child p o (child-is (moved a c objects) o p is) other) in
       over_parent was (above-apart x p above (λ up. apart (over_parent was up)))
 
   -- who is above an object was so before, or is above the new parent, with the child between
@@ -313,14 +313,14 @@ module _ (objects : List Object) (a c : ℕ) (m : Moves objects a c) where
   above-moved x o (over_parent {parent = p} is above) = ⊎_elim
       (λ (same : o ≡ c).
       let Under : ℕ → Type 0 = λ q. IsChild (moved a c objects) p q in
-      let new : p ≡ a = moved-under p (subst Under same is) in
+      let new : p ≡ a = moved-under p (subst Under same (child-is (moved a c objects) o p is)) in
       inr (subst (λ (q : ℕ). Above objects c q) (sym same) itself, subst (λ (q : ℕ). Above (moved a c objects) x q) new above))
       (λ (other : o ≢ c).
-      let was : IsChild objects p o = moved-child p o is other in
+      let was = parent-is objects o p (moved-child p o (child-is (moved a c objects) o p is) other) in
       by_side was (above-moved x p above))
       (cases_eq o c)
     where
-      by_side : IsChild objects p o → Above objects x p ⊎ (Above objects c p × Above (moved a c objects) x a) → Above objects x o ⊎ (Above objects c o × Above (moved a c objects) x a)
+      by_side : parent_of objects o ≡ Some p → Above objects x p ⊎ (Above objects c p × Above (moved a c objects) x a) → Above objects x o ⊎ (Above objects c o × Above (moved a c objects) x a)
       by_side was (inl up) = inl (over_parent was up)
       by_side was (inr up) = inr (over_parent was up.0, up.1)
 
@@ -339,7 +339,7 @@ module _ (objects : List Object) (a c : ℕ) (m : Moves objects a c) where
     where
       by_side : IsChild objects parent child → Above objects child parent ⊎ (Above objects c parent × Above (moved a c objects) child a) → ⊥
       by_side was (inl up) = m.forest.acyclic parent child was up
-      by_side was (inr up) = m.no_cycle (above-over (over_parent was up.0) (above-apart child a up.1 m.no_cycle))
+      by_side was (inr up) = m.no_cycle (above-over (over_parent (parent-is objects child parent was) up.0) (above-apart child a up.1 m.no_cycle))
 
 moved-home : (objects : List Object) (a c k : ℕ) → home_of (moved a c objects) k ≡ home_of objects k
 moved-home objects a c k = moved-part home_in objects a c k (λ x l. refl) (home-with_life (put_under a) (λ l. refl))

@@ -1,5 +1,5 @@
 -- What objects that move to another loop leave as it was.
-use Rattle.std.proofs.Common.{◌≡◌, ◌≢◌, ℕ, zero, suc, eqb, Bool, true, false, ◌||◌, cond, List, [], ◌∷◌, length, Option, None, Some, refl, sym, ap, ◌∙◌, subst}
+use Rattle.std.proofs.Common.{◌≡◌, ◌≢◌, ℕ, suc, eqb, Bool, true, false, ◌||◌, cond, List, [], ◌∷◌, length, Option, None, Some, refl, sym, ap, ◌∙◌, subst}
 use Rattle.std.specs.Prelude.{slice_get}
 use Rattle.std.specs.Option.{option_map, option_and_then}
 use Rattle.std.proofs.lemmas.Bool.{eqb-true, eq-eqb, false≢true}
@@ -169,11 +169,11 @@ module _ (objects : List Object) (o : ℕ) (root : parent_of objects o ≡ None)
   under : {parent child : ℕ} → IsChild objects parent child → Above objects o child → Above objects o parent
   under {parent} {child} is itself = let up : parent_of objects o ≡ Some parent = parent-is objects o parent is in absurd (cc (sym root ∙ up))
   under {parent} {child} is (over_parent {parent = p} other above) =
-      let same : p ≡ parent = same_Some p parent (sym (parent-is objects child p other) ∙ parent-is objects child parent is) in
+      let same : p ≡ parent = same_Some p parent (sym other ∙ parent-is objects child parent is) in
       subst (λ (q : ℕ). Above objects o q) same above
 
   pub whole-below : (os : List ℕ) → AreBelow objects o os → AreWhole os objects
   whole-below os below parent child is =
       same_tests (is_among parent os) (is_among child os)
-      (λ among. (below.all child).1 (over_parent is ((below.all parent).0 among)))
+      (λ among. (below.all child).1 (over_parent (parent-is objects child parent is) ((below.all parent).0 among)))
       (λ among. (below.all parent).1 (under is ((below.all child).0 among)))

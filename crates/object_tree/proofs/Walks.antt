@@ -53,7 +53,7 @@ module _ (objects : List Object) (forest : Forest objects) where
       by_test : (b : Bool) → eqb o q ≡ b → (found : Option ℕ) → parent_of objects o ≡ found → (b || is_among q (rest (path (parent_of objects) k) found)) ≡ true → ((p : ℕ) → is_among q (path (parent_of objects) k p) ≡ true → Above objects q p) → Above objects q o
       by_test true t found f h r = subst (λ (j : ℕ). Above objects q j) (sym (eqb-true o q t)) itself
       by_test false t None f h r = absurd (cc h)
-      by_test false t (Some p) f h r = over_parent (child-is objects o p f) (r p h)
+      by_test false t (Some p) f h r = over_parent f (r p h)
 
   -- it meets no object twice
   distinct-path : (k o : ℕ) → are_distinct (path (parent_of objects) k o) ≡ true

@@ -28,7 +28,7 @@ IsChildless objects parent = (o : ℕ) → ¬ IsChild objects parent o
 -- a is o or one of its ancestors, which are counted up to the first dead one
 pub data Above (objects : List Object) (a : ℕ) : ℕ → Type 0 where
   itself : Above objects a a
-  over_parent : {o parent : ℕ} → IsChild objects parent o → Above objects a parent → Above objects a o
+  over_parent : {o parent : ℕ} → parent_of objects o ≡ Some parent → Above objects a parent → Above objects a o
 
 -- a child leaves the children of its parent, if it has one
 abbrev pub leaves : Option ℕ → ℕ → List Object → List Object
