@@ -1,6 +1,6 @@
 -- The connections that are made and removed, and those that an emission uses (docs/machine.md, "Rules").
 use Rattle.std.specs.Prelude.{ℕ, ◌&&◌, not, eqb, if◌then◌else◌, Bool, false, List, Option, None, Some, is_some}
-use Rattle.std.specs.List.{find}
+use Rattle.std.specs.List.{find, list_any}
 use Rattle.meta_model.specs.declared.qobject.TheConstants.{DESTROYED}
 use Rattle.object_tree.specs.declared.life.Life.{Life}
 use Rattle.object_tree.specs.declared.object.Object.{Object}
@@ -8,18 +8,19 @@ use Rattle.object_tree.specs.Objects.{life_of}
 use Rattle.syntax_trees.specs.declared.connection.ConnectionType.{ConnectionType}
 use Rattle.machine_state.specs.declared.endpoints.Endpoints.{Endpoints}
 use Rattle.connections.specs.declared.connection.Connection.{Connection}
-use Rattle.connections.specs.Connected.{Connected, joins, are_connected, connected_by, is_due, is_numbered, removed}
+use Rattle.connections.specs.Connected.{Connected, connected_by, is_due, is_of, removed}
 
 -- what is left of the connections when one is used: a single-shot one is removed (Qt 6, `Qt::SingleShotConnection`)
 abbrev pub after_use : Connection → Connected → Connected
-after_use c connected = if c.single then removed (is_numbered c.number) connected else connected
+after_use c connected = if c.single then removed (λ (d : Connection). eqb d.number c.number) connected else connected
 
--- some connection joins these ends, and those that do
-abbrev pub are_joined : Endpoints → Connected → Bool
-are_joined ends connected = are_connected ends.sender ends.signal ends.receiver ends.method connected
-
+-- from this signal of the sender to this method of the receiver, of whatever kind
 abbrev pub joins_these : Endpoints → Connection → Bool
-joins_these ends c = joins ends.sender ends.signal ends.receiver ends.method c
+joins_these ends c = (is_of ends.sender ends.signal c && eqb c.receiver ends.receiver) && eqb c.method ends.method
+
+-- some connection joins these ends
+abbrev pub are_joined : Endpoints → Connected → Bool
+are_joined ends connected = list_any (joins_these ends) connected.connections
 
 -- a connection more that joins these ends, which has the next number
 abbrev pub newly_joined : Endpoints → ConnectionType → Connected → Connected
@@ -35,19 +36,20 @@ abbrev pub silences : Option Life → ℕ → Bool
 silences None g = false
 silences (Some l) g = l.blocked && not (eqb g DESTROYED)
 
-abbrev pub is_silent : Object → ℕ → Bool
-is_silent x g = silences x.life g
-
 -- the object lives
 abbrev pub is_living : List Object → ℕ → Bool
 is_living objects o = is_some (life_of objects o)
 
--- a connection that is due, and whose receiver lives (Qt 6, `QObject::~QObject`: a dead receiver isn't called)
-abbrev pub can_be_used : List Object → ℕ → ℕ → ℕ → ℕ → Connection → Bool
-can_be_used objects o g used last c = is_due o g used last c && is_living objects c.receiver
-
 -- the connection that an emission of object o uses next: the first that is due and has a living receiver, unless the
--- object is silent
+-- object is silent (Qt 6, `QObject::~QObject`: a dead receiver isn't called)
 abbrev pub next_used : List Object → List Connection → ℕ → ℕ → ℕ → ℕ → Option Connection
 next_used objects connections o g used last =
-    if silences (life_of objects o) g then None else find (can_be_used objects o g used last) connections
+    if silences (life_of objects o) g then None else find (λ (c : Connection). is_due o g used last c && is_living objects c.receiver) connections
+
+-- ---- parts of these, each as the code asks it
+abbrev pub is_silent : Object → ℕ → Bool
+is_silent x g = silences x.life g
+
+-- a connection that is due, and whose receiver lives
+abbrev pub can_be_used : List Object → ℕ → ℕ → ℕ → ℕ → Connection → Bool
+can_be_used objects o g used last c = is_due o g used last c && is_living objects c.receiver

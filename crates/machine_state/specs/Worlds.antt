@@ -1,10 +1,11 @@
 -- What a world says of the machine's state (docs/machine.md, "The state").
 use Rattle.std.specs.Prelude.{ℕ, ◌+◌, ◌-◌, List, [], None, Some}
 use Rattle.syntax_trees.specs.declared.connection.ConnectionType.{ConnectionType}
+use Rattle.connections.specs.Connected.{connected_by, removed}
 use Rattle.delete_later.specs.declared.store.Store.{Store}
 use Rattle.delete_later.specs.Scheduling.{empty}
 use Rattle.machine_state.specs.declared.world.World.{World}
-use Rattle.machine_state.specs.Connections.{newly_joined, parted}
+use Rattle.machine_state.specs.Connections.{joins_these}
 use Rattle.machine_state.specs.declared.endpoints.Endpoints.{Endpoints}
 use Rattle.machine_state.specs.State.{State, Activation}
 
@@ -29,11 +30,11 @@ after w s = record { store = store_of s; turn = s.turn; trace = s.trace; events 
 
 -- a state with a connection more, which has the next number
 abbrev pub with_connection : State → Endpoints → ConnectionType → State
-with_connection s ends how = record s { connected = newly_joined ends how s.connected }
+with_connection s ends how = record s { connected = connected_by s.connected ends.sender ends.signal ends.receiver ends.method how.kind how.single }
 
 -- a state without the connections that join these ends
 abbrev pub without_connections : State → Endpoints → State
-without_connections s ends = record s { connected = parted ends s.connected }
+without_connections s ends = record s { connected = removed (joins_these ends) s.connected }
 
 -- a state in which a turn of an event loop begins: it delivers what is posted by now
 abbrev pub begun_turn : State → ℕ → State
