@@ -41,30 +41,23 @@ pub record Dies (s : State) (stack : List Activation) (x : ℕ) (t : State) : Ty
   pub named : name_of s.objects x ≡ Some name
   pub gives : t ≡ died s stack x name
 
--- no connection leads from or to the object any more, and nothing waits for it
-abbrev pub forgotten : State → ℕ → State
-forgotten s x = with_store s (ended_in x (store_of s))
-
 -- the object that is deleted next dies, if it lives; it is forgotten when its `destroyed` has ended, and then it is the
--- latest of those that are torn down
+-- latest of those that are torn down: no connection leads from or to it any more, and nothing waits for it
 abbrev pub NextRule : State → List Activation → State → ℕ → List ℕ → Bool → Type 0
 NextRule s below t x torn true = Dies s (Destroy (Some x) torn ∷ below) x t
-NextRule s below t x torn false = t ≡ record (forgotten s x) { stack = Destroy None (x ∷ torn) ∷ below }
+NextRule s below t x torn false = t ≡ record (with_store s (ended_in x (store_of s))) { stack = Destroy None (x ∷ torn) ∷ below }
 
--- a child of the latest of those that are torn down dies; where it has none left, it isn't torn down any more
+-- the first living child of the latest of those that are torn down dies, in the order of adoption; where it has none left, it
+-- isn't torn down any more
 abbrev pub ChildRule : State → List Activation → State → ℕ → List ℕ → Option ℕ → Type 0
 ChildRule s below t parent torn (Some x) = Dies s (Destroy (Some x) (parent ∷ torn) ∷ below) x t
 ChildRule s below t parent torn None = t ≡ record s { stack = Destroy None torn ∷ below }
-
--- the first living child of an object, in the order of adoption
-abbrev pub living_child : State → ℕ → Option ℕ
-living_child s parent = find (is_living s.objects) (children_of s.objects parent)
 
 -- with no object left a deletion ends
 abbrev pub DestroyRule : State → List Activation → State → Option ℕ → List ℕ → Type 0
 DestroyRule s below t (Some x) torn = NextRule s below t x torn (is_living s.objects x)
 DestroyRule s below t None [] = t ≡ record s { stack = below }
-DestroyRule s below t None (parent ∷ torn) = ChildRule s below t parent torn (living_child s parent)
+DestroyRule s below t None (parent ∷ torn) = ChildRule s below t parent torn (find (is_living s.objects) (children_of s.objects parent))
 
 -- ---- an object is scheduled to be deleted
 
@@ -82,3 +75,13 @@ pub record Schedules (s : State) (stack : List Activation) (x : ℕ) (t : State)
   pub lines : List Entry
   pub told : TellsSchedule s (length stack) x life lines
   pub gives : t ≡ record (with_store s (scheduled_with life x (store_of s))) { stack = stack; trace = s.trace ++ lines }
+
+-- ---- parts of these, each as the code does it
+
+-- no connection leads from or to the object any more, and nothing waits for it
+abbrev pub forgotten : State → ℕ → State
+forgotten s x = with_store s (ended_in x (store_of s))
+
+-- the first living child of an object, in the order of adoption
+abbrev pub living_child : State → ℕ → Option ℕ
+living_child s parent = find (is_living s.objects) (children_of s.objects parent)

@@ -25,14 +25,10 @@ pub record ArgumentsFit (p : Loaded) (objects : List Object) (o m : ℕ) (argume
   pub is : IsMember p objects o m object method
   pub typed : ReadAs p objects arguments method.kinds
 
--- the types that `destroyed(QObject*)` declares, in every class
-abbrev pub destroyed_kinds : List ValueType
-destroyed_kinds = type.Reference QOBJECT false ∷ []
-
--- an emission has the arguments that the object's signal declares; of a dead object only `destroyed` is emitted
+-- an emission has the arguments that the object's signal declares; of a dead object only `destroyed(QObject*)` is emitted
 pub data EmissionFits (p : Loaded) (objects : List Object) (o g : ℕ) (arguments : List Value) : Type 0 where
   of_living : ArgumentsFit p objects o g arguments → EmissionFits p objects o g arguments
-  of_dead : IsDead objects o → g ≡ DESTROYED → ReadAs p objects arguments destroyed_kinds → EmissionFits p objects o g arguments
+  of_dead : IsDead objects o → g ≡ DESTROYED → ReadAs p objects arguments (type.Reference QOBJECT false ∷ []) → EmissionFits p objects o g arguments
 
 -- the activation on top of the stack has arguments that fit; an update and a deletion have none
 abbrev pub TopFits : Loaded → List Object → List Activation → Type 0
@@ -40,6 +36,10 @@ TopFits p objects [] = Unit {0}
 TopFits p objects (Body o m arguments left ∷ below) = ArgumentsFit p objects o m arguments
 TopFits p objects (Emit o g arguments used last ∷ below) = EmissionFits p objects o g arguments
 TopFits p objects (_ ∷ below) = Unit {0}
+
+-- the types that `destroyed(QObject*)` declares, in every class
+abbrev pub destroyed_kinds : List ValueType
+destroyed_kinds = type.Reference QOBJECT false ∷ []
 
 -- ---- active bodies
 

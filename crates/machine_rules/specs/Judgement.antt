@@ -11,14 +11,10 @@ pub record Numbered (X : Type 0) : Type 0 where
 abbrev pub numbered : {X : Type 0} → ℕ → X → Numbered X
 numbered number it = record { number = number; it = it }
 
--- nothing is so
-abbrev pub NothingIs : {X : Type 0} → (X → Type 0) → Type 0
-NothingIs {X} Is = (x : X) → ¬ Is x
-
 -- what is so is found; where nothing is, the event is refused
 pub data Find {X : Type 0} (r : Refusal) (Is : X → Type 0) : Result X Refusal → Type 0 where
   found : {x : X} → Is x → Find r Is (Ok x)
-  missing : NothingIs Is → Find r Is (Err r)
+  missing : ((x : X) → ¬ Is x) → Find r Is (Err r)
 
 -- the event is refused unless this holds
 pub data Check (r : Refusal) (Holds : Type 0) : Result (Unit {0}) Refusal → Type 0 where
@@ -42,6 +38,10 @@ pub data Then {X Y : Type 0} (First : Result X Refusal → Type 0)
 infixl 10 ◌>>=◌
 abbrev pub ◌>>=◌ : {X Y : Type 0} → (Result X Refusal → Type 0) → (X → Result Y Refusal → Type 0) → Result Y Refusal → Type 0
 first >>= next = Then first next
+
+-- nothing is so
+abbrev pub NothingIs : {X : Type 0} → (X → Type 0) → Type 0
+NothingIs {X} Is = (x : X) → ¬ Is x
 
 -- a judgement has at most one answer
 abbrev pub HasOneAnswer : {X : Type 0} → (Result X Refusal → Type 0) → Type 0

@@ -39,10 +39,6 @@ pub data DeclaredBy (p : Loaded) (m : ℕ) : ℕ → ℕ → Type 0 where
   own : {c : ℕ} → Declares p c m → DeclaredBy p m c c
   inherited : {c b d : ℕ} → base_of p c ≡ Some b → m < method_count p b → DeclaredBy p m b d → DeclaredBy p m c d
 
--- these are the present values of properties of an object
-abbrev pub AreRead : List Object → ℕ → List ℕ → List Value → Type 0
-AreRead objects o properties values = AllZip (λ q value. stored objects o q ≡ Some value) properties values
-
 -- the native that is method m of object o may answer these actions
 pub record MayAnswer (p : Loaded) (natives : NativeAnswers) (objects : List Object) (o m : ℕ) (arguments : List Value)
     (effects : MetaEffects) (actions : List Action) : Type 0 where
@@ -54,7 +50,7 @@ pub record MayAnswer (p : Loaded) (natives : NativeAnswers) (objects : List Obje
   pub class : MetaObject
   pub is_class : IsClass p number class
   pub reads : List Value
-  pub are_read : AreRead objects o effects.reads reads
+  pub are_read : AllZip (λ q value. stored objects o q ≡ Some value) effects.reads reads
   pub gives : natives class.name method.sig arguments reads actions
 
 -- an action of an answer is written down so: with the name of the property or the signal
@@ -65,6 +61,12 @@ pub data IsShownAs (p : Loaded) (objects : List Object) (o : ℕ) (effects : Met
   emit_shown : {k g : ℕ} {arguments : List Value} {x : Object} {signal : MetaMethod} →
       slice_get effects.emits k ≡ Some g → IsMember p objects o g x signal →
       IsShownAs p objects o effects (action.Emit k arguments) (show.Emit signal.sig.name (all_shown objects arguments))
+
+-- ---- parts of these, each as the code does it
+
+-- these are the present values of properties of an object
+abbrev pub AreRead : List Object → ℕ → List ℕ → List Value → Type 0
+AreRead objects o properties values = AllZip (λ q value. stored objects o q ≡ Some value) properties values
 
 -- each of a list of actions is written down so
 abbrev pub AreShownAs : Loaded → List Object → ℕ → MetaEffects → List Action → List ShownAction → Type 0

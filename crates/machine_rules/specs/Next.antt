@@ -25,15 +25,11 @@ pub record DoesNext (s : State) (what : Operation) : Type 0 where
   pub is_next : s.stack ≡ Body object method arguments (step ∷ rest) ∷ below
   pub does : operation_of_step s.objects object arguments step ≡ Some what
 
--- what is going on is a body whose next step writes this
-abbrev pub WritesNext : State → Assigning → Type 0
-WritesNext s what = DoesNext s (Write what)
-
 -- the next step writes a value for an object's property that is not of its type. What follows from the property need
 -- have no values then, so this is said of the step, and not of what it makes.
 pub record WritesIll (p : Loaded) (s : State) : Type 0 where
   pub what : Assigning
-  pub next : WritesNext s what
+  pub next : DoesNext s (Write what)
   pub set : Assignment
   pub among : Contains (writes_of what) set
   pub it : Object
@@ -52,3 +48,9 @@ pub record LacksValue (s : State) : Type 0 where
   pub below : List Activation
   pub is_next : s.stack ≡ Body object method arguments (Run statement ∷ rest) ∷ below
   pub lacks : operation s.objects object arguments (out-Statement statement) ≡ None
+
+-- ---- a part of these, for faults and proofs
+
+-- what is going on is a body whose next step writes this
+abbrev pub WritesNext : State → Assigning → Type 0
+WritesNext s what = DoesNext s (Write what)

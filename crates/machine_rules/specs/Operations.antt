@@ -1,5 +1,5 @@
 -- What the steps of a body do: the statements of a slot, and what a native does (docs/machine.md, "Rules").
-use Rattle.std.specs.Prelude.{ℕ, true, false, List, [], ◌∷◌, Option, None, Some, slice_get}
+use Rattle.std.specs.Prelude.{ℕ, true, false, List, [], ◌∷◌, Option, None, Some, slice_get, slice_set}
 use Rattle.std.specs.Option.{option_and_then, option_map}
 use Rattle.basic_types.specs.declared.value.Value.{Value}
 use Rattle.basic_types.specs.declared.value.Value.TheVariants as value
@@ -11,7 +11,8 @@ use Rattle.meta_model.specs.declared.object.MetaEndpoints.{MetaEndpoints}
 use Rattle.syntax_trees.specs.declared.syntax.Expr.{Expr}
 use Rattle.meta_model.specs.declared.object.MetaPath.{MetaPath}
 use Rattle.object_tree.specs.declared.object.Object.{Object}
-use Rattle.object_tree.specs.Objects.{change_life, written}
+use Rattle.object_tree.specs.declared.life.Life.{Life}
+use Rattle.object_tree.specs.Objects.{change_life}
 use Rattle.prop_bindings.specs.Assignment.{Assignment}
 use Rattle.binding_graph.specs.Places.{property_of}
 use Rattle.machine_state.specs.declared.endpoints.Endpoints.{Endpoints}
@@ -79,7 +80,7 @@ set_in objects o arguments _ = None
 -- the objects once a set of a group is done, before anything follows from it
 abbrev pub after_set : Option Assignment → List Object → List Object
 after_set None objects = objects
-after_set (Some a) objects = change_life a.place.object (written a.place.property a.value) objects
+after_set (Some a) objects = change_life a.place.object (λ (l : Life). record l { values = slice_set l.values a.place.property a.value }) objects
 
 -- What the sets of a group write, in their order: each reads what those before it wrote, and all else, bound properties
 -- too, as before the group.

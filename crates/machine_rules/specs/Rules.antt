@@ -1,8 +1,8 @@
 -- What may follow a state by one rule, beside the taking of events (docs/machine.md, "Rules"). No rule is forbidden
 -- because activations would nest too deep, a value is of a wrong type or an object dies while a body of it is active: those
 -- are faults of a run, and not of a rule.
-use Rattle.std.specs.Prelude.{◌≡◌, ℕ, suc, List, [], ◌∷◌, ◌++◌, length, take, map, Option, None, Some, Result, Ok, Err, Bool, true, false}
-use Rattle.std.specs.List.{find}
+use Rattle.std.specs.Prelude.{◌≡◌, ℕ, suc, List, [], ◌∷◌, ◌++◌, length, take, map, Option, None, Some, Result, Ok, Err, Bool, true, false, MatchOption}
+use Rattle.std.specs.List.{AllZip, find}
 use Rattle.basic_types.specs.declared.value.Value.{Value}
 use Rattle.syntax_trees.specs.declared.connection.ConnectionType.{ConnectionType}
 use Rattle.syntax_trees.specs.declared.connection.Endpoints.{Endpoints as Named}
@@ -32,14 +32,14 @@ use Rattle.machine_state.specs.declared.endpoints.Endpoints.{Endpoints}
 use Rattle.trace_entries.specs.declared.refusal.Refusal.{Refusal}
 use Rattle.trace_entries.specs.Refusals.{refusal_number}
 use Rattle.machine_state.specs.Worlds.{with_connection, without_connections}
-use Rattle.machine_state.specs.Connections.{is_silent, next_used, after_use}
+use Rattle.machine_state.specs.Connections.{silences, next_used, after_use}
 use Rattle.machine_state.specs.Objects.{all_shown}
 use Rattle.machine_rules.specs.There.{IsMember, IsField}
 use Rattle.machine_rules.specs.Connecting.{AreThere, kept_ends, names_of, found_ends, may_connect, may_disconnect}
 use Rattle.machine_rules.specs.Destroying.{deleting, DestroyRule, Schedules}
 use Rattle.machine_rules.specs.Settling.{Writes}
 use Rattle.machine_rules.specs.Operations.{Operation, Write, Begin, Choose, Connect, Disconnect, Delete, Schedule, TakeAnswer, Nothing, operation_of_step}
-use Rattle.machine_rules.specs.Natives.{NativeAnswers, MayAnswer, AreShownAs}
+use Rattle.machine_rules.specs.Natives.{NativeAnswers, MayAnswer, IsShownAs}
 use Rattle.binding_graph.specs.declared.place.Place.{Place}
 use Rattle.machine_state.specs.State.{Step, Run, Ask, Act, State, Activation, Body, Emit, Update, Destroy}
 use Rattle.machine_state.specs.Turns.{running, reaches_at_once}
@@ -53,7 +53,7 @@ top_of o m arguments last (Native effects) = Body o m arguments (Ask effects ∷
 
 -- the entry of what begins with a method, which says of a signal whether it calls nothing
 abbrev pub begin_entry : ℕ → Object → ℕ → List ℕ → List Shown → Work → Entry
-begin_entry depth x m method given Signal = At depth (entry_kind.Emitted x.name method given (is_silent x m))
+begin_entry depth x m method given Signal = At depth (entry_kind.Emitted x.name method given (silences x.life m))
 begin_entry depth x m method given _ = At depth (entry_kind.Called x.name method given)
 
 -- a method of an object begins over a stack
@@ -85,15 +85,11 @@ pub record Notifies (p : Loaded) (s : State) (below : List Activation) (place : 
   pub is_method : IsMethod p is.life.class signal method
   pub gives : t ≡ begun s below place.object object signal method (take (length method.kinds) (present ∷ [])) Signal
 
--- the notify signal is emitted if the property's object lives; a dead one notifies nobody
-abbrev pub NotifiesIf : Loaded → State → List Activation → Place → State → Option Life → Type 0
-NotifiesIf p s below place t None = t ≡ record s { stack = below }
-NotifiesIf p s below place t (Some l) = Notifies p s below place t
-
--- the next property is notified; with none left the update ends
+-- the next property is notified, if its object lives: a dead one notifies nobody; with none left the update ends
 abbrev pub UpdateRule : Loaded → State → List Activation → State → List Place → Type 0
 UpdateRule p s below t [] = t ≡ record s { stack = below }
-UpdateRule p s below t (place ∷ places) = NotifiesIf p s (Update places ∷ below) place t (life_of s.objects place.object)
+UpdateRule p s below t (place ∷ places) =
+    MatchOption (life_of s.objects place.object) (t ≡ record s { stack = Update places ∷ below }) (λ l. Notifies p s (Update places ∷ below) place t)
 
 -- ---- bodies
 
@@ -133,7 +129,7 @@ pub record Answers (p : Loaded) (natives : NativeAnswers) (s : State) (o m : ℕ
   pub actions : List Action
   pub may : MayAnswer p natives s.objects o m arguments effects actions
   pub lines : List ShownAction
-  pub are_shown : AreShownAs p s.objects o effects actions lines
+  pub are_shown : AllZip (IsShownAs p s.objects o effects) actions lines
   pub gives : t ≡ told s (Body o m arguments (map (Act effects) actions ++ rest) ∷ below) (entry_kind.Answered lines)
 
 -- this is done by a step of the body of method m of object o, over what is left of the body and what is below it
@@ -181,11 +177,8 @@ abbrev pub Arrives : State → List Activation → ℕ → ℕ → Object → �
 Arrives s stack home o x m method arguments t true = t ≡ begun s stack o x m method arguments method.work
 Arrives s stack home o x m method arguments t false = Posts s stack home o x m method arguments t
 
--- a connection is used: a single-shot one is removed
-abbrev pub with_used : State → Connection → State
-with_used s c = record s { connected = after_use c s.connected }
-
--- a connection is used, and its method is called at the receiver, with as many arguments as it declares
+-- a connection is used, so that a single-shot one is removed, and its method is called at the receiver, with as many arguments
+-- as it declares
 pub record Uses (p : Loaded) (s : State) (below : List Activation) (c : Connection) (arguments : List Value) (t : State) : Type 0 where
   pub receiver : Object
   pub method : MetaMethod
@@ -193,24 +186,14 @@ pub record Uses (p : Loaded) (s : State) (below : List Activation) (c : Connecti
   pub home : ℕ
   pub lives_in : home_of s.objects c.receiver ≡ Some home
   pub arrives :
-      Arrives (with_used s c) below home c.receiver receiver c.method method (take (length method.kinds) arguments) t
+      Arrives (record s { connected = after_use c s.connected }) below home c.receiver receiver c.method method (take (length method.kinds) arguments) t
       (reaches_at_once c.kind home (running s.turn))
-
--- the next connection is used; with none left, and where the object is blocked, the emission ends
-abbrev pub EmitRule : Loaded → State → ℕ → ℕ → List Value → ℕ → List Activation → State → Option Connection → Type 0
-EmitRule p s o g arguments last below t None = t ≡ record s { stack = below }
-EmitRule p s o g arguments last below t (Some c) = Uses p s (Emit o g arguments c.number last ∷ below) c arguments t
 
 -- ---- turns of event loops
 
--- a call begins, if its object lives
-abbrev pub BeginsIf : Loaded → State → ℕ → ℕ → List Value → State → Option Life → Type 0
-BeginsIf p s o m arguments t None = t ≡ s
-BeginsIf p s o m arguments t (Some l) = Begins p s [] o m arguments t
-
--- an item is delivered: the call, or the deletion, begins
+-- an item is delivered: the call begins, if its object lives, or the deletion
 abbrev pub Delivers : Loaded → State → State → Item → Type 0
-Delivers p s t (Call o m arguments) = BeginsIf p s o m arguments t (life_of s.objects o)
+Delivers p s t (Call o m arguments) = MatchOption (life_of s.objects o) (t ≡ s) (λ l. Begins p s [] o m arguments t)
 Delivers p s t (Deletion o) = t ≡ deleting s [] o
 
 -- the first item that was posted before the turn began is taken and delivered; with none left the turn ends
@@ -226,15 +209,36 @@ TurnRule p s t (Some turn) = Serves p s t turn (find (is_before turn.limit) (ite
 
 -- ---- one rule
 
--- what the activation on top does next; where there is none, what the turn does
+-- What the activation on top does next; where there is none, what the turn does. An emission uses the next connection; with none
+-- left, and where the object is blocked, it ends.
 abbrev pub RuleAt : Loaded → NativeAnswers → State → State → List Activation → Type 0
 RuleAt p natives s t [] = TurnRule p s t s.turn
 RuleAt p natives s t (Body o m arguments left ∷ below) = BodyRule p natives s o m arguments below t left
 RuleAt p natives s t (Emit o g arguments used last ∷ below) =
-    EmitRule p s o g arguments last below t (next_used s.objects s.connected.connections o g used last)
+    MatchOption (next_used s.objects s.connected.connections o g used last) (t ≡ record s { stack = below })
+    (λ c. Uses p s (Emit o g arguments c.number last ∷ below) c arguments t)
 RuleAt p natives s t (Update places ∷ below) = UpdateRule p s below t places
 RuleAt p natives s t (Destroy next torn ∷ below) = DestroyRule s below t next torn
 
 -- t follows s by one rule, where natives may answer so
 abbrev pub Rule : Loaded → NativeAnswers → State → State → Type 0
 Rule p natives s t = RuleAt p natives s t s.stack
+
+-- ---- parts of these, for proofs
+
+-- the notify signal is emitted if the property's object lives
+abbrev pub NotifiesIf : Loaded → State → List Activation → Place → State → Option Life → Type 0
+NotifiesIf p s below place t life = MatchOption life (t ≡ record s { stack = below }) (λ l. Notifies p s below place t)
+
+-- the next connection is used
+abbrev pub EmitRule : Loaded → State → ℕ → ℕ → List Value → ℕ → List Activation → State → Option Connection → Type 0
+EmitRule p s o g arguments last below t next =
+    MatchOption next (t ≡ record s { stack = below }) (λ c. Uses p s (Emit o g arguments c.number last ∷ below) c arguments t)
+
+-- a call begins, if its object lives
+abbrev pub BeginsIf : Loaded → State → ℕ → ℕ → List Value → State → Option Life → Type 0
+BeginsIf p s o m arguments t life = MatchOption life (t ≡ s) (λ l. Begins p s [] o m arguments t)
+
+-- a connection is used: a single-shot one is removed
+abbrev pub with_used : State → Connection → State
+with_used s c = record s { connected = after_use c s.connected }

@@ -27,10 +27,6 @@ signal_at p objects at =
     option_and_then (λ (property : MetaProperty). property.notify)
     (option_and_then (λ class. property_at p class at.property) (class_of objects at.object))
 
--- those of the changed properties that have one, in their order
-abbrev pub notified : Loaded → List Object → List Place → List Place
-notified p objects changed = filter (λ at. is_some (signal_at p objects at)) changed
-
 -- ---- what changes
 
 -- Objects and bindings are these from now on. What changed is written down as `Tells` says, and those of the changed
@@ -42,7 +38,7 @@ pub record Settles (p : Loaded) (s : State) (below : List Activation) (Tells : L
   pub gives : t ≡ record s {
     objects = objects;
     bindings = bindings;
-    stack = Update (notified p objects changed) ∷ below;
+    stack = Update (filter (λ at. is_some (signal_at p objects at)) changed) ∷ below;
     trace = s.trace ++ lines;
   }
 
@@ -66,3 +62,9 @@ pub record Installs (p : Loaded) (s : State) (below : List Activation) (b : Bind
   pub installed : IsInstalled s.bindings (replaced s.bindings b) s.objects objects b changed
   pub settles : Settles p s below (AreTold p objects (suc (length below)) Bind b.target changed) objects
       (replaced s.bindings b) changed t
+
+-- ---- a part of these, as the code does it
+
+-- those of the changed properties that have a notify signal, in their order
+abbrev pub notified : Loaded → List Object → List Place → List Place
+notified p objects changed = filter (λ at. is_some (signal_at p objects at)) changed
