@@ -1,12 +1,12 @@
 -- Natives that have one answer to one question lead to one state.
-use Rattle.std.proofs.Common.{◌≡◌, ℕ, ◌<◌, List, [], ◌∷◌, ◌++◌, map, Some, refl, sym, ap, ◌∙◌, subst, arith}
+use Rattle.std.proofs.Common.{◌≡◌, ℕ, List, [], ◌∷◌, ◌++◌, map, refl, sym, ap, ◌∙◌, subst}
 use Rattle.std.specs.List.{AllZip}
 use Rattle.basic_types.specs.declared.value.Value.{Value}
 use Rattle.meta_model.specs.declared.object.MetaMethod.{MetaMethod}
 use Rattle.meta_model.specs.declared.object.MetaObject.{MetaObject}
 use Rattle.meta_model.specs.declared.object.MetaProperty.{MetaProperty}
 use Rattle.meta_model.specs.Loaded.{Loaded}
-use Rattle.meta_model.specs.Members.{IsClass, Declares, base_of, method_count, methods_before}
+use Rattle.meta_model.specs.Members.{IsClass}
 use Rattle.object_tree.specs.declared.life.Life.{Life}
 use Rattle.object_tree.specs.declared.object.Object.{Object}
 use Rattle.meta_model.specs.declared.effects.MetaEffects.{MetaEffects}
@@ -32,16 +32,11 @@ zip-one {Y = Y} one (x ∷ xs) (y ∷ ys) (z ∷ zs) f g =
     ap (λ (k : Y). k ∷ ys) (one x y z f.0 g.0) ∙ ap (λ (l : List Y). z ∷ l) (zip-one one xs ys zs f.1 g.1)
 
 -- the class that declares a method
-own-not-inherited : {p : Loaded} {m c b : ℕ} → Declares p c m → base_of p c ≡ Some b → m < method_count p b → ⊥
-own-not-inherited {p} declares base less =
-    let offset = ap (methods_before p) base in
-    absurd (omega (arith, declares.after, less, offset))
-
 pub declared-one : {p : Loaded} {m c d e : ℕ} → DeclaredBy p m c d → DeclaredBy p m c e → d ≡ e
 declared-one (own x) (own y) = refl
-declared-one (own x) (inherited base less rest) = absurd (own-not-inherited x base less)
-declared-one (inherited base less rest) (own y) = absurd (own-not-inherited y base less)
-declared-one {p} {m} {e = e} (inherited base less rest) (inherited other below more) =
+declared-one (own none) (inherited {b = b} {method = method} base has rest) = absurd (none b method base has)
+declared-one (inherited {b = b} {method = method} base has rest) (own none) = absurd (none b method base has)
+declared-one {p} {m} {e = e} (inherited base has rest) (inherited other above more) =
     declared-one rest (subst (λ (b : ℕ). DeclaredBy p m b e) (sym (some-is base other)) more)
 
 -- how an action is written down

@@ -1,5 +1,5 @@
 -- What natives answer (docs/machine.md, "Natives").
-use Rattle.std.specs.Prelude.{◌≡◌, ℕ, ◌<◌, List, Some, slice_get}
+use Rattle.std.specs.Prelude.{◌≡◌, ℕ, List, Some, slice_get}
 use Rattle.std.specs.List.{AllZip}
 use Rattle.basic_types.specs.declared.sig.Sig.{Sig}
 use Rattle.basic_types.specs.declared.value.Value.{Value}
@@ -7,7 +7,7 @@ use Rattle.meta_model.specs.declared.object.MetaMethod.{MetaMethod}
 use Rattle.meta_model.specs.declared.object.MetaObject.{MetaObject}
 use Rattle.meta_model.specs.declared.object.MetaProperty.{MetaProperty}
 use Rattle.meta_model.specs.Loaded.{Loaded}
-use Rattle.meta_model.specs.Members.{IsClass, Declares, base_of, method_count}
+use Rattle.meta_model.specs.Members.{IsClass, IsMethod, base_of}
 use Rattle.object_tree.specs.declared.object.Object.{Object}
 use Rattle.object_tree.specs.Objects.{stored}
 use Rattle.meta_model.specs.declared.effects.MetaEffects.{MetaEffects}
@@ -36,8 +36,8 @@ AnswersOnce gives =
 
 -- the class that declares method m of a class: this one, unless its base has the method
 pub data DeclaredBy (p : Loaded) (m : ℕ) : ℕ → ℕ → Type 0 where
-  own : {c : ℕ} → Declares p c m → DeclaredBy p m c c
-  inherited : {c b d : ℕ} → base_of p c ≡ Some b → m < method_count p b → DeclaredBy p m b d → DeclaredBy p m c d
+  own : {c : ℕ} → ((b : ℕ) (method : MetaMethod) → base_of p c ≡ Some b → ¬ IsMethod p b m method) → DeclaredBy p m c c
+  inherited : {c b d : ℕ} {method : MetaMethod} → base_of p c ≡ Some b → IsMethod p b m method → DeclaredBy p m b d → DeclaredBy p m c d
 
 -- the native that is method m of object o may answer these actions
 pub record MayAnswer (p : Loaded) (natives : NativeAnswers) (objects : List Object) (o m : ℕ) (arguments : List Value)

@@ -1,9 +1,10 @@
 -- What a native is asked is there, and so is what it answers, by its promise.
-use Rattle.std.proofs.Common.{◌≡◌, ℕ, zero, suc, ◌<◌, ◌&&◌, Bool, true, false, IsTrue, List, [], ◌∷◌, ◌++◌, length, Option, None, Some, slice_get, refl, sym, ap, ◌∙◌, subst, arith}
+use Rattle.std.proofs.Common.{◌≡◌, inl, inr, ℕ, zero, suc, ◌<◌, ◌≤◌, ◌&&◌, Bool, true, false, IsTrue, List, [], ◌∷◌, ◌++◌, length, Option, None, Some, slice_get, refl, sym, ap, ◌∙◌, subst, arith}
 use Rattle.std.specs.Prelude.{is_some, nat_le}
 use Rattle.native_slots.specs.declared.action.TheConstants.{MOST_ACTIONS}
 use Rattle.std.specs.List.{AllByRecursion, AllZip, list_all}
 use Rattle.std.specs.Option.{option_and_then, option_map_or}
+use Rattle.std.proofs.lemmas.Bool.{cases_lt}
 use Rattle.std.proofs.lemmas.List.Elements.{recursion_from_All}
 use Rattle.basic_types.specs.declared.value.Value.{Value}
 use Rattle.basic_types.specs.declared.value.Value.TheVariants as value
@@ -15,7 +16,7 @@ use Rattle.meta_model.specs.declared.object.ValueType.{ValueType}
 use Rattle.meta_model.specs.declared.object.Work.{Work}
 use Rattle.meta_model.specs.declared.object.Work.TheVariants.{Native}
 use Rattle.meta_model.specs.Loaded.{Loaded}
-use Rattle.meta_model.specs.Members.{IsClass, IsMethod, IsProperty, Declares, Below, same, under, method_count, methods_in}
+use Rattle.meta_model.specs.Members.{IsClass, IsMethod, IsProperty, Declares, Below, same, under, base_of, method_count, methods_before, methods_in}
 use Rattle.meta_model.specs.Sound.{IsSound, IsPlain, IsPlainProperty, IsSoundNative, IsSoundWork}
 use Rattle.meta_model.specs.Values.{Has, HaveTypes, number_has, truth_has, text_has, null_has, object_has}
 use Rattle.native_slots.specs.declared.action.Action.{Action}
@@ -37,7 +38,7 @@ use Rattle.machine_rules.specs.code.Answering.{HasStored, IsTellable, AreTellabl
 use Rattle.rule_laws.specs.Reaches.{DoesWork}
 use Rattle.machine_rules.specs.There.{IsMember, IsField}
 use Rattle.machine_rules.proofs.Fields.{some-is, class-unique, member-method, old-there, stored-reads}
-use Rattle.machine_rules.proofs.Inherited.{method-below, property-below}
+use Rattle.machine_rules.proofs.Inherited.{method-below, property-below, method-counted, counted-method}
 
 -- ---- the class that declares a native
 
@@ -46,14 +47,26 @@ get-before [] ys k less = absurd (omega (arith, less))
 get-before (x ∷ xs) ys zero less = refl
 get-before (x ∷ xs) ys (suc k) less = get-before xs ys k (omega (arith, less))
 
+-- a class whose base doesn't have a method of it
+declares-own : {p : Loaded} {m c : ℕ} {method : MetaMethod} → ((b : ℕ) (k : MetaMethod) → base_of p c ≡ Some b → ¬ IsMethod p b m k) → IsMethod p c m method → Declares p c m
+declares-own {p} {m} {c} none is = record { after = by_base (base_of p c) refl; within = method-counted is }
+  where
+    by_base : (base : Option ℕ) → base_of p c ≡ base → methods_before p base ≤ m
+    by_base None e = omega arith
+    by_base (Some b) e = elim (cases_lt m (method_count p b)) [
+      | inl less ↦ let has = counted-method p b m less in absurd (none b has.0 e has.1)
+      | inr past ↦ past
+    ]
+
 -- it is the class or above it, and has the method
 pub declared-at : {p : Loaded} {m c d : ℕ} {method : MetaMethod} → IsSound p → DeclaredBy p m c d → IsMethod p c m method → Below p c d × IsMethod p d m method × Declares p d m
-declared-at sound (own declares) is = (same is.is_class, is, declares)
-declared-at {p} {m} {c} {method = method} sound (inherited {b = b} base less rest) is =
+declared-at sound (own none) is = (same is.is_class, is, declares-own none is)
+declared-at {p} {m} {c} {method = method} sound (inherited {b = b} base has rest) is =
     let class_base : is.class.base ≡ Some b = sym (ap (option_and_then (λ (k : MetaObject). k.base)) is.is_class.is) ∙ base in
     let above = (sound.classes c is.class is.is_class).under b class_base in
     let there : slice_get (above.base.methods ++ above.own_methods) m ≡ Some method = ap (λ (l : List MetaMethod). slice_get l m) (sym above.methods) ∙ is.is in
     let count : method_count p b ≡ length above.base.methods = ap methods_in above.is.is in
+    let less : m < method_count p b = method-counted has in
     let front : slice_get above.base.methods m ≡ Some method = sym (get-before above.base.methods above.own_methods m (omega (arith, less, count))) ∙ there in
     let up = declared-at sound rest (record { class = above.base; is_class = above.is; is = front }) in
     (under base up.0, up.1, up.2)

@@ -1,8 +1,7 @@
 //! What natives read, and how their answers are written down.
 
-ghost use Rattle.std.specs.Prelude.{◌<◌, IfOk};
+ghost use Rattle.std.specs.Prelude.{IfOk};
 ghost use Rattle.std.specs.List.{AllByRecursion};
-ghost use Rattle.meta_model.specs.Members.{method_count};
 ghost use Rattle.machine_rules.specs.Natives.{DeclaredBy, AreRead, IsShownAs};
 ghost use Rattle.machine_rules.specs.code.Answering.{HasStored, IsTellable, AreTellable, TellsAnswer};
 
@@ -102,7 +101,6 @@ impl RunContext {
 
 /// The class that declares a method of a class: this one, unless its base has the method.
 pub fn declaring(meta: &Meta, class: usize, method: usize) -> usize
-    requires there { method < method_count meta.now class }
     ensures { DeclaredBy meta.now method class result }
 {
     match meta.base(class) {
