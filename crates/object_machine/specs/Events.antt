@@ -1,5 +1,5 @@
 -- The events of a script: what each asks for, in this order, and what it does (docs/machine.md, "Events").
-use Rattle.std.specs.Prelude.{◌≡◌, ◌≢◌, ℕ, ◌<◌, Bool, List, [], ◌∷◌, ◌++◌, length, slice_get, Option, None, Some, Result}
+use Rattle.std.specs.Prelude.{◌≡◌, ◌≢◌, ℕ, ◌+◌, ◌<◌, Bool, List, [], ◌∷◌, ◌++◌, length, slice_get, Option, None, Some, Result}
 use Rattle.basic_types.specs.declared.value.Value.{Value}
 use Rattle.basic_types.specs.declared.value.Value.TheVariants.{Ref}
 use Rattle.basic_types.specs.declared.sig.Sig.{Sig}
@@ -16,7 +16,7 @@ use Rattle.meta_model.specs.declared.site.MetaSite.{MetaSite}
 use Rattle.meta_model.specs.declared.qobject.TheConstants.{OBJECT_NAME_CHANGED}
 use Rattle.object_tree.specs.declared.life.Life.{Life}
 use Rattle.object_tree.specs.declared.object.Object.{Object}
-use Rattle.object_tree.specs.Objects.{IsNamed, life_of, IsFree, change_life, blocked}
+use Rattle.object_tree.specs.Objects.{IsNamed, life_of, IsFree, change_life}
 use Rattle.object_tree.specs.Creating.{fresh, initial_values, most_objects}
 use Rattle.object_tree.specs.Adopting.{IsAdopted}
 use Rattle.object_tree.specs.Family.{Above}
@@ -34,9 +34,9 @@ use Rattle.trace_entries.specs.declared.refusal.Refusal.{Refusal}
 use Rattle.trace_entries.specs.declared.refusal.Refusal.TheVariants.{NoObject, Dead, NoMember, LoopExists, NoLoop, NameUsed, NoClass, TooManyObjects, NotOwned, Cycle, OtherLoop, BadArgs, BadSource, HasParent, Bound}
 use Rattle.machine_state.specs.Accepting.{accepted}
 use Rattle.machine_state.specs.State.{State}
-use Rattle.machine_state.specs.Worlds.{store_of, with_store, begun_turn, with_connection, without_connections}
+use Rattle.machine_state.specs.Worlds.{store_of, with_store, with_connection, without_connections}
 use Rattle.machine_state.specs.Turns.{main}
-use Rattle.machine_rules.specs.Judgement.{Numbered, numbered, Find, Gives, ◌>>=◌, Check, Becomes}
+use Rattle.machine_rules.specs.Judgement.{Numbered, Find, Gives, ◌>>=◌, Check, Becomes}
 use Rattle.machine_rules.specs.declared.ends.FoundEnds.{FoundEnds}
 use Rattle.machine_rules.specs.Connecting.{named_signal, may_connect, may_disconnect}
 use Rattle.machine_rules.specs.Settling.{Writes, Installs}
@@ -53,7 +53,7 @@ abbrev pub living : List Object → List ℕ → Result (Numbered Life) Refusal 
 living objects name =
     Find NoObject (IsNamed objects name) >>= λ o.
     Find Dead (λ l. life_of objects o ≡ Some l) >>= λ l.
-    Gives (numbered o l)
+    Gives (record { number = o; it = l })
 
 -- the living objects of these names, in their order
 abbrev pub all_living : List Object → List (List ℕ) → Result (List ℕ) Refusal → Type 0
@@ -110,7 +110,7 @@ add_loop s name =
 abbrev pub turn : State → List ℕ → Result State Refusal → Type 0
 turn s name =
     Find NoLoop (IsLoop s.queues.loops name) >>= λ home.
-    Gives (begun_turn (accepted s) home)
+    Gives (record (accepted s) { turn = Some (record { home = home; limit = s.queues.posted + 1 }) })
 
 -- ---- `new O C` and `new O C L`
 
@@ -260,7 +260,7 @@ invoke p s invocation name called inputs =
 abbrev pub block : State → List ℕ → Bool → Result State Refusal → Type 0
 block s name on =
     living s.objects name >>= λ o.
-    Gives (record (accepted s) { objects = change_life o.number (blocked on) s.objects })
+    Gives (record (accepted s) { objects = change_life o.number (λ (l : Life). record l { blocked = on }) s.objects })
 
 -- ---- `delete O` (Qt 6, `QObject::~QObject`: the object is destroyed, and all its children)
 

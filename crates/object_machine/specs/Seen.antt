@@ -1,7 +1,8 @@
 -- What contracts see of a machine, and what its calls do (docs/machine.md, "Runs").
-use Rattle.std.specs.Prelude.{◌≡◌, ℕ, ◌⊎◌, Bool, false, true, List, [], ◌++◌, Result, Ok, Err}
+use Rattle.std.specs.Prelude.{◌≡◌, ℕ, ◌⊎◌, Bool, false, true, List, [], ◌++◌, Result, Ok, Err, None}
 use Rattle.script_lang.specs.declared.event.Event.{Event}
 use Rattle.meta_model.specs.Loaded.{Loaded}
+use Rattle.delete_later.specs.Scheduling.{empty}
 use Rattle.machine_state.specs.declared.world.World.{World}
 use Rattle.trace_entries.specs.declared.entry.Entry.{Entry}
 use Rattle.trace_entries.specs.declared.fault.Answer.{Answer}
@@ -11,12 +12,12 @@ use Rattle.trace_entries.specs.declared.fault.Fault.TheVariants as fault
 use Rattle.trace_entries.specs.declared.refusal.Refusal.{Refusal}
 use Rattle.trace_entries.specs.Refusals.{refusal_number}
 use Rattle.machine_state.specs.State.{State}
-use Rattle.machine_state.specs.Worlds.{at, untouched}
+use Rattle.machine_state.specs.Worlds.{at}
 use Rattle.native_slots.specs.Promises.{Takes}
 use Rattle.machine_rules.specs.Good.{AreSettled}
 use Rattle.machine_rules.specs.Natives.{NativeAnswers, KeepPromises}
 use Rattle.object_machine.specs.Causes as run
-use Rattle.object_machine.specs.Runs.{Run, Each}
+use Rattle.object_machine.specs.Runs.{Run, Each, RunsWhole}
 use Rattle.object_machine.specs.Takes.{judged, IsRefusedAs}
 
 pub record Seen (N : Type 0) : Type 0 where
@@ -27,20 +28,21 @@ pub record Seen (N : Type 0) : Type 0 where
   pub world : World
   pub stopped : Bool
 
--- a machine that has done nothing, and may use so many rules
+-- a machine that has done nothing, and may use so many rules: nothing is there but the loop `main`
 abbrev pub begun : {N : Type 0} → Loaded → N → ℕ → ℕ → Seen N
-begun program natives depth steps = record { program = program; natives = natives; depth = depth; world = untouched steps; stopped = false }
+begun program natives depth steps =
+    record { program = program; natives = natives; depth = depth; world = record { store = empty; turn = None; trace = []; events = 0; left = steps }; stopped = false }
 
 -- the natives of a machine keep what its program declares of them
 abbrev pub AreKept : {N : Type 0} → (N → Takes) → (N → NativeAnswers) → Seen N → Type 0
 AreKept takes gives m = KeepPromises takes gives m.program m.natives
 
--- the machine took these events with these answers, and goes on
+-- the machine took these events with these answers, by a whole run without a bad moment, and goes on
 pub record Completes {N : Type 0} (gives : N → NativeAnswers) (before : Seen N) (events : List Event) (answers : List Answer)
     (after : Seen N) : Type 0 where
   pub went : before.stopped ≡ false
   pub same : after ≡ record before { world = after.world }
-  pub whole : run.Completes before.program (gives before.natives) before.depth before.world events answers after.world
+  pub whole : RunsWhole before.program (gives before.natives) before.depth (at before.world []) before.world.left events answers (at after.world []) after.world.left
 
 -- the machine stopped on the way through these events, for this fault
 pub record Halts {N : Type 0} (gives : N → NativeAnswers) (before : Seen N) (events : List Event) (f : Fault) (after : Seen N)
@@ -55,13 +57,14 @@ pub record Stays {N : Type 0} (before : Seen N) (f : Fault) (after : Seen N) : T
   pub answers : f ≡ fault.Stopped
   pub same : after ≡ before
 
+-- the machine took all these events; or it stopped on the way, or had stopped before
+abbrev pub RunsAll : {N : Type 0} → (N → NativeAnswers) → Seen N → List Event → Result (Unit {0}) Fault → Seen N → Type 0
+RunsAll gives before events (Ok done) after = (answers : List Answer) × Completes gives before events answers after
+RunsAll gives before events (Err f) after = Halts gives before events f after ⊎ Stays before f after
+
 -- the machine stopped on the way, or had stopped before
 abbrev pub Stops : {N : Type 0} → (N → NativeAnswers) → Seen N → List Event → Fault → Seen N → Type 0
 Stops gives before events f after = Halts gives before events f after ⊎ Stays before f after
-
-abbrev pub RunsAll : {N : Type 0} → (N → NativeAnswers) → Seen N → List Event → Result (Unit {0}) Fault → Seen N → Type 0
-RunsAll gives before events (Ok done) after = (answers : List Answer) × Completes gives before events answers after
-RunsAll gives before events (Err f) after = Stops gives before events f after
 
 -- each bound property has the value of its binding's expression
 abbrev pub IsSettled : {N : Type 0} → Seen N → Type 0
