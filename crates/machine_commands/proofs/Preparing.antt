@@ -13,12 +13,13 @@ use Rattle.object_machine.specs.Claims.{HasItsArguments, IsEverAcyclic, SparesAc
 use Rattle.object_machine.specs.Checked.{IsChecked, Claims, StopsAtLimit}
 use Rattle.object_machine.specs.Seen.{Seen, AreKept, RunsAll, begun, with_front}
 use Rattle.program_commands.specs.Refusals.{fault_line}
+use Rattle.command_lines.specs.Failing.{HasFailed}
 use Rattle.command_lines.specs.Lines.{entry_line, trace_text}
 use Rattle.command_lines.specs.Sent.{TakesWith}
 use Rattle.command_lines.specs.declared.output.Output.{Output}
 use Rattle.command_lines.specs.declared.usage.UsageFault.TheVariants.{Words}
 use Rattle.command_lines.specs.declared.watched.Failing.{Failing}
-use Rattle.machine_commands.specs.Failed.{HasFailed, IfUnread}
+use Rattle.machine_commands.specs.Failed.{IfUnread}
 use Rattle.machine_commands.specs.Outcomes.{Writes, outcome_text, outcome_status, run_text, run_status, seen_outcome}
 use Rattle.machine_commands.specs.declared.outcome.Outcome.{Outcome}
 use Rattle.machine_commands.specs.declared.outcome.Outcome.TheVariants.{Usage, NoInput, Program, Ran as OfRun, Memory}

@@ -7,9 +7,9 @@ use Rattle.trace_entries.specs.declared.entry.Entry.{Entry}
 use Rattle.machine_rules.specs.Natives.{NativeAnswers}
 use Rattle.object_machine.specs.Checked.{IsChecked, StopsAtLimit}
 use Rattle.object_machine.specs.Seen.{Seen, AreKept, RunsAll, with_front}
+use Rattle.command_lines.specs.Failing.{HasFailed}
 use Rattle.command_lines.specs.Sent.{TakesWith}
 use Rattle.command_lines.specs.declared.watched.Failing.{Failing}
-use Rattle.machine_commands.specs.Failed.{HasFailed}
 use Rattle.machine_commands.specs.Outcomes.{outcome_text, outcome_status, seen_outcome}
 use Rattle.machine_commands.specs.declared.outcome.Outcome.{Outcome}
 use Rattle.machine_commands.specs.declared.outcome.Outcome.TheVariants.{Ran as OfRun}

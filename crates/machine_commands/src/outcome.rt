@@ -1,8 +1,8 @@
 //! What a command line comes to, and how it is written.
 
 ghost use Rattle.std.specs.Prelude.{◌≡◌, OnErr};
+ghost use Rattle.command_lines.specs.Failing.{HasFailed};
 ghost use Rattle.command_lines.specs.Sent.{Puts, TakesWith};
-ghost use Rattle.machine_commands.specs.Failed.{HasFailed};
 ghost use Rattle.machine_commands.specs.Outcomes.{outcome_text, outcome_status, run_text, run_status, seen_outcome};
 
 use command_lines::{Failing, InputFault, Output, UsageFault, WriteFault};
