@@ -3,15 +3,14 @@ use Rattle.std.proofs.Common.{◌≡◌, ℕ, inl, inr, true, false, List, [], �
 use Rattle.std.specs.Prelude.{IfErr}
 use Rattle.meta_model.specs.Loaded.{Loaded}
 use Rattle.machine_rules.specs.Natives.{NativeAnswers}
-use Rattle.object_machine.specs.Checked.{Claims, StopsAtLimit}
+use Rattle.object_machine.specs.Checked.{Claims, IsLimit, StopsAtLimit}
 use Rattle.object_machine.specs.Seen.{Seen, begun}
 use Rattle.trace_entries.specs.declared.fault.Fault.{Fault}
 use Rattle.command_lines.specs.Cut.{AreTexts}
-use Rattle.machine_commands.specs.Commands.{EndsAtLimit}
 
 -- a run of a machine that had done nothing ends for no other reason than a limit
 pub ends_at_limit : {N : Type 0} {before : Seen N} {loaded : Loaded} {natives : N} {depth steps : ℕ} (ended : Result (Unit {0}) Fault) →
-    before ≡ begun loaded natives depth steps → IfErr ended (StopsAtLimit before) → EndsAtLimit ended
+    before ≡ begun loaded natives depth steps → IfErr ended (StopsAtLimit before) → IfErr ended IsLimit
 ends_at_limit (Ok done) is stops = tt
 ends_at_limit {N} {before = before} (Err fault) is stops =
     elim stops [

@@ -1,6 +1,6 @@
 -- What runs and command lines come to (docs/commands.md). Memory may run out outside a run at any time before the run;
 -- that it comes only where a growth of memory was refused is not stated here.
-use Rattle.std.specs.Prelude.{◌≡◌, ℕ, ◌<◌, ◌≤◌, ◌⊎◌, Bool, true, false, List, [], ◌∷◌, length, take, Option, Result, Ok, Err, IfSome}
+use Rattle.std.specs.Prelude.{◌≡◌, ℕ, ◌<◌, ◌≤◌, ◌⊎◌, Bool, true, false, List, [], ◌∷◌, length, take, Option, Result, Ok, Err, IfErr, IfSome}
 use Rattle.std.specs.Borrow.{Bor}
 use Rattle.certificate_lang.specs.declared.certificate.Certificate.{Certificate}
 use Rattle.class_lang.specs.Limits.{standard, wide}
@@ -12,7 +12,6 @@ use Rattle.rank_check.specs.Checks.{Checking, Examines}
 use Rattle.script_lang.specs.Reads.{ReadsScript}
 use Rattle.script_lang.specs.declared.event.Event.{Event}
 use Rattle.machine_rules.specs.Natives.{NativeAnswers}
-use Rattle.trace_entries.specs.declared.fault.Fault.{Fault}
 use Rattle.object_machine.specs.Checked.{Claims, IsLimit}
 use Rattle.object_machine.specs.Seen.{Seen, RunsAll, begun}
 use Rattle.program_commands.specs.declared.outcome.Outcome.{Outcome as ProgramOutcome}
@@ -21,6 +20,7 @@ use Rattle.program_commands.specs.declared.refusal.Refusal.{Refusal}
 use Rattle.program_commands.specs.declared.refusal.Refusal.TheVariants.{Script, Check as OfCheck, Natives as OfNatives}
 use Rattle.program_commands.specs.Commands.{CheckComesTo, CertifyComesTo, MetaComesTo}
 use Rattle.program_commands.specs.Loading.{LoadsProgram, LoadsCertified}
+use Rattle.program_commands.specs.Outcomes.{IsShortAs}
 use Rattle.program_commands.specs.Steps.{First, Is, Gives}
 use Rattle.command_lines.specs.Cut.{AreTexts}
 use Rattle.command_lines.specs.Words.{IsLine, IsNoLine}
@@ -30,7 +30,7 @@ use Rattle.command_lines.specs.declared.usage.UsageFault.TheVariants.{Words, Too
 use Rattle.command_lines.specs.declared.words.Command.{Command}
 use Rattle.command_lines.specs.declared.words.Command.TheVariants.{Meta, Certify, Check, Run, RunUnchecked}
 use Rattle.command_lines.specs.declared.words.CommandLine.{CommandLine}
-use Rattle.machine_commands.specs.Outcomes.{IsShort, Writes}
+use Rattle.machine_commands.specs.Outcomes.{Writes, outcome_status, outcome_text}
 use Rattle.machine_commands.specs.declared.outcome.Outcome.{Outcome}
 use Rattle.machine_commands.specs.declared.outcome.Outcome.TheVariants.{Usage, NoInput, Program, Ran as OfRun, Memory}
 use Rattle.machine_commands.specs.declared.outcome.Ran.{Ran}
@@ -76,27 +76,23 @@ abbrev pub Accepts : Limits → List NativeHead → List ℕ → List ℕ → Li
 Accepts limits heads program certificate script loaded read events =
     Accepting limits heads program certificate script (Ok (record { program = loaded; certificate = read }, events))
 
--- the run of a machine that is accepted ends whole, or at the step limit, or as memory runs out
-abbrev pub EndsAtLimit : Result (Unit {0}) Fault → Type 0
-EndsAtLimit (Ok _) = Unit {0}
-EndsAtLimit (Err fault) = IsLimit fault
-
--- a machine that is accepted runs on these events, and the claims hold of every run of it; or there is no memory to make it
+-- a machine that is accepted runs on these events to their end, or to the step limit, or until memory runs out, and the claims
+-- hold of every run of it; or there is no memory to make it
 pub data RunsFaultless {N : Type 0} (gives : N → NativeAnswers) (machine : Seen N) (events : List Event) : Outcome (Seen N) → Type 0 where
-  ran_faultless : (end : Ran (Seen N)) → RunsAll gives machine events end.ended end.machine → EndsAtLimit end.ended → Claims gives machine →
+  ran_faultless : (end : Ran (Seen N)) → RunsAll gives machine events end.ended end.machine → IfErr end.ended IsLimit → Claims gives machine →
       RunsFaultless gives machine events (OfRun end)
   short_of_memory : RunsFaultless gives machine events Memory
 
 -- `run`, from the limits of a program, the closures, the texts and the limit of steps: the depth is the certificate's bound
 abbrev pub RunComesTo : {N : Type 0} → Limits → (N → NativeAnswers) → List NativeHead → N → List ℕ → List ℕ → List ℕ → ℕ → Outcome (Seen N) → Type 0
 RunComesTo limits gives heads natives program certificate script steps =
-    First (Accepting limits heads program certificate script) refused (λ both.
+    First (Accepting limits heads program certificate script) (λ refusal. Program (Refused refusal)) (λ both.
     RunsFaultless gives (begun both.0.program natives both.0.certificate.bound steps) both.1)
 
 -- where it accepts: the run of this program for these events; or, where memory runs out, `memory`
 abbrev pub AcceptedComesTo : {N : Type 0} → (N → NativeAnswers) → N → Loaded → Certificate → List Event → ℕ → Outcome (Seen N) → Type 0
 AcceptedComesTo gives natives loaded read events steps outcome =
-    RunsFaultless gives (begun loaded natives read.bound steps) events outcome ⊎ IsShort outcome
+    RunsFaultless gives (begun loaded natives read.bound steps) events outcome ⊎ IsShortAs outcome_text outcome_status outcome
 
 -- ---- command lines
 
