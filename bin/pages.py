@@ -7,7 +7,7 @@ from __future__ import annotations
 import textwrap
 
 import rules
-from words import COMMANDS, DONE, FRONT, READER, REFUSED, USAGE, Command
+from words import COMMANDS, FRONT, READER, Command
 
 WIDTH = 120
 ABOUT = """gammonfig: a runtime of signals and slots with a connection checker, after Qt 6.
@@ -43,15 +43,19 @@ def help_text() -> str:
 
 def form(command: Command) -> str:
     """The command line of a command."""
-    parts = ["./gammonfig", command.word, *(f"[{it.shown()}]" for it in command.options)]
-    if command.texts:
-        least = len(command.texts) if command.least is None else command.least
-        names = [it.upper() for it in command.texts]
-        behind = " ".join(f"[{it}" for it in names[least:]) + "]" * len(names[least:])
-        whole = " ".join(it for it in (" ".join(names[:least]), behind) if it) + (".." if command.many else "")
-        # Texts may come from standard input in place of all files.
-        parts.append(whole if command.program == FRONT else f"[{whole}]")
-    return " ".join(parts)
+    return " ".join(["./gammonfig", command.word, *(f"[{it.shown()}]" for it in command.options), *texts(command)])
+
+
+def texts(command: Command) -> list[str]:
+    """What stands for the texts behind a command's options."""
+    if not command.texts:
+        return []
+    least = len(command.texts) if command.least is None else command.least
+    names = [it.upper() for it in command.texts]
+    behind = " ".join(f"[{it}" for it in names[least:]) + "]" * len(names[least:])
+    whole = " ".join(it for it in (" ".join(names[:least]), behind) if it) + (".." if command.many else "")
+    # Texts may come from standard input in place of all files.
+    return [whole if command.program == FRONT else f"[{whole}]"]
 
 
 def usage(command: Command) -> str:
@@ -74,11 +78,10 @@ def command_help(command: Command) -> str:
 
 def table() -> str:
     """The table of docs/commands.md."""
-    lines = ["| command line | what it does | exit status | page |", "|---|---|---|---|"]
+    lines = ["| word and texts | what it does | page |", "|---|---|---|"]
     for it in COMMANDS:
-        statuses = "; ".join(f"{status}: {told}" for status, told in it.statuses if (status, told) not in (USAGE, REFUSED, *DONE))
         page = it.page.removeprefix("docs/")
-        lines.append(f"| `{form(it).removeprefix('./gammonfig ')}` | {it.told} | {statuses} | [{page}]({page}) |".replace("[commands.md](commands.md)", "this one"))
+        lines.append(f"| `{' '.join([it.word, *texts(it)])}` | {it.told} | [{page}]({page}) |".replace("[commands.md](commands.md)", "this one"))
     return "\n".join(lines) + "\n"
 
 
