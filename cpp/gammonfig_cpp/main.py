@@ -16,9 +16,10 @@ from .model import Facts
 from .notes import Notes
 from .places import Places
 from .qtmodel import Table
-from .report import Teller, Warnings, judge
+from .report import Teller, judge
 from .slicing import keep_slice
 from .units import units_of
+from .warned import Warnings
 from .watching import Watching
 from .writing import Writing, Written
 

@@ -30,6 +30,7 @@ class StepTold:
     to: str
     by: str
     message: str
+    is_later: bool = False
 
 
 @dataclass
@@ -42,6 +43,8 @@ class Finding:
     chain: list[StepTold] = field(default_factory=list)
     severity: str = 'error'
     note: str = ''
+    # Steps of other circles of the same set, by which an event loop is gone through too.
+    also: list[StepTold] = field(default_factory=list)
 
 
 @dataclass
@@ -98,7 +101,8 @@ def spot_of(told: dict[str, Any], places: Places) -> Spot:
 
 
 def finding_of(told: dict[str, Any], places: Places) -> Finding:
-    chain = [StepTold(spot_of(s, places), str(s.get('from', '')), str(s.get('to', '')), str(s.get('by', '')), str(s.get('message', '')))
+    chain = [StepTold(spot_of(s, places), str(s.get('from', '')), str(s.get('to', '')), str(s.get('by', '')), str(s.get('message', '')),
+                      bool(s.get('queued')))
              for s in told.get('chain') or []]
     spot = spot_of(told, places)
     if not spot.file:
@@ -106,68 +110,6 @@ def finding_of(told: dict[str, Any], places: Places) -> Finding:
         spot = first or spot
     return Finding(spot, str(told['rule']), int(told.get('number', 0)), str(told['message']), str(told.get('help') or ''), chain,
                    str(told.get('severity', 'error')))
-
-
-RESTS = ('each step hands on the value that it was given, and only a change is told: this comes to rest, where the setters '
-         'that were read as properties compare; that is not proved')
-
-
-OF_OWN = ('what is deleted is held by a member of the object that deletes it: another object of its class, unless it owns itself; '
-          'that is not proved')
-DIES_ONCE = 'an object dies on each way round, and each dies once: this goes on only while others are made; that is not proved'
-
-
-@dataclass
-class Warnings:
-    """What the reader warned of, the circles that it takes to come to rest, where objects delete what they own, what is on circles only by
-    the death of an object, what Qt itself posts, and whether the program is over the standard limits."""
-    found: list[dict[str, Any]]
-    resting: list[set[str]]
-    own: set[tuple[str, int, int]]
-    by_death: set[str]
-    by_qt: set[str]
-    wide: bool
-
-    @staticmethod
-    def read(path: str) -> Warnings:
-        try:
-            with open(path, encoding='utf-8') as file:
-                told = json.load(file)
-            own = {(str(file), int(line), int(column)) for file, line, column in told['own']}
-            resting = [set(names) for names in told['resting']]
-            return Warnings(told['findings'], resting, own, set(told['by_death']), set(told['by_qt']), bool(told['wide']))
-        except (OSError, ValueError, KeyError, TypeError) as wrong:
-            raise ReadError(f'{path}: the warnings can\'t be read') from wrong
-
-    def add_to(self, verdict: Verdict) -> None:
-        """Adds the warnings, but for rules that the verdict has itself; and tells of circles that come to rest. That what Qt posts to an
-        object is dropped with it isn't told: so Qt does it with each event."""
-        verdict.findings = [f for f in verdict.findings if f.rule != 'deletes-connected' or not {s.from_ for s in f.chain} & self.by_qt]
-        own = {f.rule for f in verdict.findings}
-        for finding in verdict.findings:
-            names = {s.from_ for s in finding.chain}
-            if finding.rule == 'cycle' and any(names <= known for known in self.resting):
-                finding.note = RESTS
-            elif finding.rule == 'destroy-path' and self._is_of_own(finding):
-                finding.note, finding.severity = OF_OWN, 'note'
-        verdict.findings += [warning_of(f) for f in self.found if f['rule'] not in own]
-        for finding in verdict.findings:
-            if finding.rule == 'queued-cycle' and finding.chain and all(s.from_ in self.by_death for s in finding.chain):
-                finding.note, finding.severity = DIES_ONCE, 'note'
-
-    def _is_of_own(self, finding: Finding) -> bool:
-        """Whether a slot deletes by a statement of its own what its object owns: no other object stands between."""
-        spot = finding.chain[0].spot if len(finding.chain) == 1 else None
-        return spot is not None and (spot.file, spot.line, spot.column) in self.own
-
-
-def warning_of(told: dict[str, Any]) -> Finding:
-    def spot(of: dict[str, Any]) -> Spot:
-        return Spot(str(of.get('file', '')), int(of.get('line', 0)), int(of.get('column', 0)), str(of.get('words', '')),
-                    tuple(of.get('conditions', ())))
-
-    chain = [StepTold(spot(s), str(s['from']), str(s['to']), str(s['by']), str(s['message'])) for s in told['chain']]
-    return Finding(spot(told), str(told['rule']), 0, str(told['message']), '', chain, 'warning')
 
 
 class Teller:
@@ -185,6 +127,8 @@ class Teller:
             lines += self._around(finding.spot)
             for step in finding.chain:
                 lines += self._step(step)
+            for step in finding.also:
+                lines += self._step(step, 'also, ')
             if finding.note:
                 lines.append(f'  note: {finding.note}')
             elif finding.help:
@@ -201,8 +145,8 @@ class Teller:
             return f'{spot.file}:{spot.line}:{spot.column}'
         return f'app.gf:{spot.program[0]}:{spot.program[1]}' if spot.program else '(Qt)'
 
-    def _step(self, step: StepTold) -> list[str]:
-        what = f'`{step.from_}` leads {"later " if step.by == "queued" else ""}to `{step.to}`'
+    def _step(self, step: StepTold, before: str = '') -> list[str]:
+        what = f'{before}`{step.from_}` leads {"later " if step.is_later else ""}to `{step.to}`'
         if step.spot.file:
             words = f': `{step.spot.words}`' if step.spot.words else ''
             conditions = ''.join(f', {c}' for c in step.spot.conditions)
@@ -233,13 +177,17 @@ class Teller:
             told['program'] = {'line': spot.program[0], 'column': spot.program[1]}
         return told
 
+    def _steps(self, steps: list[StepTold]) -> list[dict[str, object]]:
+        return [self._spot(s.spot) | {'from': s.from_, 'to': s.to, 'by': s.by, 'message': s.message} | ({'queued': True} if s.is_later else {})
+                for s in steps]
+
     def json(self, verdict: Verdict) -> str:
         findings: list[dict[str, object]] = []
         for finding in verdict.findings:
-            chain = [self._spot(s.spot) | {'from': s.from_, 'to': s.to, 'by': s.by, 'message': s.message} for s in finding.chain]
             told: dict[str, object] = {'rule': finding.rule, 'number': finding.number, 'severity': finding.severity, 'message': finding.message}
-            told |= ({'help': finding.help} if finding.help else {}) | ({'note': finding.note} if finding.note else {}) | self._spot(finding.spot) | {'chain': chain}
-            findings.append(told)
+            told |= {name: text for name, text in (('help', finding.help), ('note', finding.note)) if text}
+            told |= self._spot(finding.spot) | {'chain': self._steps(finding.chain)}
+            findings.append(told | ({'also': self._steps(finding.also)} if finding.also else {}))
         return json.dumps({'findings': findings, 'more': verdict.more, 'accepted': verdict.accepted}, indent=1, ensure_ascii=False) + '\n'
 
     # SARIF
@@ -256,16 +204,21 @@ class Teller:
         return told
 
     def _related(self, finding: Finding) -> list[dict[str, object]]:
-        """Where a finding stands in the program that was judged."""
+        """Where a finding stands in the program that was judged, and the other steps that an event loop stands behind."""
         spots = [s for s in (finding.spot, *(step.spot for step in finding.chain)) if s.program is not None]
-        return [{'physicalLocation': self._at(self.program, *s.program), 'message': {'text': 'in the program that was judged'}}
-                for s in spots[:1] if s.program is not None]
+        judged = [{'physicalLocation': self._at(self.program, *s.program), 'message': {'text': 'in the program that was judged'}}
+                  for s in spots[:1] if s.program is not None]
+        return [*judged, *(self._location(s.spot, self._told(s)) for s in finding.also)]
+
+    def _told(self, step: StepTold) -> str:
+        """A step without its place."""
+        return self._step(step)[0].split(': note: ', 1)[-1]
 
     def sarif(self, verdict: Verdict) -> str:
         rules = sorted({f.rule for f in verdict.findings})
         results = []
         for finding in verdict.findings:
-            steps = [{'location': self._location(s.spot, self._step(s)[0].split(': note: ', 1)[-1])} for s in finding.chain]
+            steps = [{'location': self._location(s.spot, self._told(s))} for s in finding.chain]
             result: dict[str, object] = {'ruleId': finding.rule, 'level': finding.severity, 'message': {'text': finding.message},
                                          'locations': [self._location(finding.spot, finding.message)]}
             related = self._related(finding)

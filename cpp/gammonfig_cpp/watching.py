@@ -30,7 +30,7 @@ class Watching:
         found = sorted(self._queued_cycles() + self._re_entries(), key=lambda f: [str(f.get(k, '')) for k in ('rule', 'file')]
                        + [f"{f.get('line', 0):>9}", str(f['message'])])
         told = {'findings': found, 'resting': resting, 'own': self._own(), 'by_death': self._by_death(),
-                'by_qt': self._by_qt(), 'wide': wide}
+                'circling': self._circling(), 'by_qt': self._by_qt(), 'wide': wide}
         return json.dumps(told, indent=1, ensure_ascii=False) + '\n'
 
     def _own(self) -> list[list[object]]:
@@ -47,6 +47,12 @@ class Watching:
         circling = set[Node]().union(*components({n: list(to) for n, to in edges.items()}))
         living = components({n: [m for m in to if m not in dying] for n, to in edges.items() if n not in dying})
         return sorted(self.graph.name(node) for node in circling.difference(*living))
+
+    def _circling(self) -> list[list[str]]:
+        """The sets of members that lead to one another and in which an event loop is gone through."""
+        edges = self.graph.edges
+        return [sorted(self.graph.name(node) for node in members) for members in components({n: list(to) for n, to in edges.items()})
+                if any(why.queued and to in members for node in members for to, why in edges[node].items())]
 
     def _by_qt(self) -> list[str]:
         """What Qt's own functions post."""

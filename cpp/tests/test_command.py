@@ -150,6 +150,28 @@ def test_a_circle_by_deaths(written: pathlib.Path, tmp_path: pathlib.Path) -> No
     assert ': note: m [queued-cycle]' in told and 'each dies once' in told
 
 
+def test_one_finding_for_each_set_of_circles(written: pathlib.Path, tmp_path: pathlib.Path) -> None:
+    """Of circles through an event loop in one set of members the shortest is told, with the other steps behind an event loop."""
+    def circle(*names: str) -> dict[str, object]:
+        chain = [{'from': a, 'to': b, 'by': 'wire', 'queued': a == names[0], 'message': 's', 'file': 'x', 'line': 1, 'column': 1}
+                 for a, b in zip(names, [*names[1:], names[0]])]
+        return {'rule': 'queued-cycle', 'severity': 'warning', 'message': names[0], 'file': 'x', 'line': 1, 'column': 1, 'chain': chain}
+
+    shutil.copytree(written / 'out', tmp_path / 'out')
+    path = tmp_path / 'out/app.warnings.json'
+    path.write_text(json.dumps(json.loads(path.read_text()) | {'circling': [['A.a()', 'A.b()', 'A.c()', 'A.d()', 'A.e()']]}))
+    named = checker(tmp_path, 1)
+    findings = [circle('A.c()', 'A.d()', 'A.e()'), circle('A.a()', 'A.b()'), circle('B.a()', 'B.b()'), circle('C.a()')]
+    pathlib.Path(named).write_text(f"#!/bin/sh\ncat > /dev/null\ncat << 'TXT'\n{json.dumps(VERDICT | {'findings': findings})}\nTXT\n")
+    told = json.loads(run(tmp_path, '--verdict', 'out', '--json', GAMMONFIG=named).stdout)['findings']
+    assert [f['message'] for f in told] == ['A.a()', 'B.a()', 'C.a()']
+    assert [[(s['from'], s['to']) for s in f.get('also', [])] for f in told] == [[('A.c()', 'A.d()')], [], []]
+    text = run(tmp_path, '--verdict', 'out', GAMMONFIG=named).stdout
+    assert 'note: also, `A.c()` leads later to `A.d()`' in text and text.endswith('3 findings\n')
+    result = json.loads(run(tmp_path, '--verdict', 'out', '--sarif', GAMMONFIG=named).stdout)['runs'][0]['results'][0]
+    assert 'also, ' not in result['relatedLocations'][-1]['message']['text'] and 'A.c()' in result['relatedLocations'][-1]['message']['text']
+
+
 def test_what_qt_posts_to_a_dead_object(written: pathlib.Path, tmp_path: pathlib.Path) -> None:
     """What Qt posts to an object is dropped with it, as each event is: that is told only of what the application posts."""
     shutil.copytree(written / 'out', tmp_path / 'out')

@@ -1,0 +1,98 @@
+"""What the reader adds to a verdict: its own warnings, why a finding may be less than an error, and one finding for each set of circles
+through an event loop."""
+from __future__ import annotations
+
+import json
+from dataclasses import dataclass
+from typing import Any
+
+from .errors import ReadError
+from .report import Finding, Spot, StepTold, Verdict
+
+RESTS = ('each step hands on the value that it was given, and only a change is told: this comes to rest, where the setters '
+         'that were read as properties compare; that is not proved')
+OF_OWN = ('what is deleted is held by a member of the object that deletes it: another object of its class, unless it owns itself; '
+          'that is not proved')
+DIES_ONCE = 'an object dies on each way round, and each dies once: this goes on only while others are made; that is not proved'
+# Severities, the gravest first.
+GRAVE = ('error', 'warning', 'note')
+
+
+@dataclass
+class Warnings:
+    """What the reader warned of, the circles that it takes to come to rest, where objects delete what they own, what is on circles only by
+    the death of an object, the sets of members that lead to one another through an event loop, what Qt itself posts, and whether the
+    program is over the standard limits."""
+    found: list[dict[str, Any]]
+    resting: list[set[str]]
+    own: set[tuple[str, int, int]]
+    by_death: set[str]
+    circling: list[set[str]]
+    by_qt: set[str]
+    wide: bool
+
+    @staticmethod
+    def read(path: str) -> Warnings:
+        try:
+            with open(path, encoding='utf-8') as file:
+                told = json.load(file)
+            own = {(str(file), int(line), int(column)) for file, line, column in told['own']}
+            resting = [set(names) for names in told['resting']]
+            circling = [set(names) for names in told['circling']]
+            return Warnings(told['findings'], resting, own, set(told['by_death']), circling, set(told['by_qt']), bool(told['wide']))
+        except (OSError, ValueError, KeyError, TypeError) as wrong:
+            raise ReadError(f'{path}: the warnings can\'t be read') from wrong
+
+    def add_to(self, verdict: Verdict) -> None:
+        """Adds the warnings, but for rules that the verdict has itself; and tells of circles that come to rest. That what Qt posts to an
+        object is dropped with it isn't told: so Qt does it with each event."""
+        verdict.findings = [f for f in verdict.findings if f.rule != 'deletes-connected' or not {s.from_ for s in f.chain} & self.by_qt]
+        own = {f.rule for f in verdict.findings}
+        for finding in verdict.findings:
+            names = {s.from_ for s in finding.chain}
+            if finding.rule == 'cycle' and any(names <= known for known in self.resting):
+                finding.note = RESTS
+            elif finding.rule == 'destroy-path' and self._is_of_own(finding):
+                finding.note, finding.severity = OF_OWN, 'note'
+        verdict.findings += [warning_of(f) for f in self.found if f['rule'] not in own]
+        for finding in verdict.findings:
+            if finding.rule == 'queued-cycle' and finding.chain and all(s.from_ in self.by_death for s in finding.chain):
+                finding.note, finding.severity = DIES_ONCE, 'note'
+        self._one_for_each_set(verdict)
+
+    def _is_of_own(self, finding: Finding) -> bool:
+        """Whether a slot deletes by a statement of its own what its object owns: no other object stands between."""
+        spot = finding.chain[0].spot if len(finding.chain) == 1 else None
+        return spot is not None and (spot.file, spot.line, spot.column) in self.own
+
+    def _one_for_each_set(self, verdict: Verdict) -> None:
+        """Of the circles through an event loop in one set of members the gravest and shortest is told, with what else in it goes through
+        one: whoever ends the set has to know all of that."""
+        groups: dict[int, list[Finding]] = {}
+        for at, finding in enumerate(verdict.findings):
+            if finding.rule == 'queued-cycle':
+                names = {name for step in finding.chain for name in (step.from_, step.to)}
+                sets = (number for number, circle in enumerate(self.circling) if not names.isdisjoint(circle))
+                groups.setdefault(next(sets, len(self.circling) + at), []).append(finding)
+        chosen = [_chosen(group) for group in groups.values()]
+        verdict.findings = [f for f in verdict.findings if f.rule != 'queued-cycle' or any(f is one for one in chosen)]
+
+
+def _chosen(group: list[Finding]) -> Finding:
+    """The finding that is told of a group."""
+    chosen = min(group, key=lambda f: (GRAVE.index(f.severity), len(f.chain)))
+    told = [(s.from_, s.to, s.spot) for s in chosen.chain]
+    for step in (s for other in group for s in other.chain if s.is_later):
+        if (step.from_, step.to, step.spot) not in told:
+            told.append((step.from_, step.to, step.spot))
+            chosen.also.append(step)
+    return chosen
+
+
+def warning_of(told: dict[str, Any]) -> Finding:
+    def spot(of: dict[str, Any]) -> Spot:
+        return Spot(str(of.get('file', '')), int(of.get('line', 0)), int(of.get('column', 0)), str(of.get('words', '')),
+                    tuple(of.get('conditions', ())))
+
+    chain = [StepTold(spot(s), str(s['from']), str(s['to']), str(s['by']), str(s['message']), s['by'] == 'queued') for s in told['chain']]
+    return Finding(spot(told), str(told['rule']), 0, str(told['message']), '', chain, 'warning')
