@@ -9,6 +9,7 @@ from .objects import FREE, Element
 from .program import Key, Member, Program, Step, Wire
 from .qtmodel import Entry, QtModel, Written
 from .relations import Related
+from .replacing import Replacing
 
 
 class Calling:
@@ -21,6 +22,7 @@ class Calling:
         self._callbacks: dict[tuple[Element, str], list[tuple[Element, Key]]] = {}
         self._present: dict[str, bool] = {}
         self.deaths = Deaths(program, self)
+        self.replacing = Replacing(program, qt, self)
         # The classes to whose `destroyed` something is connected; complete once all wires are there.
         self.watched = Related(self.objects, {Element('class', self.objects.cls(e)) for c in self.whole.connects
                                               if c.signal.name.split('(')[0] == 'destroyed'
@@ -141,7 +143,7 @@ class Calling:
                 steps.append(Step('call', target, target_element, words=f'{name} calls {function}'))
         for posted in entry.posts:
             steps += self._posts(element, posted)
-        for deleted in entry.deletes:
+        for deleted in entry.deletes if not entry.owns or not self.replacing.is_first(element, name) else ():
             steps += self._deletes(element, deleted)
         for deleted in entry.later:
             steps += self._later(element, deleted)

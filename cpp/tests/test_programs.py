@@ -83,7 +83,8 @@ def recorded() -> list[tuple[str, str, str]]:
 def test_what_happened_in_a_run_is_a_way_that_was_read(name: str, outer: str, inner: str) -> None:
     program, variant = name.split('/')
     all_read()
-    graph = program_graph.read(Path(prepared()) / program / variant / 'gammonfig' / 'app.gf')
+    folder = Path(prepared()) / program / variant
+    graph = program_graph.read(folder / 'gammonfig' / 'app.gf', folder)
     starts, ends = (graph.signals(*signal.rsplit('.', 1)) for signal in (outer, inner))
     assert starts and ends
     assert graph.reach(starts) & ends

@@ -112,6 +112,13 @@ def test_what_is_taken_out_is_what_was_put_in() -> None:
     assert 'owns Branch Leaf_m_child;' in case('ends').text and 'owns Branch Leaf;' not in case('ends').text
 
 
+def test_what_takes_the_place_of_another() -> None:
+    """What is put into an area deletes what was in it, which the first one can't."""
+    text = case('ends').text
+    assert text.count('slot setWidget(') == 1 and 'call this.to_QScrollArea_m_pages.setWidget(' in text
+    assert any(line.startswith('delete this.to_Staying') for line in case('ends').body('setWidget'))
+
+
 def test_owners() -> None:
     text = case('deletions').text
     for role in ('Part_m_unique', 'Part_m_plain', 'Part_m_scoped'):

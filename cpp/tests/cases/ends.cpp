@@ -87,3 +87,12 @@ signals:
 private:
     Leaf *m_leaf = new Leaf;
 };
+
+class Album : public QWidget {
+    Q_OBJECT
+public:
+    Album() { m_pages->setWidget(new Staying); }
+    void turn() { m_pages->setWidget(new Staying); }
+private:
+    QScrollArea *m_pages = new QScrollArea(this);
+};

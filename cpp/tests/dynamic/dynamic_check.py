@@ -3,7 +3,7 @@
 is expected; with `--read` also with the ways in the program that the reader writes, and with `--examples` it does that for Qt's
 examples: what really happened has to be a way that was read.
 
-Usage: cpp/tests/dynamic/dynamic_check.py [--folder DIR] [--read] [--examples CACHE] [--only PATTERN] [--steps N]
+Usage: cpp/tests/dynamic/dynamic_check.py [--folder DIR] [--read] [--examples CACHE] [--only PATTERN].. [--steps N] [--seeds N] [--table FILE]
 
 The last line is `N passed, M failed`."""
 import argparse
@@ -17,15 +17,13 @@ TESTS = Path(__file__).resolve().parent.parent
 for name in (".", "programs", "dynamic", "examples"):
     sys.path.insert(0, str(TESTS / name))
 from coverage import Coverage, cover
-from needs import ROOT, Missing, cache, outside, output
-from prepared import prepare
+from example_runs import HEAD, Ran, read_by, tried
+from needs import Missing, cache, outside
 from program_graph import BadProgram, read
-from qt_flags import python_with_clang
 from small_programs import built
 from spied import BadRecord, Emitted, Record, library, parse, run
 
 HERE = Path(__file__).resolve().parent
-READER = ROOT / "cpp" / "gammonfig_cpp"
 BAD_RECORDS = ["emitted\tA.B.c", "within\tA.B.c\tD.E.f\tx", "emitted\tAc\t1", "deepest", "other\t1"]
 
 
@@ -60,17 +58,8 @@ def against(found: set[str], wanted: set[str]) -> str:
 
 
 def missed(found: Coverage) -> str:
-    pairs = [f"{short(a)} > {short(b)}" for a, b in found.missed]
+    pairs = [f"{short(a)} > {short(b)}" for a, b in found.missed if isinstance(a, Emitted) and isinstance(b, Emitted)]
     return f"{len(pairs)} of {len(pairs) + len(found.covered)} pairs are no way that was read: {', '.join(pairs[:12])}" if pairs else ""
-
-
-def read_by(build: Path, sources: Path, out: Path) -> Path:
-    """The program that the reader writes of a build."""
-    if not (READER / "__main__.py").is_file():
-        raise Missing(f"{READER} isn't there: the reader of C++ is compared with what a run shows.")
-    words = ["-p", str(build), "-o", str(out), "--root", str(sources), "--root", str(build), "--quiet", "--no-cache"]
-    output([python_with_clang(), "-m", "gammonfig_cpp", *words], variables={"PYTHONPATH": str(READER.parent)})
-    return out / "app.gf"
 
 
 def records(tally: Tally) -> None:
@@ -92,34 +81,24 @@ def small(tally: Tally, folder: Path, spy: Path, reading: bool) -> None:
             reason = against(seen(record), set(wanted))
             if reading and not reason:
                 sources = TESTS / "programs" / name
-                reason = missed(cover(record, read(read_by(made.parent, sources, folder / "read" / name))))
+                out = read_by(made.parent, [sources], folder / "read" / name)
+                reason = missed(cover(record, read(out / "app.gf", sources)))
         except (Missing, BadRecord, BadProgram) as no:
             reason = str(no)
         tally.tell(name, reason)
 
 
-def examples(tally: Tally, folder: Path, spy: Path, kept: Path, only: str, steps: int) -> None:
-    """Qt's examples that fetch.py prepared: built, poked at, read and compared."""
-    listed = json.loads((kept / "examples.json").read_text())
-    sources = Path(listed["sources"])
-    for name in (it["name"] for it in listed["examples"]):
-        if not fnmatch(name, only):
-            continue
-        try:
-            example = prepare(sources, kept / "build", name, True)
-            if example.reason or not example.programs:
-                raise Missing(example.reason or "it has no program")
-            graph = read(read_by(example.build, example.sources, folder / "read" / name))
-            whole = Record()
-            for program in example.programs:
-                record = run(spy, program, folder / "runs" / name, {"SPY_STEPS": str(steps)}, 60)
-                whole.within.update(record.within)
-            found = cover(whole, graph)
-            print(f"  {len(found.covered)} covered, {len(found.missed)} missed, {len(found.outside)} of the library alone")
-            reason = missed(found)
-        except (Missing, BadRecord, BadProgram) as no:
-            reason = str(no)
-        tally.tell(name, reason)
+def examples(tally: Tally, given: argparse.Namespace, folder: Path, spy: Path) -> None:
+    """Qt's examples that fetch.py prepared: built, poked at, read and compared; and a table of them."""
+    listed = json.loads((given.examples / "examples.json").read_text())["examples"]
+    rows = []
+    for example in (it for it in listed if any(fnmatch(it["name"], pattern) for pattern in given.only or ["*"])):
+        ran = tried(example, folder, spy, given.steps, given.seeds)
+        print("".join(f"  {line}\n" for line in ran.lines), end="")
+        tally.tell(ran.name, ran.reason)
+        rows.append(ran)
+    if given.table:
+        given.table.write_text(HEAD + "".join(it.row() for it in rows) + Ran.total(rows))
 
 
 def main() -> int:
@@ -127,15 +106,17 @@ def main() -> int:
     parser.add_argument("--folder", type=Path, default=None, help="where all is built (else ~/.cache/gammonfig/cpp-dynamic)")
     parser.add_argument("--read", action="store_true", help="compare with the reader's program too")
     parser.add_argument("--examples", type=Path, default=None, help="the folder that examples/fetch.py filled")
-    parser.add_argument("--only", default="*", help="a pattern of examples, as `widgets/dialogs/*`")
+    parser.add_argument("--only", action="append", help="a pattern of examples, as `widgets/dialogs/*`; several times for several")
     parser.add_argument("--steps", type=int, default=400, help="pokes at each example")
+    parser.add_argument("--seeds", type=int, default=1, help="runs of each example, each with other pokes")
+    parser.add_argument("--table", type=Path, default=None, help="where to write a table of the examples")
     given = parser.parse_args()
     tally = Tally()
     try:
         folder = outside(given.folder) if given.folder else cache("cpp-dynamic")
         spy = library(folder / "spy")
         if given.examples:
-            examples(tally, folder, spy, given.examples, given.only, given.steps)
+            examples(tally, given, folder, spy)
         else:
             records(tally)
             small(tally, folder, spy, given.read)

@@ -1,5 +1,6 @@
 """The ways of a program that a reader of C++ wrote (`app.gf`): which member leads at once to which, each told by the class that declares
 it, since a run doesn't know by which member an object is held."""
+import os
 import re
 from dataclasses import dataclass, field
 from pathlib import Path
@@ -8,7 +9,7 @@ Node = tuple[str, str]
 CLASS = re.compile(r"class (\w+)(?: : (\w+))? \{")
 PROPERTY = re.compile(r"property (\w+)(\*?) (\w+)(?: notify (\w+)\(.*\))?;")
 METHOD = re.compile(r"(signal|slot) (\w+)\(")
-STATEMENT = re.compile(r"(emit|call|set) ([\w.]+)")
+STATEMENT = re.compile(r"(emit|call|set|delete|later) ([\w.]+)")
 WIRE = re.compile(r"wire (\w+) (\w+)\(.*\) -> (\w+) (\w+)\(.*\) (\w+)")
 BINDING = re.compile(r"binding \w+ (\w+)\.(\w+) \((.*?)\) = (.*);")
 
@@ -32,6 +33,9 @@ class Graph:
     edges: dict[Node, set[Node]] = field(default_factory=dict)
     statements: list[tuple[str, str, str, str]] = field(default_factory=list)     # class, slot, kind, path
     wires: list[tuple[Node, Node]] = field(default_factory=list)
+    deleting: set[Node] = field(default_factory=set)                              # slots that delete
+    declared: dict[int, Node] = field(default_factory=dict)                       # by the line of the program
+    functions: dict[tuple[str, int], set[Node]] = field(default_factory=dict)     # by file and line of C++
 
     def chain(self, name: str) -> list[str]:
         found = []
@@ -72,6 +76,15 @@ class Graph:
                     seen.add(end)
                     todo.append(end)
         return seen
+
+    def leads_on(self, node: Node) -> bool:
+        """Whether a member does anything: what leads to nothing need not be told of everywhere."""
+        return bool(self.edges.get(node)) or node in self.deleting
+
+    def has(self, cls: str) -> bool:
+        """Whether there are objects of a class of C++, as such or by a role."""
+        name = cls.rpartition("::")[2]
+        return any(it == name or it.startswith(name + "_") or it.endswith("_" + name) or f"_{name}_" in it for it in self.classes)
 
     def signals(self, cls: str, name: str) -> set[Node]:
         """The signals of a C++ class by their C++ name: overloads and words of the language have something behind it."""
@@ -119,7 +132,7 @@ def parse(text: str) -> Graph:
     graph = Graph()
     cls: Class | None = None
     slot = ""
-    for whole in text.splitlines():
+    for number, whole in enumerate(text.splitlines(), 1):
         line = whole.strip()
         opened = CLASS.match(line)
         if opened:
@@ -132,14 +145,26 @@ def parse(text: str) -> Graph:
                 graph.statements.append((cls.name, slot, statement[1], statement[2]))
         elif cls and line and not line.startswith("//"):
             slot = member(graph, cls, line)
+            declared = METHOD.match(line)
+            if declared and declared[1] == "slot":
+                graph.declared[number] = (cls.name, declared[2])
         else:
             outside(graph, line)
-    for owner, name, _, path in graph.statements:
-        graph.add(graph.node(owner, name), graph.target(owner, path))
+    for owner, name, kind, path in graph.statements:
+        if kind in ("delete", "later"):
+            graph.deleting.add(graph.node(owner, name))
+        else:
+            graph.add(graph.node(owner, name), graph.target(owner, path))
     for (sender, signal), (receiver, method) in graph.wires:
         graph.add(graph.node(sender, signal), graph.node(receiver, method))
     return graph
 
 
-def read(path: Path) -> Graph:
-    return parse(path.read_text())
+def read(path: Path, root: Path) -> Graph:
+    """The program of a file, and where in C++ its functions stand, by the places beside it, which are relative to the root."""
+    graph = parse(path.read_text())
+    for words in (it.split("\t") for it in path.with_suffix(".places").read_text().splitlines()):
+        node = graph.declared.get(int(words[0]))
+        if node:
+            graph.functions.setdefault((os.path.realpath(root / words[2]), int(words[3])), set()).add(node)
+    return graph

@@ -18,18 +18,41 @@ class BadRecord(Exception):
 
 @dataclass(frozen=True)
 class Emitted:
-    """A signal as the spy tells it: of an object of a class, declared by a class."""
+    """A signal as the spy tells it: of an object of a class, declared by a class. `is_inner`: Qt made the object for one of its own."""
 
     cls: str
     declaring: str
     signal: str
+    is_inner: bool = False
 
     @staticmethod
     def of(text: str) -> "Emitted":
         words = text.rsplit(".", 2)
         if len(words) != 3:
             raise BadRecord(f"`{text}` isn't CLASS.DECLARING.SIGNAL")
-        return Emitted(*words)
+        return Emitted(words[0].removeprefix("~"), words[1], words[2], words[0].startswith("~"))
+
+
+@dataclass(frozen=True)
+class Called:
+    """A function as the spy tells it: its program or library, and the place in that."""
+
+    module: str
+    offset: int
+
+    @staticmethod
+    def of(text: str) -> "Called":
+        module, at, offset = text.rpartition("@")
+        if not at or not module:
+            raise BadRecord(f"`{text}` isn't FILE@OFFSET")
+        return Called(module, int(offset, 16))
+
+
+Event = Emitted | Called
+
+
+def event_of(text: str) -> Event:
+    return Called.of(text) if "@" in text else Emitted.of(text)
 
 
 @dataclass
@@ -39,6 +62,9 @@ class Record:
     emitted: dict[Emitted, int] = field(default_factory=dict)
     within: dict[tuple[Emitted, Emitted], int] = field(default_factory=dict)
     loops: dict[tuple[Emitted, Emitted], int] = field(default_factory=dict)
+    # Functions that ran, and what came under which function, or which function under what: at once.
+    called: dict[Called, int] = field(default_factory=dict)
+    under: dict[tuple[Event, Event], int] = field(default_factory=dict)
     dead: dict[Emitted, int] = field(default_factory=dict)
     deepest: int = 0
     end: str = ""
@@ -68,6 +94,10 @@ def parse(text: str) -> Record:
             elif kind in ("within", "loop") and count == 4:
                 pairs = record.within if kind == "within" else record.loops
                 pairs[(Emitted.of(words[1]), Emitted.of(words[2]))] = int(words[3])
+            elif kind == "called" and count == 3:
+                record.called[Called.of(words[1])] = int(words[2])
+            elif kind == "under" and count == 4:
+                record.under[(event_of(words[1]), event_of(words[2]))] = int(words[3])
             elif kind == "dead" and count == 3:
                 record.dead[Emitted.of(words[1])] = int(words[2])
             elif kind == "deepest" and count == 2:

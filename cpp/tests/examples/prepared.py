@@ -1,13 +1,18 @@
 """One example prepared as its build would be: configured by CMake, and then only what is generated (by moc, uic, rcc) is made, unless
 the programs are wanted too."""
 import json
+import os
 import re
 import sys
 from dataclasses import dataclass, field
 from pathlib import Path
+from typing import Any
 
 sys.path.insert(0, str(Path(__file__).resolve().parent.parent))
 from needs import Missing, output, program
+
+# By these a program tells the spy which of its functions run, and where each stands; not those that Qt's headers and moc have in it.
+TELLING = "-g1 -finstrument-functions -finstrument-functions-exclude-file-list=/usr/include,/usr/lib,moc_,.moc,qrc_"
 
 
 @dataclass
@@ -69,7 +74,7 @@ def prepare(sources: Path, builds: Path, name: str, whole: bool) -> Example:
     cmake, ninja = tools()
     try:
         example.build.mkdir(parents=True, exist_ok=True)
-        flags = ["-DCMAKE_EXPORT_COMPILE_COMMANDS=ON", "-DCMAKE_BUILD_TYPE=Debug", "-DCMAKE_CXX_FLAGS_DEBUG=-O0"]
+        flags = ["-DCMAKE_EXPORT_COMPILE_COMMANDS=ON", "-DCMAKE_BUILD_TYPE=Debug", f"-DCMAKE_CXX_FLAGS_DEBUG=-O0 {TELLING}"]
         if not (example.build / "build.ninja").exists():
             output([cmake, "-G", "Ninja", *flags, "-S", str(example.sources), "-B", str(example.build)])
         wanted = [] if whole else generated(ninja, example.build)
@@ -84,3 +89,10 @@ def prepare(sources: Path, builds: Path, name: str, whole: bool) -> Example:
         if absent:
             example.reason = f"{len(absent)} units weren't generated, as {absent[0]}"
     return example
+
+
+def roots(example: dict[str, Any]) -> list[Path]:
+    """The folder of an example, and those that it shares with others."""
+    own, build = Path(example["sources"]), Path(example["build"])
+    folders = {Path(os.path.normpath(it)).parent for it in example["units"]}
+    return [own, *sorted(it for it in folders if not any(above in (it, *it.parents) for above in (own, build)))]

@@ -8,7 +8,6 @@ Usage: cpp/tests/examples/read_examples.py [--cache DIR] [--only PATTERN].. [--l
 import argparse
 import concurrent.futures
 import json
-import os
 import re
 import subprocess
 import sys
@@ -18,7 +17,9 @@ from pathlib import Path
 from typing import Any
 
 sys.path.insert(0, str(Path(__file__).resolve().parent.parent))
+sys.path.insert(0, str(Path(__file__).resolve().parent))
 from needs import ROOT, Missing, cache, jobs
+from prepared import roots
 
 SUMMARY = re.compile(r"(\d+) units, (\d+) of (\d+) connections understood, (\d+) unknowns")
 
@@ -45,19 +46,11 @@ class Read:
         return "| " + " | ".join(str(it) for it in told) + " |"
 
 
-def roots(example: dict[str, Any]) -> list[str]:
-    """The folder of an example, and those that it shares with others."""
-    own, build = Path(example["sources"]), Path(example["build"])
-    folders = {Path(os.path.normpath(it)).parent for it in example["units"]}
-    shared = sorted(str(it) for it in folders if not any(above in (it, *it.parents) for above in (own, build)))
-    return [str(own), *shared]
-
-
 def read(example: dict[str, Any], out: Path) -> Read:
     """Reads one example with one process, and judges it."""
     name, folder = str(example["name"]), out / str(example["name"])
     words = [str(ROOT / "cpp/read"), "-p", str(example["build"]), "-o", str(folder), "--jobs", "1"]
-    words += [word for root in roots(example) for word in ("--root", root)]
+    words += [word for root in roots(example) for word in ("--root", str(root))]
     done = subprocess.run([*words, "--verdict", "--json"], capture_output=True, text=True, check=False)
     found = SUMMARY.search(done.stderr)
     if found is None or done.returncode not in (0, 3):
