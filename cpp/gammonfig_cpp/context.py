@@ -8,7 +8,7 @@ from typing import TYPE_CHECKING, Iterator
 
 from .libclang import FUNCTIONS, K, Cursor, T, template_of
 from .model import NONE, Condition, Facts, Function, Named, Place, Site, Statement, Unknown, Value
-from .units import is_generated
+from .units import is_generated, real
 
 if TYPE_CHECKING:
     from .bodies import Bodies
@@ -52,16 +52,16 @@ class Context:
         """A file's real path, and whether an author of the application wrote it."""
         known = self._paths.get(name)
         if known is None:
-            real = os.path.realpath(name)
-            inside = any(real.startswith(root) for root in self.roots) and not is_generated(real)
-            known = self._paths[name] = (real, inside)
+            path = real(name)
+            inside = any(path.startswith(root) for root in self.roots) and not is_generated(path)
+            known = self._paths[name] = (path, inside)
         return known
 
     def is_inside(self, cursor: Cursor) -> bool:
         file = cursor.location.file
         return bool(file) and self.path(file.name)[1]
 
-    def bytes_between(self, file: str, start: int, end: int) -> str:
+    def bytes_between(self, file: str, start: int, end: int, until: bytes = b'') -> str:
         text = self._texts.get(file)
         if text is None:
             try:
@@ -70,6 +70,9 @@ class Context:
             except OSError:
                 text = b''
             self._texts[file] = text
+        if until:
+            found = text.find(until, start, end)
+            end = found if found >= 0 else end
         return text[start:end].decode('utf-8', 'replace')
 
     def text(self, cursor: Cursor, limit: int = 100) -> str:
@@ -77,8 +80,7 @@ class Context:
         extent = cursor.extent
         if extent.start.file is None:
             return ''
-        words = self.bytes_between(extent.start.file.name, extent.start.offset, extent.end.offset)
-        words = re.sub(r'\s+', ' ', words).strip()
+        words = ' '.join(self.bytes_between(extent.start.file.name, extent.start.offset, extent.end.offset).split())
         return words if len(words) <= limit else words[:limit - 2].rstrip() + ' ..'
 
     def place(self, cursor: Cursor, limit: int = 100) -> Place:
@@ -95,10 +97,11 @@ class Context:
 
     def declared(self, cursor: Cursor) -> Place:
         """The place of a declaration, with the words of its first line alone."""
-        place = self.place(cursor, 0)
-        words = self.text(cursor, 4000)
-        words = re.split(r'[{]', words, maxsplit=1)[0].strip()
-        return Place(place.file, place.line, place.column, words[:100])
+        place, extent = self.place(cursor, 0), cursor.extent
+        if extent.start.file is None:
+            return place
+        words = self.bytes_between(extent.start.file.name, extent.start.offset, extent.end.offset, b'{')
+        return Place(place.file, place.line, place.column, ' '.join(words.split())[:100])
 
     # Notes
 

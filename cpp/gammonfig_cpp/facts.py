@@ -13,11 +13,11 @@ from .classes import Classes
 from .cleaning import mark_used
 from .connects import Connects
 from .context import Context
-from .libclang import cindex, version
+from .libclang import cindex, quick, version
 from .model import Class, Facts
 from .naming_callees import Callees
 from .precompiled import Headers, stamp
-from .units import ANNOTATIONS, Unit, is_generated
+from .units import ANNOTATIONS, Unit, is_generated, real
 from .values import Values
 
 ERROR = 3
@@ -25,7 +25,7 @@ ERROR = 3
 OF_CLANG = ('stddef.h', 'stdarg.h', 'float.h', 'limits.h', 'stdint.h')
 # The modules that facts depend on.
 READERS = ('bodies', 'calls', 'classes', 'comparing', 'conditional', 'connects', 'context', 'facts', 'holders', 'libclang', 'model', 'naming_callees',
-           'precompiled', 'qtmodel', 'special', 'units', 'values')
+           'precompiled', 'qtmodel', 'quick', 'special', 'units', 'values')
 
 
 def read_unit(unit: Unit, roots: list[str], known: dict[str, Class], headers: Headers | None = None) -> Facts:
@@ -39,6 +39,7 @@ def _read(unit: Unit, roots: list[str], known: dict[str, Class], headers: Header
     begun = time.process_time()
     context = Context(unit.source, roots)
     facts = context.facts
+    quick.forget()
     try:
         shared = ['-include-pch', headers.path] if headers is not None else []
         tree = cindex.Index.create(excludeDecls=True).parse(unit.source, args=[*unit.flags, *ANNOTATIONS, *shared])
@@ -46,7 +47,7 @@ def _read(unit: Unit, roots: list[str], known: dict[str, Class], headers: Header
         facts.errors.append(f'{unit.source}: libclang can\'t read this file with its flags')
         return facts
     facts.errors = errors_of(tree, context)
-    included = {os.path.realpath(i.include.name) for i in tree.get_includes()}
+    included = {real(i.include.name) for i in tree.get_includes()}
     facts.files = sorted(included | {unit.source} | set(headers.files if headers is not None else ()))
     context.classes, context.values, context.callees = Classes(context, known), Values(context), Callees(context)
     context.calls, context.connects = Calls(context), Connects(context)

@@ -7,6 +7,7 @@ import importlib
 from typing import Any
 
 from .errors import ReadError
+from .quick import Quick
 
 Cursor = Any
 CxxType = Any
@@ -26,6 +27,7 @@ def load() -> Any:
 
 
 cindex = load()
+quick = Quick(cindex)
 
 
 def version() -> str:

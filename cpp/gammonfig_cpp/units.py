@@ -6,6 +6,7 @@ import os
 import re
 import shlex
 from dataclasses import dataclass
+from functools import cache
 
 from .errors import ReadError
 
@@ -31,6 +32,12 @@ class Unit:
     """A source with its flags, which hold from every folder."""
     source: str
     flags: tuple[str, ...]
+
+
+@cache
+def real(path: str) -> str:
+    """A file's real path: the same headers are asked for with each unit."""
+    return os.path.realpath(path)
 
 
 def is_generated(name: str) -> bool:

@@ -7,8 +7,8 @@ import pytest
 sys.path.insert(0, str(Path(__file__).resolve().parent.parent))
 sys.path.insert(0, str(Path(__file__).resolve().parent))
 from coverage import cover
-from program_graph import BadProgram, parse
-from spied import BadRecord, Emitted, Record
+from program_graph import BadProgram, parse, read
+from spied import BadRecord, Called, Emitted, Record
 from spied import parse as parse_record
 
 PROGRAM = """class Level {
@@ -62,9 +62,25 @@ def test_a_line_that_no_reader_writes_is_refused() -> None:
 
 def test_pairs_of_a_run_are_covered_missed_or_outside() -> None:
     moved, told, other = Emitted("Level", "Level", "moved"), Emitted("Mixer", "Mixer", "told"), Emitted("QTimer", "QTimer", "timeout")
-    record = Record(within={(moved, moved): 3, (moved, told): 1, (other, moved): 1})
+    inner = Emitted("Level", "Level", "moved", is_inner=True)
+    record = Record(within={(moved, moved): 3, (told, moved): 1, (moved, told): 1, (other, moved): 1, (told, inner): 1})
     found = cover(record, parse(PROGRAM))
-    assert (found.covered, found.missed, found.outside) == ([(moved, moved)], [(moved, told)], [(other, moved)])
+    assert (found.covered, found.missed) == ([(moved, moved)], [(told, moved)])
+    assert found.outside == [(moved, told), (other, moved), (told, inner)], "what leads to nothing, and what Qt made for itself"
+
+
+def test_functions_of_a_run_are_known_by_their_lines(tmp_path: Path) -> None:
+    (tmp_path / "app.gf").write_text(PROGRAM)
+    places = [(4, "level.cpp", 7), (10, "mixer.cpp", 3), (11, "mixer.cpp", 5)]
+    (tmp_path / "app.places").write_text("".join(f"{line}\t5\t{file}\t{at}\t10\twords\n" for line, file, at in places))
+    graph = read(tmp_path / "app.gf", tmp_path)
+    set_, start, follow = (Called("program", at) for at in (1, 2, 3))
+    lines = {set_: (str(tmp_path / "level.cpp"), 7), start: (str(tmp_path / "mixer.cpp"), 3), follow: (str(tmp_path / "mixer.cpp"), 5)}
+    moved = Emitted("Level", "Level", "moved")
+    record = Record(under={(set_, moved): 1, (moved, follow): 1, (follow, set_): 1, (start, set_): 1, (start, Called("program", 9)): 1})
+    found = cover(record, graph, lines)
+    assert found.covered == [(set_, moved), (moved, follow), (follow, set_)]
+    assert found.missed == [(start, set_)]
 
 
 def test_a_record_tells_what_became_of_the_program() -> None:
@@ -75,7 +91,13 @@ def test_a_record_tells_what_became_of_the_program() -> None:
     assert parse_record(text.replace("within", "loop")).outcome() == "re-entered"
 
 
-@pytest.mark.parametrize("line", ["emitted\tA.B.c", "emitted\tAc\t1", "within\tA.B.c\tD.E.f\tx", "deepest", "other\t1"])
+def test_a_record_tells_functions() -> None:
+    record = parse_record("called\t/bin/a@1f\t2\nunder\t/bin/a@1f\t~A.B.c\t1\nend\texit\n")
+    assert record.called == {Called("/bin/a", 31): 2}
+    assert record.under == {(Called("/bin/a", 31), Emitted("A", "B", "c", is_inner=True)): 1}
+
+
+@pytest.mark.parametrize("line", ["emitted\tA.B.c", "emitted\tAc\t1", "within\tA.B.c\tD.E.f\tx", "called\ta\t1", "called\ta@x\t1", "deepest", "other\t1"])
 def test_a_line_that_is_none_of_a_record_is_refused(line: str) -> None:
     with pytest.raises(BadRecord):
         parse_record(line + "\n")

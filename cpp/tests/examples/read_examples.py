@@ -1,7 +1,7 @@
 #!/usr/bin/env python3
-"""Reads Qt's examples and judges each: the table of docs/cpp.md, and every finding with its place.
+"""Reads Qt's examples and judges each: the tables of table.md, and every finding with its place.
 
-Usage: cpp/tests/examples/read_examples.py [--cache DIR] [--only PATTERN].. [--least N] [--jobs N] [--findings FILE]
+Usage: cpp/tests/examples/read_examples.py [--cache DIR] [--only PATTERN].. [--least N] [--jobs N] [--findings FILE] [--page FILE]
 
 `examples/fetch.py` has to have filled the folder. Of all examples those with at least N connections (else 7) are told. The last line is
 `N passed, M failed`: an example that can't be read failed."""
@@ -18,6 +18,7 @@ from typing import Any
 
 sys.path.insert(0, str(Path(__file__).resolve().parent.parent))
 sys.path.insert(0, str(Path(__file__).resolve().parent))
+from judged import HEAD, page
 from needs import ROOT, Missing, cache, jobs
 from prepared import roots
 
@@ -82,8 +83,9 @@ def run(given: argparse.Namespace) -> int:
             print(f"{one.name}: FAILED: {one.reason}" if one.reason else one.row(), file=sys.stderr, flush=True)
             done.append(one)
     table = [it for it in done if not it.reason and it.connections >= given.least]
-    print("| example | units | connections | not understood | unknowns | errors | warnings | notes |\n|---|---|---|---|---|---|---|---|")
-    print("\n".join(it.row() for it in table))
+    print(HEAD + "\n".join(it.row() for it in table))
+    if given.page:
+        given.page.write_text(page([it.row() for it in table], [(it.name, one) for it in table for one in it.findings]))
     if given.findings:
         given.findings.write_text("".join(line + "\n" for it in table for line in told(it)))
     connections, understood = sum(it.connections for it in table), sum(it.understood for it in table)
@@ -100,6 +102,7 @@ def main() -> int:
     parser.add_argument("--least", type=int, default=7, help="the connections that an example has to have to be told")
     parser.add_argument("--jobs", type=int, default=jobs(), help="examples read at once")
     parser.add_argument("--findings", type=Path, default=None, help="where to write each finding")
+    parser.add_argument("--page", type=Path, default=None, help="where to write the tables: table.md beside this file")
     try:
         return run(parser.parse_args())
     except Missing as no:
