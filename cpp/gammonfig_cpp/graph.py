@@ -2,12 +2,12 @@
 from __future__ import annotations
 
 from collections import defaultdict
-from dataclasses import dataclass
+from dataclasses import dataclass, replace
 
 from .model import Condition, Place
 from .naming import Naming
 from .objects import Element
-from .program import Key, Program
+from .program import WAYS, Key, Program
 
 Node = tuple[Element, Key]
 
@@ -18,6 +18,7 @@ class Why:
     place: Place | None
     conditions: tuple[Condition, ...] = ()
     queued: bool = False
+    way: str = 'other'
 
 
 class Graph:
@@ -40,12 +41,14 @@ class Graph:
 
     def _add(self, node: Node, to: Node, why: Why) -> None:
         if to in self.edges:
-            self.edges[node].setdefault(to, why)
+            known = self.edges[node].setdefault(to, why)
+            if WAYS.index(why.way) > WAYS.index(known.way):
+                self.edges[node][to] = replace(known, way=why.way)
 
     def _member(self, role: Element, key: Key) -> None:
         member = self.program.members[key]
         if member.notify is not None:
-            self._add((role, key), (role, member.notify), Why(member.place))
+            self._add((role, key), (role, member.notify), Why(member.place, way='same'))
         for step in member.steps:
             on = self.roles(step.on) if step.on is not None else [role]
             if step.kind == 'delete':
@@ -54,7 +57,7 @@ class Graph:
             owner = self.program.members[step.member].owner
             fit = [r for r in on if (r, step.member) in self.edges] or self.roles(owner)
             for target in fit:
-                self._add((role, key), (target, step.member), Why(step.place, step.conditions))
+                self._add((role, key), (target, step.member), Why(step.place, step.conditions, way='other' if step.on or key in self.program.folded else 'same'))
 
     def _wires(self) -> None:
         for wire in self.program.wires:
@@ -62,7 +65,7 @@ class Graph:
                 continue
             for sender in self.roles(wire.sender):
                 for receiver in self.roles(wire.receiver) if (sender, wire.signal) in self.edges else ():
-                    self._add((sender, wire.signal), (receiver, wire.method), Why(wire.place, (), wire.how == 'queued'))
+                    self._add((sender, wire.signal), (receiver, wire.method), Why(wire.place, (), wire.how == 'queued', wire.way))
         for bound in self.program.bound:
             for source in bound.sources:
                 for role in self.roles(self.program.members[source].owner) if source in self.program.members else ():

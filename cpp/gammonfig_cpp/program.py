@@ -9,6 +9,8 @@ from .objects import FREE, Element, Objects
 from .whole import Whole
 
 Key = tuple[str, ...]
+# Where a connection or a step may lead, the narrowest first: to the object that holds this one, to this one, to any.
+WAYS = ('up', 'same', 'other')
 MOST_PARAMETERS = 8
 
 
@@ -53,6 +55,7 @@ class Wire:
     how: str
     place: Place | None
     words: str = ''
+    way: str = 'other'
 
 
 @dataclass(slots=True)
@@ -74,6 +77,8 @@ class Program:
         self.counts: Counter[str] = Counter()
         self.silent: Counter[str] = Counter()
         self.recursions: list[list[str]] = []
+        # Functions that got what others do, whose objects may be others.
+        self.folded: set[Key] = set()
         # Slots that run an event loop of their own.
         self.modal: dict[Key, Place] = {}
         self._owners: tuple[int, list[tuple[Element, Element, Place]]] | None = None

@@ -4,7 +4,7 @@ from __future__ import annotations
 from collections import defaultdict
 
 from .objects import FREE, Element
-from .program import Key, Member, Program, Step, Wire
+from .program import WAYS, Key, Member, Program, Step, Wire
 from .relations import Related
 
 # Widgets that are hardly a parent: where all that is known of a parent is QWidget, these aren't taken for it.
@@ -196,5 +196,6 @@ def unique(steps: list[Step]) -> list[Step]:
 def unique_wires(wires: list[Wire]) -> list[Wire]:
     found: dict[tuple[object, ...], Wire] = {}
     for wire in wires:
-        found.setdefault((wire.sender, wire.signal, wire.receiver, wire.method, wire.how), wire)
+        known = found.setdefault((wire.sender, wire.signal, wire.receiver, wire.method, wire.how), wire)
+        known.way = max(known.way, wire.way, key=WAYS.index)
     return list(found.values())

@@ -15,6 +15,7 @@ def fold(program: Program) -> None:
     for found in components(graph):
         members = [slots[key] for key in sorted(found)]
         program.recursions.append([m.shown for m in members])
+        program.folded |= found
         union = [(m, s) for m in members for s in m.steps if s.kind != 'call' or s.member not in found]
         for member in members:
             member.steps = [step if owner is member else moved(program, owner, member, step) for owner, step in union]

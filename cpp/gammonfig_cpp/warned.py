@@ -11,6 +11,8 @@ from .report import Finding, Spot, StepTold, Verdict
 
 RESTS = ('each step hands on the value that it was given, and only a change is told: this comes to rest, where the setters '
          'that were read as properties compare; that is not proved')
+CLIMBS = ('each step stays with its object, or goes on to one that holds it, as up a tree: this ends at the top, unless objects hold '
+          'one another; that is not proved')
 OF_OWN = ('what is deleted is held by a member of the object that deletes it: another object of its class, unless it owns itself; '
           'that is not proved')
 DIES_ONCE = 'an object dies on each way round, and each dies once: this goes on only while others are made; that is not proved'
@@ -20,11 +22,12 @@ GRAVE = ('error', 'warning', 'note')
 
 @dataclass
 class Warnings:
-    """What the reader warned of, the circles that it takes to come to rest, where objects delete what they own, what is on circles only by
-    the death of an object, the sets of members that lead to one another through an event loop, what Qt itself posts, and whether the
-    program is over the standard limits."""
+    """What the reader warned of; the circles that it takes to come to rest, and to go up a tree; where objects delete what they own; what
+    is on circles only by the death of an object; the sets of members that lead to one another through an event loop; what Qt itself
+    posts; and whether the program is over the standard limits."""
     found: list[dict[str, Any]]
     resting: list[set[str]]
+    climbing: list[set[str]]
     own: set[tuple[str, int, int]]
     by_death: set[str]
     circling: list[set[str]]
@@ -38,10 +41,11 @@ class Warnings:
                 told = json.load(file)
             own = {(str(file), int(line), int(column)) for file, line, column in told['own']}
             resting = [set(names) for names in told['resting']]
+            climbing = [set(names) for names in told['climbing']]
             circling = [set(names) for names in told['circling']]
-            return Warnings(told['findings'], resting, own, set(told['by_death']), circling, set(told['by_qt']), bool(told['wide']))
+            return Warnings(told['findings'], resting, climbing, own, set(told['by_death']), circling, set(told['by_qt']), bool(told['wide']))
         except (OSError, ValueError, KeyError, TypeError) as wrong:
-            raise ReadError(f'{path}: the warnings can\'t be read') from wrong
+            raise ReadError(f'{path}: the warnings can\'t be read: read the application again') from wrong
 
     def add_to(self, verdict: Verdict) -> None:
         """Adds the warnings, but for rules that the verdict has itself; and tells of circles that come to rest. That what Qt posts to an
@@ -52,6 +56,8 @@ class Warnings:
             names = {s.from_ for s in finding.chain}
             if finding.rule == 'cycle' and any(names <= known for known in self.resting):
                 finding.note = RESTS
+            elif finding.rule == 'cycle' and any(names <= known for known in self.climbing):
+                finding.note = CLIMBS
             elif finding.rule == 'destroy-path' and self._is_of_own(finding):
                 finding.note, finding.severity = OF_OWN, 'note'
         verdict.findings += [warning_of(f) for f in self.found if f['rule'] not in own]

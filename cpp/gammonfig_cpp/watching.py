@@ -5,6 +5,7 @@ from __future__ import annotations
 
 import json
 
+from .climbing import Climbing
 from .graph import Graph, Node, Why, path
 from .graphs import components
 from .naming import Naming
@@ -26,10 +27,11 @@ class Watching:
 
     def text(self, wide: bool = False) -> str:
         """The warnings, as the findings of a verdict in JSON; and whether commands take the program with `--wide` alone."""
-        resting = Settling(self.program, Graph(self.program, self.graph.names)).sets()
+        direct = Graph(self.program, self.graph.names)
+        resting = Settling(self.program, direct).sets()
         found = sorted(self._queued_cycles() + self._re_entries(), key=lambda f: [str(f.get(k, '')) for k in ('rule', 'file')]
                        + [f"{f.get('line', 0):>9}", str(f['message'])])
-        told = {'findings': found, 'resting': resting, 'own': self._own(), 'by_death': self._by_death(),
+        told = {'findings': found, 'resting': resting, 'climbing': Climbing(direct).sets(), 'own': self._own(), 'by_death': self._by_death(),
                 'circling': self._circling(), 'by_qt': self._by_qt(), 'wide': wide}
         return json.dumps(told, indent=1, ensure_ascii=False) + '\n'
 

@@ -7,6 +7,7 @@ from dataclasses import replace
 from typing import Iterable
 
 from .calling import Calling
+from .climbing import Holding
 from .model import Connect, Forward, Named, Parameter, Value
 from .objects import FREE, Element
 from .owning import of_each_object
@@ -56,6 +57,7 @@ class Wires:
         self.dropped: list[tuple[str, Connect]] = []
         self.of_threads: set[str] = set()
         self.moved: set[Element] = set()
+        self.holding = Holding(program.whole.flows)
         self.of_qt: set[tuple[Element, Key, Element, Key]] = set()
 
     def all(self) -> None:
@@ -159,7 +161,8 @@ class Wires:
             how = 'queued'
             self.program.counts['auto connections that are queued: one end was moved to a thread'] += 1
         signal = self.program.signal(usr)
-        return [Wire(self.program.role(element), signal, receiver, self.fitting(signal, key), how, connect.place)]
+        return [Wire(self.program.role(element), signal, receiver, self.fitting(signal, key), how, connect.place,
+                     way=self.holding.way(connect))]
 
     def fitting(self, signal: Key, key: Key) -> Key:
         return self.program.adapted(key, self.parameters(signal))

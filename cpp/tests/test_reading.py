@@ -222,6 +222,16 @@ def test_circles_by_deaths() -> None:
     assert 'Ring.next()' in told['by_death'] and 'Ring.turn()' not in told['by_death']
 
 
+def test_circles_that_go_up_a_tree() -> None:
+    """A folder tells what its entries tell: not so where a step goes down, too, or where it isn't known who holds whom."""
+    found = case('trees')
+    told = json.loads(Watching(found.linked.program, found.written.names, found.written.places).text())
+    climbing = {name for names in told['climbing'] for name in names}
+    assert climbing == {'Folder_m_inner.count()', 'Folder_m_inner.counted()'}
+    assert 'wire Ring turned() -> Ring turn() auto;' in found.wires()
+    assert 'call this.tell();' in found.body('lambda_27')
+
+
 def test_classes_of_qt() -> None:
     found = case('widgets')
     assert found.body('setValue', 'QSlider') == ['set this.value = a1;'], 'WRITE and NOTIFY come from the header'
