@@ -88,6 +88,11 @@ carried-writes {E = E} {ComesTo = ComesTo} {before = before} {after = after} {le
     let At : Result ℕ E → Type 0 = λ r. Writes ComesTo before after r in
     subst At (sym is) (record { outcome = with_gone x.gone left; comes = x.comes; takes = x.takes })
 
+-- .. with no exit status only where a write failed
+pub carried-failed : {N E : Type 0} {ComesTo : Outcome (Seen N) → Type 0} {before after : Option (List ℕ)} {left : Outcome (Seen N)} {written answer : Result ℕ E} {writing noted : Failing} → CarriesOut ComesTo before after left written writing → answer ≡ written → noted ≡ writing → OnErr answer (HasFailed noted)
+carried-failed {answer = answer} {writing = writing} x is noted =
+    subst (λ (f : Failing). OnErr answer (HasFailed f)) (sym noted) (subst (λ (r : Result ℕ _). OnErr r (HasFailed writing)) (sym is) x.failed)
+
 -- nothing was handed over of what didn't run
 none-gone : {N : Type 0} (outcome : Outcome (Seen N)) → with_gone [] outcome ≡ outcome
 none-gone (Usage fault) = refl

@@ -6,7 +6,6 @@ use Rattle.trace_entries.specs.declared.fault.Fault.{Fault}
 use Rattle.program_commands.specs.Outcomes.{outcome_text as program_text, outcome_status as program_status, WritesAs, IsShortAs}
 use Rattle.program_commands.specs.Refusals.{memory_line, usage_line, fault_line}
 use Rattle.command_lines.specs.Lines.{trace_text}
-use Rattle.command_lines.specs.declared.input.InputFault.{InputFault}
 use Rattle.command_lines.specs.declared.input.InputFault.TheVariants as input
 use Rattle.machine_commands.specs.declared.outcome.Outcome.{Outcome}
 use Rattle.machine_commands.specs.declared.outcome.Outcome.TheVariants.{Usage, NoInput, Program, Ran as OfRun, Memory}
@@ -33,15 +32,11 @@ abbrev pub run_status : Result (Unit {0}) Fault → ℕ
 run_status (Ok _) = 0
 run_status (Err fault) = 4
 
--- where a read failed nothing is written
-abbrev pub input_text : InputFault → List ℕ
-input_text (input.Unread reason) = []
-input_text input.Memory = memory_line
-
--- the bytes of an outcome
+-- the bytes of an outcome; where a read failed nothing is written
 abbrev pub outcome_text : {N : Type 0} → Outcome (Seen N) → List ℕ
 outcome_text (Usage fault) = usage_line
-outcome_text (NoInput fault) = input_text fault
+outcome_text (NoInput (input.Unread reason)) = []
+outcome_text (NoInput input.Memory) = memory_line
 outcome_text (Program outcome) = program_text outcome
 outcome_text (OfRun ran) = run_text ran.machine.world.trace ran.ended
 outcome_text Memory = memory_line

@@ -13,7 +13,7 @@ pub use command_lines::{Failing, InputFault, LARGEST_INPUT, UsageFault, WriteFau
 pub use natives::FittingNatives;
 pub use object_machine::ObjectMachine;
 pub use outcome::{Outcome, Ran, Sent};
-pub use prepared::{Carried, Prepared, Ready, written};
+pub use prepared::{Carried, Prepared, Ready, sent};
 pub use program_commands::{Outcome as ProgramOutcome, Refusal, Why};
 pub use runs::{prepare_run, prepare_unchecked_run};
 pub use script_lang::ScriptFault;

@@ -7,7 +7,7 @@ ghost use Rattle.machine_commands.specs.Outcomes.{seen_outcome, seen_run};
 ghost use Rattle.machine_commands.specs.Prepared.{ComesOf, ComesOfRun, CarriesOut, MayBeDone, RunsSo, seen_prepared};
 ghost use Rattle.machine_commands.specs.code.Streaming.{Streams};
 
-use crate::outcome::{Outcome, Ran};
+use crate::outcome::{Outcome, Ran, Sent};
 use command_lines::{Failing, Output, WriteFault};
 use object_machine::ObjectMachine;
 use script_lang::Event;
@@ -141,18 +141,22 @@ impl<M: ObjectMachine> Ready<M> {
     }
 }
 
-/// The exit status of what was done, or why it couldn't be written.
-pub fn written<M: ObjectMachine>(carried: Carried<M>) -> Result<u8, WriteFault>
-    ensures { result ≡ carried.written }
+/// The exit status of what was done, or why it couldn't be written; and whether a write failed.
+pub fn sent<M: ObjectMachine>(carried: Carried<M>) -> Sent
+    ensures status { result.status ≡ carried.written }
+    ensures writing { result.writing ≡ carried.writing }
 {
     let Carried {
         outcome: _,
         last: _,
         refused: _,
         written,
-        writing: _,
+        writing,
     } = carried;
-    written
+    Sent {
+        status: written,
+        writing,
+    }
 }
 
 /// Applies events in their order until a fault comes, and puts what each has written down into the output when it is done.

@@ -54,7 +54,7 @@ pub fn checked_run(alloc: Global, told: &mut Told) -> TrialAnswer {
         Natives::of(Vec::new(alloc)),
         STEPS,
         &mut told.text,
-    ))
+    ).status)
 }
 
 /// `run_unchecked`.
@@ -67,7 +67,7 @@ pub fn unchecked_run(alloc: Global, told: &mut Told) -> TrialAnswer {
         7,
         STEPS,
         &mut told.text,
-    ))
+    ).status)
 }
 
 /// `command`.
@@ -75,5 +75,7 @@ pub fn command_line(alloc: Global, told: &mut Told) -> Option<TrialAnswer> {
     let input = format!(in alloc; "{SOURCE}%%\n{CERTIFICATE}%%\n{SCRIPT}").ok()?;
     let mut reader = input.as_bytes();
     let natives = Natives::of(Vec::new(alloc));
-    Some(ended(command(alloc, &["run"], &mut reader, natives, &mut told.text)))
+    Some(ended(
+        command(alloc, &["run"], &mut reader, natives, &mut told.text).status,
+    ))
 }

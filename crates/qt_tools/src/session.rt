@@ -93,7 +93,7 @@ fn trace_of(
     let mut reader = input;
     let mut output = Vec::new(alloc);
     let natives = Natives::of(Vec::new(alloc));
-    match command(alloc, words.as_slice(), &mut reader, natives, &mut output) {
+    match command(alloc, words.as_slice(), &mut reader, natives, &mut output).status {
         Ok(0 | 4) => Ok(output),
         Ok(2) => Err(ToolFault::TextRefused(number_in(b"refused ", output.as_slice()))),
         Ok(3) => Err(ToolFault::Invalid(number_in(b"no ", output.as_slice()))),

@@ -1,5 +1,5 @@
 -- What is written where nothing was done.
-use Rattle.std.proofs.Common.{◌≡◌, ◌≤◌, ◌⊎◌, inl, inr, ℕ, List, [], Option, Some, None, Result, Ok, Err, codes, refl, arith}
+use Rattle.std.proofs.Common.{◌≡◌, ◌≤◌, inl, inr, ℕ, List, Option, Some, None, Result, Ok, Err, codes, refl, arith}
 use Rattle.trace_entries.specs.declared.fault.Fault.{Fault}
 use Rattle.rank_make.specs.declared.why.Why.{Why}
 use Rattle.rank_make.specs.declared.why.Why.TheVariants as why
@@ -12,11 +12,10 @@ use Rattle.program_commands.specs.declared.refusal.Refusal.{Refusal}
 use Rattle.program_commands.specs.declared.refusal.Refusal.TheVariants as refusal
 use Rattle.program_commands.specs.Outcomes.{outcome_text as program_text, outcome_status as program_status}
 use Rattle.program_commands.specs.Reasons.{reason_line, reason_status}
-use Rattle.program_commands.specs.Refusals.{memory_line, usage_line, refusal_line, refusal_status, line_of, status_of}
-use Rattle.command_lines.specs.declared.input.InputFault.{InputFault}
+use Rattle.program_commands.specs.Refusals.{memory_line, refusal_line, refusal_status, line_of, status_of}
 use Rattle.command_lines.specs.declared.input.InputFault.TheVariants as input
 use Rattle.machine_commands.specs.declared.outcome.Outcome.TheVariants as outcome
-use Rattle.machine_commands.specs.Outcomes.{input_text, run_status}
+use Rattle.machine_commands.specs.Outcomes.{run_status}
 use Rattle.trace_tool.specs.Laws.{UndoneIsALine}
 
 numberless : (status : ℕ) (words : List ℕ) (number : Option ℕ) → 2 ≤ status → status_of status number ≡ 1 → line_of words number ≡ memory_line
@@ -55,13 +54,10 @@ run_goes : (ended : Result (Unit {0}) Fault) → ¬ (run_status ended ≡ 1)
 run_goes (Ok _) is = omega (arith, is)
 run_goes (Err fault) is = omega (arith, is)
 
-no_input : (fault : InputFault) → (input_text fault ≡ usage_line) ⊎ (input_text fault ≡ memory_line) ⊎ (input_text fault ≡ [])
-no_input (input.Unread reason) = inr (inr refl)
-no_input input.Memory = inr (inl refl)
-
 pub undone_is_a_line : (N : Type 0) → UndoneIsALine N
 undone_is_a_line N (outcome.Usage fault) is = inl refl
-undone_is_a_line N (outcome.NoInput fault) is = no_input fault
+undone_is_a_line N (outcome.NoInput (input.Unread reason)) is = inr (inr refl)
+undone_is_a_line N (outcome.NoInput input.Memory) is = inr (inl refl)
 undone_is_a_line N (outcome.Program o) is = inr (inl (told_memory o is))
 undone_is_a_line N (outcome.Ran ran) is = absurd (run_goes ran.ended is)
 undone_is_a_line N outcome.Memory is = inr (inl refl)

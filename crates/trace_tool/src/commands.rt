@@ -1,12 +1,13 @@
 //! The program's commands.
 
-ghost use Rattle.std.specs.Prelude.{◌≡◌, map};
+ghost use Rattle.std.specs.Prelude.{◌≡◌, map, OnErr};
+ghost use Rattle.command_lines.specs.Failing.{HasFailed};
 ghost use Rattle.command_lines.specs.Words.{IsLine};
 ghost use Rattle.command_lines.specs.declared.words.CommandLine.{CommandLine as ALine};
 ghost use Rattle.machine_commands.specs.Outcomes.{Writes};
 ghost use Rattle.machine_commands.specs.Commands.{CommandComesTo, WritesCommand, read_of};
 
-use machine_commands::{Answered, InputFault, WriteFault, answer, prepare_for, written};
+use machine_commands::{Answered, InputFault, Sent, answer, prepare_for, sent};
 use native_slots::{Answering, Natives};
 use qt_runtime::Machine;
 use std::alloc::Global;
@@ -21,11 +22,12 @@ pub fn command<R: Read, W: Write>(
     reader: &mut R,
     natives: Natives,
     w: &mut W,
-) -> Result<u8, WriteFault>
+) -> Sent
     ensures answers { let said = map (λ word. word.now) words.now in
         let heads = map (λ slot. slot.head) natives.slots.items in
         WritesCommand ⟦<Natives as Answering>⟧.gives heads natives said (R.remaining reader.old)
-        (W.contents w.old) (W.contents w.new) result }
+        (W.contents w.old) (W.contents w.new) result.status }
+    ensures failed { OnErr result.status (HasFailed result.writing) }
     ensures unread { let said = map (λ word. word.now) words.now in
         ((line : ALine) → IsLine said line → ⊥) → reader.new ≡ reader.old }
 {
@@ -34,7 +36,7 @@ pub fn command<R: Read, W: Write>(
         reading: _,
         carried,
     } = answer::<Natives, Machine<Natives>, R, W>(alloc, words, reader, natives, w);
-    written(carried)
+    sent(carried)
 }
 
 /// Does what a command line's words say, on the bytes that were read or on why there are none, and answers the exit
@@ -53,7 +55,7 @@ pub fn command<R: Read, W: Write>(
 /// Other words, another number of texts and an input of more than 67,108,864 bytes write `usage`. After a read that
 /// failed nothing is written, and `memory` where there was none for the input. All of these end with 1.
 ///
-/// There is a `WriteFault` only where a write failed: what was taken by then is the beginning of what is written, and
+/// There is a `WriteFault` only where a write failed (`failed`): what was taken by then is the beginning of what is written, and
 /// nothing is written after that.
 pub fn respond<W: Write>(
     alloc: Global,
@@ -61,13 +63,14 @@ pub fn respond<W: Write>(
     input: Result<&[u8], InputFault>,
     natives: Natives,
     w: &mut W,
-) -> Result<u8, WriteFault>
-    ensures { let said = map (λ word. word.now) words.now in
+) -> Sent
+    ensures written { let said = map (λ word. word.now) words.now in
         let heads = map (λ slot. slot.head) natives.slots.items in
         let ComesTo = CommandComesTo ⟦<Natives as Answering>⟧.gives heads natives said (read_of input.entry) in
-        Writes ComesTo (W.contents w.old) (W.contents w.new) result }
+        Writes ComesTo (W.contents w.old) (W.contents w.new) result.status }
+    ensures failed { OnErr result.status (HasFailed result.writing) }
 {
-    written(prepare_for::<Natives, Machine<Natives>>(alloc, words, input, natives).carry_out(
+    sent(prepare_for::<Natives, Machine<Natives>>(alloc, words, input, natives).carry_out(
         alloc, w,
     ))
 }

@@ -8,8 +8,8 @@ mod runs;
 pub use commands::{command, respond};
 pub use laws::{one_command_outcome, one_run_outcome, stopped_is_front, undone_is_a_line};
 pub use machine_commands::{
-    InputFault, LARGEST_INPUT, Outcome, ProgramOutcome, Ran, Refusal, UsageFault, Why, WriteFault,
-    limits_of,
+    Failing, InputFault, LARGEST_INPUT, Outcome, ProgramOutcome, Ran, Refusal, Sent, UsageFault,
+    Why, WriteFault, limits_of,
 };
 pub use program_commands::{certify, check, meta};
 pub use qt_runtime::{Entry, Fault, Machine, ScriptFault};

@@ -1,18 +1,19 @@
 //! The commands `run` and `run --unchecked`.
 
-ghost use Rattle.std.specs.Prelude.{◌<◌, ◌≤◌, ◌^◌, List, map};
+ghost use Rattle.std.specs.Prelude.{◌<◌, ◌≤◌, ◌^◌, List, map, OnErr};
 ghost use Rattle.meta_model.specs.Loaded.{Loaded};
 ghost use Rattle.certificate_lang.specs.declared.certificate.Certificate.{Certificate};
 ghost use Rattle.texts.specs.Limits.{most_depth};
 ghost use Rattle.script_lang.specs.declared.event.Event.{Event as AnEvent};
 ghost use Rattle.machine_commands.specs.Outcomes.{Writes};
 ghost use Rattle.class_lang.specs.Limits.{standard};
+ghost use Rattle.command_lines.specs.Failing.{HasFailed};
 ghost use Rattle.machine_commands.specs.Commands.{Accepts, AcceptedComesTo, RunComesTo, UncheckedRunComesTo};
 ghost use Rattle.object_machine.specs.Claims.{HasItsArguments, IsEverAcyclic, IsEverSettled, IsEverShallow, IsEverTyped, SparesActive};
 ghost use Rattle.trace_tool.specs.Accepted.{WhereAccepted};
 
 use class_lang::Limits;
-use machine_commands::{Outcome, WriteFault, prepare_run, prepare_unchecked_run, written};
+use machine_commands::{Outcome, Sent, prepare_run, prepare_unchecked_run, sent};
 use native_slots::{Answering, Natives};
 use qt_runtime::Machine;
 use std::alloc::Global;
@@ -56,7 +57,7 @@ pub fn run_outcome(
 /// declares (`arguments`), no binding depends on itself (`acyclic`), no object dies while a body of its own is active
 /// (`spared`), activations nest no deeper than the certificate's bound (`shallow`), every value is of its type (`typed`),
 /// and all values are settled (`settled`).
-/// There is a `WriteFault` only where a write failed: what was taken by then is the beginning of what is written, and
+/// There is a `WriteFault` only where a write failed (`failed`): what was taken by then is the beginning of what is written, and
 /// nothing is written after that.
 pub fn run<W: Write>(
     alloc: Global,
@@ -66,16 +67,17 @@ pub fn run<W: Write>(
     natives: Natives,
     steps: u64,
     w: &mut W,
-) -> Result<u8, WriteFault>
+) -> Sent
     requires steps { (1 ≤ steps) × (steps < 2 ^ 63) }
     ensures written { let heads = map (λ slot. slot.head) natives.slots.items in
         let ComesTo = RunComesTo standard ⟦<Natives as Answering>⟧.gives heads natives program.now certificate.now script.now steps in
-        Writes ComesTo (W.contents w.old) (W.contents w.new) result }
+        Writes ComesTo (W.contents w.old) (W.contents w.new) result.status }
     ensures accepted { let heads = map (λ slot. slot.head) natives.slots.items in
         (loaded : Loaded) (read : Certificate) (events : List AnEvent) →
         Accepts standard heads program.now certificate.now script.now loaded read events →
         let ComesTo = AcceptedComesTo ⟦<Natives as Answering>⟧.gives natives loaded read events steps in
-        Writes ComesTo (W.contents w.old) (W.contents w.new) result }
+        Writes ComesTo (W.contents w.old) (W.contents w.new) result.status }
+    ensures failed { OnErr result.status (HasFailed result.writing) }
     ensures arguments { let heads = map (λ slot. slot.head) natives.slots.items in
         WhereAccepted standard heads natives program.now certificate.now script.now steps
         (HasItsArguments ⟦<Natives as Answering>⟧.gives) }
@@ -104,7 +106,7 @@ pub fn run<W: Write>(
         natives,
         steps,
     );
-    written(prepared.carry_out(alloc, w))
+    sent(prepared.carry_out(alloc, w))
 }
 
 /// What `run --unchecked` comes to: the run of a program, which is read by these limits and need not be checked, on a script, or
@@ -135,7 +137,7 @@ pub fn unchecked_run_outcome(
 /// At most `depth` activations nest (1 to 256), and at most `steps` rules are used (1 to 2^63 - 1). The answer is the
 /// exit status: 0 after a whole run, 4 after a fault, 2 where a text or a native is refused, 1 where memory ran out
 /// outside the run.
-/// There is a `WriteFault` only where a write failed: what was taken by then is the beginning of what is written, and
+/// There is a `WriteFault` only where a write failed (`failed`): what was taken by then is the beginning of what is written, and
 /// nothing is written after that.
 pub fn run_unchecked<W: Write>(
     alloc: Global,
@@ -145,12 +147,13 @@ pub fn run_unchecked<W: Write>(
     depth: usize,
     steps: u64,
     w: &mut W,
-) -> Result<u8, WriteFault>
+) -> Sent
     requires depth { (1 ≤ depth) × (depth ≤ most_depth) }
     requires steps { (1 ≤ steps) × (steps < 2 ^ 63) }
-    ensures { let heads = map (λ slot. slot.head) natives.slots.items in
+    ensures written { let heads = map (λ slot. slot.head) natives.slots.items in
         let ComesTo = UncheckedRunComesTo standard ⟦<Natives as Answering>⟧.gives heads natives program.now script.now depth steps in
-        Writes ComesTo (W.contents w.old) (W.contents w.new) result }
+        Writes ComesTo (W.contents w.old) (W.contents w.new) result.status }
+    ensures failed { OnErr result.status (HasFailed result.writing) }
 {
     let prepared = prepare_unchecked_run::<Natives, Machine<Natives>>(
         alloc,
@@ -161,5 +164,5 @@ pub fn run_unchecked<W: Write>(
         depth,
         steps,
     );
-    written(prepared.carry_out(alloc, w))
+    sent(prepared.carry_out(alloc, w))
 }

@@ -39,7 +39,7 @@ impl<'a> CommandLine<'a> {
 impl Task for CommandLine<'_> {
     fn perform(&mut self, natives: Natives) -> Result<()> {
         let input = Ok(self.input);
-        self.status = respond(self.alloc, self.words, input, natives, &mut self.output)?;
+        self.status = respond(self.alloc, self.words, input, natives, &mut self.output).status?;
         Ok(())
     }
 }
@@ -47,7 +47,7 @@ impl Task for CommandLine<'_> {
 /// The exit status of a run that isn't checked and has no natives, or none where the writer failed.
 pub fn run_from<R: Read, W: Write>(alloc: Global, reader: &mut R, writer: &mut W) -> Option<u8> {
     let natives = Natives::of(Vec::new(alloc));
-    match command(alloc, UNCHECKED, reader, natives, writer) {
+    match command(alloc, UNCHECKED, reader, natives, writer).status {
         Ok(status) => Some(status),
         Err(_) => None,
     }

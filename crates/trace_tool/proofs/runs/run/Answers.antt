@@ -2,7 +2,7 @@ use Rattle.std.proofs.Common.{IsTrue, Ok, sym, subst}
 use Rattle.native_slots.specs.Effects.{accepts}
 use Rattle.native_slots.proofs.Promising.{promised}
 use Rattle.machine_commands.proofs.Accepted.{accepted_comes}
-use Rattle.machine_commands.proofs.Preparing.{carried-as, carried-of, carried-writes}
+use Rattle.machine_commands.proofs.Preparing.{carried-as, carried-failed, carried-of, carried-writes}
 use Rattle.trace_tool.proofs.Claims.{prepared-claims}
 use Rattle.trace_tool.proofs.runs.run.Goals as goal
 
@@ -10,12 +10,15 @@ pub carry_out-requires : goal.carry_out-requires
 carry_out-requires g c = c.prepare_run-prepared.ensures.may
 
 pub returns-clause-written : goal.returns-clause-written
-returns-clause-written g c = carried-writes (carried-of (rw c.standard.ensures at c.prepare_run-prepared.ensures) c.carry_out.ensures) c.written.ensures
+returns-clause-written g c = carried-writes (carried-of (rw c.standard.ensures at c.prepare_run-prepared.ensures) c.carry_out.ensures) c.sent.ensures.status
 
 pub returns-clause-accepted : goal.returns-clause-accepted
 returns-clause-accepted g c =
     λ loaded read events accepts.
-    carried-writes (carried-as (λ end comes. accepted_comes accepts comes) (carried-of (rw c.standard.ensures at c.prepare_run-prepared.ensures) c.carry_out.ensures)) c.written.ensures
+    carried-writes (carried-as (λ end comes. accepted_comes accepts comes) (carried-of (rw c.standard.ensures at c.prepare_run-prepared.ensures) c.carry_out.ensures)) c.sent.ensures.status
+
+pub returns-clause-failed : goal.returns-clause-failed
+returns-clause-failed g c = carried-failed c.carry_out.ensures c.sent.ensures.status c.sent.ensures.writing
 
 pub returns-clause-arguments : goal.returns-clause-arguments
 returns-clause-arguments g c =
