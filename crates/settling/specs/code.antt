@@ -1,0 +1,2 @@
+-- What the contracts of this crate's functions need besides.
+pub mod Bodies
