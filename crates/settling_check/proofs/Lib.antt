@@ -1,0 +1,4 @@
+mod Rounds
+mod Alike
+mod Levels
+mod Following
