@@ -6,8 +6,7 @@ use diagnostics::push_printed_lines;
 use std::alloc::{AllocError, Global};
 use std::io;
 use texts::split_at_line;
-use trace_diagrams::sequence_diagram;
-use trace_pages::{laid_out_trace, trace_page};
+use traces::{laid_out_trace, sequence_diagram, trace_page};
 
 /// The line between a trace and a script.
 const BORDER: &[u8] = b"%%";

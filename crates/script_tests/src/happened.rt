@@ -2,7 +2,7 @@
 
 use crate::expected::ExpectedAnswer;
 use texts::split_line;
-use trace_reading::TraceLine;
+use traces::TraceLine;
 
 /// What a trace tells of an event.
 #[derive(Clone, Copy, Debug, PartialEq, Eq)]

@@ -2,7 +2,7 @@
 
 use std::str;
 use std::test::Fail;
-use trace_layout::show_trace;
+use traces::show_trace;
 
 const TRACE: &str = "event 3\n1 call a.m()\nevent 4 refused 32\nno trace\n";
 

@@ -1,6 +1,0 @@
-use Rattle.std.proofs.Common.{◌∙◌, ap, [], ◌∷◌, ◌++◌}
-use Rattle.trace_layout.proofs.Indent.{two_more}
-use Rattle.trace_layout.proofs.layout.push_indent.Goals as goal
-
-pub loop-preserved : goal.loop-preserved
-loop-preserved c = c.in_ok-extend_from_slice.ensures.items ∙ ap (λ x. x ++ 32 ∷ 32 ∷ []) c.loop.invariant ∙ two_more c.args.shown.now.items c.loop.counter

@@ -1,6 +1,0 @@
-use Rattle.std.proofs.Common.{◌≡◌, ◌++◌, ◌*◌}
-use Rattle.std.specs.Prelude.{replicate}
-use Rattle.trace_layout.proofs.layout.push_indent.Given as goal
-
-abbrev pub invariant-loop : goal.invariant-loop
-invariant-loop l = l.shown.items ≡ l.fn.shown.items ++ replicate (2 * l.counter) 32

@@ -1,5 +1,0 @@
-use Rattle.trace_layout.proofs.Lines.{ShowsSoFar}
-use Rattle.trace_layout.proofs.show.show_trace.Given as goal
-
-abbrev pub invariant-loop : goal.invariant-loop
-invariant-loop g l = ShowsSoFar l.fn.colours (g.R.Read.remaining l.initial.reader) (g.R.Read.remaining l.reader) (g.W.Write.contents l.initial.w) (g.W.Write.contents l.w)

@@ -1,4 +1,0 @@
-pub mod Events
-pub mod Lines
-pub mod Statements
-pub mod Words

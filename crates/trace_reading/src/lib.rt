@@ -1,9 +1,0 @@
-//! Reads traces (docs/commands.md, "The trace"): what a line of one tells, and which line of a script its events come from.
-#![tactic(auto)]
-
-mod line;
-mod statements;
-mod words;
-
-pub use line::{EntryKind, TraceLine};
-pub use statements::Statements;
