@@ -6,10 +6,10 @@ ghost use Rattle.machine_commands.specs.Commands.{WritesCommand};
 
 use crate::explain::explanation;
 use crate::remarks::{is_judged, remarks_on};
+use crate::reports::{fault_report, refusal_report};
 use machine_commands::{
     Answered, Entry, FittingNatives, InputFault, ObjectMachine, Outcome, Ran, WriteFault, answer,
 };
-use run_reports::{fault_report, refusal_report};
 use std::alloc::{AllocError, Global};
 use std::io::{Read, Write};
 

@@ -1,8 +1,8 @@
 //! What is said to a person of what a command line comes to.
 
+use crate::explanations::{push_fault, push_outcome, push_usage};
 use class_lang::Limits;
 use command_lines::CommandLine;
-use explanations::{push_fault, push_outcome, push_usage};
 use machine_commands::{Outcome, limits_of};
 use std::alloc::{AllocError, Global};
 

@@ -3,8 +3,10 @@
 
 mod ends;
 mod explain;
+mod explanations;
 mod remarks;
+mod reports;
 
 pub use ends::{explained_command, tell_fault};
 pub use machine_commands::WriteFault;
-pub use run_reports::{EXPLAIN, is_asked};
+pub use reports::{EXPLAIN, is_asked};

@@ -4,7 +4,7 @@ ghost use Rattle.std.specs.Prelude.{◌↔◌, map, IsTrue};
 ghost use Rattle.explained_commands.specs.Judged.{IsUnjudged};
 
 use machine_commands::{Outcome, ProgramOutcome};
-use program_warnings::{Ranked, Yes, told_beside};
+use program_flaws::{Ranked, Yes, told_beside};
 use std::alloc::{AllocError, Global};
 use texts::split_at_line;
 

@@ -6,9 +6,8 @@ use edge_walks::Graph;
 use effect_scan::{Member, Node, Scan, named};
 use findings::{Link, Step, TextPlace};
 use meta_model::{Meta, MetaPath, MetaRoot, MetaWire, Statement};
-use program_flaws::{node_text, wire_text};
+use program_flaws::{OwnSlot, node_text, wire_text};
 use program_places::Located;
-use program_warnings::OwnSlot;
 use std::alloc::{AllocError, Global};
 use std::ops::Range;
 

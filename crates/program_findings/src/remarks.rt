@@ -7,8 +7,8 @@ use crate::search::Search;
 use crate::turns::{add_queued_cycles, add_re_entries};
 use diagnostics::TextPlace;
 use findings::{Finding, Rule, TextKind};
+use program_flaws::{Warning, warning_text, warnings};
 use program_places::Located;
-use program_warnings::{Warning, warning_text, warnings};
 use std::alloc::AllocError;
 
 /// What is worth it, in the order of the rules and of the text.

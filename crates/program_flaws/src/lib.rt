@@ -3,6 +3,7 @@
 #![tactic(auto)]
 
 mod compared;
+mod declarations;
 mod edge;
 mod explain;
 mod ill_typed;
@@ -12,9 +13,11 @@ mod reasons;
 mod rows;
 mod source;
 mod statement;
+mod warned;
 mod wire;
 
 pub use compared::cause_text;
+pub use declarations::{declaration_flaw, native_flaw};
 pub use edge::push_edge;
 pub use explain::broken_condition;
 pub use ill_typed::{flaw_text, untyped_text};
@@ -22,4 +25,5 @@ pub use names::{class_text, node_text, property_text, sig_text, text_of};
 pub use reasons::{breaking, missing_certificate};
 pub use rows::cause_place;
 pub use source::{Source, declarations_of, declaring_class, meta_of};
+pub use warned::{OwnSlot, Ranked, Warning, Yes, told_beside, warning_text, warnings};
 pub use wire::{unfit_text, wire_text};

@@ -6,6 +6,7 @@ mod limits;
 mod lines;
 mod parts;
 mod program;
+mod unexpected;
 
 pub use limits::script_size_flaw;
 pub use lines::{certificate_flaw, script_flaw};

@@ -3,12 +3,12 @@
 ghost use Rattle.std.specs.Prelude.{◌≤◌, length, IfOk, IfSome};
 
 use crate::parts::within;
+use crate::unexpected::Source;
 use class_lang::Limits;
 use diagnostics::Flaw;
 use std::alloc::{AllocError, Global};
 use texts::{MOST_BYTES, Symbol, Token, Word};
 use token_reading::Trail;
-use unexpected_tokens::Source;
 
 /// A limit of how many declarations there may be.
 #[derive(Clone, Copy)]

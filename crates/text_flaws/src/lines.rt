@@ -6,6 +6,7 @@ ghost use Rattle.text_flaws.specs.LinePlaces.{IsInLine};
 use crate::bytes::bad_byte;
 use crate::limits::{parameters_flaw, reference_flaw};
 use crate::parts::{plain_tokens, whole, within};
+use crate::unexpected::{Source, Unexpected, is_among};
 use certificate_lang::{Row, Version, row_trail};
 use diagnostics::Flaw;
 use script_lang::event_trail;
@@ -13,7 +14,6 @@ use sqlite_items::Items;
 use std::alloc::{AllocError, Global};
 use texts::{PlaceFault, PlacedToken, Token, number, placed_tokens, split_line};
 use token_reading::{Trail, Wanted};
-use unexpected_tokens::{Source, Unexpected, is_among};
 
 /// What is wrong with this line of a script, counted from 1: its place is in that line.
 pub fn script_flaw(alloc: Global, text: &[u8], line: usize) -> Result<Option<Flaw>, AllocError>

@@ -5,12 +5,12 @@ ghost use Rattle.std.specs.Prelude.{◌≤◌, length, IfOk, IfSome};
 use crate::bytes::bad_byte;
 use crate::limits::{count_flaw, depth_flaw, parameters_flaw, program_size_flaw, reference_flaw};
 use crate::parts::{plain_tokens, whole, within};
+use crate::unexpected::{Source, Unexpected};
 use class_lang::{Limits, program_trail};
 use diagnostics::{Flaw, meaning};
 use std::alloc::{AllocError, Global};
 use texts::{PlaceFault, PlacedToken, Token, Word, placed_tokens};
 use token_reading::Trail;
-use unexpected_tokens::{Source, Unexpected};
 
 /// What is wrong with a program that was read by these limits and is refused for the reason of this number, where that has a
 /// place in its text: a byte that begins no token (4), the first token that can't stand where it does (5), one that nests too

@@ -1,10 +1,10 @@
 //! Texts that are refused.
 
 use class_lang::Limits;
-use declaration_flaws::declaration_flaw;
 use diagnostics::{Flaw, TextPlace, meaning};
 use findings::{Finding, Rule, TextKind};
 use program_commands::Refusal;
+use program_flaws::declaration_flaw;
 use std::alloc::{AllocError, Global};
 use text_flaws::{certificate_flaw, program_flaw};
 

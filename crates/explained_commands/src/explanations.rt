@@ -1,0 +1,7 @@
+//! What an answer of the program means, for a person: a sentence, and the place in the input.
+
+mod explain;
+mod usage;
+
+pub use explain::{push_fault, push_outcome};
+pub use usage::push_usage;

@@ -1,0 +1,15 @@
+//! What a person is told after a run: the event at which a fault came, what was begun by then, and why events were
+//! refused.
+
+mod active;
+mod asked;
+mod events;
+mod faults;
+mod refusals;
+mod script;
+mod suspects;
+
+pub use asked::{EXPLAIN, is_asked};
+pub use events::{EventLine, event_line};
+pub use faults::fault_report;
+pub use refusals::refusal_report;

@@ -1,8 +1,0 @@
-//! What an answer of the program means, for a person: a sentence, and the place in the input.
-#![tactic(auto)]
-
-mod explain;
-mod usage;
-
-pub use explain::{push_fault, push_outcome};
-pub use usage::push_usage;

@@ -1,0 +1,3 @@
+mod Classes
+mod Wiring
+mod IdleRows

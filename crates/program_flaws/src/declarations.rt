@@ -1,0 +1,16 @@
+//! Which declaration of a program breaks a rule of loading, where, and in which words that is reported.
+
+mod declarations;
+mod finding;
+mod flaws;
+mod likely;
+mod natives;
+mod sentence;
+mod source;
+mod types;
+mod undeclared;
+mod walk;
+mod words;
+
+pub use flaws::declaration_flaw;
+pub use natives::native_flaw;

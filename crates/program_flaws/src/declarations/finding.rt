@@ -1,0 +1,23 @@
+//! What is found to be wrong with a declaration.
+
+use crate::declarations::sentence::{Piece, sentence};
+use std::alloc::{AllocError, Global};
+
+/// What is wrong with a declaration.
+#[derive(Drop)]
+pub struct Finding {
+    /// What is wrong with it, in one sentence.
+    pub sentence: String,
+    /// What to write instead, where that is known.
+    pub advice: Option<&'static str>,
+}
+
+/// This sentence, with what to write instead.
+pub fn found(
+    alloc: Global,
+    pieces: &[Piece],
+    advice: Option<&'static str>,
+) -> Result<Finding, AllocError> {
+    let sentence = sentence(alloc, pieces)?;
+    Ok(Finding { sentence, advice })
+}

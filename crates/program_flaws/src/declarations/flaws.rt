@@ -1,0 +1,118 @@
+//! The declaration of a program that breaks a rule.
+
+ghost use Rattle.std.specs.Prelude.{◌≤◌, length, IfOk, IfSome};
+
+use crate::declarations::declarations::declared_at;
+use crate::declarations::likely::likely;
+use crate::declarations::source::source_of;
+use crate::declarations::walk::first_token;
+use crate::declarations::words::Told;
+use basic_types::Name;
+use class_outlines::{Declaration, LoadFault, Offence};
+use diagnostics::Flaw;
+use meta_objects::load;
+use std::alloc::{AllocError, Global};
+use syntax_trees::Program;
+use texts::{PlacedToken, Token};
+
+/// The declaration for which loading refuses a program under this number: a class's name (10), a base (11), a name that
+/// appears twice (12), a name that isn't there (13), a notify signature (14) or a type (15). The place is that of the name
+/// that is wrong. `None` for other numbers, and where the text is no program.
+pub fn declaration_flaw(alloc: Global, text: &[u8], number: u8) -> Result<Option<Flaw>, AllocError>
+    ensures { IfOk result (λ flaw. IfSome flaw (λ f. f.at ≤ length text.now)) }
+{
+    match source_of(alloc, text)? {
+        Some(source) => {
+            let tokens = source.tokens.as_slice();
+            flaw_of(alloc, text, &source.program, tokens, number)
+        }
+        None => Ok(None),
+    }
+}
+
+/// The same of this program, whose text has these tokens.
+fn flaw_of(
+    alloc: Global,
+    text: &[u8],
+    program: &Program,
+    tokens: &[PlacedToken],
+    number: u8,
+) -> Result<Option<Flaw>, AllocError>
+    ensures { IfOk result (λ flaw. IfSome flaw (λ f. f.at ≤ length text.now)) }
+{
+    let offence = match load(alloc, program) {
+        Err(LoadFault::Offence(offence)) => offence,
+        Err(LoadFault::Memory) => return Err(AllocError),
+        Ok(_) => return Ok(None),
+    };
+    if offence.number() != number {
+        return Ok(None);
+    }
+    match of_offence(alloc, program, tokens, &offence)? {
+        Some(flaw) => Ok(Some(flaw.within(0, text.len()))),
+        None => Ok(None),
+    }
+}
+
+/// The flaw that refuses the program.
+fn of_offence(
+    alloc: Global,
+    program: &Program,
+    tokens: &[PlacedToken],
+    offence: &Offence,
+) -> Result<Option<Flaw>, AllocError> {
+    match told_at(alloc, program, tokens, offence.declaration, offence.name) {
+        Some(told) => Ok(Some(told_flaw(&told, offence)?)),
+        None => Ok(None),
+    }
+}
+
+/// The flaw, in words.
+fn told_flaw(told: &Told, offence: &Offence) -> Result<Flaw, AllocError> {
+    let finding = told.finding(offence)?;
+    let advice = advice_on(told, offence, finding.advice)?;
+    told.flaw(finding.sentence.as_str(), advice)
+}
+
+/// What to write instead: this where it is known, else a name that is like the one that is wrong.
+fn advice_on(
+    told: &Told,
+    offence: &Offence,
+    known: Option<&'static str>,
+) -> Result<Option<String>, AllocError> {
+    match (known, offence.number()) {
+        (Some(advice), _) => Ok(Some(String::from_str(told.alloc, advice)?)),
+        (None, 11 | 13..=15) => likely(told.alloc, told.program, told.name),
+        (None, _) => Ok(None),
+    }
+}
+
+/// The declaration, with its name of this number.
+pub fn told_at<'a>(
+    alloc: Global,
+    program: &'a Program,
+    tokens: &'a [PlacedToken],
+    declaration: Declaration,
+    name: usize,
+) -> Option<Told<'a>> {
+    let declared = declared_at(program, declaration)?;
+    let first = first_token(tokens, declaration)?;
+    let (at, name) = name_of(tokens, first, name)?;
+    Some(Told {
+        alloc,
+        program,
+        declared,
+        at,
+        name,
+    })
+}
+
+/// The name of this number, counted from 0, behind the token at this place, with its own place.
+fn name_of(tokens: &[PlacedToken], from: usize, number: usize) -> Option<(usize, &Name)> {
+    let behind = tokens.get(from..)?;
+    let mut names = behind.iter().filter_map(|placed| match &placed.token {
+        Token::Name(name) => Some((placed.at, name)),
+        _ => None,
+    });
+    names.nth(number)
+}

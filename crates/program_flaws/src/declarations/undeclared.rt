@@ -1,0 +1,158 @@
+//! Names that aren't declared, in words.
+
+use crate::declarations::finding::{Finding, found};
+use crate::declarations::sentence::Piece;
+use crate::declarations::words::Told;
+use basic_types::{QType, Sig};
+use class_outlines::{End, Missing, Near, Sought};
+use std::alloc::AllocError;
+
+/// That the name isn't declared, of which this is looked for.
+pub fn undeclared(told: &Told, missing: &Missing) -> Result<Finding, AllocError> {
+    match missing {
+        Missing::Class => told.around("there is no class ", "", None),
+        Missing::Parameter(is_property) => no_parameter(told, *is_property),
+        Missing::Formal => told.around("", " is no formal source of the binding", None),
+        Missing::Property(class) => {
+            let pieces = [
+                Piece::Words("the class "),
+                told.class(*class),
+                Piece::Words(" has no property "),
+                Piece::Name(told.name),
+            ];
+            found(told.alloc, &pieces, None)
+        }
+        Missing::Object(kind) => no_object(told, kind),
+        Missing::Method(class, sought, near) => no_method(told, *class, sought, *near),
+    }
+}
+
+fn no_parameter(told: &Told, is_property: bool) -> Result<Finding, AllocError> {
+    let name = told.name.bytes();
+    let advice = if name == b"nullptr".as_slice() || name == b"NULL".as_slice() {
+        Some("write `null`")
+    } else if is_property {
+        Some("a property of the object itself is written `this.p`")
+    } else {
+        None
+    };
+    told.around("", " is no parameter of the slot", advice)
+}
+
+/// That what has the name, and is of this type, is no object.
+fn no_object<'a>(told: &Told<'a>, kind: &'a QType) -> Result<Finding, AllocError> {
+    if kind.pointer {
+        let pieces = [
+            Piece::Name(told.name),
+            Piece::Words(" is a "),
+            Piece::Type(kind),
+            Piece::Words(", and there is no class of this name"),
+        ];
+        return found(told.alloc, &pieces, None);
+    }
+    let pieces = [
+        Piece::Words("an object is wanted, and "),
+        Piece::Name(told.name),
+        Piece::Words(" is of the type "),
+        Piece::Type(kind),
+    ];
+    found(told.alloc, &pieces, None)
+}
+
+fn no_method(
+    told: &Told,
+    class: usize,
+    sought: &Sought,
+    near: Near,
+) -> Result<Finding, AllocError> {
+    match sought {
+        Sought::Emitted(count) => {
+            no_call(told, class, " has no signal ", *count, emit_advice(near))
+        }
+        Sought::Called(count) => no_call(told, class, " has no slot ", *count, call_advice(near)),
+        Sought::Signed(end, sig) => no_signed(told, class, *end, sig, near),
+    }
+}
+
+fn no_call(
+    told: &Told,
+    class: usize,
+    words: &'static str,
+    count: usize,
+    advice: Option<&'static str>,
+) -> Result<Finding, AllocError> {
+    let pieces = [
+        Piece::Words("the class "),
+        told.class(class),
+        Piece::Words(words),
+        Piece::Name(told.name),
+        Piece::Words(" with "),
+        Piece::Parameters(count),
+    ];
+    found(told.alloc, &pieces, advice)
+}
+
+/// What to write in place of an `emit`, where this is there of the name.
+fn emit_advice(near: Near) -> Option<&'static str> {
+    match near {
+        Near::Slot => Some("this is a slot: write `call this.f(..);`"),
+        Near::RuntimeSignal => Some("this is a signal that the runtime alone emits"),
+        Near::Namesake => Some(
+            "a method of this name is declared with another number of parameters",
+        ),
+        Near::Signal | Near::Nothing => None,
+    }
+}
+
+/// What to write in place of a `call`, where this is there of the name.
+fn call_advice(near: Near) -> Option<&'static str> {
+    match near {
+        Near::Signal => Some("this is a signal: write `emit s(..);` in a slot of its class"),
+        Near::RuntimeSignal => Some("this is a signal that the runtime alone emits"),
+        Near::Namesake => Some(
+            "a method of this name is declared with another number of parameters",
+        ),
+        Near::Slot | Near::Nothing => None,
+    }
+}
+
+fn no_signed<'a>(
+    told: &Told<'a>,
+    class: usize,
+    end: End,
+    sig: &'a Sig,
+    near: Near,
+) -> Result<Finding, AllocError> {
+    let (words, behind) = match (end, near) {
+        (End::Sender, Near::Slot) => return something_else(told, sig, " is a slot, and no signal"),
+        (End::Receiver, Near::RuntimeSignal) => {
+            return something_else(told, sig, " is a signal that the runtime alone emits");
+        }
+        (End::Sender, _) => (" has no signal ", ""),
+        (End::Receiver, _) => (" has no slot or signal ", ""),
+        (End::Effect, _) => (" has no signal ", " that it may emit"),
+    };
+    let advice = match near {
+        Near::Slot => Some("this is a slot"),
+        Near::RuntimeSignal => Some("this is a signal that the runtime alone emits"),
+        Near::Namesake => Some("a method of this name is declared with other types"),
+        Near::Signal | Near::Nothing => None,
+    };
+    let pieces = [
+        Piece::Words("the class "),
+        told.class(class),
+        Piece::Words(words),
+        Piece::Sig(sig),
+        Piece::Words(behind),
+    ];
+    found(told.alloc, &pieces, advice)
+}
+
+/// That the signature is something else's.
+fn something_else<'a>(
+    told: &Told<'a>,
+    sig: &'a Sig,
+    words: &'static str,
+) -> Result<Finding, AllocError> {
+    found(told.alloc, &[Piece::Sig(sig), Piece::Words(words)], None)
+}

@@ -1,3 +1,0 @@
-mod Classes
-mod Wiring
-mod Rows

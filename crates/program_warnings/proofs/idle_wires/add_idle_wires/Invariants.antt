@@ -1,6 +1,0 @@
-use Rattle.std.proofs.Common.{All}
-use Rattle.program_warnings.specs.Wires.{IsSo}
-use Rattle.program_warnings.proofs.idle_wires.add_idle_wires.Given as goal
-
-abbrev pub invariant-loop-place : goal.invariant-loop-place
-invariant-loop-place l = All (IsSo l.meta) l.found.items

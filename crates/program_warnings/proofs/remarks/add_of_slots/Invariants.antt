@@ -1,9 +1,0 @@
-use Rattle.std.proofs.Common.{All}
-use Rattle.program_warnings.specs.Wires.{IsSo}
-use Rattle.program_warnings.proofs.remarks.add_of_slots.Given as goal
-
-abbrev pub invariant-loop-method : goal.invariant-loop-method
-invariant-loop-method l = All (IsSo l.meta) l.found.items
-
-abbrev pub invariant-loop-class : goal.invariant-loop-class
-invariant-loop-class l = All (IsSo l.meta) l.found.items
