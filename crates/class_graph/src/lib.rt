@@ -26,9 +26,9 @@ use meta_model::Meta;
 pub use part::Part;
 use program_commands::load_program;
 use program_flaws::{Source, declarations_of};
-use program_places::{Located, Places};
 use std::alloc::Global;
 use text_places::TextPlaces;
+use verdicts::{Located, Places};
 
 /// How a graph is written.
 #[derive(Clone, Copy, Debug, PartialEq, Eq)]

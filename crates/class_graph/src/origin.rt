@@ -5,9 +5,9 @@ use crate::edge::{Cause, Edge};
 use diagnostics::{Printed, TextPlace};
 use edge_reasons::reason_for;
 use effect_scan::Node;
-use program_places::Located;
 use std::alloc::AllocError;
 use text_places::{Place, TextPlaces};
+use verdicts::Located;
 
 /// A program with its places, and what they stand for in the other text.
 #[derive(Clone, Copy)]

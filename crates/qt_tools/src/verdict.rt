@@ -7,12 +7,12 @@ use crate::streams::{input, write};
 use class_lang::Limits;
 use diagnostics::Printed;
 use findings::{
-    Edge, LevelChange, Levels, Severity, Verdict, change_levels, edge_list, read_edges,
+    Edge, LevelChange, Levels, Names, Severity, Verdict, change_levels, edge_list, json_report,
+    junit_report, read_edges, rules_report, sarif_report, text_report,
 };
 use std::alloc::{AllocError, Global};
 use text_places::{TextPlaces, read_places};
 use texts::split_at_line;
-use verdict_reports::{Names, json_report, junit_report, rules_report, sarif_report, text_report};
 use verdicts::Texts;
 
 /// What is read has at most so many bytes.

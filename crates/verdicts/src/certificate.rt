@@ -1,14 +1,13 @@
 //! What is wrong with a certificate, beside its program.
 
+use crate::program::{Located, Told};
 use crate::refusal::refusal_finding;
 use certificate_lang::{Certificate, read_certificate};
 use class_lang::Limits;
 use effect_scan::Numbering;
 use findings::{Finding, Rule, TextKind, Verdict};
 use program_commands::Refusal;
-use program_findings::Told;
 use program_flaws::{cause_place, cause_text};
-use program_places::Located;
 use rank_check::{Cause, Mistake, judge};
 use std::alloc::AllocError;
 

@@ -8,6 +8,7 @@ ghost use Rattle.verdicts.specs.Statuses.{HasStatus, IsRefusedAs};
 
 use crate::certificate::gather_certificate;
 use crate::judged::judged_finding;
+use crate::program::{Located, Places, gather_program, program_remarks};
 use crate::refusal::refusal_finding;
 use class_lang::{Limits, read_within};
 use effect_scan::Scan;
@@ -15,9 +16,7 @@ use findings::{Edge, Finding, LevelChange, Levels, PlacedEdge, Rule, Severity, V
 use meta_model::Meta;
 use meta_objects::FromProgram;
 use program_commands::{Outcome, Refusal, certify_outcome, check_outcome};
-use program_findings::{gather_program, program_remarks};
 use program_flaws::{Source, declarations_of};
-use program_places::{Located, Places};
 use std::alloc::{AllocError, Global};
 use syntax_trees::Program;
 

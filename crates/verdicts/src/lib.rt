@@ -4,6 +4,8 @@
 mod certificate;
 mod judged;
 mod judging;
+mod program;
 mod refusal;
 
 pub use judging::{Listed, Texts, verdict};
+pub use program::{Located, Places};

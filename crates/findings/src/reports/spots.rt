@@ -1,0 +1,62 @@
+//! Where something stands: in a text that is judged, or in the one from which a tool wrote the program.
+
+use crate::reports::names::Names;
+use crate::{Step, TextKind, TextPlace};
+use diagnostics::Printed;
+use std::alloc::{AllocError, Global};
+use text_places::Place;
+
+/// What this place of a text stands for in the other text, where that is known.
+pub fn origin<'n>(
+    names: Names<'n>,
+    text: TextKind,
+    place: Option<TextPlace>,
+) -> Option<&'n Place<'n>> {
+    match text {
+        TextKind::Program => {
+            let TextPlace { line, column } = place?;
+            names.places?.at(line, column)
+        }
+        TextKind::Certificate => None,
+    }
+}
+
+/// The file and the place that are told of this place of a text: those in the other text, where they are known.
+pub fn told_at<'n>(
+    names: Names<'n>,
+    text: TextKind,
+    place: Option<TextPlace>,
+) -> (&'n [u8], Option<TextPlace>) {
+    match origin(names, text, place) {
+        Some(other) => {
+            let (line, column) = (other.other_line, other.other_column);
+            (other.file, Some(TextPlace { line, column }))
+        }
+        None => (names.of(text), place),
+    }
+}
+
+/// What is said of a step: of one that stands in the other text, by the words that stand there, and under which conditions it is
+/// made; else what is said in the program.
+pub fn step_text(alloc: Global, names: Names<'_>, step: &Step) -> Result<String, AllocError> {
+    let Some(place) = origin(names, TextKind::Program, step.place) else {
+        return String::from_str(alloc, step.message.as_str());
+    };
+    let mut text = if place.words.is_empty() {
+        String::from_str(alloc, step.message.as_str())?
+    } else {
+        let (from, to) = (step.from.as_str(), step.to.as_str());
+        let leads = if step.is_posted {
+            "leads later"
+        } else {
+            "leads"
+        };
+        let words = Printed(place.words);
+        format!(in alloc; "`{from}` {leads} to `{to}`: `{words}`")?
+    };
+    for condition in place.conditions.as_slice() {
+        let condition = Printed(condition);
+        write!(text, ", {condition}")?;
+    }
+    Ok(text)
+}

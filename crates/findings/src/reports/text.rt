@@ -1,0 +1,125 @@
+//! A verdict as lines, as compilers write them.
+
+use crate::reports::names::Names;
+use crate::reports::spots::{step_text, told_at};
+use crate::{Finding, Severity, Step, TextKind, TextPlace, Verdict};
+use diagnostics::Printed;
+use std::alloc::{AllocError, Global};
+
+/// So many steps of a chain are reported.
+const MOST_STEPS: usize = 12;
+
+/// The findings, the gravest first, each a line `NAME:LINE:COLUMN: SEVERITY: MESSAGE [RULE]` with its steps as notes and what to
+/// do below it; and a last line that counts them.
+pub fn text_report(
+    alloc: Global,
+    verdict: &Verdict,
+    names: Names<'_>,
+) -> Result<String, AllocError> {
+    let mut text = String::new(alloc);
+    for severity in Severity::ALL {
+        for finding in verdict.findings_of(severity) {
+            push_finding(&mut text, alloc, severity, finding, names)?;
+        }
+    }
+    push_count(&mut text, verdict)?;
+    Ok(text)
+}
+
+/// Adds a finding.
+fn push_finding(
+    text: &mut String,
+    alloc: Global,
+    severity: Severity,
+    finding: &Finding,
+    names: Names<'_>,
+) -> Result<(), AllocError> {
+    let severity = severity.word();
+    let message = finding.message.as_str();
+    let rule = finding.rule.id();
+    push_place(text, names, finding.text, finding.place)?;
+    writeln!(text, " {severity}: {message} [{rule}]")?;
+    push_below(text, alloc, finding, names)
+}
+
+/// Adds what stands below a finding: its steps, and what to do about it.
+pub fn push_below(
+    text: &mut String,
+    alloc: Global,
+    finding: &Finding,
+    names: Names<'_>,
+) -> Result<(), AllocError> {
+    for step in finding.chain.iter().take(MOST_STEPS) {
+        push_step(text, alloc, step, names)?;
+    }
+    let more = finding.chain.len().saturating_sub(MOST_STEPS);
+    if more > 0 {
+        writeln!(text, "  and {more} more steps")?;
+    }
+    if let Some(help) = &finding.help {
+        let help = help.as_str();
+        writeln!(text, "  help: {help}")?;
+    }
+    Ok(())
+}
+
+/// Adds a step.
+fn push_step(
+    text: &mut String,
+    alloc: Global,
+    step: &Step,
+    names: Names<'_>,
+) -> Result<(), AllocError> {
+    push_place(text, names, TextKind::Program, step.place)?;
+    let message = step_text(alloc, names, step)?;
+    writeln!(text, " note: {message}")
+}
+
+/// Adds a place in a text, or what it stands for in another one.
+fn push_place(
+    text: &mut String,
+    names: Names<'_>,
+    kind: TextKind,
+    place: Option<TextPlace>,
+) -> Result<(), AllocError> {
+    let (name, place) = told_at(names, kind, place);
+    let name = Printed(name);
+    match place {
+        Some(TextPlace { line, column }) => write!(text, "{name}:{line}:{column}:"),
+        None => write!(text, "{name}:"),
+    }
+}
+
+/// Adds how many findings there are, of which severities where not all are errors, and how many are accepted.
+fn push_count(text: &mut String, verdict: &Verdict) -> Result<(), AllocError> {
+    let errors = verdict.findings_of(Severity::Error).len();
+    let warnings = verdict.findings_of(Severity::Warning).len();
+    let notes = verdict.findings_of(Severity::Note).len();
+    let others = warnings.saturating_add(notes);
+    match errors.saturating_add(others) {
+        0 => text.push_str("no findings")?,
+        1 => text.push_str("1 finding")?,
+        many => write!(text, "{many} findings")?,
+    }
+    if others > 0 {
+        let mut joint = ": ";
+        for severity in Severity::ALL {
+            let count = verdict.findings_of(severity).len();
+            let word = severity.word();
+            if count > 0 {
+                let end = if count == 1 { "" } else { "s" };
+                write!(text, "{joint}{count} {word}{end}")?;
+                joint = ", ";
+            }
+        }
+    }
+    let more = verdict.more();
+    if more > 0 {
+        write!(text, ", and {more} more")?;
+    }
+    let accepted = verdict.accepted;
+    if accepted > 0 {
+        write!(text, ", {accepted} accepted")?;
+    }
+    text.push_str("\n")
+}

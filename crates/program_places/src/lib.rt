@@ -1,8 +1,0 @@
-//! Where the declarations, members and statements of a program are in its text, and steps from member to member with their places.
-#![tactic(auto)]
-
-mod located;
-mod places;
-
-pub use located::{Declared, Located};
-pub use places::Places;

@@ -1,0 +1,21 @@
+//! What is found of a program that loads: what doesn't fit or isn't typed, cycles, ways to deletions, chains that are too long, and
+//! what is worth a warning or a note.
+
+mod chains;
+mod cycles;
+mod deletions;
+mod dropped;
+mod places;
+mod posts;
+mod program;
+mod remarks;
+mod search;
+mod sentences;
+mod turns;
+mod typing_flaws;
+mod walks;
+
+pub use places::{Declared, Located, Places};
+pub use program::{gather_program, program_remarks};
+pub use sentences::Told;
+pub use walks::{Graph, Hop, Hops, is_marked, knots, knots_of_nodes, marks, set_mark};

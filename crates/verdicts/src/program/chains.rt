@@ -1,0 +1,57 @@
+//! Chains of direct calls that are longer than any bound.
+
+use crate::program::places::Located;
+use crate::program::search::Search;
+use crate::program::walks::{marks, set_mark};
+use effect_scan::Node;
+use findings::{Finding, Rule, TextKind, Verdict};
+use program_flaws::node_text;
+use rank_check::MOST_BOUND;
+use std::alloc::AllocError;
+
+/// Adds one chain that is longer than any bound, beside all cycles.
+pub fn gather_chain(search: Search<'_>, found: &mut Verdict) -> Result<(), AllocError> {
+    let graph = search.graph;
+    let mut knotted = marks(graph.alloc, graph.len(), false)?;
+    for knot in search.knots {
+        for node in knot.iter() {
+            set_mark(&mut knotted, *node, true);
+        }
+    }
+    if let Some(numbers) = graph.long_chain(knotted.as_slice(), MOST_BOUND as usize)? {
+        if let Some(severity) = found.taken(search.located.levels.of(Rule::ChainTooLong)) {
+            let nodes = search.nodes_at(numbers.as_slice())?;
+            let finding = chain_finding(search.located, nodes.as_slice())?;
+            found.push(severity, finding)?;
+        }
+    }
+    Ok(())
+}
+
+/// That the nodes are a chain which is too long.
+fn chain_finding(located: Located<'_>, nodes: &[Node]) -> Result<Finding, AllocError> {
+    let alloc = located.source.alloc;
+    let mut message = String::new(alloc);
+    let mut place = None;
+    if let (Some(first), Some(last)) = (nodes.first(), nodes.last()) {
+        let begin = node_text(alloc, located.source.meta, *first)?;
+        let end = node_text(alloc, located.source.meta, *last)?;
+        write!(
+            message,
+            "a chain of direct calls from `{begin}` to `{end}` nests deeper than {MOST_BOUND}"
+        )?;
+        place = located.node_place(*first);
+    }
+    let help = Some(String::from_str(
+        alloc,
+        "make a wire on the way `queued`, or let a slot emit a signal that a `queued` wire takes on",
+    )?);
+    Ok(Finding {
+        rule: Rule::ChainTooLong,
+        message,
+        help,
+        text: TextKind::Program,
+        place,
+        chain: located.steps(nodes)?,
+    })
+}

@@ -1,0 +1,234 @@
+//! Cycles: members that may lead to one another without end.
+
+use crate::program::places::Located;
+use crate::program::search::Search;
+use crate::program::sentences::push_names;
+use crate::program::walks::{Graph, knots, knots_of_nodes};
+use effect_scan::{Member, Node};
+use findings::{Edge, Finding, Link, PlacedEdge, Rule, Step, TextKind, TextPlace, Verdict};
+use program_flaws::{breaking, node_text};
+use std::alloc::AllocError;
+use std::collections::BTreeSet;
+
+/// So many cycles of one knot are told.
+const MOST_CYCLES: usize = 10;
+
+/// The edges of a program's bindings, and their knots.
+#[derive(Drop)]
+struct Bindings {
+    graph: Graph,
+    knots: Vec<Vec<usize>>,
+    /// For each node the knot that it is in.
+    places: Vec<Option<usize>>,
+}
+
+impl Bindings {
+    /// Those of the program.
+    fn of(search: Search<'_>) -> Result<Bindings, AllocError> {
+        let nodes = search.scan.nodes();
+        let mut graph = Graph::without_edges(search.graph.alloc, nodes.len())?;
+        for knot in search.knots {
+            for from in knot.iter() {
+                for to in search.graph.after(*from) {
+                    if is_property(nodes, *from) && is_property(nodes, *to) {
+                        graph.join(*from, *to)?;
+                    }
+                }
+            }
+        }
+        let knots = knots(&graph)?;
+        let places = knots_of_nodes(&graph, knots.as_slice())?;
+        Ok(Bindings {
+            graph,
+            knots,
+            places,
+        })
+    }
+
+    /// The knot of bindings that the edge is in, if both of its nodes are properties.
+    fn knot(&self, from: usize, to: usize) -> Option<&[usize]> {
+        let place = same_knot(self.places.as_slice(), from, to)?;
+        Some(self.knots.get(place)?.as_slice())
+    }
+}
+
+/// Whether the node is a property.
+fn is_property(nodes: &[Node], number: usize) -> bool {
+    match nodes.get(number) {
+        Some(node) => matches!(node.member, Member::Property(_)),
+        None => false,
+    }
+}
+
+/// The knot in which both nodes are.
+fn same_knot(places: &[Option<usize>], from: usize, to: usize) -> Option<usize> {
+    let place = (*places.get(from)?)?;
+    if (*places.get(to)?)? == place {
+        Some(place)
+    } else {
+        None
+    }
+}
+
+/// Adds the edges of each knot, and of those that aren't accepted cycles that have them: each a shortest one by an edge that is on
+/// none before.
+pub fn gather_cycles(
+    search: Search<'_>,
+    accepted: &[Edge],
+    found: &mut Verdict,
+) -> Result<(), AllocError> {
+    let bindings = Bindings::of(search)?;
+    let places = knots_of_nodes(search.graph, search.knots)?;
+    for (place, knot) in search.knots.iter().enumerate() {
+        let mut left = Vec::new(search.graph.alloc);
+        let before = found.edges.len();
+        for from in knot.iter() {
+            for to in search.graph.after(*from) {
+                if same_knot(places.as_slice(), *from, *to) == Some(place) {
+                    let is_left = add_edge(search, &bindings, accepted, (*from, *to), found)?;
+                    if is_left {
+                        left.push((*from, *to))?;
+                    }
+                }
+            }
+        }
+        let told = Told {
+            search,
+            bindings: &bindings,
+            knot: knot.as_slice(),
+            has_accepted: found.edges.len().saturating_sub(before) > left.len(),
+        };
+        told.gather(left.as_slice(), found)?;
+    }
+    Ok(())
+}
+
+/// Adds the edge to those that there are, and answers whether it isn't accepted.
+fn add_edge(
+    search: Search<'_>,
+    bindings: &Bindings,
+    accepted: &[Edge],
+    edge: (usize, usize),
+    found: &mut Verdict,
+) -> Result<bool, AllocError> {
+    let (from, to) = edge;
+    if bindings.knot(from, to).is_some() {
+        found.bound = found.bound.saturating_add(1);
+        return Ok(true);
+    }
+    let nodes = search.scan.nodes();
+    let (Some(from), Some(to)) = (nodes.get(from), nodes.get(to)) else {
+        return Ok(false);
+    };
+    let source = search.located.source;
+    let first = node_text(source.alloc, source.meta, *from)?;
+    let second = node_text(source.alloc, source.meta, *to)?;
+    let edge = Edge::of(source.alloc, first.as_str(), second.as_str())?;
+    let is_left = !accepted.contains(&edge);
+    let place = search.located.edge_place(*from, *to);
+    found.edges.push(PlacedEdge { edge, place })?;
+    Ok(is_left)
+}
+
+/// A knot of which cycles are told.
+#[derive(Clone, Copy)]
+struct Told<'t> {
+    search: Search<'t>,
+    bindings: &'t Bindings,
+    knot: &'t [usize],
+    /// Whether some of its edges are accepted.
+    has_accepted: bool,
+}
+
+impl Told<'_> {
+    /// Adds cycles that have these edges, until each is on one.
+    fn gather(&self, edges: &[(usize, usize)], found: &mut Verdict) -> Result<(), AllocError> {
+        let mut passed: BTreeSet<(usize, usize)> = BTreeSet::new(self.search.graph.alloc);
+        let mut cycles = 0usize;
+        for edge in edges {
+            if cycles < MOST_CYCLES && !passed.contains(edge) {
+                cycles = cycles.saturating_add(1);
+                let Some(severity) = found.taken(self.search.located.levels.of(Rule::Cycle)) else {
+                    return Ok(());
+                };
+                let numbers = self.cycle_by(*edge)?;
+                for pair in numbers.iter().zip(numbers.iter().skip(1)) {
+                    let (from, to) = pair;
+                    passed.insert((*from, *to))?;
+                }
+                let cycle = self.search.nodes_at(numbers.as_slice())?;
+                let finding = self.finding(cycle.as_slice())?;
+                found.push(severity, finding)?;
+            }
+        }
+        Ok(())
+    }
+
+    /// A shortest cycle that begins with the edge: by bindings alone where there is one.
+    fn cycle_by(&self, edge: (usize, usize)) -> Result<Vec<usize>, AllocError> {
+        let (from, to) = edge;
+        match self.bindings.knot(from, to) {
+            Some(knot) => self.bindings.graph.cycle_by(from, to, knot),
+            None => self.search.graph.cycle_by(from, to, self.knot),
+        }
+    }
+
+    /// That a cycle leads from its first node back to it.
+    fn finding(&self, cycle: &[Node]) -> Result<Finding, AllocError> {
+        let located = self.search.located;
+        let alloc = located.source.alloc;
+        let chain = located.steps(cycle)?;
+        let advice = breaking(
+            has_link(chain.as_slice(), Link::Wire),
+            has_link(chain.as_slice(), Link::Binding),
+        );
+        let help = Some(String::from_str(alloc, advice)?);
+        // Where others are accepted it is told by the edge that isn't.
+        let place = if self.has_accepted {
+            chain.first().and_then(|step: &Step| step.place)
+        } else {
+            place_in(chain.as_slice())
+        };
+        Ok(Finding {
+            rule: Rule::Cycle,
+            message: cycle_text(located, cycle, self.knot.len())?,
+            help,
+            text: TextKind::Program,
+            place,
+            chain,
+        })
+    }
+}
+
+/// What a cycle means, and which members are on it, that are some of so many which all lead to one another.
+fn cycle_text(located: Located<'_>, cycle: &[Node], members: usize) -> Result<String, AllocError> {
+    let alloc = located.source.alloc;
+    let meta = located.source.meta;
+    let mut text = String::new(alloc);
+    if let [first, others @ .., _] = cycle {
+        push_names(&mut text, alloc, meta, &[*first])?;
+        text.push_str(" may lead back to itself at once, and so without end")?;
+        if !others.is_empty() {
+            text.push_str(", through ")?;
+            push_names(&mut text, alloc, meta, others)?;
+        }
+        if members > others.len().saturating_add(1) {
+            write!(text, "; {members} members may all lead to one another")?;
+        }
+    }
+    Ok(text)
+}
+
+/// Where a cycle is reported: at its first wire, where it has one.
+fn place_in(chain: &[Step]) -> Option<TextPlace> {
+    let wire = chain.iter().find(|step: &&Step| step.link == Link::Wire);
+    match wire {
+        Some(step) => step.place,
+        None => chain.first()?.place,
+    }
+}
+
+/// Whether one of the steps is of this sort.
+fn has_link(chain: &[Step], link: Link) -> bool {
+    chain.iter().any(|step: &Step| step.link == link)
+}

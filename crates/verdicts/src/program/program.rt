@@ -1,0 +1,51 @@
+//! All that is wrong with a program that loads.
+
+use crate::program::chains::gather_chain;
+use crate::program::cycles::gather_cycles;
+use crate::program::deletions::{deletions, gather_deletions};
+use crate::program::places::Located;
+use crate::program::remarks::remarks;
+use crate::program::search::Search;
+use crate::program::typing_flaws::{gather_types, gather_wires};
+use crate::program::walks::{Graph, knots};
+use effect_scan::Scan;
+use findings::{Edge, Finding, Verdict};
+use std::alloc::AllocError;
+
+/// Adds what is wrong with the program, and answers what is worth a warning or a note; cycles on the list are counted alone.
+pub fn gather_program(
+    located: Located<'_>,
+    accepted: &[Edge],
+    found: &mut Verdict,
+) -> Result<Vec<Finding>, AllocError> {
+    let alloc = located.source.alloc;
+    let scan = Scan::of(alloc, located.source.meta)?;
+    let graph = Graph::of(alloc, &scan)?;
+    let knots = knots(&graph)?;
+    let search = Search {
+        located,
+        scan: &scan,
+        graph: &graph,
+        knots: knots.as_slice(),
+    };
+    gather_wires(located, found)?;
+    gather_types(located, scan.nodes(), found)?;
+    gather_cycles(search, accepted, found)?;
+    let deletions = deletions(search)?;
+    gather_deletions(located, deletions.as_slice(), found)?;
+    gather_chain(search, found)?;
+    remarks(search, deletions.as_slice())
+}
+
+/// What is worth a warning or a note in a program that has a certificate, whose nodes and edges these are.
+pub fn program_remarks(located: Located<'_>, scan: &Scan) -> Result<Vec<Finding>, AllocError> {
+    let graph = Graph::of(located.source.alloc, scan)?;
+    let search = Search {
+        located,
+        scan,
+        graph: &graph,
+        knots: &[],
+    };
+    let deletions = deletions(search)?;
+    remarks(search, deletions.as_slice())
+}

@@ -1,0 +1,70 @@
+//! What is worth a warning or a note in a program, also in one that has a certificate.
+
+use crate::program::deletions::{Deletion, add_lost_senders};
+use crate::program::dropped::add_dropped_calls;
+use crate::program::places::Located;
+use crate::program::posts::Posts;
+use crate::program::search::Search;
+use crate::program::turns::{add_queued_cycles, add_re_entries};
+use diagnostics::TextPlace;
+use findings::{Finding, Rule, TextKind};
+use program_flaws::{Warning, warning_text, warnings};
+use std::alloc::AllocError;
+
+/// What is worth it, in the order of the rules and of the text.
+pub fn remarks(search: Search<'_>, deletions: &[Deletion]) -> Result<Vec<Finding>, AllocError> {
+    let located = search.located;
+    let alloc = located.source.alloc;
+    let mut remarks = Vec::new(alloc);
+    let posts = Posts::of(search)?;
+    add_re_entries(search, &posts, &mut remarks)?;
+    add_queued_cycles(search, &posts, &mut remarks)?;
+    add_lost_senders(located, deletions, &mut remarks)?;
+    add_dropped_calls(search, &posts, &mut remarks)?;
+    for warning in warnings(alloc, located.source.meta, None)? {
+        let finding = warning_finding(located, &warning)?;
+        remarks.push(finding)?;
+    }
+    Ok(remarks)
+}
+
+/// The warning as a finding.
+fn warning_finding(located: Located<'_>, warning: &Warning) -> Result<Finding, AllocError> {
+    let alloc = located.source.alloc;
+    let rule = rule_of(warning);
+    Ok(Finding {
+        rule,
+        message: warning_text(alloc, located.source.meta, warning)?,
+        help: Some(String::from_str(alloc, rule.help())?),
+        text: TextKind::Program,
+        place: place_of(located, warning),
+        chain: Vec::new(alloc),
+    })
+}
+
+/// The rule that it is about.
+fn rule_of(warning: &Warning) -> Rule {
+    match warning {
+        Warning::Empty => Rule::EmptyProgram,
+        Warning::IdleWire { .. } => Rule::WireUnused,
+        Warning::Unwired { .. } => Rule::ConnectUncovered,
+        Warning::NotifiedTwice { .. } => Rule::NotifyEmittedTwice,
+        Warning::LostSender { .. } => Rule::SenderDeleted,
+    }
+}
+
+/// Where it is in the text.
+fn place_of(located: Located<'_>, warning: &Warning) -> Option<TextPlace> {
+    match warning {
+        Warning::Empty => Some(TextPlace { line: 1, column: 1 }),
+        Warning::IdleWire { wire, .. } => located.places.wire(*wire),
+        Warning::Unwired { connect, .. } => located.places.connect(*connect),
+        Warning::NotifiedTwice { emit, .. } => located.places.emit(*emit),
+        Warning::LostSender { class, signal } => {
+            let declared = located.declared_method(*class, *signal);
+            located
+                .places
+                .method(declared.class.checked_sub(1)?, declared.own)
+        }
+    }
+}

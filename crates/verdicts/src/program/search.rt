@@ -1,0 +1,32 @@
+//! A program whose edges are searched.
+
+use crate::program::places::Located;
+use crate::program::walks::Graph;
+use effect_scan::{Node, Scan};
+use std::alloc::AllocError;
+
+/// A program, its nodes and edges, and its knots.
+#[derive(Clone, Copy)]
+pub struct Search<'s> {
+    /// The program.
+    pub located: Located<'s>,
+    /// Its nodes.
+    pub scan: &'s Scan,
+    /// The edges between them.
+    pub graph: &'s Graph,
+    /// The sets of nodes that all lead to one another.
+    pub knots: &'s [Vec<usize>],
+}
+
+impl<'s> Search<'s> {
+    /// The nodes of these numbers, as far as they are there.
+    pub fn nodes_at(&self, numbers: &[usize]) -> Result<Vec<Node>, AllocError> {
+        let mut nodes = Vec::new(self.located.source.alloc);
+        for number in numbers {
+            if let Some(node) = self.scan.nodes().get(*number) {
+                nodes.push(*node)?;
+            }
+        }
+        Ok(nodes)
+    }
+}
