@@ -2,10 +2,12 @@
 //! written. For the word `calls` it writes what only direct calls show.
 #![tactic(auto)]
 
+mod files;
+
+use crate::files::{tell_example, tell_file};
 use anyhow::Result;
-use case_files::{tell_example, tell_file};
 use std::env;
-use worked_examples_calls::tell_calls;
+use worked_examples::tell_calls;
 
 fn main(rt: HostRuntime) -> Result<()> {
     let names = env::args(&rt)?.skip(1).collect::<Vec<String>>(rt.alloc())?;

@@ -1,6 +1,6 @@
 //! The commands.
 
-use memory_trials::{CERTIFICATE, SCRIPT, SOURCE, Told, TrialAnswer};
+use crate::trials::{CERTIFICATE, SCRIPT, SOURCE, Told, TrialAnswer};
 use native_slots::Natives;
 use std::alloc::Global;
 use trace_tool::{WriteFault, certify, check, command, meta, run, run_unchecked};
@@ -46,28 +46,34 @@ pub fn judged(alloc: Global, told: &mut Told) -> TrialAnswer {
 
 /// `run`.
 pub fn checked_run(alloc: Global, told: &mut Told) -> TrialAnswer {
-    ended(run(
-        alloc,
-        SOURCE.as_bytes(),
-        CERTIFICATE.as_bytes(),
-        SCRIPT.as_bytes(),
-        Natives::of(Vec::new(alloc)),
-        STEPS,
-        &mut told.text,
-    ).status)
+    ended(
+        run(
+            alloc,
+            SOURCE.as_bytes(),
+            CERTIFICATE.as_bytes(),
+            SCRIPT.as_bytes(),
+            Natives::of(Vec::new(alloc)),
+            STEPS,
+            &mut told.text,
+        )
+        .status,
+    )
 }
 
 /// `run_unchecked`.
 pub fn unchecked_run(alloc: Global, told: &mut Told) -> TrialAnswer {
-    ended(run_unchecked(
-        alloc,
-        COUNTER.as_bytes(),
-        COUNTING.as_bytes(),
-        Natives::of(Vec::new(alloc)),
-        7,
-        STEPS,
-        &mut told.text,
-    ).status)
+    ended(
+        run_unchecked(
+            alloc,
+            COUNTER.as_bytes(),
+            COUNTING.as_bytes(),
+            Natives::of(Vec::new(alloc)),
+            7,
+            STEPS,
+            &mut told.text,
+        )
+        .status,
+    )
 }
 
 /// `command`.
@@ -75,7 +81,5 @@ pub fn command_line(alloc: Global, told: &mut Told) -> Option<TrialAnswer> {
     let input = format!(in alloc; "{SOURCE}%%\n{CERTIFICATE}%%\n{SCRIPT}").ok()?;
     let mut reader = input.as_bytes();
     let natives = Natives::of(Vec::new(alloc));
-    Some(ended(
-        command(alloc, &["run"], &mut reader, natives, &mut told.text).status,
-    ))
+    Some(ended(command(alloc, &["run"], &mut reader, natives, &mut told.text).status))
 }

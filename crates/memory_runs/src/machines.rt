@@ -4,8 +4,8 @@ ghost use Rattle.std.specs.Prelude.{IfOk};
 ghost use Rattle.qt_runtime.specs.Seen.{AreKept};
 
 use crate::commanding::COUNTER;
+use crate::trials::{SCRIPT, SOURCE, Told, TrialAnswer, certificate, loaded};
 use command_lines::Output;
-use memory_trials::{SCRIPT, SOURCE, Told, TrialAnswer, certificate, loaded};
 use native_slots::{Answering, Natives};
 use qt_runtime::{Answer, Checked, Entry, Event, Fault, Machine, ObjectMachine, read_script};
 use rank_check::check;

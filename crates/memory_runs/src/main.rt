@@ -2,11 +2,13 @@
 //! tells what it answers.
 #![tactic(auto)]
 
+mod calls;
 mod commanding;
 mod machines;
+mod trials;
 
-use memory_calls::make_call;
-use memory_trials::{Calls, Told, TrialAnswer, tell_calls};
+use crate::calls::make_call;
+use crate::trials::{Calls, Told, TrialAnswer, tell_calls};
 use std::alloc::Global;
 use std::io;
 

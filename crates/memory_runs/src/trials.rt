@@ -1,0 +1,12 @@
+//! How calls are tried that can run out of memory: what each answers, where there is memory for all and where a request
+//! is refused, and whether what was lent to it is then as before.
+
+mod answer;
+mod calls;
+mod programs;
+mod told;
+
+pub use answer::TrialAnswer;
+pub use calls::{Calls, tell_calls};
+pub use programs::{CERTIFICATE, SCRIPT, SOURCE, certificate, loaded};
+pub use told::Told;

@@ -1,0 +1,6 @@
+use Rattle.qt_runtime.specs.Seen.{AreKept}
+use Rattle.worked_examples.proofs.calls.machines.take_each.Given as goal
+
+-- the natives are kept
+abbrev pub invariant-loop-event : goal.invariant-loop-event
+invariant-loop-event g l = AreKept g.N.Answering.takes g.N.Answering.gives l.machine

@@ -1,0 +1,35 @@
+//! What only direct calls show: a native of one's own, a machine event by event, readers and writers that fail, what binds
+//! and writes evaluate, inputs that are too large for a file, and the stores beside plain lists of what they hold. What has
+//! to be written was worked out by hand from the documents.
+
+mod command_line;
+mod following;
+mod loading;
+mod machines;
+mod runs;
+mod scheduling;
+mod sizes;
+mod streams;
+mod task;
+mod thermostat;
+
+use crate::stores::tell_stores;
+use anyhow::Result;
+use following::tell_following;
+use machines::tell_machines;
+use runs::tell_runs;
+use scheduling::tell_scheduling;
+use sizes::tell_sizes;
+use streams::tell_streams;
+
+/// Writes what each of these calls answers.
+pub fn tell_calls<R: Print + AllocGlobal>(rt: &R) -> Result<()> {
+    tell_runs(rt)?;
+    tell_machines(rt)?;
+    tell_following(rt)?;
+    tell_scheduling(rt)?;
+    tell_streams(rt)?;
+    tell_sizes(rt)?;
+    tell_stores(rt)?;
+    Ok(())
+}
