@@ -1,7 +1,7 @@
 -- What is certified is agreed to.
 use Rattle.std.proofs.Common.{◌≡◌, ◌≤◌, ℕ, List, Option, Some, None, Ok, refl, arith, sym, subst}
 use Rattle.certificate_lang.specs.declared.certificate.Certificate.{Certificate}
-use Rattle.certificate_laws.proofs.Writable.{made_is_read}
+use Rattle.program_commands.proofs.Writable.{made_is_read}
 use Rattle.certificate_texts.specs.Texts.{certificate_text}
 use Rattle.class_lang.specs.declared.size.Limits.{Limits}
 use Rattle.meta_model.specs.Loaded.{Loaded}

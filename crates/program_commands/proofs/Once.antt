@@ -5,8 +5,8 @@ use Rattle.certificate_lang.specs.declared.certificate.Certificate.{Certificate}
 use Rattle.certificate_lang.specs.declared.fault.CertificateFault.{CertificateFault}
 use Rattle.certificate_lang.specs.declared.fault.CertificateFault.TheVariants as of_certificate
 use Rattle.certificate_lang.proofs.Certificates.{one_certificate}
-use Rattle.certificate_laws.proofs.Makings.{one_making}
-use Rattle.certificate_laws.proofs.Verdicts.{one_verdict}
+use Rattle.program_commands.proofs.Makings.{one_making}
+use Rattle.program_commands.proofs.Verdicts.{one_verdict}
 use Rattle.class_lang.specs.Reads.{number_of as text_number}
 use Rattle.class_lang.specs.declared.size.Limits.{Limits}
 use Rattle.class_lang.specs.declared.fault.TextFault.{TextFault}

@@ -1,7 +1,7 @@
 -- What the commands on programs and certificates come to (docs/commands.md). Memory may run out at any step; that it
 -- comes only where a growth of memory was refused is not stated here.
 use Rattle.std.specs.Prelude.{◌≡◌, ◌⊎◌, ℕ, List}
-use Rattle.certificate_laws.specs.Laws.{IsSameReason}
+use Rattle.program_commands.specs.Laws.{IsSameReason}
 use Rattle.certificate_texts.specs.Texts.{certificate_text}
 use Rattle.class_lang.specs.declared.size.Limits.{Limits}
 use Rattle.meta_model.specs.Loaded.{Loaded}

@@ -16,3 +16,7 @@ pub use Rattle.rank_make.specs.Ranked
 pub use Rattle.certificate_texts.specs.Texts as CertificateTexts
 pub use Rattle.command_lines.specs.MetaLines
 pub use Rattle.command_lines.specs.Sent
+pub mod Laws
+pub use Rattle.certificate_texts.specs.Written
+pub mod Names
+pub use Rattle.meta_objects.specs.Builds

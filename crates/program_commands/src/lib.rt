@@ -2,6 +2,7 @@
 //! bytes of the texts to what they come to, and to the bytes that are written and an exit status.
 #![tactic(auto)]
 
+mod certificate_laws;
 mod certified;
 mod certifying;
 mod commands;
@@ -11,6 +12,9 @@ mod outcome;
 mod reasons;
 mod refusal;
 
+pub use certificate_laws::{
+    loaded_names, made_is_read, one_least, one_making, one_verdict, read_names, valid_is_writable,
+};
 pub use certified::Certified;
 pub use command_lines::WriteFault;
 pub use commands::{certify, certify_outcome, check, check_outcome, meta, meta_outcome};

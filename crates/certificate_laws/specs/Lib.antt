@@ -1,3 +1,0 @@
-pub mod Laws
-pub use Rattle.certificate_texts.specs.Texts
-pub use Rattle.certificate_texts.specs.Written

@@ -1,0 +1,69 @@
+-- What is valid for a program can be written.
+use Rattle.std.proofs.Common.{ℕ, List, subst, arith}
+use Rattle.std.specs.List.{Contains}
+use Rattle.basic_types.specs.Signatures.{IsFreeName}
+use Rattle.meta_model.specs.declared.object.MetaMethod.{MetaMethod}
+use Rattle.meta_model.specs.declared.object.MetaProperty.{MetaProperty}
+use Rattle.basic_types.specs.Laws.{IsNormalSig}
+use Rattle.meta_model.specs.Loaded.{Loaded}
+use Rattle.meta_model.specs.Members.{IsClassNamed}
+use Rattle.effect_scan.specs.declared.node.Member.{Member}
+use Rattle.certificate_lang.specs.declared.certificate.MemberName.{MemberName}
+use Rattle.certificate_lang.specs.declared.certificate.MemberName.TheVariants as member
+use Rattle.certificate_lang.specs.declared.certificate.SetItem.{SetItem}
+use Rattle.certificate_lang.specs.declared.certificate.SetItem.TheVariants.{Class, Closure}
+use Rattle.certificate_lang.specs.declared.certificate.Line.{Line}
+use Rattle.certificate_lang.specs.declared.certificate.Certificate.{Certificate}
+use Rattle.certificate_texts.specs.Written.{IsWritableMember, IsWritableItem, IsWritableLine, IsWritable}
+use Rattle.certificate_texts.proofs.Lines.{text_is_read}
+use Rattle.program_commands.specs.Names.{IsNamedObject, IsNamedLoaded}
+use Rattle.program_commands.proofs.NamesLoading.{all_at, at_all, loaded_is_named}
+use Rattle.program_commands.proofs.Reading.{read_is_named}
+use Rattle.rank_check.specs.Names.{IsMemberNamed}
+use Rattle.rank_check.specs.Valid.{StandsFor, IsValid}
+use Rattle.rank_check.proofs.Elements.{element_at}
+use Rattle.program_commands.specs.Laws.{ValidIsWritable, MadeIsRead}
+
+module _ (p : Loaded) (named : IsNamedLoaded p) where
+  class_free : (name : List ℕ) (c : ℕ) → IsClassNamed p name c → IsFreeName name
+  class_free name c h = subst IsFreeName h.named (at_all IsNamedObject p.classes named c h.class h.is.is).named
+
+  item_writable : (item : SetItem) (c : ℕ) → StandsFor p item c → IsWritableItem item
+  item_writable (Class name) c h = class_free name c h
+  item_writable (Closure name) c h = class_free name h.0 h.1
+
+  member_writable : (c : ℕ) (m : MemberName) (x : Member) → IsMemberNamed p c m x → IsWritableMember m
+  member_writable c (member.Method sig) x h =
+      let method = h.1 in
+      let class = at_all IsNamedObject p.classes named c method.is.class method.is.is_class.is in
+      subst IsNormalSig method.signed (at_all (λ (m : MetaMethod). IsNormalSig m.sig) method.is.class.methods class.methods h.0 method.method method.is.is)
+  member_writable c (member.Property name) x h =
+      let property = h.1 in
+      let class = at_all IsNamedObject p.classes named c property.class property.is_class.is in
+      subst IsFreeName property.named (at_all (λ (q : MetaProperty). IsFreeName q.name) property.class.properties class.properties h.0 property.property property.is)
+  member_writable c member.Destruction x h = tt
+
+  line_writable : (certificate : Certificate) → IsValid p certificate → (line : Line) → Contains certificate.lines line → IsWritableLine line
+  line_writable certificate valid line stands =
+      let node = valid.nothing_else.nodes line stands in
+      let low = valid.bounded.ranks line stands in
+      let most = valid.bounded.bound in
+      record {
+        node = record { class = class_free line.node.class node.0.class node.1.class; member = member_writable node.0.class line.node.member node.0.member node.1.member };
+        rank = omega arith;
+        destroys = all_at IsWritableItem line.destroys (λ k item at. let there = valid.nothing_else.classes line stands item (element_at line.destroys k item at) in item_writable item there.0 there.1);
+      }
+
+  writable : (certificate : Certificate) → IsValid p certificate → IsWritable certificate
+  writable certificate valid =
+      let most = valid.bounded.bound in
+      record {
+        bound = omega arith;
+        lines = all_at IsWritableLine certificate.lines (λ k line at. line_writable certificate valid line (element_at certificate.lines k line at));
+      }
+
+pub valid_is_writable : ValidIsWritable
+valid_is_writable limits source program p certificate reads builds valid = writable p (loaded_is_named program p (read_is_named limits source program reads) builds) certificate valid
+
+pub made_is_read : MadeIsRead
+made_is_read limits source program p certificate reads builds makes = text_is_read certificate (valid_is_writable limits source program p certificate reads builds makes.valid)

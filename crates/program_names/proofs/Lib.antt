@@ -1,3 +1,0 @@
-pub mod Behind
-pub mod Reading
-pub mod Loading

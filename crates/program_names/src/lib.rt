@@ -1,6 +1,0 @@
-//! The names of programs: the names that a program's text gives to classes and their members, and those of what is loaded.
-#![tactic(auto)]
-
-mod laws;
-
-pub use laws::{loaded_names, read_names};
