@@ -20,9 +20,9 @@ BESIDE = ['program_commands/specs/Loading: LoadsCertified', 'script_lang/specs/R
           'program_commands/specs/Outcomes: outcome_text', 'program_commands/specs/Outcomes: outcome_status']  # where nothing runs
 PARTS = [('the claims, and runs', r'object_machine/specs/(?!Causes|Events|Takes)|machine_rules/specs/Good'),
          ('why a run stops', r'object_machine/specs/Causes|machine_rules/specs/Faults'),
-         ('events', r'object_machine/specs/(Events|Takes)'), ('rules', r'machine_rules|statement_meaning'), ('the state', r'machine_state|change_lines|trace_entries'),
-         ('what is accepted, and written', r'trace_tool|machine_commands|program_commands|command_lines|basic_types/specs/Spelling|class_lang|texts|rank_check'),
-         ('objects, connections, event loops, bindings', r'object_tree|connections|event_loops|binding_graph|binding_plans|prop_bindings|delete_later'),
+         ('events', r'object_machine/specs/(Events|Takes)'), ('rules', r'machine_rules'), ('the state', r'machine_state|trace_entries'),
+         ('what is accepted, and written', r'trace_tool|program_commands|command_lines|basic_types/specs/Spelling|class_lang|texts|rank_check'),
+         ('objects, connections, event loops, bindings', r'object_tree|connections|event_loops|binding_graph|prop_bindings|delete_later'),
          ('values, expressions, classes', r'')]
 WORD = re.compile(r'[^\s(){},;.\[\]]+')
 HEAD = re.compile(r'^(?:\s*(?:pub )?(?:unfoldable |abbrev |data |record )+(?:pub )?|pub )([^\s{]\S*)')

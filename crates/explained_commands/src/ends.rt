@@ -2,16 +2,16 @@
 
 ghost use Rattle.std.specs.Prelude.{◌≡◌, ◌↔◌, map, false, IsTrue};
 ghost use Rattle.explained_commands.specs.Judged.{IsUnjudged};
-ghost use Rattle.machine_commands.specs.Commands.{WritesCommand};
+ghost use Rattle.trace_tool.specs.Commands.{WritesCommand};
 
 use crate::explain::explanation;
 use crate::remarks::{is_judged, remarks_on};
 use crate::reports::{fault_report, refusal_report};
-use machine_commands::{
-    Answered, Entry, FittingNatives, InputFault, ObjectMachine, Outcome, Ran, WriteFault, answer,
-};
 use std::alloc::{AllocError, Global};
 use std::io::{Read, Write};
+use trace_tool::{
+    Answered, Entry, FittingNatives, InputFault, ObjectMachine, Outcome, Ran, WriteFault, answer,
+};
 
 /// The exit status of a command that did what it was asked.
 const SUCCESS: u8 = 0;

@@ -3,8 +3,8 @@
 use crate::explanations::{push_fault, push_outcome, push_usage};
 use class_lang::Limits;
 use command_lines::CommandLine;
-use machine_commands::{Outcome, limits_of};
 use std::alloc::{AllocError, Global};
+use trace_tool::{Outcome, limits_of};
 
 /// Explains what the words come to on this input, or where it isn't known, without a place. `None` where there is nothing to
 /// explain: a command did what it was asked, memory was wanting, or there is no input.

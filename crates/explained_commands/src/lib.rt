@@ -8,5 +8,5 @@ mod remarks;
 mod reports;
 
 pub use ends::{explained_command, tell_fault};
-pub use machine_commands::WriteFault;
 pub use reports::{EXPLAIN, is_asked};
+pub use trace_tool::WriteFault;

@@ -3,10 +3,10 @@
 ghost use Rattle.std.specs.Prelude.{◌↔◌, map, IsTrue};
 ghost use Rattle.explained_commands.specs.Judged.{IsUnjudged};
 
-use machine_commands::{Outcome, ProgramOutcome};
 use program_flaws::{Ranked, Yes, told_beside};
 use std::alloc::{AllocError, Global};
 use texts::split_at_line;
+use trace_tool::{Outcome, ProgramOutcome};
 
 /// The line that parts the texts of an input.
 const PARTING: &[u8] = b"%%";

@@ -3,8 +3,8 @@
 #![tactic(auto)]
 
 use basic_types::Value;
-use built_in_native::{class, doubled, effects, twice};
 use explained_commands::{EXPLAIN, WriteFault, explained_command, is_asked, tell_fault};
+use native_slots::built_in::{class, doubled, effects, twice};
 use native_slots::{NativeSlot, Natives};
 use qt_runtime::Machine;
 use std::alloc::AllocError;

@@ -11,3 +11,12 @@ pub mod Agreeing
 pub mod Answering
 pub mod Inherited
 pub mod OneRule
+pub mod Stacks
+pub mod Keeps
+pub mod ReachedStates
+pub mod Delivered
+pub mod Notifying
+pub mod Hearing
+pub mod Soundness
+pub mod Promised
+pub mod ReachingFitting

@@ -16,9 +16,9 @@ use Rattle.object_tree.specs.declared.object.Object.{Object}
 use Rattle.object_tree.specs.Objects.{life_of}
 use Rattle.connections.specs.declared.connection.Connection.{Connection}
 use Rattle.trace_entries.specs.declared.entry.Entry.{Entry}
-use Rattle.change_lines.specs.declared.telling.Cause.TheVariants.{Bind}
+use Rattle.machine_state.specs.declared.changes.telling.Cause.TheVariants.{Bind}
 use Rattle.machine_state.specs.Telling.{AreTold, Assigning, IsAssigningTold, writes_of}
-use Rattle.change_lines.proofs.Told.{assigning-once, told-once}
+use Rattle.machine_state.proofs.Told.{assigning-once, told-once}
 use Rattle.binding_graph.specs.declared.binding.Binding.{Binding}
 use Rattle.binding_graph.specs.Bindings.{binding_at, without_all, replaced, Loop}
 use Rattle.prop_bindings.specs.Changes.{places_in}

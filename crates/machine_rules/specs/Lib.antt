@@ -18,3 +18,6 @@ pub use Rattle.native_slots.specs.Promises
 pub use Rattle.machine_state.specs.Connections
 pub use Rattle.trace_entries.specs.Refusals
 pub use Rattle.machine_state.specs.State
+pub mod Reaches
+pub mod Writing
+pub mod ReachingLaws

@@ -8,7 +8,7 @@ use Rattle.meta_model.specs.declared.object.Statement.TheViews.{out-Statement}
 use Rattle.meta_model.specs.Loaded.{Loaded}
 use Rattle.object_tree.specs.declared.object.Object.{Object}
 use Rattle.object_tree.specs.Typed.{ReadsAs}
-use Rattle.prop_bindings.specs.Assignment.{Assignment}
+use Rattle.prop_bindings.specs.declared.plans.assignment.Assignment.{Assignment}
 use Rattle.machine_state.specs.State.{Step, Run, State, Activation, Body}
 use Rattle.machine_state.specs.Telling.{Assigning, writes_of}
 use Rattle.machine_rules.specs.Operations.{Operation, Write, operation, operation_of_step}

@@ -14,7 +14,7 @@ use Rattle.binding_graph.specs.declared.place.Place.{Place}
 use Rattle.binding_graph.specs.Bindings.{without_all, replaced}
 use Rattle.prop_bindings.specs.Changes.{IsWritten, IsInstalled, places_in}
 use Rattle.trace_entries.specs.declared.entry.Entry.{Entry}
-use Rattle.change_lines.specs.declared.telling.Cause.TheVariants.{Bind}
+use Rattle.machine_state.specs.declared.changes.telling.Cause.TheVariants.{Bind}
 use Rattle.machine_state.specs.State.{State, Activation, Update}
 use Rattle.machine_state.specs.Telling.{AreTold, Assigning, IsAssigningTold, writes_of}
 use Rattle.machine_rules.specs.There.{HasField, IsField}

@@ -4,6 +4,8 @@
 
 mod ends;
 mod laws;
+mod reaching;
 
 pub use ends::{FoundEnds, kept_ends, named_signal};
 pub use laws::{one_rule, rule_settles, stays_settled};
+pub use reaching::rules_keep;

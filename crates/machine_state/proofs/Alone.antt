@@ -14,13 +14,13 @@ use Rattle.prop_bindings.specs.Changes.{AreChanged, IsWritten, none_changed, one
 use Rattle.prop_bindings.specs.Fits.{Agree, FitsAt}
 use Rattle.prop_bindings.proofs.Alone.{alone-agrees, alone-written}
 use Rattle.trace_entries.specs.declared.entry.Entry.{Entry}
-use Rattle.change_lines.specs.declared.telling.Cause.TheVariants.{Write, Follow}
+use Rattle.machine_state.specs.declared.changes.telling.Cause.TheVariants.{Write, Follow}
 use Rattle.machine_state.specs.declared.world.World.{World}
-use Rattle.change_lines.specs.Telling.{Alone, AreTold, HasValue, IsTold, others}
+use Rattle.machine_state.specs.Telling.{Alone, AreTold, HasValue, IsTold, others}
 use Rattle.machine_state.specs.code.Changing.{with_bound, HasWritten}
-use Rattle.change_lines.specs.code.Planned.{WillBeTold}
-use Rattle.change_lines.proofs.Changed.{fits-has, still-have}
-use Rattle.change_lines.proofs.Told.{told-now}
+use Rattle.machine_state.specs.code.Planned.{WillBeTold}
+use Rattle.machine_state.proofs.Changed.{fits-has, still-have}
+use Rattle.machine_state.proofs.Told.{told-now}
 
 -- no other property changes
 none-other : (old new : List Object) (at : Place) (changed : List Place) → AreChanged old new (at ∷ []) changed → others (at ∷ []) changed ≡ []

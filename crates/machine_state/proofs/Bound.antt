@@ -4,16 +4,16 @@ use Rattle.meta_model.specs.Loaded.{Loaded}
 use Rattle.object_tree.specs.declared.object.Object.{Object}
 use Rattle.binding_graph.specs.declared.binding.Binding.{Binding}
 use Rattle.binding_graph.specs.declared.place.Place.{Place}
-use Rattle.prop_bindings.specs.Planned.{Planned}
+use Rattle.prop_bindings.specs.declared.plans.planned.Planned.{Planned}
 use Rattle.binding_graph.specs.Bindings.{without_all}
 use Rattle.prop_bindings.specs.Changes.{IsWritten, places_in}
 use Rattle.prop_bindings.specs.Fits.{Agree}
 use Rattle.prop_bindings.specs.Plans.{after}
 use Rattle.trace_entries.specs.declared.entry.Entry.{Entry}
 use Rattle.machine_state.specs.declared.world.World.{World}
-use Rattle.change_lines.specs.Telling.{Assigning, IsAssigningTold, writes_of}
+use Rattle.machine_state.specs.Telling.{Assigning, IsAssigningTold, writes_of}
 use Rattle.machine_state.specs.code.Changing.{with_bound, noted, HasWritten}
-use Rattle.change_lines.specs.code.Planned.{WillWrite}
+use Rattle.machine_state.specs.code.Planned.{WillWrite}
 
 -- ---- properties are written
 module _ (p : Loaded) (what : Assigning) (w v : World) (plan : Planned) (cs : List Binding) (cs_are : cs ≡ without_all (places_in (writes_of what)) w.store.bindings)

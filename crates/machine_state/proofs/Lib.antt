@@ -4,3 +4,7 @@ pub mod Deferring
 pub mod Bound
 pub mod Alone
 pub mod Trying
+pub mod Followers
+pub mod Changed
+pub mod Told
+pub mod Ahead

@@ -4,7 +4,7 @@ use Rattle.basic_types.specs.declared.value.Value.{Value}
 use Rattle.meta_model.specs.Loaded.{Loaded}
 use Rattle.object_tree.specs.declared.object.Object.{Object}
 use Rattle.binding_graph.specs.declared.place.Place.{Place}
-use Rattle.prop_bindings.specs.WriteFault.{WriteFault}
+use Rattle.prop_bindings.specs.declared.plans.fault.WriteFault.{WriteFault}
 use Rattle.prop_bindings.specs.Calls.{IsNotWritten, bad_type, no_memory}
 use Rattle.prop_bindings.specs.Changes.{one}
 use Rattle.prop_bindings.specs.Fits.{FitsAt}
@@ -12,7 +12,7 @@ use Rattle.trace_entries.specs.declared.entry.Entry.{Entry}
 use Rattle.trace_entries.specs.declared.fault.Fault.{Fault}
 use Rattle.trace_entries.specs.declared.fault.Fault.TheVariants.{Memory}
 use Rattle.machine_state.specs.declared.world.World.{World}
-use Rattle.change_lines.specs.Telling.{Assigning}
+use Rattle.machine_state.specs.Telling.{Assigning}
 use Rattle.machine_state.specs.code.Changing.{WritesIn}
 use Rattle.machine_state.specs.code.Trying.{fault_of, IsUnplanned, TriesWrite}
 

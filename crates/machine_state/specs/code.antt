@@ -1,3 +1,4 @@
 -- What the contracts of this crate's functions need besides.
 pub mod Trying
 pub mod Changing
+pub mod Planned

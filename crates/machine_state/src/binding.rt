@@ -12,13 +12,13 @@ ghost use Rattle.prop_bindings.specs.Fits.{Agree, FitsAt};
 ghost use Rattle.prop_bindings.specs.Plans.{after};
 ghost use Rattle.trace_entries.specs.declared.fault.Fault.TheVariants.{Memory};
 ghost use Rattle.machine_state.specs.code.Trying.{fault_of, IsUnplanned, TriesWrite};
-ghost use Rattle.change_lines.specs.Telling.{Grouped, IsGroupTold, writes_of};
+ghost use Rattle.machine_state.specs.Telling.{Grouped, IsGroupTold, writes_of};
 ghost use Rattle.machine_state.specs.code.Changing.{noted, with_bound, WritesIn};
-ghost use Rattle.change_lines.specs.code.Planned.{CanBeTold, WillWrite, WillWriteOne, WillWriteAll};
+ghost use Rattle.machine_state.specs.code.Planned.{CanBeTold, WillWrite, WillWriteOne, WillWriteAll};
 
+use crate::changes::{Cause, Telling, line_of};
 use crate::world::World;
 use basic_types::Value;
-use change_lines::{Cause, Telling, line_of};
 use delete_later::Store;
 use meta_model::Meta;
 use prop_bindings::{

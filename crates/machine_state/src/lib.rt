@@ -2,13 +2,14 @@
 #![tactic(auto)]
 
 mod binding;
+mod changes;
 mod connecting;
 mod deleting;
 mod endpoints;
 mod turn;
 mod world;
 
-pub use change_lines::{Cause, show, show_all};
+pub use changes::{Cause, Telling, line_of, show, show_all};
 pub use connecting::{join, part};
 pub use endpoints::Endpoints;
 pub use turn::{MAIN, Turn, reaches_at_once};

@@ -8,3 +8,6 @@ pub mod Fitting
 pub mod Misfits
 pub mod FaultNumbers
 pub mod code
+pub mod Doubling
+pub use Rattle.basic_types.specs.Types
+pub use Rattle.native_slots.specs.Effects

@@ -3,6 +3,7 @@
 
 mod action;
 mod answering;
+pub mod built_in;
 mod effects;
 mod fault;
 mod fitting;

@@ -19,7 +19,7 @@ use Rattle.object_tree.specs.Objects.{Lives}
 use Rattle.object_tree.specs.Typed.{AreTyped, ReadAs}
 use Rattle.object_tree.proofs.Changing.{life-of-lives}
 use Rattle.object_tree.proofs.TypedObjects.{reads-still, read-still, typed-written}
-use Rattle.prop_bindings.specs.Assignment.{Assignment}
+use Rattle.prop_bindings.specs.declared.plans.assignment.Assignment.{Assignment}
 use Rattle.binding_graph.specs.declared.place.Place.{Place}
 use Rattle.prop_bindings.specs.Calls.{AllFit}
 use Rattle.prop_bindings.specs.Changes.{DifferInValues}

@@ -16,7 +16,7 @@ use Rattle.delete_later.specs.declared.store.Store.{Store}
 use Rattle.machine_rules.specs.Natives.{NativeAnswers}
 use Rattle.machine_rules.specs.code.Sound.{IsSoundWorld}
 use Rattle.machine_rules.specs.code.Keeps.{Grows, Keeps}
-use Rattle.rule_laws.proofs.Keeps.{grows-by, grows-same, grows-then, begins-kept, writes-kept, installs-kept, schedules-kept, rule-kept}
+use Rattle.machine_rules.proofs.Keeps.{grows-by, grows-same, grows-then, begins-kept, writes-kept, installs-kept, schedules-kept, rule-kept}
 use Rattle.machine_rules.specs.Good.{IsGood}
 use Rattle.machine_rules.proofs.Agreeing.{rule-agrees}
 use Rattle.object_machine.specs.declared.invoking.Invocation.{Invocation}

@@ -30,8 +30,8 @@ use Rattle.machine_rules.specs.Judgement.{becomes, goes_on, ends}
 use Rattle.machine_rules.proofs.Agreeing.{bound-fits}
 use Rattle.machine_rules.proofs.Differing.{differ-spared}
 use Rattle.machine_rules.proofs.OneRule.{does-one, stack-one}
-use Rattle.rule_laws.proofs.Fitting.{fits-read}
-use Rattle.rule_laws.proofs.Reaching.{next-writes}
+use Rattle.machine_rules.proofs.ReachingFitting.{fits-read}
+use Rattle.machine_rules.proofs.ReachedStates.{next-writes}
 use Rattle.object_machine.specs.Causes.{BindsNext, BindsIll, BindsLoop, Brings, spent, short, brings, lacks_value, writes_ill, binds_ill, goes_ill, goes_fatal, binds_loop, writes_deep, goes_deep}
 use Rattle.object_machine.specs.Events.{may_bind, bind}
 use Rattle.object_machine.specs.FaultLaws.{OneFault}

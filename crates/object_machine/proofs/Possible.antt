@@ -23,7 +23,7 @@ use Rattle.meta_model.specs.declared.effects.MetaEffects.{MetaEffects}
 use Rattle.native_slots.specs.declared.action.Action.{Action}
 use Rattle.native_slots.specs.declared.action.Action.TheVariants as action
 use Rattle.machine_rules.specs.Connecting.{AreThere}
-use Rattle.prop_bindings.specs.Assignment.{Assignment}
+use Rattle.prop_bindings.specs.declared.plans.assignment.Assignment.{Assignment}
 use Rattle.prop_bindings.specs.Calls.{AllFit}
 use Rattle.binding_graph.specs.Places.{property_of}
 use Rattle.machine_state.specs.Telling.{Alone, Grouped, writes_of}

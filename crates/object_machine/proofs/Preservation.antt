@@ -46,7 +46,7 @@ use Rattle.trace_entries.specs.declared.entry.Entry.{Entry}
 use Rattle.machine_state.specs.State.{Step, Run, Ask, Act, State, IsIdle, Activation, Body, Emit, Update, Destroy}
 use Rattle.machine_rules.specs.Rules.{Rule, RuleAt, BodyRule, Does, EmitRule, UpdateRule, Begins, begun, with_used, linked, unlinked, TurnRule, Serves, Delivers, Arrives, BeginsIf, NotifiesIf}
 use Rattle.machine_rules.specs.Settling.{Settles, Writes, Installs}
-use Rattle.rule_laws.specs.Writing.{MayNotify}
+use Rattle.machine_rules.specs.Writing.{MayNotify}
 use Rattle.object_tree.specs.Objects.{home_of}
 use Rattle.event_loops.specs.declared.item.Item.{Item}
 use Rattle.event_loops.specs.declared.item.Item.TheVariants.{Call, Deletion}
@@ -85,16 +85,16 @@ use Rattle.machine_rules.specs.There.{IsDead, IsMember}
 use Rattle.machine_rules.proofs.Dying.{died-stay, scheduled-stay, scheduled-seen}
 use Rattle.machine_rules.proofs.Fields.{life-unique, member-method}
 use Rattle.machine_rules.proofs.Differing.{differ-stay, differ-spared}
-use Rattle.rule_laws.proofs.Notifying.{all-notified}
+use Rattle.machine_rules.proofs.Notifying.{all-notified}
 use Rattle.object_machine.proofs.Changes.{adopted-by, length-moved}
 use Rattle.machine_rules.proofs.Lists.{all-append, all-snoc}
-use Rattle.rule_laws.proofs.Keeps.{all-stay, all-joined-still, rule-kept, begins-kept, writes-kept, installs-kept, schedules-kept, joined-by}
+use Rattle.machine_rules.proofs.Keeps.{all-stay, all-joined-still, rule-kept, begins-kept, writes-kept, installs-kept, schedules-kept, joined-by}
 use Rattle.object_machine.proofs.Moving.{moved-by, shape-in_loop, housed-in_loop, all-rehomed, length-rehomed}
 use Rattle.object_machine.proofs.Homes.{housed-more, housed-loop, waiting-loop, home-there, home-moved}
-use Rattle.rule_laws.proofs.Soundness.{AllFit, Fair, rule-fair, begins-fair, writes-fair, installs-fair, schedules-fair, all-wait-still}
+use Rattle.machine_rules.proofs.Soundness.{AllFit, Fair, rule-fair, begins-fair, writes-fair, installs-fair, schedules-fair, all-wait-still}
 use Rattle.machine_rules.proofs.Waiting.{housed-same, home-change}
 use Rattle.machine_rules.proofs.Scheduling.{schedule-cases}
-use Rattle.rule_laws.proofs.Hearing.{AllHeard, nobody, Heard, rule-heard, begins-heard, writes-heard, installs-heard, schedules-heard}
+use Rattle.machine_rules.proofs.Hearing.{AllHeard, nobody, Heard, rule-heard, begins-heard, writes-heard, installs-heard, schedules-heard}
 
 -- ---- steps
 

@@ -45,16 +45,16 @@ use Rattle.machine_rules.specs.code.Going.{IsStuck, RulesStop}
 use Rattle.machine_state.specs.Telling.{Assigning, writes_of}
 use Rattle.object_machine.specs.Causes.{StopsFor, spent, short, brings, lacks_value, writes_ill, goes_ill, goes_fatal, writes_deep, goes_deep}
 use Rattle.machine_rules.specs.There.{IsField}
-use Rattle.rule_laws.specs.Writing.{MayNotify}
-use Rattle.rule_laws.proofs.Delivered.{next-delivered}
+use Rattle.machine_rules.specs.Writing.{MayNotify}
+use Rattle.machine_rules.proofs.Delivered.{next-delivered}
 use Rattle.machine_rules.proofs.Fields.{old-there}
 use Rattle.object_machine.proofs.Possible.{IsPossible, possible, acts}
 use Rattle.object_machine.proofs.Standing.{BodyStands, Stands, Invariant}
 use Rattle.machine_rules.specs.code.Sound.{IsDelivered, Waits}
-use Rattle.rule_laws.proofs.Soundness.{AllFit}
+use Rattle.machine_rules.proofs.Soundness.{AllFit}
 use Rattle.machine_rules.proofs.Waiting.{loop-named, first-waits}
 use Rattle.object_machine.specs.Runs.{by_rule, goes_on}
-use Rattle.rule_laws.proofs.Hearing.{AllHeard, nobody, may-be-heard}
+use Rattle.machine_rules.proofs.Hearing.{AllHeard, nobody, may-be-heard}
 
 -- a judgement has some answer
 check-somehow : {k : Refusal} {Holds : Type 0} → ((r : Result (Unit {0}) Refusal) → ¬ Check k Holds r) → ⊥

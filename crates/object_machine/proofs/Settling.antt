@@ -23,7 +23,7 @@ use Rattle.machine_rules.specs.Settling.{Installs}
 use Rattle.machine_rules.specs.There.{IsField}
 use Rattle.machine_rules.proofs.Agreeing.{begun-agrees, writes-agrees, installs-agrees, schedules-agrees}
 use Rattle.machine_rules.proofs.Fields.{field-property}
-use Rattle.rule_laws.proofs.Keeps.{lives-of-class}
+use Rattle.machine_rules.proofs.Keeps.{lives-of-class}
 use Rattle.object_machine.specs.declared.invoking.Invocation.{Invocation}
 use Rattle.object_machine.specs.declared.invoking.Invocation.TheVariants.{Emit as EmitIt, Call as CallIt}
 use Rattle.object_machine.specs.Laws.{TakingSettles}

@@ -21,14 +21,14 @@ use Rattle.object_tree.specs.Typed.{ReadAs}
 use Rattle.machine_state.specs.State.{Step, Run, Ask, Act, State, Activation, Body, Emit, Update, Destroy}
 use Rattle.machine_rules.specs.Good.{has_body}
 use Rattle.machine_rules.specs.code.Keeps.{StayThere}
-use Rattle.rule_laws.proofs.Soundness.{AllFit}
+use Rattle.machine_rules.proofs.Soundness.{AllFit}
 use Rattle.machine_rules.specs.code.Sound.{Sound}
 use Rattle.machine_rules.specs.There.{IsDead}
-use Rattle.rule_laws.specs.Writing.{MayNotify}
+use Rattle.machine_rules.specs.Writing.{MayNotify}
 use Rattle.machine_rules.proofs.Dying.{lives-not-dead}
-use Rattle.rule_laws.proofs.Keeps.{lives-on, values-stay}
-use Rattle.rule_laws.proofs.Notifying.{all-may-still}
-use Rattle.rule_laws.proofs.Hearing.{Heard}
+use Rattle.machine_rules.proofs.Keeps.{lives-on, values-stay}
+use Rattle.machine_rules.proofs.Notifying.{all-may-still}
+use Rattle.machine_rules.proofs.Hearing.{Heard}
 
 -- ---- what stands
 

@@ -23,7 +23,7 @@ use Rattle.object_tree.specs.Objects.{stored}
 use Rattle.machine_rules.specs.Paths.{root_value, step_value, steps_value, path_value}
 use Rattle.machine_rules.specs.There.{IsField}
 use Rattle.machine_rules.proofs.Fields.{old-there, stored-reads, read-get, read-there}
-use Rattle.rule_laws.proofs.Keeps.{lives-of-class, class-of-lives}
+use Rattle.machine_rules.proofs.Keeps.{lives-of-class, class-of-lives}
 use Rattle.machine_rules.proofs.Inherited.{property-below}
 
 -- a value of a type is found

@@ -17,7 +17,7 @@ use Rattle.object_tree.proofs.Changing.{life-of-lives, lives-of-life, life-part,
 use Rattle.object_tree.proofs.Families.{moved-part}
 use Rattle.object_tree.proofs.TypedObjects.{typed-change, typed-created, typed-moved}
 use Rattle.binding_graph.specs.declared.binding.Binding.{Binding}
-use Rattle.binding_plans.specs.Fits.{Agree}
+use Rattle.prop_bindings.specs.Fits.{Agree}
 use Rattle.prop_bindings.specs.Laws.{UnboundAgree, CreatedAgree, AdoptedAgree, BlockedAgree, ScheduledAgree}
 use Rattle.prop_bindings.proofs.Leaving.{Stays, agree-living, agree-none}
 

@@ -13,17 +13,17 @@ use Rattle.binding_graph.specs.code.Graph.{Unread}
 use Rattle.binding_graph.specs.code.Orders.{IsAffected}
 use Rattle.binding_graph.proofs.Places.{same_place-refl}
 use Rattle.binding_graph.proofs.Replaced.{without-fewer}
-use Rattle.binding_plans.specs.Values.{values_in}
-use Rattle.binding_plans.specs.Changes.{AreChanged, DifferInValues, IsWritten, none_changed, one, one_changed, one_stayed}
+use Rattle.prop_bindings.specs.Values.{values_in}
+use Rattle.prop_bindings.specs.Changes.{AreChanged, DifferInValues, IsWritten, none_changed, one, one_changed, one_stayed}
 use Rattle.prop_bindings.specs.Counts.{CountsWritten}
-use Rattle.binding_plans.specs.Fits.{Agree, FitsAt}
+use Rattle.prop_bindings.specs.Fits.{Agree, FitsAt}
 use Rattle.prop_bindings.specs.code.Parts.{LeadTo}
 use Rattle.prop_bindings.proofs.Calling.{lead-to}
 use Rattle.prop_bindings.proofs.Changed.{changed-once}
 use Rattle.prop_bindings.proofs.Evaluating.{given-sound, rest-alike}
 use Rattle.prop_bindings.proofs.InOrder.{lifted-changes}
 use Rattle.prop_bindings.proofs.Staying.{alike-by, alike-from}
-use Rattle.binding_plans.proofs.Values.{value-changed, written-differs}
+use Rattle.prop_bindings.proofs.Values.{value-changed, written-differs}
 use Rattle.prop_bindings.proofs.Wrote.{wrote-other}
 
 module _ (objects : List Object) (at : Place) (v : Value) where

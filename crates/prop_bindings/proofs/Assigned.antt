@@ -9,14 +9,14 @@ use Rattle.object_tree.specs.declared.object.Object.{Object}
 use Rattle.object_tree.specs.Objects.{change_life, written}
 use Rattle.binding_graph.specs.declared.place.Place.{Place}
 use Rattle.binding_graph.specs.Places.{property_of, same_place}
-use Rattle.binding_plans.specs.Values.{values_in}
-use Rattle.binding_plans.specs.Changes.{DifferInValues}
-use Rattle.binding_plans.specs.Plans.{assigned}
+use Rattle.prop_bindings.specs.Values.{values_in}
+use Rattle.prop_bindings.specs.Changes.{DifferInValues}
+use Rattle.prop_bindings.specs.Plans.{assigned}
 use Rattle.binding_graph.specs.code.Keys.{key_of, same_key}
 use Rattle.prop_bindings.specs.code.Parts.{ahead, value_ahead}
 use Rattle.binding_graph.proofs.Keyed.{same_place-sym}
-use Rattle.binding_plans.proofs.AssignedValues.{assigned-differs, assigned-values, in-turn}
-use Rattle.binding_plans.proofs.Values.{written-differs, value-changed, same-objects}
+use Rattle.prop_bindings.proofs.AssignedValues.{assigned-differs, assigned-values, in-turn}
+use Rattle.prop_bindings.proofs.Values.{written-differs, value-changed, same-objects}
 
 module _ {S : Type 0} (values : IndexMap (ℕ × ℕ) Value S) (objects : List Object) where
   pub ahead-values : (q : Place) → values_in (ahead values objects) q ≡ value_ahead values objects q

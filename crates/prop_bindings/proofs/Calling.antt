@@ -7,17 +7,17 @@ use Rattle.basic_types.specs.declared.value.Value.{Value}
 use Rattle.meta_model.specs.Loaded.{Loaded}
 use Rattle.object_tree.specs.declared.object.Object.{Object}
 use Rattle.binding_graph.specs.declared.place.Place.{Place}
-use Rattle.binding_plans.specs.declared.assignment.Assignment.{Assignment}
+use Rattle.prop_bindings.specs.declared.plans.assignment.Assignment.{Assignment}
 use Rattle.binding_graph.specs.declared.binding.Binding.{Binding}
-use Rattle.binding_plans.specs.declared.planned.Planned.{Planned}
+use Rattle.prop_bindings.specs.declared.plans.planned.Planned.{Planned}
 use Rattle.binding_graph.specs.Places.{In}
-use Rattle.binding_plans.specs.Values.{values_in}
+use Rattle.prop_bindings.specs.Values.{values_in}
 use Rattle.binding_graph.specs.Bindings.{binding_at, without, without_all, replaced, reads_any, value_of, Settled, Loop}
-use Rattle.binding_plans.specs.Calls.{AllFit}
-use Rattle.binding_plans.specs.Changes.{in_order, once, places_in, DifferInValues, AreChanged, HaveLasting, none_changed, one_stayed, IsWritten, IsInstalled}
+use Rattle.prop_bindings.specs.Calls.{AllFit}
+use Rattle.prop_bindings.specs.Changes.{in_order, once, places_in, DifferInValues, AreChanged, HaveLasting, none_changed, one_stayed, IsWritten, IsInstalled}
 use Rattle.prop_bindings.specs.Counts.{CountsGroup, CountsReached}
-use Rattle.binding_plans.specs.Fits.{FitsAt, IsFit, IsInOneLoop, Agree}
-use Rattle.binding_plans.specs.Plans.{after, assigned}
+use Rattle.prop_bindings.specs.Fits.{FitsAt, IsFit, IsInOneLoop, Agree}
+use Rattle.prop_bindings.specs.Plans.{after, assigned}
 use Rattle.prop_bindings.specs.code.Parts.{AreSound, LeadTo, wrote}
 use Rattle.binding_graph.specs.code.Orders.{update, pass, bound, IsAffected, IsLater}
 use Rattle.binding_graph.proofs.Apart.{apart-all, apart-replaced, acyclic-all}
@@ -25,7 +25,7 @@ use Rattle.prop_bindings.proofs.Counting.{changed-among, counts-affected, counts
 use Rattle.prop_bindings.proofs.Evaluating.{rest-alike}
 use Rattle.prop_bindings.proofs.Fitting.{fit-stays}
 use Rattle.prop_bindings.proofs.Homes.{joined-stays, all-joined}
-use Rattle.binding_plans.proofs.EachOnce.{distinct-once, in-once, once-distinct, once-in, without_all-once}
+use Rattle.prop_bindings.proofs.EachOnce.{distinct-once, in-once, once-distinct, once-in, without_all-once}
 use Rattle.binding_graph.proofs.Several.{without_all-fewer}
 use Rattle.prop_bindings.proofs.Wrote.{lasting-same, wrote-lasting, wrote-other}
 use Rattle.prop_bindings.proofs.Settling.{written-value, written-settled, written-kept, closes-loop, installed-later, installed-acyclic, installed-settled, installed-kept, later-is}

@@ -2,7 +2,7 @@
 use Rattle.std.proofs.Common.{◌≡◌, List, [], ◌∷◌, ◌++◌, refl, ap}
 use Rattle.object_tree.specs.declared.object.Object.{Object}
 use Rattle.binding_graph.specs.declared.place.Place.{Place}
-use Rattle.binding_plans.specs.Changes.{ReadsAlike, AreChanged, none_changed, one_changed, one_stayed}
+use Rattle.prop_bindings.specs.Changes.{ReadsAlike, AreChanged, none_changed, one_changed, one_stayed}
 
 -- one more property, which changed, or didn't
 pub changed-more : (old new : List Object) (p : Place) (ps cs : List Place) → AreChanged old new ps cs → (¬ ReadsAlike old new p) → AreChanged old new (ps ++ p ∷ []) (cs ++ p ∷ [])

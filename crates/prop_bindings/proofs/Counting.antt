@@ -5,7 +5,7 @@ use Rattle.binding_graph.specs.declared.place.Place.{Place}
 use Rattle.binding_graph.specs.declared.binding.Binding.{Binding}
 use Rattle.binding_graph.specs.Places.{In}
 use Rattle.binding_graph.specs.Bindings.{Chain, direct, further, Loop}
-use Rattle.binding_plans.specs.Changes.{ReadsAlike, AreChanged, none_changed, one_changed, one_stayed}
+use Rattle.prop_bindings.specs.Changes.{ReadsAlike, AreChanged, none_changed, one_changed, one_stayed}
 use Rattle.prop_bindings.specs.Counts.{CountsReached, CountsFrom}
 use Rattle.binding_graph.specs.code.Orders.{IsAffected, IsLater}
 use Rattle.binding_graph.proofs.Loops.{chain-of-one}

@@ -11,16 +11,16 @@ use Rattle.object_tree.specs.Typed.{AreTyped}
 use Rattle.object_tree.proofs.TypedObjects.{typed-written}
 use Rattle.binding_graph.specs.declared.place.Place.{Place}
 use Rattle.binding_graph.specs.declared.binding.Binding.{Binding}
-use Rattle.binding_plans.specs.Values.{values_in}
+use Rattle.prop_bindings.specs.Values.{values_in}
 use Rattle.binding_graph.specs.Places.{In}
 use Rattle.binding_graph.specs.Bindings.{binding_at, value_of}
-use Rattle.binding_plans.specs.Changes.{DifferInValues, ReadsAlike}
-use Rattle.binding_plans.specs.Fits.{FitsAt, IsFit}
+use Rattle.prop_bindings.specs.Changes.{DifferInValues, ReadsAlike}
+use Rattle.prop_bindings.specs.Fits.{FitsAt, IsFit}
 use Rattle.binding_graph.specs.code.Orders.{given, evaluated, pass, update}
 use Rattle.prop_bindings.specs.code.Parts.{AreSound, IsSoundBySome, StaySound}
 use Rattle.prop_bindings.proofs.Staying.{reads-alike}
 use Rattle.binding_graph.proofs.Passes.{pass-other}
-use Rattle.binding_plans.proofs.Values.{written-differs, values-updated}
+use Rattle.prop_bindings.proofs.Values.{written-differs, values-updated}
 use Rattle.prop_bindings.proofs.Fitting.{all-stay}
 use Rattle.prop_bindings.proofs.There.{bound-has, has-value}
 

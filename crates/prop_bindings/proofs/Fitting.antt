@@ -20,11 +20,11 @@ use Rattle.object_tree.proofs.Changing.{life-of-lives, lives-of-life}
 use Rattle.meta_model.specs.declared.site.SourceProperty.{SourceProperty}
 use Rattle.binding_graph.specs.declared.place.Place.{Place}
 use Rattle.binding_graph.specs.declared.binding.Binding.{Binding}
-use Rattle.binding_plans.specs.Values.{values_in}
+use Rattle.prop_bindings.specs.Values.{values_in}
 use Rattle.binding_graph.specs.Bindings.{source_place, value_of}
-use Rattle.binding_plans.specs.Changes.{valueless, DifferInValues}
-use Rattle.binding_plans.specs.Fits.{IsFit}
-use Rattle.binding_plans.proofs.Alive.{LivesOn, emptied, lives-alike, lives-on, seen-number, seen-same}
+use Rattle.prop_bindings.specs.Changes.{valueless, DifferInValues}
+use Rattle.prop_bindings.specs.Fits.{IsFit}
+use Rattle.prop_bindings.proofs.Alive.{LivesOn, emptied, lives-alike, lives-on, seen-number, seen-same}
 use Rattle.prop_bindings.proofs.Alike.{BothAlike, sort_of, values-alike, lists-alike, reads-sort, plain-has}
 
 abbrev kinds_of : MetaObject → List ValueType

@@ -11,13 +11,13 @@ use Rattle.object_tree.specs.declared.object.Object.{Object}
 use Rattle.object_tree.specs.Objects.{change_life, written}
 use Rattle.object_tree.specs.Typed.{AreTyped}
 use Rattle.binding_graph.specs.declared.place.Place.{Place}
-use Rattle.binding_plans.specs.declared.assignment.Assignment.{Assignment}
+use Rattle.prop_bindings.specs.declared.plans.assignment.Assignment.{Assignment}
 use Rattle.binding_graph.specs.declared.binding.Binding.{Binding}
 use Rattle.binding_graph.specs.Places.{In, is_in, same_place}
-use Rattle.binding_plans.specs.Values.{values_in}
-use Rattle.binding_plans.specs.Calls.{AllFit}
-use Rattle.binding_plans.specs.Changes.{HaveLasting, once, one, places_in}
-use Rattle.binding_plans.specs.Fits.{FitsAt}
+use Rattle.prop_bindings.specs.Values.{values_in}
+use Rattle.prop_bindings.specs.Calls.{AllFit}
+use Rattle.prop_bindings.specs.Changes.{HaveLasting, once, one, places_in}
+use Rattle.prop_bindings.specs.Fits.{FitsAt}
 use Rattle.binding_graph.specs.code.Keys.{key_of, same_key}
 use Rattle.binding_graph.specs.code.Orders.{update}
 use Rattle.prop_bindings.specs.code.Parts.{AreGiven, GivesOnly, HaveAhead, IsSoundBySome, MayGiveSome, AreSound, ahead, wrote}
@@ -25,7 +25,7 @@ use Rattle.prop_bindings.proofs.Assigned.{ahead-more, ahead-none}
 use Rattle.prop_bindings.proofs.Evaluating.{given-values}
 use Rattle.prop_bindings.proofs.Once.{given-once}
 use Rattle.binding_graph.proofs.Places.{In-right, is_in-false, is_in-true, same_place-true}
-use Rattle.binding_plans.proofs.EachOnce.{in-once, once-again, once-in, once-new}
+use Rattle.prop_bindings.proofs.EachOnce.{in-once, once-again, once-in, once-new}
 use Rattle.binding_graph.proofs.Several.{is_in-of}
 use Rattle.prop_bindings.proofs.Wrote.{lasting-same, wrote-lasting, wrote-other, wrote-push, wrote-sound}
 

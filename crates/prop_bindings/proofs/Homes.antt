@@ -7,9 +7,9 @@ use Rattle.object_tree.specs.declared.life.Life.{Life}
 use Rattle.object_tree.specs.declared.object.Object.{Object}
 use Rattle.object_tree.specs.Objects.{life_of, home_of}
 use Rattle.binding_graph.specs.declared.binding.Binding.{Binding}
-use Rattle.binding_plans.specs.Changes.{DifferInValues}
-use Rattle.binding_plans.specs.Fits.{IsInOneLoop}
-use Rattle.binding_plans.proofs.Alive.{lives-alike}
+use Rattle.prop_bindings.specs.Changes.{DifferInValues}
+use Rattle.prop_bindings.specs.Fits.{IsInOneLoop}
+use Rattle.prop_bindings.proofs.Alive.{lives-alike}
 
 abbrev emptied : Life → Life
 emptied l = record l { values = [] }

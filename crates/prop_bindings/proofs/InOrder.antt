@@ -11,12 +11,12 @@ use Rattle.binding_graph.specs.declared.installed.Installed.{Installed}
 use Rattle.binding_graph.specs.declared.numbering.Numbered.{Numbered}
 use Rattle.binding_graph.specs.Places.{Distinct, In, is_in}
 use Rattle.binding_graph.specs.Bindings.{AreApart, without_all}
-use Rattle.binding_plans.specs.Changes.{in_order, ReadsAlike, AreChanged, none_changed, one_changed, one_stayed}
+use Rattle.prop_bindings.specs.Changes.{in_order, ReadsAlike, AreChanged, none_changed, one_changed, one_stayed}
 use Rattle.binding_graph.specs.code.Graph.{AreKeyed, bindings_in, slot_of}
 use Rattle.binding_graph.specs.code.Numbering.{places_of, Above, Rises, AreBy, IsNumbering}
 use Rattle.binding_graph.proofs.Places.{decide_in, is_in-false}
 use Rattle.binding_graph.proofs.Keyed.{none-stands}
-use Rattle.binding_plans.proofs.EachOnce.{distinct-once}
+use Rattle.prop_bindings.proofs.EachOnce.{distinct-once}
 use Rattle.binding_graph.proofs.Several.{is_in-not, left, without_all-left}
 use Rattle.prop_bindings.proofs.InSlots.{before, before-at, renumbered, renumbered-places, renumbered-rises}
 

@@ -22,9 +22,9 @@ use Rattle.meta_model.specs.declared.site.SourceProperty.{SourceProperty}
 use Rattle.binding_graph.specs.declared.place.Place.{Place}
 use Rattle.binding_graph.specs.declared.binding.Binding.{Binding}
 use Rattle.binding_graph.specs.Places.{property_of}
-use Rattle.binding_plans.specs.Values.{values_in}
+use Rattle.prop_bindings.specs.Values.{values_in}
 use Rattle.binding_graph.specs.Bindings.{binding_at, source_place, touches, dropped, value_of}
-use Rattle.binding_plans.specs.Fits.{IsFit, IsInOneLoop, Agree}
+use Rattle.prop_bindings.specs.Fits.{IsFit, IsInOneLoop, Agree}
 use Rattle.prop_bindings.specs.Laws.{LeftAgree}
 use Rattle.binding_graph.proofs.Apart.{some-fewer, apart-fewer, acyclic-fewer}
 use Rattle.prop_bindings.proofs.Alike.{reads-sort, plain-has}

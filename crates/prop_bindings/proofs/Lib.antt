@@ -22,7 +22,11 @@ pub mod InSlots
 pub mod InOrder
 pub mod Counting
 pub mod Near
-pub use Rattle.binding_plans.proofs.Values
-pub use Rattle.binding_plans.proofs.EachOnce
-pub use Rattle.binding_plans.proofs.Alive
-pub use Rattle.binding_plans.proofs.AssignedValues
+pub use Rattle.prop_bindings.proofs.Values
+pub use Rattle.prop_bindings.proofs.EachOnce
+pub use Rattle.prop_bindings.proofs.Alive
+pub use Rattle.prop_bindings.proofs.AssignedValues
+pub mod Values
+pub mod EachOnce
+pub mod Alive
+pub mod AssignedValues

@@ -4,17 +4,17 @@ use Rattle.std.specs.List.{AllByRecursion}
 use Rattle.std.proofs.lemmas.Bool.{cases_Bool}
 use Rattle.object_tree.specs.declared.object.Object.{Object}
 use Rattle.binding_graph.specs.declared.place.Place.{Place}
-use Rattle.binding_plans.specs.declared.assignment.Assignment.{Assignment}
+use Rattle.prop_bindings.specs.declared.plans.assignment.Assignment.{Assignment}
 use Rattle.binding_graph.specs.declared.binding.Binding.{Binding}
-use Rattle.binding_plans.specs.Values.{Env, values_in}
+use Rattle.prop_bindings.specs.Values.{Env, values_in}
 use Rattle.binding_graph.specs.Places.{In, is_in}
 use Rattle.binding_graph.specs.Bindings.{binding_at, AreApart, without_all, replaced, Settled, Loop}
-use Rattle.binding_plans.specs.Changes.{DifferInValues, AreChanged, in_order, lasting, places_in}
+use Rattle.prop_bindings.specs.Changes.{DifferInValues, AreChanged, in_order, lasting, places_in}
 use Rattle.prop_bindings.specs.Laws.{WrittenOnce, InstalledOnce}
 use Rattle.binding_graph.proofs.Places.{decide_in, is_in-true}
 use Rattle.binding_graph.proofs.Acyclic.{acyclic_determine}
 use Rattle.binding_graph.proofs.Apart.{apart-all, apart-replaced, acyclic-all}
-use Rattle.binding_plans.proofs.Values.{same-objects}
+use Rattle.prop_bindings.proofs.Values.{same-objects}
 use Rattle.prop_bindings.proofs.Changed.{changed-once}
 
 -- objects that were the same but for values, and whose values are settled and agree on what isn't bound, are the same

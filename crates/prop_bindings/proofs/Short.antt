@@ -5,17 +5,17 @@ use Rattle.std.specs.Result.{IsErrAnd}
 use Rattle.meta_model.specs.Loaded.{Loaded}
 use Rattle.object_tree.specs.declared.object.Object.{Object}
 use Rattle.binding_graph.specs.declared.place.Place.{Place}
-use Rattle.binding_plans.specs.declared.assignment.Assignment.{Assignment}
+use Rattle.prop_bindings.specs.declared.plans.assignment.Assignment.{Assignment}
 use Rattle.binding_graph.specs.declared.binding.Binding.{Binding}
-use Rattle.binding_plans.specs.declared.fault.BindFault.{BindFault}
-use Rattle.binding_plans.specs.declared.fault.BindFault.TheVariants as bind
-use Rattle.binding_plans.specs.declared.fault.WriteFault.{WriteFault}
-use Rattle.binding_plans.specs.declared.fault.WriteFault.TheVariants as write
-use Rattle.binding_plans.specs.declared.planned.PlannedWrite.{PlannedWrite}
-use Rattle.binding_plans.specs.declared.planned.PlannedGroup.{PlannedGroup}
-use Rattle.binding_plans.specs.declared.planned.PlannedBind.{PlannedBind}
-use Rattle.binding_plans.specs.Calls.{IsNotWritten, no_memory, Writes, IsNotBound, Binds}
-use Rattle.binding_plans.specs.Plans.{PlansGroup, PlansWrite}
+use Rattle.prop_bindings.specs.declared.plans.fault.BindFault.{BindFault}
+use Rattle.prop_bindings.specs.declared.plans.fault.BindFault.TheVariants as bind
+use Rattle.prop_bindings.specs.declared.plans.fault.WriteFault.{WriteFault}
+use Rattle.prop_bindings.specs.declared.plans.fault.WriteFault.TheVariants as write
+use Rattle.prop_bindings.specs.declared.plans.planned.PlannedWrite.{PlannedWrite}
+use Rattle.prop_bindings.specs.declared.plans.planned.PlannedGroup.{PlannedGroup}
+use Rattle.prop_bindings.specs.declared.plans.planned.PlannedBind.{PlannedBind}
+use Rattle.prop_bindings.specs.Calls.{IsNotWritten, no_memory, Writes, IsNotBound, Binds}
+use Rattle.prop_bindings.specs.Plans.{PlansGroup, PlansWrite}
 use Rattle.prop_bindings.specs.code.Parts.{Installs, IsNotInstalled, short}
 
 pub on-err : {T E P : Type 0} (r : Result T E) → P → OnErr r P

@@ -20,19 +20,19 @@ use Rattle.object_tree.specs.declared.life.Life.{Life}
 use Rattle.object_tree.specs.declared.object.Object.{Object}
 use Rattle.object_tree.proofs.Changing.{life-of-lives}
 use Rattle.binding_graph.specs.declared.binding.Binding.{Binding}
-use Rattle.binding_plans.specs.declared.fault.BindFault.{BindFault}
-use Rattle.binding_plans.specs.declared.fault.BindFault.TheVariants as bind
-use Rattle.binding_plans.specs.declared.planned.PlannedBind.{PlannedBind}
+use Rattle.prop_bindings.specs.declared.plans.fault.BindFault.{BindFault}
+use Rattle.prop_bindings.specs.declared.plans.fault.BindFault.TheVariants as bind
+use Rattle.prop_bindings.specs.declared.plans.planned.PlannedBind.{PlannedBind}
 use Rattle.prop_bindings.specs.declared.preparing.Prepared.{Prepared}
-use Rattle.binding_plans.specs.FaultNumbers.{fault_of}
+use Rattle.prop_bindings.specs.FaultNumbers.{fault_of}
 use Rattle.binding_graph.specs.Places.{property_of}
-use Rattle.binding_plans.specs.Values.{values_in}
+use Rattle.prop_bindings.specs.Values.{values_in}
 use Rattle.binding_graph.specs.Bindings.{binding_at, replaced, value_of, Loop}
-use Rattle.binding_plans.specs.Calls.{IsOf, MayBind, CoversBinding, binding_of, new_binding, IsNotBound, bad_source, bad_type, closes, no_memory}
-use Rattle.binding_plans.specs.Plans.{PlansBind, after}
+use Rattle.prop_bindings.specs.Calls.{IsOf, MayBind, CoversBinding, binding_of, new_binding, IsNotBound, bad_source, bad_type, closes, no_memory}
+use Rattle.prop_bindings.specs.Plans.{PlansBind, after}
 use Rattle.prop_bindings.specs.code.Parts.{IsPrepared, Prepares, IsNotInstalled, loops, short, Installs}
-use Rattle.binding_plans.specs.Changes.{IsInstalled}
-use Rattle.binding_plans.specs.Fits.{FitsAt, IsFit}
+use Rattle.prop_bindings.specs.Changes.{IsInstalled}
+use Rattle.prop_bindings.specs.Fits.{FitsAt, IsFit}
 use Rattle.prop_bindings.proofs.Calling.{fits-of}
 
 -- ---- a property's number is the same in each class below

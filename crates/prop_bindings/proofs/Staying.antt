@@ -6,9 +6,9 @@ use Rattle.basic_types.specs.declared.value.Value.{Value}
 use Rattle.object_tree.specs.declared.object.Object.{Object}
 use Rattle.object_tree.specs.Seen.{seen}
 use Rattle.binding_graph.specs.declared.place.Place.{Place}
-use Rattle.binding_plans.specs.Values.{values_in}
-use Rattle.binding_plans.specs.Changes.{DifferInValues, ReadsAlike}
-use Rattle.binding_plans.proofs.Alive.{seen-same}
+use Rattle.prop_bindings.specs.Values.{values_in}
+use Rattle.prop_bindings.specs.Changes.{DifferInValues, ReadsAlike}
+use Rattle.prop_bindings.proofs.Alive.{seen-same}
 
 -- what values read as is the same where nothing but values differs
 pub reads-alike : (old new : List Object) → DifferInValues old new → (p : Place) (w : Option Value) → w ≡ values_in old p → option_map (seen new) (values_in new p) ≡ option_map (seen new) w → ReadsAlike old new p

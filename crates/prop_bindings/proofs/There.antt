@@ -16,9 +16,9 @@ use Rattle.object_tree.proofs.Changing.{life-of-lives}
 use Rattle.binding_graph.specs.declared.place.Place.{Place}
 use Rattle.binding_graph.specs.declared.binding.Binding.{Binding}
 use Rattle.binding_graph.specs.Places.{same_place}
-use Rattle.binding_plans.specs.Values.{values_in}
+use Rattle.prop_bindings.specs.Values.{values_in}
 use Rattle.binding_graph.specs.Bindings.{binding_at}
-use Rattle.binding_plans.specs.Fits.{FitsAt}
+use Rattle.prop_bindings.specs.Fits.{FitsAt}
 use Rattle.binding_graph.proofs.Places.{decide_place, same_place-refl}
 
 -- ---- a list of bindings

@@ -14,19 +14,19 @@ use Rattle.object_tree.specs.Typed.{AreTyped}
 use Rattle.object_tree.proofs.Changing.{life-of-lives}
 use Rattle.object_tree.proofs.TypedObjects.{Follow, reads-still, typed-written}
 use Rattle.binding_graph.specs.declared.place.Place.{Place}
-use Rattle.binding_plans.specs.declared.assignment.Assignment.{Assignment}
+use Rattle.prop_bindings.specs.declared.plans.assignment.Assignment.{Assignment}
 use Rattle.binding_graph.specs.declared.binding.Binding.{Binding}
 use Rattle.binding_graph.specs.Places.{In, is_in}
-use Rattle.binding_plans.specs.Values.{values_in}
-use Rattle.binding_plans.specs.Calls.{AllFit}
-use Rattle.binding_plans.specs.Changes.{DifferInValues, HaveLasting, lasting, places_in}
-use Rattle.binding_plans.specs.Fits.{FitsAt}
+use Rattle.prop_bindings.specs.Values.{values_in}
+use Rattle.prop_bindings.specs.Calls.{AllFit}
+use Rattle.prop_bindings.specs.Changes.{DifferInValues, HaveLasting, lasting, places_in}
+use Rattle.prop_bindings.specs.Fits.{FitsAt}
 use Rattle.prop_bindings.specs.code.Parts.{AreSound, wrote}
 use Rattle.prop_bindings.proofs.Evaluating.{given-sound}
-use Rattle.binding_plans.proofs.Alive.{lives-alike, lives-on, seen-number}
+use Rattle.prop_bindings.proofs.Alive.{lives-alike, lives-on, seen-number}
 use Rattle.binding_graph.proofs.Places.{different, is_in-false}
 use Rattle.prop_bindings.proofs.There.{has-value}
-use Rattle.binding_plans.proofs.Values.{value-kept, value-written, written-differs}
+use Rattle.prop_bindings.proofs.Values.{value-kept, value-written, written-differs}
 
 -- ---- a value that fits does so where nothing but values differs
 abbrev emptied : Life → Life

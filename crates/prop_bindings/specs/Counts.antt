@@ -6,11 +6,11 @@ use Rattle.meta_model.specs.Loaded.{Loaded}
 use Rattle.meta_model.specs.declared.site.MetaSite.{MetaSite}
 use Rattle.object_tree.specs.declared.object.Object.{Object}
 use Rattle.binding_graph.specs.declared.place.Place.{Place}
-use Rattle.binding_plans.specs.declared.assignment.Assignment.{Assignment}
+use Rattle.prop_bindings.specs.declared.plans.assignment.Assignment.{Assignment}
 use Rattle.binding_graph.specs.declared.binding.Binding.{Binding}
 use Rattle.binding_graph.specs.Places.{In, Distinct, property_of}
 use Rattle.binding_graph.specs.Bindings.{binding_at, ChainFrom}
-use Rattle.binding_plans.specs.Changes.{HaveLasting, one, places_in}
+use Rattle.prop_bindings.specs.Changes.{HaveLasting, one, places_in}
 
 -- the installed bindings, and how many evaluations the last write or bind took
 pub record Kept : Type 0 where

@@ -10,11 +10,11 @@ use Rattle.object_tree.specs.Family.{without_life}
 use Rattle.object_tree.specs.Objects.{blocked, change_life, scheduled}
 use Rattle.object_tree.specs.Typed.{AreTyped}
 use Rattle.binding_graph.specs.declared.place.Place.{Place}
-use Rattle.binding_plans.specs.declared.assignment.Assignment.{Assignment}
+use Rattle.prop_bindings.specs.declared.plans.assignment.Assignment.{Assignment}
 use Rattle.binding_graph.specs.declared.binding.Binding.{Binding}
 use Rattle.binding_graph.specs.Bindings.{binding_at, replaced, dropped, Loop}
-use Rattle.binding_plans.specs.Changes.{IsWritten, IsInstalled}
-use Rattle.binding_plans.specs.Fits.{Agree}
+use Rattle.prop_bindings.specs.Changes.{IsWritten, IsInstalled}
+use Rattle.prop_bindings.specs.Fits.{Agree}
 
 -- what a write makes of bindings and objects that agree is one thing
 abbrev pub WrittenOnce : Type 0

@@ -5,13 +5,13 @@ ghost use Rattle.std.specs.Option.{option_copied};
 ghost use Rattle.indexmap.specs.IndexMap.{get};
 ghost use Rattle.binding_graph.specs.code.Keys.{key_of, same_key};
 ghost use Rattle.expressions.specs.Evaluation.{Evaluates};
-ghost use Rattle.binding_plans.specs.Values.{values_in};
-ghost use Rattle.binding_plans.specs.Plans.{assigned};
+ghost use Rattle.prop_bindings.specs.Values.{values_in};
+ghost use Rattle.prop_bindings.specs.Plans.{assigned};
 ghost use Rattle.prop_bindings.specs.code.Parts.{value_ahead};
 
+use crate::plans::value_given;
 use basic_types::{ObjectId, Value};
 use binding_graph::Place;
-use binding_plans::value_given;
 use expressions::{self, EvalFault};
 use indexmap::IndexMap;
 use meta_model::SourceProperty;

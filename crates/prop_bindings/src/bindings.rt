@@ -4,25 +4,25 @@ ghost use Rattle.std.specs.Prelude.{◌≡◌, ◌∷◌, [], slice_get, IfOk, I
 ghost use Rattle.std.specs.Option.{option_copied};
 ghost use Rattle.object_tree.specs.Objects.{change_life, written};
 ghost use Rattle.binding_graph.specs.Bindings.{binding_at, dropped, lead_out, replaced, without, without_all};
-ghost use Rattle.binding_plans.specs.Calls.{Binds, Writes};
+ghost use Rattle.prop_bindings.specs.Calls.{Binds, Writes};
 ghost use Rattle.binding_graph.specs.code.Graph.{Unread};
-ghost use Rattle.binding_plans.specs.Changes.{AreChanged, once, one, places_in};
+ghost use Rattle.prop_bindings.specs.Changes.{AreChanged, once, one, places_in};
 ghost use Rattle.prop_bindings.specs.Counts.{CountsBound, CountsFrom, CountsGroup, CountsWritten, Kept, nothing_kept};
-ghost use Rattle.binding_plans.specs.Fits.{Agree};
+ghost use Rattle.prop_bindings.specs.Fits.{Agree};
 ghost use Rattle.binding_graph.specs.Laws.{Determines};
-ghost use Rattle.binding_plans.specs.Plans.{PlansBind, PlansGroup, PlansWrite, after};
+ghost use Rattle.prop_bindings.specs.Plans.{PlansBind, PlansGroup, PlansWrite, after};
 ghost use Rattle.prop_bindings.specs.code.Parts.{AgreesWith, Installs, MayInstall, StayAgreeing};
 
 use crate::assigning::assign;
 use crate::changes::{changed_alone, plan};
+use crate::plans::{
+    Assignment, BindFault, ChangedPlaces, Planned, PlannedBind, PlannedGroup, PlannedWrite,
+    WriteFault,
+};
 use crate::preparing::{Prepared, fits, has_value, prepare};
 use crate::writes::{Given, all_fit, give_all, give_one, have_all, plan_given, plan_one};
 use basic_types::{ObjectId, Value};
 use binding_graph::{Binding, Graph, Place, Reader, followers};
-use binding_plans::{
-    Assignment, BindFault, ChangedPlaces, Planned, PlannedBind, PlannedGroup, PlannedWrite,
-    WriteFault,
-};
 use meta_model::Meta;
 use object_tree::Tree;
 use sqlite_items::Items;

@@ -6,10 +6,10 @@ ghost use Rattle.object_tree.specs.Objects.{change_life, written};
 ghost use Rattle.object_tree.specs.Seen.{seen};
 ghost use Rattle.binding_graph.specs.declared.place.Place.{Place};
 ghost use Rattle.binding_graph.specs.Places.{Distinct, In};
-ghost use Rattle.binding_plans.specs.Values.{values_in};
+ghost use Rattle.prop_bindings.specs.Values.{values_in};
 ghost use Rattle.binding_graph.specs.Bindings.{AreApart, binding_at};
-ghost use Rattle.binding_plans.specs.Changes.{in_order, DifferInValues, AreChanged};
-ghost use Rattle.binding_plans.specs.Plans.{after};
+ghost use Rattle.prop_bindings.specs.Changes.{in_order, DifferInValues, AreChanged};
+ghost use Rattle.prop_bindings.specs.Plans.{after};
 ghost use Rattle.binding_graph.specs.code.Graph.{AreKeyed, bindings_in};
 ghost use Rattle.binding_graph.specs.code.Numbering.{places_of};
 ghost use Rattle.binding_graph.specs.code.Orders.{AreBound, pass};
@@ -17,9 +17,9 @@ ghost use Rattle.prop_bindings.specs.code.Parts.{AddsChanged, GivesOnly, IsSound
 
 use crate::ahead::value_ahead;
 use crate::evaluation::evaluate_all;
+use crate::plans::{ChangedPlaces, Planned};
 use basic_types::Value;
 use binding_graph::{Installed, Numbered, Place};
-use binding_plans::{ChangedPlaces, Planned};
 use indexmap::IndexMap;
 use object_tree::Tree;
 use std::alloc::{AllocError, Global};

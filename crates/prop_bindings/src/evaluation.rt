@@ -4,9 +4,9 @@ ghost use Rattle.std.specs.Prelude.{◌≡◌, ◌+◌, ◌<◌, ◌^◌, length
 ghost use Rattle.std.specs.Option.{option_map};
 ghost use Rattle.expressions.specs.Evaluation.{Evaluates};
 ghost use Rattle.binding_graph.specs.declared.place.Place.{Place};
-ghost use Rattle.binding_plans.specs.Values.{values_in};
+ghost use Rattle.prop_bindings.specs.Values.{values_in};
 ghost use Rattle.binding_graph.specs.Bindings.{AreApart, binding_at, value_of};
-ghost use Rattle.binding_plans.specs.Changes.{DifferInValues};
+ghost use Rattle.prop_bindings.specs.Changes.{DifferInValues};
 ghost use Rattle.binding_graph.specs.code.Graph.{AreKeyed, bindings_in, slot_of};
 ghost use Rattle.binding_graph.specs.code.Numbering.{AreNumbered};
 ghost use Rattle.binding_graph.specs.code.Orders.{AreBound, pass};

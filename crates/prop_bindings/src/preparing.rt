@@ -3,16 +3,16 @@
 ghost use Rattle.std.specs.Prelude.{◌≡◌, ◌↔◌, ◌+◌, ◌<◌, ◌^◌, IsTrue, OnOk, Some};
 ghost use Rattle.std.specs.List.{AllZip};
 ghost use Rattle.expressions.specs.Evaluation.{Evaluates};
-ghost use Rattle.binding_plans.specs.Fits.{FitsAt, InOneLoop};
-ghost use Rattle.binding_plans.specs.Values.{values_in};
+ghost use Rattle.prop_bindings.specs.Fits.{FitsAt, InOneLoop};
+ghost use Rattle.prop_bindings.specs.Values.{values_in};
 ghost use Rattle.binding_graph.specs.Bindings.{value_of};
-ghost use Rattle.binding_plans.specs.Calls.{IsOf, CoversBinding};
+ghost use Rattle.prop_bindings.specs.Calls.{IsOf, CoversBinding};
 ghost use Rattle.prop_bindings.specs.code.Parts.{Prepares};
 
 use crate::evaluation::value_of;
+use crate::plans::BindFault;
 use basic_types::{ObjectId, Value};
 use binding_graph::{Binding, Place};
-use binding_plans::BindFault;
 use expressions::EvalFault;
 use indexmap::IndexMap;
 use meta_model::{Meta, MetaSite};

@@ -4,17 +4,17 @@ ghost use Rattle.std.specs.Prelude.{◌≡◌, [], ◌∷◌, IfOk, IsTrue, OnOk
 ghost use Rattle.object_tree.specs.Objects.{change_life, written};
 ghost use Rattle.binding_graph.specs.Bindings.{binding_at, dropped, lead_out, replaced, without, without_all};
 ghost use Rattle.binding_graph.specs.code.Graph.{Unread};
-ghost use Rattle.binding_plans.specs.Changes.{AreChanged, once, one, places_in};
-ghost use Rattle.binding_plans.specs.Fits.{Agree};
-ghost use Rattle.binding_plans.specs.Plans.{PlansBind, PlansGroup, PlansWrite, after};
+ghost use Rattle.prop_bindings.specs.Changes.{AreChanged, once, one, places_in};
+ghost use Rattle.prop_bindings.specs.Fits.{Agree};
+ghost use Rattle.prop_bindings.specs.Plans.{PlansBind, PlansGroup, PlansWrite, after};
 ghost use Rattle.prop_bindings.specs.code.Parts.{MayInstall};
 
 use crate::bindings::Bindings;
-use basic_types::{ObjectId, Value};
-use binding_graph::Place;
-use binding_plans::{
+use crate::plans::{
     Assignment, BindFault, ChangedPlaces, PlannedBind, PlannedGroup, PlannedWrite, WriteFault,
 };
+use basic_types::{ObjectId, Value};
+use binding_graph::Place;
 use meta_model::Meta;
 use object_tree::Tree;
 use std::alloc::{AllocError, Global};

@@ -1,18 +1,18 @@
 //! Writes of properties, one or several at once, planned.
 
 ghost use Rattle.std.specs.Prelude.{◌≡◌, ◌↔◌, ◌∷◌, [], IfOk, IsTrue};
-ghost use Rattle.binding_plans.specs.Values.{values_in};
-ghost use Rattle.binding_plans.specs.Calls.{AllFit};
-ghost use Rattle.binding_plans.specs.Changes.{one};
+ghost use Rattle.prop_bindings.specs.Values.{values_in};
+ghost use Rattle.prop_bindings.specs.Calls.{AllFit};
+ghost use Rattle.prop_bindings.specs.Changes.{one};
 ghost use Rattle.binding_graph.specs.code.Graph.{IsGraph, bindings_of};
 ghost use Rattle.prop_bindings.specs.code.Parts.{AreGiven, HaveAhead, MayGiveSome, MayWriteOne, PlansGiven, PlansOne, ahead};
 
 use crate::ahead::value_ahead;
 use crate::changes::plan;
+use crate::plans::{Assignment, Planned};
 use crate::preparing::{fits, has_value};
 use basic_types::Value;
 use binding_graph::{Graph, Place, followers};
-use binding_plans::{Assignment, Planned};
 use indexmap::IndexMap;
 use meta_model::Meta;
 use object_tree::Tree;

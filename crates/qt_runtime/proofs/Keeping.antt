@@ -14,7 +14,7 @@ use Rattle.machine_state.specs.State.{Activation}
 use Rattle.machine_state.specs.Worlds.{at, untouched}
 use Rattle.machine_rules.specs.Natives.{NativeAnswers}
 use Rattle.object_machine.specs.Runs.{done, GoodRun}
-use Rattle.quiet_events.specs.code.Quiet.{WorldInvariant}
+use Rattle.qt_runtime.specs.code.Quiet.{WorldInvariant}
 use Rattle.qt_runtime.specs.code.Taking.{Took}
 use Rattle.object_machine.proofs.Preservation.{runs-invariant}
 use Rattle.object_machine.proofs.Keeping.{runs-pay, invariant-at, agree-none}

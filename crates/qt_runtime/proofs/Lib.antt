@@ -6,3 +6,6 @@ mod Pushed
 mod Judging
 mod Keeping
 mod Stopping
+pub mod Bound
+pub mod QuietWorlds
+mod QuietJudging

@@ -22,7 +22,7 @@ use Rattle.machine_state.specs.code.Changing.{accepting_entries, accepting_turn,
 use Rattle.object_machine.specs.Takes.{judged, accepts}
 use Rattle.machine_rules.specs.Natives.{NativeAnswers}
 use Rattle.run_context.specs.code.Activating.{IsActivated, IsBarred}
-use Rattle.rule_laws.specs.Reaches.{RunsTo}
+use Rattle.machine_rules.specs.Reaches.{RunsTo}
 use Rattle.binding_graph.specs.declared.binding.Binding.{Binding}
 use Rattle.binding_graph.specs.declared.place.Place.{Place}
 use Rattle.prop_bindings.specs.Calls.{new_binding}
@@ -32,7 +32,7 @@ use Rattle.machine_rules.specs.Good.{ArgumentsFit, TopFits}
 use Rattle.machine_rules.specs.Rules.{begun, begin_entry, top_of}
 use Rattle.machine_rules.specs.Settling.{Installs, notified}
 use Rattle.rule_interpreter.proofs.Beginning.{top-fits}
-use Rattle.rule_laws.proofs.Soundness.{sound-settled}
+use Rattle.machine_rules.proofs.Soundness.{sound-settled}
 use Rattle.machine_rules.specs.code.Sound.{IsSoundWorld}
 use Rattle.object_machine.specs.code.Accepted.{AsksFor, WritesTo}
 use Rattle.qt_runtime.specs.code.Taking.{Took}

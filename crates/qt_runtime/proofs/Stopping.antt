@@ -10,9 +10,9 @@ use Rattle.machine_state.specs.Worlds.{at}
 use Rattle.machine_rules.specs.Natives.{NativeAnswers}
 use Rattle.machine_rules.specs.Good.{IsGood}
 use Rattle.machine_rules.specs.code.Going.{GoodRules, RulesStop}
-use Rattle.rule_laws.specs.Reaches.{RunsTo}
+use Rattle.machine_rules.specs.Reaches.{RunsTo}
 use Rattle.machine_rules.specs.code.Sound.{IsSoundWorld}
-use Rattle.rule_laws.proofs.Keeps.{rules-kept}
+use Rattle.machine_rules.proofs.Keeps.{rules-kept}
 use Rattle.object_machine.specs.Causes.{Halts}
 use Rattle.object_machine.specs.Takes.{Takes}
 use Rattle.qt_runtime.specs.code.Taking.{Took}

@@ -27,8 +27,8 @@ use Rattle.object_machine.specs.code.Judgement.{IsNotAccepted}
 use Rattle.object_machine.specs.code.Judgement as not_accepted
 use Rattle.object_machine.specs.Runs.{GoodRun, RunsWhole, done, takes, is_next, by_event}
 use Rattle.object_machine.specs.Takes.{judged, Takes, accepts, refuses}
-use Rattle.quiet_events.specs.code.Quiet.{IsRefused, Stops, TookQuietly}
-use Rattle.quiet_events.specs.code.Quiet as before
+use Rattle.qt_runtime.specs.code.Quiet.{IsRefused, Stops, TookQuietly}
+use Rattle.qt_runtime.specs.code.Quiet as before
 use Rattle.qt_runtime.specs.code.Taking.{SaysWhy, Took}
 use Rattle.object_machine.proofs.Running.{rules-run}
 use Rattle.object_machine.specs.Causes.{Halts, short, spent, brings, goes_ill}

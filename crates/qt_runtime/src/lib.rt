@@ -3,6 +3,7 @@
 
 mod events;
 mod machine;
+mod quiet;
 mod taking;
 
 pub use class_outlines::MetaFault;

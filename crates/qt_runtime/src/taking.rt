@@ -2,7 +2,7 @@
 
 ghost use Rattle.std.specs.Prelude.{◌<◌, ◌≡◌, None};
 ghost use Rattle.machine_rules.specs.Natives.{KeepPromises};
-ghost use Rattle.quiet_events.specs.code.Quiet.{WorldInvariant};
+ghost use Rattle.qt_runtime.specs.code.Quiet.{WorldInvariant};
 ghost use Rattle.qt_runtime.specs.code.Taking.{TookBy};
 
 use crate::events::assign::assign;
@@ -10,10 +10,10 @@ use crate::events::bind::bind;
 use crate::events::delete::delete;
 use crate::events::invoke::invoke;
 use crate::events::turn::turn;
+use crate::quiet::{add_loop, adopt, block, connect, create, disconnect, later, move_object};
 use machine_state::World;
 use native_slots::Answering;
 use object_machine::Invocation;
-use quiet_events::{add_loop, adopt, block, connect, create, disconnect, later, move_object};
 use rule_interpreter::Interpreter;
 use script_lang::Event;
 use trace_entries::{Answer, Fault};

@@ -27,11 +27,11 @@ use Rattle.machine_state.specs.Worlds.{at}
 use Rattle.machine_state.specs.code.Changing.{noted, having_used, posting}
 use Rattle.run_context.specs.code.Activating.{IsActivated, IsBarred}
 use Rattle.run_context.specs.code.Posting.{entry_of_post, PostsCall}
-use Rattle.rule_laws.specs.Reaches.{Reaches, StopsIn, RunsTo, CallsIn, Calls, OnlyCalls, DoesWork}
-use Rattle.rule_laws.proofs.Stacks.{high, shows-over}
+use Rattle.machine_rules.specs.Reaches.{Reaches, StopsIn, RunsTo, CallsIn, Calls, OnlyCalls, DoesWork}
+use Rattle.machine_rules.proofs.Stacks.{high, shows-over}
 use Rattle.machine_rules.specs.There.{IsMember}
 use Rattle.machine_rules.proofs.Dying.{lives-not-dead}
-use Rattle.rule_laws.proofs.Reaching.{none-spared, same-spared, reaches-pushed, ends-after, ends-lifted, not-idle, ends-noted, stops-as, stops-memory, stops-deep, stops-ill, stops-stuck, no-update-fits}
+use Rattle.machine_rules.proofs.ReachedStates.{none-spared, same-spared, reaches-pushed, ends-after, ends-lifted, not-idle, ends-noted, stops-as, stops-memory, stops-deep, stops-ill, stops-stuck, no-update-fits}
 use Rattle.machine_rules.proofs.Fields.{member-method}
 use Rattle.machine_rules.specs.Operations.{Write, Begin, TakeAnswer}
 use Rattle.machine_rules.specs.Natives.{NativeAnswers}

@@ -33,10 +33,10 @@ use Rattle.machine_rules.specs.code.Going.{GoodRules, done, then}
 use Rattle.machine_state.specs.Worlds.{at}
 use Rattle.machine_state.specs.code.Changing.{noted, Ticks, GoesTo}
 use Rattle.run_context.specs.code.Statements.{Went, Stalls, ConnectsIn, DisconnectsIn, SchedulesIn}
-use Rattle.rule_laws.specs.Reaches.{StopsIn, RunsTo, Advances, Calls, OnlyCalls, Sets, Deletes}
-use Rattle.rule_laws.proofs.Reaching.{not-idle, reaches-low, stops-as, stops-memory, stops-faulted, stops-stuck, ends-noted, ends-ticked}
-use Rattle.rule_laws.proofs.Stacks.{high}
-use Rattle.rule_laws.proofs.Keeps.{some-stack, rules-kept}
+use Rattle.machine_rules.specs.Reaches.{StopsIn, RunsTo, Advances, Calls, OnlyCalls, Sets, Deletes}
+use Rattle.machine_rules.proofs.ReachedStates.{not-idle, reaches-low, stops-as, stops-memory, stops-faulted, stops-stuck, ends-noted, ends-ticked}
+use Rattle.machine_rules.proofs.Stacks.{high}
+use Rattle.machine_rules.proofs.Keeps.{some-stack, rules-kept}
 use Rattle.machine_rules.specs.Natives.{NativeAnswers, MayAnswer}
 use Rattle.machine_rules.specs.code.Answering.{TellsAnswer}
 

@@ -32,17 +32,17 @@ use Rattle.machine_rules.specs.Destroying.{deleting, Dies, NextRule, ChildRule}
 use Rattle.machine_rules.specs.Good.{EmissionFits, of_dead, has_body, IsWell, Spares, shows}
 use Rattle.machine_rules.specs.code.Keeps.{KeepsWorld}
 use Rattle.run_context.specs.code.Activating.{entry_of_destroyed}
-use Rattle.rule_laws.specs.Reaches.{Reaches, StopsIn, RunsTo, Deletes, Kills, Forgets}
+use Rattle.machine_rules.specs.Reaches.{Reaches, StopsIn, RunsTo, Deletes, Kills, Forgets}
 use Rattle.machine_rules.specs.Rules.{Rule}
 use Rattle.machine_rules.specs.There.{IsDead}
 use Rattle.machine_rules.proofs.Dying.{dead-no-life, died-dead, other-seen}
 use Rattle.rule_interpreter.proofs.Beginning.{one-more}
-use Rattle.rule_laws.proofs.Delivered.{has-life}
+use Rattle.machine_rules.proofs.Delivered.{has-life}
 use Rattle.machine_rules.proofs.Declared.{emission-sends}
 use Rattle.machine_rules.specs.code.Sound.{SendsThese}
 use Rattle.meta_model.specs.Sound.{IsSound}
-use Rattle.rule_laws.proofs.Stacks.{high}
-use Rattle.rule_laws.proofs.Reaching.{none-spared, reaches-low, reaches-pushed, stops-as, stops-memory, stops-steps, stops-deep, stops-fatal, no-update-fits, ends-after, ends-lifted, not-idle}
+use Rattle.machine_rules.proofs.Stacks.{high}
+use Rattle.machine_rules.proofs.ReachedStates.{none-spared, reaches-low, reaches-pushed, stops-as, stops-memory, stops-steps, stops-deep, stops-fatal, no-update-fits, ends-after, ends-lifted, not-idle}
 use Rattle.machine_rules.specs.Natives.{NativeAnswers}
 
 -- ---- a deletion begins

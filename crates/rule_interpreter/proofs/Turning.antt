@@ -21,17 +21,17 @@ use Rattle.machine_state.specs.Worlds.{at}
 use Rattle.machine_state.specs.code.Changing.{with_queues, taking, taking_unwritten, turn_ended}
 use Rattle.machine_rules.specs.Good.{ArgumentsFit, shows}
 use Rattle.run_context.specs.code.Activating.{IsActivated, IsBarred}
-use Rattle.rule_laws.specs.Reaches.{DoesWork, Reaches, StopsIn, RunsTo, Advances}
+use Rattle.machine_rules.specs.Reaches.{DoesWork, Reaches, StopsIn, RunsTo, Advances}
 use Rattle.rule_interpreter.specs.code.Delivering.{first_due, IsFirst, IsCalled}
 use Rattle.machine_rules.specs.Rules.{Rule, TurnRule, Serves, Delivers, Begins, BeginsIf, top_of}
 use Rattle.machine_rules.specs.code.Going.{done}
 use Rattle.machine_rules.specs.code.Sound.{Waits, IsSoundWorld, AgreeIn}
 use Rattle.rule_interpreter.proofs.Beginning.{begun_world, begins-there, top-fits, top-other}
-use Rattle.rule_laws.proofs.Keeps.{reaches-keeps}
-use Rattle.rule_laws.proofs.Reaching.{none-spared, reaches-low, reaches-pushed, reaches-then, stops-after, ends-unchanged}
+use Rattle.machine_rules.proofs.Keeps.{reaches-keeps}
+use Rattle.machine_rules.proofs.ReachedStates.{none-spared, reaches-low, reaches-pushed, reaches-then, stops-after, ends-unchanged}
 use Rattle.rule_interpreter.proofs.Bodies.{advances-left}
 use Rattle.machine_state.specs.Connections.{is_living}
-use Rattle.rule_laws.proofs.Delivered.{has-life}
+use Rattle.machine_rules.proofs.Delivered.{has-life}
 use Rattle.machine_rules.proofs.Declared.{living-fits}
 use Rattle.machine_rules.proofs.Waiting.{length-change, housed-same, all-taken, first-waits}
 use Rattle.machine_rules.specs.Natives.{NativeAnswers}

@@ -15,7 +15,7 @@ use Rattle.object_tree.proofs.Changing.{life-of-lives, lives-of-life}
 use Rattle.object_tree.specs.Typed.{ReadsAs}
 use Rattle.binding_graph.specs.declared.binding.Binding.{Binding}
 use Rattle.binding_graph.specs.declared.place.Place.{Place}
-use Rattle.prop_bindings.specs.Assignment.{Assignment}
+use Rattle.prop_bindings.specs.declared.plans.assignment.Assignment.{Assignment}
 use Rattle.binding_graph.specs.Bindings.{without_all}
 use Rattle.prop_bindings.specs.Calls.{AllFit}
 use Rattle.prop_bindings.specs.Changes.{IsWritten, one, places_in}
@@ -31,20 +31,20 @@ use Rattle.machine_state.specs.Worlds.{at}
 use Rattle.machine_state.specs.code.Changing.{noted, HasWritten}
 use Rattle.machine_rules.specs.Operations.{Operation, Write, TakeAnswer, operation_of_step}
 use Rattle.run_context.specs.code.Activating.{MayNest}
-use Rattle.rule_laws.specs.Reaches.{Reaches, StopsIn, RunsTo, Sets}
+use Rattle.machine_rules.specs.Reaches.{Reaches, StopsIn, RunsTo, Sets}
 use Rattle.machine_rules.specs.Faults.{WritesDeep}
 use Rattle.machine_rules.specs.code.Lacking.{IsAfterFit, LacksFirst}
 use Rattle.machine_rules.specs.Next.{DoesNext, WritesIll}
 use Rattle.machine_rules.specs.Settling.{Settles, Writes, notified}
 use Rattle.machine_rules.specs.code.Sound.{AgreeIn}
 use Rattle.machine_rules.specs.There.{HasField, IsField, LacksField}
-use Rattle.rule_laws.specs.Writing.{MayWrite, IsUnfit, FitsOrNot, IsUnwritten, missing, ill, unfit, deep}
+use Rattle.machine_rules.specs.Writing.{MayWrite, IsUnfit, FitsOrNot, IsUnwritten, missing, ill, unfit, deep}
 use Rattle.run_context.proofs.Linking.{not-true}
-use Rattle.rule_laws.proofs.Fitting.{fits-field, fits-read}
+use Rattle.machine_rules.proofs.ReachingFitting.{fits-field, fits-read}
 use Rattle.rule_interpreter.proofs.Beginning.{one-more}
 use Rattle.machine_rules.proofs.Differing.{differ-spared}
 use Rattle.machine_rules.proofs.Fields.{field-at, life-unique}
-use Rattle.rule_laws.proofs.Reaching.{none-spared, reaches-high, ends-after, ends-left, ends-lifted, ends-unchanged, stops-as, stops-stuck, stops-ill-write, stops-deep-write}
+use Rattle.machine_rules.proofs.ReachedStates.{none-spared, reaches-high, ends-after, ends-left, ends-lifted, ends-unchanged, stops-as, stops-stuck, stops-ill-write, stops-deep-write}
 use Rattle.machine_rules.specs.Natives.{NativeAnswers}
 use Rattle.machine_rules.specs.Good.{shows}
 

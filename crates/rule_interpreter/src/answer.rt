@@ -4,7 +4,7 @@ ghost use Rattle.std.specs.Prelude.{IfOk};
 ghost use Rattle.meta_model.specs.declared.object.Work.TheVariants.{Native};
 ghost use Rattle.machine_rules.specs.Natives.{MayAnswer, KeepPromises};
 ghost use Rattle.machine_rules.specs.code.Answering.{AreTellable};
-ghost use Rattle.rule_laws.specs.Reaches.{DoesWork};
+ghost use Rattle.machine_rules.specs.Reaches.{DoesWork};
 ghost use Rattle.run_context.specs.code.Activating.{CallFits};
 ghost use Rattle.machine_rules.specs.code.Sound.{IsSoundWorld};
 

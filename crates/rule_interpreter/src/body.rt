@@ -4,7 +4,7 @@ ghost use Rattle.std.specs.Prelude.{◌≡◌, ◌<◌, if◌then◌else◌, len
 ghost use Rattle.meta_model.specs.declared.object.Statement.TheViews.{out-Statement};
 ghost use Rattle.machine_rules.specs.code.Sound.{IsSoundWorld};
 ghost use Rattle.machine_state.specs.State.{Run, Body};
-ghost use Rattle.statement_meaning.specs.code.Scope.{objects_in};
+ghost use Rattle.run_context.specs.code.Scope.{objects_in};
 ghost use Rattle.std.specs.Option.{option_copied};
 ghost use Rattle.rule_interpreter.specs.code.Calls.{Finishes, CarriesOut};
 ghost use Rattle.machine_rules.specs.Natives.{KeepPromises};
@@ -17,8 +17,7 @@ use machine_state::World;
 use meta_model::Statement;
 use native_slots::Answering;
 use prop_bindings::Assignment;
-use run_context::MethodCall;
-use statement_meaning::Scope;
+use run_context::{MethodCall, Scope};
 use trace_entries::Fault;
 
 impl<N: Answering> Interpreter<N> {

@@ -2,7 +2,7 @@
 
 ghost use Rattle.std.specs.Prelude.{◌≡◌, ◌<◌, true, false, [], length, Some, OnOk};
 ghost use Rattle.rule_interpreter.specs.code.Calls.{Finishes, TurnsInto, RunsDeath, RunsDeletion};
-ghost use Rattle.rule_laws.specs.Reaches.{Forgets};
+ghost use Rattle.machine_rules.specs.Reaches.{Forgets};
 ghost use Rattle.machine_rules.specs.code.Sound.{IsSoundWorld};
 ghost use Rattle.machine_state.specs.Connections.{is_living};
 ghost use Rattle.machine_state.specs.State.{Destroy};

@@ -5,7 +5,7 @@ ghost use Rattle.machine_rules.specs.code.Sound.{IsSoundWorld, SendsThese, IsDel
 ghost use Rattle.machine_state.specs.State.{Emit};
 ghost use Rattle.rule_interpreter.specs.code.Calls.{Finishes, UsesNext, RunsCall, RunsUse, RunsOnlyCall};
 ghost use Rattle.machine_rules.specs.Rules.{top_of};
-ghost use Rattle.rule_laws.specs.Reaches.{DoesWork};
+ghost use Rattle.machine_rules.specs.Reaches.{DoesWork};
 ghost use Rattle.run_context.specs.code.Activating.{CallFits, IsActivated};
 ghost use Rattle.machine_rules.specs.code.Keeps.{KeepsWorld};
 ghost use Rattle.machine_rules.specs.Natives.{KeepPromises};

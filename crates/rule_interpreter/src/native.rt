@@ -6,7 +6,7 @@ ghost use Rattle.machine_state.specs.State.{Ask, Body};
 ghost use Rattle.rule_interpreter.specs.code.Calls.{Finishes, CarriesOutAction};
 ghost use Rattle.machine_rules.specs.Natives.{KeepPromises};
 ghost use Rattle.machine_rules.specs.code.Answering.{member_of_action};
-ghost use Rattle.rule_laws.specs.Reaches.{DoesWork};
+ghost use Rattle.machine_rules.specs.Reaches.{DoesWork};
 ghost use Rattle.run_context.specs.code.Activating.{CallFits};
 ghost use Rattle.machine_rules.specs.code.Sound.{IsSoundWorld};
 

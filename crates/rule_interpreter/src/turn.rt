@@ -2,7 +2,7 @@
 
 ghost use Rattle.std.specs.Prelude.{◌≡◌, ◌<◌, [], Some, None, OnOk};
 ghost use Rattle.machine_rules.specs.code.Sound.{IsSoundWorld};
-ghost use Rattle.rule_laws.specs.Reaches.{RunsTo, Advances};
+ghost use Rattle.machine_rules.specs.Reaches.{RunsTo, Advances};
 ghost use Rattle.rule_interpreter.specs.code.Delivering.{IsCalled, TakesCall};
 ghost use Rattle.machine_rules.specs.Natives.{KeepPromises};
 

@@ -5,7 +5,7 @@ ghost use Rattle.machine_rules.specs.code.Sound.{IsSoundWorld};
 ghost use Rattle.machine_state.specs.State.{Update};
 ghost use Rattle.rule_interpreter.specs.code.Calls.{Finishes, NotifiesFirst, RunsWrite};
 ghost use Rattle.machine_rules.specs.Settling.{signal_at, notified};
-ghost use Rattle.rule_laws.specs.Writing.{MayWrite, IsUnwritten, FitsOrNot, MayNotify, Announces};
+ghost use Rattle.machine_rules.specs.Writing.{MayWrite, IsUnwritten, FitsOrNot, MayNotify, Announces};
 ghost use Rattle.machine_state.specs.Telling.{Alone, Grouped, writes_of};
 ghost use Rattle.prop_bindings.specs.Changes.{one};
 ghost use Rattle.machine_rules.specs.Natives.{KeepPromises};

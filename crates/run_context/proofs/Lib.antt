@@ -1,3 +1,6 @@
 pub mod Linking
 pub mod Posts
 pub mod Told
+pub mod Reading
+pub mod Yielding
+pub mod Overlaid

@@ -2,3 +2,5 @@
 pub mod Activating
 pub mod Posting
 pub mod Statements
+pub mod Scope
+pub mod Coded

@@ -7,7 +7,9 @@ mod context;
 mod deleting;
 mod method_call;
 mod posting;
+mod statements;
 
 pub use answers::declaring;
 pub use context::{Callee, RunContext};
 pub use method_call::{MethodCall, front};
+pub use statements::Scope;

@@ -11,13 +11,13 @@ use Rattle.object_machine.specs.Seen.{Seen, RunsAll, begun}
 use Rattle.texts.specs.Limits.{most_depth}
 use Rattle.program_commands.proofs.Stepping.{went}
 use Rattle.program_commands.specs.declared.outcome.Outcome.{Outcome as ProgramOutcome}
-use Rattle.machine_commands.specs.Commands.{MayRun, Runs, UncheckedRunComesTo, ran, short}
-use Rattle.machine_commands.specs.Outcomes.{seen_outcome}
-use Rattle.machine_commands.specs.Prepared.{ComesOf, Prepares}
-use Rattle.machine_commands.specs.declared.outcome.Outcome.{Outcome}
-use Rattle.machine_commands.specs.declared.outcome.Outcome.TheVariants.{Usage, NoInput, Program, Ran as OfRun, Memory}
-use Rattle.machine_commands.specs.declared.outcome.Ran.{Ran}
-use Rattle.machine_commands.specs.declared.prepared.Prepared.{Prepared}
+use Rattle.trace_tool.specs.Commands.{MayRun, Runs, UncheckedRunComesTo, ran, short}
+use Rattle.trace_tool.specs.Outcomes.{seen_outcome}
+use Rattle.trace_tool.specs.Prepared.{ComesOf, Prepares}
+use Rattle.trace_tool.specs.declared.any_machine.outcome.Outcome.{Outcome}
+use Rattle.trace_tool.specs.declared.any_machine.outcome.Outcome.TheVariants.{Usage, NoInput, Program, Ran as OfRun, Memory}
+use Rattle.trace_tool.specs.declared.any_machine.outcome.Ran.{Ran}
+use Rattle.trace_tool.specs.declared.any_machine.prepared.Prepared.{Prepared}
 use Rattle.run_witness.specs.Shows.{Shows, is_shown, ends_shown, shows_fault}
 
 module _ {N : Type 0} (gives : N → NativeAnswers) (limits : Limits) (heads : List NativeHead) (natives : N) (program script : List ℕ) (steps : ℕ) where

@@ -14,9 +14,9 @@ use Rattle.machine_rules.specs.Natives.{NativeAnswers}
 use Rattle.object_machine.specs.Causes.{Halts}
 use Rattle.texts.specs.Limits.{most_depth}
 use Rattle.program_commands.specs.Loading.{LoadsProgram}
-use Rattle.machine_commands.specs.Commands.{MayRun}
-use Rattle.machine_commands.specs.declared.outcome.Outcome.{Outcome}
-use Rattle.machine_commands.specs.declared.outcome.Outcome.TheVariants.{Ran}
+use Rattle.trace_tool.specs.Commands.{MayRun}
+use Rattle.trace_tool.specs.declared.any_machine.outcome.Outcome.{Outcome}
+use Rattle.trace_tool.specs.declared.any_machine.outcome.Outcome.TheVariants.{Ran}
 use Rattle.run_witness.specs.declared.search.Sought.{Sought}
 use Rattle.run_witness.specs.declared.search.Sought.TheVariants.{Found, NotFound, Certified}
 

@@ -1,10 +1,10 @@
 //! Natives that are lent.
 
 use basic_types::{Name, Sig, Value};
-use machine_commands::FittingNatives;
 use meta_model::Meta;
 use native_slots::{Action, Answering, Misfit};
 use std::alloc::AllocError;
+use trace_tool::FittingNatives;
 
 /// Natives that are lent to a machine, which they answer as they do: once its run has ended they can be lent to the next one.
 #[derive(Drop)]

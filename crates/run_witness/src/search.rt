@@ -9,12 +9,12 @@ use crate::stage::push_stage;
 use crate::trials::Trials;
 use class_lang::Limits;
 use effect_scan::Node;
-use machine_commands::FittingNatives;
 use meta_model::Meta;
 use program_commands::{Refusal, load_program};
 use rank_make::{Why, make};
 use std::alloc::{AllocError, Global};
 use thiserror::Error;
+use trace_tool::FittingNatives;
 
 /// How many rules a run uses at most, as many as `run` uses where it isn't told.
 const STEPS: u64 = 1_000_000;

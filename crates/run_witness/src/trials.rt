@@ -5,10 +5,10 @@ ghost use Rattle.run_witness.specs.Shows.{Shows, is_shown, shows_fault};
 
 use crate::lent::Lent;
 use class_lang::Limits;
-use machine_commands::{Fault, FittingNatives, Outcome, prepare_unchecked_run};
 use qt_runtime::Machine;
 use std::alloc::Global;
 use texts::MOST_DEPTH;
+use trace_tool::{Fault, FittingNatives, Outcome, prepare_unchecked_run};
 
 /// The depth to which runs are tried, which is the greatest that there is.
 const DEPTH: usize = MOST_DEPTH as usize;

@@ -14,10 +14,10 @@ use Rattle.object_machine.specs.Checked.{Claims}
 use Rattle.object_machine.specs.Seen.{Seen, begun}
 use Rattle.qt_runtime.proofs.Checking.{begun-claims}
 use Rattle.program_commands.proofs.Stepping.{went}
-use Rattle.machine_commands.specs.Commands.{Accepts}
-use Rattle.machine_commands.specs.Prepared.{Prepares}
-use Rattle.machine_commands.specs.declared.outcome.Outcome.{Outcome}
-use Rattle.machine_commands.specs.declared.prepared.Prepared.{Prepared}
+use Rattle.trace_tool.specs.Commands.{Accepts}
+use Rattle.trace_tool.specs.Prepared.{Prepares}
+use Rattle.trace_tool.specs.declared.any_machine.outcome.Outcome.{Outcome}
+use Rattle.trace_tool.specs.declared.any_machine.prepared.Prepared.{Prepared}
 use Rattle.trace_tool.proofs.OneRun.{accepted_sound}
 
 -- they hold where closures that fit a program keep what it declares of them

@@ -3,11 +3,11 @@ use Rattle.std.proofs.Common.{◌≡◌, refl, subst}
 use Rattle.native_slots.specs.Promises.{Takes}
 use Rattle.machine_rules.specs.Natives.{NativeAnswers}
 use Rattle.object_machine.specs.Seen.{Seen}
-use Rattle.machine_commands.specs.Outcomes.{seen_outcome}
-use Rattle.machine_commands.specs.declared.outcome.Outcome.{Outcome}
-use Rattle.machine_commands.specs.declared.outcome.Outcome.TheVariants.{Usage, NoInput, Program, Ran, Memory}
-use Rattle.machine_commands.specs.Prepared.{ComesOf, Prepares}
-use Rattle.machine_commands.specs.declared.prepared.Prepared.{Prepared}
+use Rattle.trace_tool.specs.Outcomes.{seen_outcome}
+use Rattle.trace_tool.specs.declared.any_machine.outcome.Outcome.{Outcome}
+use Rattle.trace_tool.specs.declared.any_machine.outcome.Outcome.TheVariants.{Usage, NoInput, Program, Ran, Memory}
+use Rattle.trace_tool.specs.Prepared.{ComesOf, Prepares}
+use Rattle.trace_tool.specs.declared.any_machine.prepared.Prepared.{Prepared}
 
 seen-itself : {S : Type 0} (outcome : Outcome S) → seen_outcome (λ m. m) outcome ≡ outcome
 seen-itself (Usage fault) = refl

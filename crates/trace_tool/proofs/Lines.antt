@@ -14,8 +14,8 @@ use Rattle.program_commands.specs.Outcomes.{outcome_text as program_text, outcom
 use Rattle.program_commands.specs.Reasons.{reason_line, reason_status}
 use Rattle.program_commands.specs.Refusals.{memory_line, refusal_line, refusal_status, line_of, status_of}
 use Rattle.command_lines.specs.declared.input.InputFault.TheVariants as input
-use Rattle.machine_commands.specs.declared.outcome.Outcome.TheVariants as outcome
-use Rattle.machine_commands.specs.Outcomes.{run_status}
+use Rattle.trace_tool.specs.declared.any_machine.outcome.Outcome.TheVariants as outcome
+use Rattle.trace_tool.specs.Outcomes.{run_status}
 use Rattle.trace_tool.specs.Laws.{UndoneIsALine}
 
 numberless : (status : ℕ) (words : List ℕ) (number : Option ℕ) → 2 ≤ status → status_of status number ≡ 1 → line_of words number ≡ memory_line

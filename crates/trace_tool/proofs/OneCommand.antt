@@ -18,10 +18,10 @@ use Rattle.command_lines.specs.declared.words.Command.TheVariants.{Meta, Certify
 use Rattle.command_lines.specs.declared.words.CommandLine.{CommandLine}
 use Rattle.command_lines.proofs.Saying.{after_first, not_wide}
 use Rattle.command_lines.proofs.Partings.{texts_once}
-use Rattle.machine_commands.specs.Outcomes.{IsShort}
-use Rattle.machine_commands.specs.declared.outcome.Outcome.{Outcome}
-use Rattle.machine_commands.specs.declared.outcome.Outcome.TheVariants.{Program}
-use Rattle.machine_commands.specs.Commands.{Says, Cuts, Does, IsOfProgram, limits_of}
+use Rattle.trace_tool.specs.Outcomes.{IsShort}
+use Rattle.trace_tool.specs.declared.any_machine.outcome.Outcome.{Outcome}
+use Rattle.trace_tool.specs.declared.any_machine.outcome.Outcome.TheVariants.{Program}
+use Rattle.trace_tool.specs.Commands.{Says, Cuts, Does, IsOfProgram, limits_of}
 use Rattle.trace_tool.specs.Laws.{IsSameOutcome, OneCommandOutcome}
 use Rattle.trace_tool.proofs.OneRun.{OneAs, same_first, one_run_outcome, one_unchecked_outcome}
 use Rattle.texts.specs.Numerals.{value_of}

@@ -23,12 +23,12 @@ use Rattle.program_commands.specs.Loading.{LoadsCertified}
 use Rattle.program_commands.specs.Steps.{First, fails, goes_on}
 use Rattle.program_commands.proofs.Once.{OneOf, both_fail, one_fails, same_found, IsShortResult, never_short, loaded_sound}
 use Rattle.program_commands.proofs.Stepping.{went}
-use Rattle.machine_commands.specs.declared.outcome.Outcome.{Outcome}
-use Rattle.machine_commands.specs.declared.outcome.Ran.{Ran}
-use Rattle.machine_commands.specs.Outcomes.{IsShort}
-use Rattle.machine_commands.specs.Commands.{Accepting, MayRun, Runs, RunsFaultless, ran, short, ran_faultless, short_of_memory}
+use Rattle.trace_tool.specs.declared.any_machine.outcome.Outcome.{Outcome}
+use Rattle.trace_tool.specs.declared.any_machine.outcome.Ran.{Ran}
+use Rattle.trace_tool.specs.Outcomes.{IsShort}
+use Rattle.trace_tool.specs.Commands.{Accepting, MayRun, Runs, RunsFaultless, ran, short, ran_faultless, short_of_memory}
 use Rattle.trace_tool.specs.Laws.{AreOneRun, IsSameOutcome, OneRunOutcome, OneUncheckedOutcome, StoppedIsFront}
-use Rattle.machine_commands.proofs.Accepted.{accepting_once, may_run_once, short_refused}
+use Rattle.trace_tool.proofs.Accepted.{accepting_once, may_run_once, short_refused}
 
 -- ---- where a run ends for good
 

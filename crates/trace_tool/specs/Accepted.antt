@@ -6,7 +6,7 @@ use Rattle.meta_model.specs.Loaded.{Loaded}
 use Rattle.native_slots.specs.declared.head.NativeHead.{NativeHead}
 use Rattle.script_lang.specs.declared.event.Event.{Event}
 use Rattle.object_machine.specs.Seen.{Seen, begun}
-use Rattle.machine_commands.specs.Commands.{Accepts}
+use Rattle.trace_tool.specs.Commands.{Accepts}
 
 -- where by these limits `run` accepts these texts with these closures, this holds of the machine that it then makes
 abbrev pub WhereAccepted : {N : Type 0} → Limits → List NativeHead → N → List ℕ → List ℕ → List ℕ → ℕ → (Seen N → Type 0) → Type 0

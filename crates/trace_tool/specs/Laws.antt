@@ -18,12 +18,12 @@ use Rattle.qt_runtime.specs.Seen.{Seen, Halts, begun}
 use Rattle.program_commands.specs.Commands.{IsSameOutcome as IsSameOfProgram}
 use Rattle.program_commands.specs.Refusals.{usage_line, memory_line}
 use Rattle.command_lines.specs.declared.input.InputFault.{InputFault}
-use Rattle.machine_commands.specs.declared.outcome.Outcome.{Outcome}
-use Rattle.machine_commands.specs.declared.outcome.Outcome.TheVariants.{Program, Ran as OfRun}
-use Rattle.machine_commands.specs.declared.outcome.Ran.{Ran}
-use Rattle.machine_commands.specs.Outcomes.{outcome_text, outcome_status, IsShort}
+use Rattle.trace_tool.specs.declared.any_machine.outcome.Outcome.{Outcome}
+use Rattle.trace_tool.specs.declared.any_machine.outcome.Outcome.TheVariants.{Program, Ran as OfRun}
+use Rattle.trace_tool.specs.declared.any_machine.outcome.Ran.{Ran}
+use Rattle.trace_tool.specs.Outcomes.{outcome_text, outcome_status, IsShort}
 use Rattle.class_lang.specs.declared.size.Limits.{Limits}
-use Rattle.machine_commands.specs.Commands.{RunComesTo, UncheckedRunComesTo, CommandComesTo}
+use Rattle.trace_tool.specs.Commands.{RunComesTo, UncheckedRunComesTo, CommandComesTo}
 
 -- Where nothing was done nothing comes before `usage` or `memory`, nor after it; after a read that failed nothing is
 -- written at all.

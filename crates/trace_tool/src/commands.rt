@@ -4,10 +4,10 @@ ghost use Rattle.std.specs.Prelude.{◌≡◌, map, OnErr};
 ghost use Rattle.command_lines.specs.Failing.{HasFailed};
 ghost use Rattle.command_lines.specs.Words.{IsLine};
 ghost use Rattle.command_lines.specs.declared.words.CommandLine.{CommandLine as ALine};
-ghost use Rattle.machine_commands.specs.Outcomes.{Writes};
-ghost use Rattle.machine_commands.specs.Commands.{CommandComesTo, WritesCommand, read_of};
+ghost use Rattle.trace_tool.specs.Outcomes.{Writes};
+ghost use Rattle.trace_tool.specs.Commands.{CommandComesTo, WritesCommand, read_of};
 
-use machine_commands::{Answered, InputFault, Sent, answer, prepare_for, sent};
+use crate::any_machine::{Answered, InputFault, Sent, answer, prepare_for, sent};
 use native_slots::{Answering, Natives};
 use qt_runtime::Machine;
 use std::alloc::Global;
@@ -70,7 +70,5 @@ pub fn respond<W: Write>(
         Writes ComesTo (W.contents w.old) (W.contents w.new) result.status }
     ensures failed { OnErr result.status (HasFailed result.writing) }
 {
-    sent(prepare_for::<Natives, Machine<Natives>>(alloc, words, input, natives).carry_out(
-        alloc, w,
-    ))
+    sent(prepare_for::<Natives, Machine<Natives>>(alloc, words, input, natives).carry_out(alloc, w))
 }

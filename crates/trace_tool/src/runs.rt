@@ -5,15 +5,15 @@ ghost use Rattle.meta_model.specs.Loaded.{Loaded};
 ghost use Rattle.certificate_lang.specs.declared.certificate.Certificate.{Certificate};
 ghost use Rattle.texts.specs.Limits.{most_depth};
 ghost use Rattle.script_lang.specs.declared.event.Event.{Event as AnEvent};
-ghost use Rattle.machine_commands.specs.Outcomes.{Writes};
+ghost use Rattle.trace_tool.specs.Outcomes.{Writes};
 ghost use Rattle.class_lang.specs.Limits.{standard};
 ghost use Rattle.command_lines.specs.Failing.{HasFailed};
-ghost use Rattle.machine_commands.specs.Commands.{Accepts, AcceptedComesTo, RunComesTo, UncheckedRunComesTo};
+ghost use Rattle.trace_tool.specs.Commands.{Accepts, AcceptedComesTo, RunComesTo, UncheckedRunComesTo};
 ghost use Rattle.object_machine.specs.Claims.{HasItsArguments, IsEverAcyclic, IsEverSettled, IsEverShallow, IsEverTyped, SparesActive};
 ghost use Rattle.trace_tool.specs.Accepted.{WhereAccepted};
 
+use crate::any_machine::{Outcome, Sent, prepare_run, prepare_unchecked_run, sent};
 use class_lang::Limits;
-use machine_commands::{Outcome, Sent, prepare_run, prepare_unchecked_run, sent};
 use native_slots::{Answering, Natives};
 use qt_runtime::Machine;
 use std::alloc::Global;

@@ -1,8 +1,8 @@
 //! What command lines answer.
 
 use basic_types::Value;
-use built_in_native::{class, doubled, effects, twice};
 use explained_commands::{WriteFault, explained_command};
+use native_slots::built_in::{class, doubled, effects, twice};
 use native_slots::{NativeSlot, Natives};
 use qt_runtime::Machine;
 use std::alloc::Global;

@@ -12,7 +12,7 @@ use Rattle.object_tree.specs.declared.life.Life.{Life}
 use Rattle.object_tree.specs.declared.object.Object.{Object}
 use Rattle.object_tree.specs.Objects.{life_of, change_life, blocked}
 use Rattle.binding_graph.specs.declared.binding.Binding.{Binding}
-use Rattle.prop_bindings.specs.BindFault.{BindFault}
+use Rattle.prop_bindings.specs.declared.plans.fault.BindFault.{BindFault}
 use Rattle.binding_graph.specs.declared.place.Place.{Place}
 use Rattle.prop_bindings.specs.Calls.{IsBound, IsNotBound, new_binding}
 use Rattle.prop_bindings.specs.Changes.{IsWritten}
@@ -25,14 +25,14 @@ use Rattle.trace_entries.specs.declared.fault.Answer.TheVariants as answer
 use Rattle.trace_entries.specs.declared.fault.Fault.{Fault}
 use Rattle.trace_entries.specs.declared.fault.Fault.TheVariants.{Steps, Memory}
 use Rattle.trace_entries.specs.declared.refusal.Refusal.{Refusal}
-use Rattle.change_lines.specs.declared.telling.Cause.TheVariants.{Bind}
+use Rattle.machine_state.specs.declared.changes.telling.Cause.TheVariants.{Bind}
 use Rattle.machine_state.specs.declared.world.World.{World}
 use Rattle.trace_entries.specs.Refusals.{refusal_number}
 use Rattle.machine_state.specs.Connections.{after_use, newly_joined, parted}
 use Rattle.machine_state.specs.Accepting.{accepted, refused, with_entries}
 use Rattle.machine_state.specs.declared.endpoints.Endpoints.{Endpoints}
 use Rattle.machine_state.specs.State.{State}
-use Rattle.change_lines.specs.Telling.{AreTold, Assigning, IsAssigningTold, writes_of}
+use Rattle.machine_state.specs.Telling.{AreTold, Assigning, IsAssigningTold, writes_of}
 use Rattle.machine_state.specs.Worlds.{at, store_of, with_store, after, with_connection, without_connections, begun_turn}
 
 -- the world was changed so, or memory was refused and nothing changed

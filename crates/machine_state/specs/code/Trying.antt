@@ -4,13 +4,13 @@ use Rattle.basic_types.specs.declared.value.Value.{Value}
 use Rattle.meta_model.specs.Loaded.{Loaded}
 use Rattle.object_tree.specs.declared.object.Object.{Object}
 use Rattle.binding_graph.specs.declared.place.Place.{Place}
-use Rattle.prop_bindings.specs.WriteFault.{WriteFault}
-use Rattle.prop_bindings.specs.WriteFault.TheVariants as write
+use Rattle.prop_bindings.specs.declared.plans.fault.WriteFault.{WriteFault}
+use Rattle.prop_bindings.specs.declared.plans.fault.WriteFault.TheVariants as write
 use Rattle.prop_bindings.specs.Fits.{FitsAt}
 use Rattle.trace_entries.specs.declared.fault.Fault.{Fault}
 use Rattle.trace_entries.specs.declared.fault.Fault.TheVariants.{BadType, Memory}
 use Rattle.machine_state.specs.declared.world.World.{World}
-use Rattle.change_lines.specs.Telling.{Alone}
+use Rattle.machine_state.specs.Telling.{Alone}
 use Rattle.machine_state.specs.code.Changing.{noted, HasWritten}
 
 -- the fault of a run for one of a write

@@ -1,13 +1,13 @@
 //! The calls for natives.
 
 ghost use Rattle.std.specs.Prelude.{◌≡◌, ◌<◌, IfOk, Some, length, slice_get};
-ghost use Rattle.built_in_native.specs.Doubling.{doubling};
+ghost use Rattle.native_slots.specs.Doubling.{doubling};
 
 use crate::once_or_twice;
 use crate::trials::{Told, TrialAnswer, loaded};
 use basic_types::{Name, Sig, Value};
-use built_in_native::{class, doubled, effects, twice};
 use meta_model::Meta;
+use native_slots::built_in::{class, doubled, effects, twice};
 use native_slots::{Action, Effects, NativeSlot, Natives};
 use std::alloc::{AllocError, Global};
 

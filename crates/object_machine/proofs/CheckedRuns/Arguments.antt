@@ -45,14 +45,14 @@ use Rattle.machine_rules.specs.Natives.{NativeAnswers}
 use Rattle.machine_rules.specs.Rules.{Rule, RuleAt, BodyRule, Does, EmitRule, UpdateRule, NotifiesIf, TurnRule, Serves, Delivers, Arrives, Begins, BeginsIf, begun, with_used, linked, unlinked}
 use Rattle.machine_rules.specs.code.Sound.{Waits, SendsThese, MayBeHeard}
 use Rattle.machine_rules.specs.There.{IsMember}
-use Rattle.rule_laws.specs.Writing.{Announces}
-use Rattle.rule_laws.proofs.Delivered.{fit-of, next-delivered, delivered-fits}
+use Rattle.machine_rules.specs.Writing.{Announces}
+use Rattle.machine_rules.proofs.Delivered.{fit-of, next-delivered, delivered-fits}
 use Rattle.machine_rules.proofs.Declared.{living-fits}
 use Rattle.machine_rules.proofs.Dying.{died-dead}
 use Rattle.machine_rules.proofs.Fields.{member-at, method-unique}
 use Rattle.machine_rules.proofs.Lists.{all-append}
-use Rattle.rule_laws.proofs.Notifying.{announced-fits}
-use Rattle.rule_laws.proofs.Soundness.{AllFit}
+use Rattle.machine_rules.proofs.Notifying.{announced-fits}
+use Rattle.machine_rules.proofs.Soundness.{AllFit}
 use Rattle.machine_rules.proofs.Waiting.{first-waits}
 use Rattle.object_machine.specs.declared.invoking.Invocation.{Invocation}
 use Rattle.object_machine.specs.declared.invoking.Invocation.TheVariants.{Emit as EmitIt, Call as CallIt}
@@ -67,7 +67,7 @@ use Rattle.object_machine.proofs.Judged.{given-is}
 use Rattle.object_machine.proofs.Judging.Naming.{living-is, living-object}
 use Rattle.object_machine.proofs.CheckedRuns.Leading.{does-led}
 use Rattle.machine_rules.proofs.Scheduling.{schedule-cases}
-use Rattle.rule_laws.proofs.Hearing.{AllHeard, nobody, may-be-heard}
+use Rattle.machine_rules.proofs.Hearing.{AllHeard, nobody, may-be-heard}
 
 -- What was pushed over so many activations has its arguments, and what is left of natives' answers keeps to their effects.
 pub record Pushes (p : Loaded) (classes : ℕ → Option ℕ) (high : ℕ) (t : State) : Type 0 where

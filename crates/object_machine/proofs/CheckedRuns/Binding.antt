@@ -38,7 +38,7 @@ use Rattle.machine_state.specs.State.{State}
 use Rattle.machine_rules.specs.Judgement.{found as finds, holds as so, goes_on}
 use Rattle.machine_rules.specs.There.{IsField}
 use Rattle.machine_rules.proofs.Fields.{old-there, stored-reads}
-use Rattle.rule_laws.proofs.Keeps.{lives-of-class}
+use Rattle.machine_rules.proofs.Keeps.{lives-of-class}
 use Rattle.object_machine.specs.Causes.{BindsNext}
 use Rattle.object_machine.specs.Events.{may_bind}
 use Rattle.machine_rules.proofs.Inherited.{property-below}

@@ -48,7 +48,7 @@ use Rattle.machine_rules.specs.declared.ends.FoundEnds.{FoundEnds}
 use Rattle.machine_rules.specs.Good.{IsWell}
 use Rattle.machine_rules.specs.Judgement.{Numbered, found as finds, holds as so, becomes, goes_on}
 use Rattle.machine_rules.specs.Settling.{Installs}
-use Rattle.rule_laws.proofs.Keeps.{class-of-lives}
+use Rattle.machine_rules.proofs.Keeps.{class-of-lives}
 use Rattle.machine_rules.proofs.Lists.{all-filtered, all-snoc, all-weaken}
 use Rattle.object_machine.specs.declared.invoking.Invocation.{Invocation}
 use Rattle.object_machine.specs.declared.invoking.Invocation.TheVariants.{Emit as EmitIt, Call as CallIt}

@@ -43,11 +43,11 @@ use Rattle.machine_rules.specs.Natives.{NativeAnswers}
 use Rattle.machine_rules.specs.Paths.{path_value, value_of, values_of}
 use Rattle.machine_rules.specs.Rules.{Answers}
 use Rattle.machine_rules.specs.There.{IsMember}
-use Rattle.rule_laws.proofs.Delivered.{fit-of}
+use Rattle.machine_rules.proofs.Delivered.{fit-of}
 use Rattle.machine_rules.proofs.Fields.{member-method}
 use Rattle.machine_rules.proofs.Inherited.{method-below, property-below}
-use Rattle.rule_laws.proofs.Keeps.{lives-of-class, class-of-lives}
-use Rattle.rule_laws.proofs.Promised.{declared-at, promised}
+use Rattle.machine_rules.proofs.Keeps.{lives-of-class, class-of-lives}
+use Rattle.machine_rules.proofs.Promised.{declared-at, promised}
 use Rattle.object_machine.proofs.TypedPaths.{Reaches, to_null, to_object}
 use Rattle.object_machine.proofs.CheckedRuns.Invariant.{BodyStands, IsStepOf, runs}
 use Rattle.object_machine.proofs.CheckedRuns.Promised.{SetsWithin, EmitsWithin, IsWithin, IsPromised, StepIsPromised}
@@ -56,7 +56,7 @@ use Rattle.object_machine.proofs.CheckedRuns.Lacking.{SetsAreTyped, paths-typed,
 use Rattle.object_machine.proofs.CheckedRuns.Leading.{occurs-sound, occurs-in}
 use Rattle.object_machine.proofs.Grouped.{IfWrites, within-first}
 use Rattle.machine_state.specs.Telling.{Alone, Grouped, writes_of}
-use Rattle.prop_bindings.specs.Assignment.{Assignment}
+use Rattle.prop_bindings.specs.declared.plans.assignment.Assignment.{Assignment}
 use Rattle.prop_bindings.specs.Calls.{AllFit}
 use Rattle.prop_bindings.specs.Fits.{FitsAt}
 use Rattle.binding_graph.specs.Places.{property_of}

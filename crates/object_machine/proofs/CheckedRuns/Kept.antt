@@ -32,7 +32,7 @@ use Rattle.object_machine.proofs.CheckedRuns.Events.{HoldsSome, takes-held, bind
 use Rattle.object_machine.proofs.CheckedRuns.Sites.{no-loop}
 use Rattle.object_machine.proofs.CheckedRuns.Lacking.{body-typed, typed-does}
 use Rattle.object_machine.proofs.CheckedRuns.Nodes.{body-named}
-use Rattle.rule_laws.proofs.Keeps.{lives-of-class}
+use Rattle.machine_rules.proofs.Keeps.{lives-of-class}
 use Rattle.meta_model.specs.declared.object.Work.{Work}
 use Rattle.meta_model.specs.declared.object.Statement.{Statement}
 use Rattle.meta_model.specs.declared.object.Statement.TheViews.{out-Statement}

@@ -42,7 +42,7 @@ use Rattle.object_machine.proofs.TypedPaths.{Reaches, to_null, to_object, path-h
 use Rattle.object_machine.proofs.Grouped.{IfWrites, Within, within-first, within-next, reaches-within, set-act, values-still}
 use Rattle.machine_rules.proofs.Differing.{differ-stay}
 use Rattle.machine_state.specs.Telling.{Grouped, writes_of}
-use Rattle.prop_bindings.specs.Assignment.{Assignment}
+use Rattle.prop_bindings.specs.declared.plans.assignment.Assignment.{Assignment}
 use Rattle.prop_bindings.specs.Calls.{AllFit}
 use Rattle.prop_bindings.specs.Changes.{DifferInValues}
 use Rattle.prop_bindings.specs.Fits.{FitsAt}

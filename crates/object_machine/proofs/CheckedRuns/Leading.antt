@@ -44,13 +44,13 @@ use Rattle.machine_state.specs.State.{Step, Run, Ask, Act}
 use Rattle.machine_rules.specs.Operations.{Operation, Write, Begin, Choose, Connect, Disconnect, Delete, Schedule, TakeAnswer, Nothing, led_to, on_object, operation_of_set, set_at, set_in, sets_in, after_set, chosen_by, operation, operation_of_action, operation_of_step}
 use Rattle.machine_rules.specs.Paths.{path_value, steps_value, root_value, value_of, values_of}
 use Rattle.machine_rules.proofs.Fields.{life-unique}
-use Rattle.rule_laws.proofs.Keeps.{lives-of-class}
+use Rattle.machine_rules.proofs.Keeps.{lives-of-class}
 use Rattle.object_machine.proofs.TypedPaths.{Reaches, to_null, to_object, path-reaches}
 use Rattle.object_machine.proofs.CheckedRuns.Lacking.{body-typed, sets-done}
 use Rattle.object_machine.proofs.Grouped.{IfWrites, Within, within-first, within-next, mapped-so, values-still}
 use Rattle.machine_rules.proofs.Differing.{differ-class}
 use Rattle.machine_state.specs.Telling.{Alone, Grouped, writes_of}
-use Rattle.prop_bindings.specs.Assignment.{Assignment}
+use Rattle.prop_bindings.specs.declared.plans.assignment.Assignment.{Assignment}
 use Rattle.prop_bindings.specs.Calls.{AllFit}
 use Rattle.prop_bindings.specs.Changes.{DifferInValues}
 use Rattle.binding_graph.specs.Places.{property_of}

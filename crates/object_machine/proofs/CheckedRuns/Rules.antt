@@ -30,7 +30,7 @@ use Rattle.object_tree.specs.Objects.{Lives, class_of, life_of, change_life, sch
 use Rattle.object_tree.specs.Typed.{ReadAs}
 use Rattle.binding_graph.specs.declared.binding.Binding.{Binding}
 use Rattle.binding_graph.specs.declared.place.Place.{Place}
-use Rattle.prop_bindings.specs.Assignment.{Assignment}
+use Rattle.prop_bindings.specs.declared.plans.assignment.Assignment.{Assignment}
 use Rattle.binding_graph.specs.Bindings.{binding_at, without, without_all, Settled}
 use Rattle.prop_bindings.specs.Changes.{DifferInValues, AreChanged, in_order, once, places_in}
 use Rattle.prop_bindings.specs.Fits.{Agree}
@@ -70,7 +70,7 @@ use Rattle.machine_rules.proofs.Differing.{differ-stay, differ-spared}
 use Rattle.machine_rules.proofs.Dying.{died-stay, scheduled-stay, scheduled-seen, other-seen}
 use Rattle.machine_rules.proofs.Fields.{member-method}
 use Rattle.machine_rules.proofs.Inherited.{method-below}
-use Rattle.rule_laws.proofs.Keeps.{class-of-lives}
+use Rattle.machine_rules.proofs.Keeps.{class-of-lives}
 use Rattle.machine_rules.proofs.Lists.{all-append, all-filtered, all-snoc}
 use Rattle.machine_rules.proofs.Waiting.{first-waits}
 use Rattle.object_machine.proofs.CheckedRuns.Invariant.{Falls, IsNoHigher, Level, NodeLevel, FallsTo, IsStepOf, runs, asks, acts, BodyStands, EmitStands, IsFollower, IsTorn, DestroyStands, Stacked, IsOwned, IsWired, IsSited, IsCovered, Holds}

@@ -18,7 +18,7 @@ use Rattle.object_tree.proofs.Changing.{life-of-lives}
 use Rattle.object_tree.proofs.TypedObjects.{reads-still}
 use Rattle.binding_graph.specs.declared.binding.Binding.{Binding}
 use Rattle.binding_graph.specs.declared.place.Place.{Place}
-use Rattle.prop_bindings.specs.Assignment.{Assignment}
+use Rattle.prop_bindings.specs.declared.plans.assignment.Assignment.{Assignment}
 use Rattle.prop_bindings.specs.Calls.{AllFit}
 use Rattle.binding_graph.specs.Bindings.{source_place, read_by, Reads, value_of, binding_at, AreApart, without, without_all, replaced, Settled, Loop}
 use Rattle.prop_bindings.specs.Changes.{DifferInValues, lasting, places_in}

@@ -16,7 +16,7 @@ use Rattle.machine_rules.specs.Good.{IsWell, IsGood}
 use Rattle.machine_rules.specs.Natives.{NativeAnswers}
 use Rattle.machine_rules.specs.Rules.{Rule}
 use Rattle.machine_rules.specs.Next.{WritesNext, WritesIll}
-use Rattle.rule_laws.proofs.Fitting.{fits-read}
+use Rattle.machine_rules.proofs.ReachingFitting.{fits-read}
 use Rattle.object_machine.specs.Runs.{Run, done, goes, takes, Each, Follows, by_rule, by_event}
 use Rattle.object_machine.specs.Takes.{Takes as Taking}
 use Rattle.object_machine.proofs.Preservation.{after-rule, after-event}

@@ -22,7 +22,7 @@ use Rattle.machine_rules.specs.Good.{has_body}
 use Rattle.machine_rules.specs.code.Keeps.{StayThere}
 use Rattle.machine_rules.specs.There.{IsDead}
 use Rattle.machine_rules.proofs.Dying.{lives-not-dead}
-use Rattle.rule_laws.proofs.Keeps.{lives-of-class, values-stay}
+use Rattle.machine_rules.proofs.Keeps.{lives-of-class, values-stay}
 use Rattle.object_machine.proofs.CheckedRuns.Invariant.{Level, BodyStands, Stands, Stacked, AreClasses, AreOwned, IsOwned}
 
 -- ---- what a change of objects leaves

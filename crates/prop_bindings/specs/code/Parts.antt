@@ -8,21 +8,21 @@ use Rattle.object_tree.specs.declared.object.Object.{Object}
 use Rattle.object_tree.specs.Objects.{change_life, written}
 use Rattle.object_tree.specs.Typed.{AreTyped}
 use Rattle.binding_graph.specs.declared.place.Place.{Place}
-use Rattle.binding_plans.specs.declared.assignment.Assignment.{Assignment}
+use Rattle.prop_bindings.specs.declared.plans.assignment.Assignment.{Assignment}
 use Rattle.binding_graph.specs.declared.binding.Binding.{Binding}
-use Rattle.binding_plans.specs.declared.fault.BindFault.{BindFault}
-use Rattle.binding_plans.specs.declared.fault.BindFault.TheVariants as bind
-use Rattle.binding_plans.specs.declared.planned.Planned.{Planned}
-use Rattle.binding_plans.specs.declared.planned.PlannedBind.{PlannedBind}
+use Rattle.prop_bindings.specs.declared.plans.fault.BindFault.{BindFault}
+use Rattle.prop_bindings.specs.declared.plans.fault.BindFault.TheVariants as bind
+use Rattle.prop_bindings.specs.declared.plans.planned.Planned.{Planned}
+use Rattle.prop_bindings.specs.declared.plans.planned.PlannedBind.{PlannedBind}
 use Rattle.prop_bindings.specs.declared.preparing.Prepared.{Prepared}
 use Rattle.binding_graph.specs.Places.{In, is_in}
-use Rattle.binding_plans.specs.Values.{values_in}
+use Rattle.prop_bindings.specs.Values.{values_in}
 use Rattle.binding_graph.specs.Bindings.{binding_at, replaced, without_all, value_of, Loop}
-use Rattle.binding_plans.specs.Calls.{AllFit, MayBind, IsNotBound, new_binding}
-use Rattle.binding_plans.specs.Changes.{AreChanged, IsInstalled, IsWritten, once, one, places_in}
+use Rattle.prop_bindings.specs.Calls.{AllFit, MayBind, IsNotBound, new_binding}
+use Rattle.prop_bindings.specs.Changes.{AreChanged, IsInstalled, IsWritten, once, one, places_in}
 use Rattle.prop_bindings.specs.Counts.{CountsReached}
-use Rattle.binding_plans.specs.Fits.{FitsAt, IsFit, IsInOneLoop, Agree}
-use Rattle.binding_plans.specs.Plans.{assigned, after}
+use Rattle.prop_bindings.specs.Fits.{FitsAt, IsFit, IsInOneLoop, Agree}
+use Rattle.prop_bindings.specs.Plans.{assigned, after}
 use Rattle.binding_graph.specs.code.Keys.{key_of, same_key}
 use Rattle.binding_graph.specs.code.Orders.{IsLater}
 

@@ -3,7 +3,7 @@ use Rattle.std.proofs.Common.{◌≡◌, ℕ, List, [], ◌∷◌, length, Some,
 use Rattle.meta_model.specs.declared.site.MetaSite.{MetaSite}
 use Rattle.meta_model.specs.Loaded.{Loaded}
 use Rattle.binding_graph.specs.declared.binding.Binding.{Binding}
-use Rattle.prop_bindings.specs.BindFault.{BindFault}
+use Rattle.prop_bindings.specs.declared.plans.fault.BindFault.{BindFault}
 use Rattle.prop_bindings.specs.Fits.{InOneLoop}
 use Rattle.prop_bindings.specs.Calls.{CoversBinding, IsNotBound, MayBind, binding_of, new_binding, bad_source, other_loop, bad_type, closes, no_memory}
 use Rattle.script_lang.specs.declared.event.Event.{Event}

@@ -13,7 +13,7 @@ use Rattle.machine_state.specs.Worlds.{at}
 use Rattle.machine_state.specs.code.Changing.{accepting}
 use Rattle.machine_rules.specs.Natives.{NativeAnswers}
 use Rattle.machine_rules.specs.Judgement.{Numbered, gives, goes_on}
-use Rattle.rule_laws.specs.Reaches.{RunsTo}
+use Rattle.machine_rules.specs.Reaches.{RunsTo}
 use Rattle.machine_rules.specs.code.Sound.{IsSoundWorld}
 use Rattle.object_machine.specs.declared.not_accepted.NotAccepted.{NotAccepted}
 use Rattle.object_machine.specs.code.Judgement.{IsNotAccepted, IsLiving}

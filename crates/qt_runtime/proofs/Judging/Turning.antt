@@ -13,7 +13,7 @@ use Rattle.machine_state.specs.Worlds.{at, begun_turn}
 use Rattle.machine_state.specs.code.Changing.{accepting_turn}
 use Rattle.prop_bindings.specs.Fits.{Agree}
 use Rattle.machine_rules.specs.Natives.{NativeAnswers}
-use Rattle.rule_laws.specs.Reaches.{RunsTo}
+use Rattle.machine_rules.specs.Reaches.{RunsTo}
 use Rattle.machine_rules.specs.Judgement.{found, missing, gives, goes_on, ends}
 use Rattle.object_machine.specs.Takes.{judged, accepts}
 use Rattle.qt_runtime.specs.code.Taking.{Took}

@@ -2,7 +2,7 @@
 use Rattle.std.specs.Prelude.{◌≡◌, ℕ, ◌<◌, Bool, false, None}
 use Rattle.meta_model.specs.Loaded.{Loaded}
 use Rattle.machine_state.specs.declared.world.World.{World}
-use Rattle.quiet_events.specs.code.Quiet.{WorldInvariant}
+use Rattle.qt_runtime.specs.code.Quiet.{WorldInvariant}
 
 pub record MachineInvariant (p : Loaded) (depth : ℕ) (w : World) (stopped : Bool) : Type 0 where
   pub room : 0 < depth

@@ -1,8 +1,8 @@
 -- What the machine's code does with an event (docs/machine.md, "Events").
 use Rattle.std.specs.Prelude.{ℕ, [], ◌∷◌, Result, Ok, Err}
 use Rattle.meta_model.specs.Loaded.{Loaded}
-use Rattle.prop_bindings.specs.BindFault.{BindFault}
-use Rattle.prop_bindings.specs.BindFault.TheVariants as bind
+use Rattle.prop_bindings.specs.declared.plans.fault.BindFault.{BindFault}
+use Rattle.prop_bindings.specs.declared.plans.fault.BindFault.TheVariants as bind
 use Rattle.script_lang.specs.declared.event.Event.{Event}
 use Rattle.trace_entries.specs.declared.fault.Answer.{Answer}
 use Rattle.trace_entries.specs.declared.fault.Answer.TheVariants as answer

@@ -5,16 +5,16 @@ ghost use Rattle.script_lang.specs.declared.event.Event.TheVariants.{Set};
 ghost use Rattle.prop_bindings.specs.Fits.{FitsAt};
 ghost use Rattle.machine_rules.specs.Natives.{KeepPromises};
 ghost use Rattle.object_machine.specs.code.Accepted.{WritesTo};
-ghost use Rattle.quiet_events.specs.code.Quiet.{WorldInvariant};
+ghost use Rattle.qt_runtime.specs.code.Quiet.{WorldInvariant};
 ghost use Rattle.qt_runtime.specs.code.Taking.{TookBy};
 ghost use Rattle.script_lang.specs.declared.event.Event.{Event as AnEvent};
 
+use crate::quiet::{accept_write, refuse};
 use basic_types::{Name, Value};
 use machine_state::World;
 use native_slots::Answering;
 use object_machine::judge_write;
 use prop_bindings::{Assignment, Place};
-use quiet_events::{accept_write, refuse};
 use rule_interpreter::{Active, Interpreter};
 use script_lang::Input;
 use trace_entries::{Answer, Fault};

@@ -4,15 +4,15 @@ ghost use Rattle.std.specs.Prelude.{◌≡◌, ℕ, ◌<◌, List, None};
 ghost use Rattle.script_lang.specs.declared.event.Event.TheVariants.{Bind};
 ghost use Rattle.machine_rules.specs.Natives.{KeepPromises};
 ghost use Rattle.object_machine.specs.code.Accepted.{AsksToBind};
-ghost use Rattle.quiet_events.specs.code.Quiet.{WorldInvariant};
+ghost use Rattle.qt_runtime.specs.code.Quiet.{WorldInvariant};
 ghost use Rattle.qt_runtime.specs.code.Taking.{TookBy, binding_reason};
 
+use crate::quiet::{accept_bind, refuse, reject};
 use basic_types::Name;
 use machine_state::World;
 use native_slots::Answering;
 use object_machine::{Asked, judge_bind};
 use prop_bindings::BindFault;
-use quiet_events::{accept_bind, refuse, reject};
 use rule_interpreter::{Active, Interpreter};
 use trace_entries::{Answer, Fault, Refusal};
 

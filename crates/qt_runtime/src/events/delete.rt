@@ -3,14 +3,14 @@
 ghost use Rattle.std.specs.Prelude.{◌<◌, ◌≡◌, None};
 ghost use Rattle.script_lang.specs.declared.event.Event.TheVariants.{Delete};
 ghost use Rattle.machine_rules.specs.Natives.{KeepPromises};
-ghost use Rattle.quiet_events.specs.code.Quiet.{WorldInvariant};
+ghost use Rattle.qt_runtime.specs.code.Quiet.{WorldInvariant};
 ghost use Rattle.qt_runtime.specs.code.Taking.{TookBy};
 
+use crate::quiet::{accept, refuse};
 use basic_types::{Name, ObjectId};
 use machine_state::World;
 use native_slots::Answering;
 use object_machine::find_living;
-use quiet_events::{accept, refuse};
 use rule_interpreter::{Active, Interpreter};
 use trace_entries::{Answer, Fault};
 

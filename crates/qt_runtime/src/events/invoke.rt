@@ -4,15 +4,15 @@ ghost use Rattle.std.specs.Prelude.{◌≡◌, ◌<◌, None};
 ghost use Rattle.run_context.specs.code.Activating.{CallFits};
 ghost use Rattle.machine_rules.specs.Natives.{KeepPromises};
 ghost use Rattle.object_machine.specs.code.Accepted.{AsksFor, invoking};
-ghost use Rattle.quiet_events.specs.code.Quiet.{WorldInvariant};
+ghost use Rattle.qt_runtime.specs.code.Quiet.{WorldInvariant};
 ghost use Rattle.qt_runtime.specs.code.Taking.{TookBy};
 ghost use Rattle.script_lang.specs.declared.event.Event.{Event as AnEvent};
 
+use crate::quiet::{accept_with, refuse};
 use basic_types::Name;
 use machine_state::World;
 use native_slots::Answering;
 use object_machine::{Invocation, Invoked, judge_invocation};
-use quiet_events::{accept_with, refuse};
 use rule_interpreter::{Active, Interpreter};
 use run_context::MethodCall;
 use script_lang::Input;

@@ -3,13 +3,13 @@
 ghost use Rattle.std.specs.Prelude.{◌≡◌, ◌<◌, None};
 ghost use Rattle.script_lang.specs.declared.event.Event.TheVariants.{Turn};
 ghost use Rattle.machine_rules.specs.Natives.{KeepPromises};
-ghost use Rattle.quiet_events.specs.code.Quiet.{WorldInvariant};
+ghost use Rattle.qt_runtime.specs.code.Quiet.{WorldInvariant};
 ghost use Rattle.qt_runtime.specs.code.Taking.{TookBy};
 
+use crate::quiet::{accept_turn, reject};
 use basic_types::Name;
 use machine_state::World;
 use native_slots::Answering;
-use quiet_events::{accept_turn, reject};
 use rule_interpreter::Interpreter;
 use trace_entries::{Answer, Fault, Refusal};
 

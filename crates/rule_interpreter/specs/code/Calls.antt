@@ -14,7 +14,7 @@ use Rattle.meta_model.specs.declared.effects.MetaEffects.{MetaEffects}
 use Rattle.native_slots.specs.declared.action.Action.{Action}
 use Rattle.machine_state.specs.State.{Step, Run, Act, Activation, Body, Emit, Update, Destroy}
 use Rattle.machine_state.specs.Telling.{Assigning}
-use Rattle.rule_laws.specs.Reaches.{RunsTo, Advances, CallsIn, Calls, OnlyCalls, Sets, Deletes, Kills}
+use Rattle.machine_rules.specs.Reaches.{RunsTo, Advances, CallsIn, Calls, OnlyCalls, Sets, Deletes, Kills}
 use Rattle.run_context.specs.declared.method_call.MethodCall.{MethodCall}
 use Rattle.binding_graph.specs.declared.place.Place.{Place}
 use Rattle.machine_rules.specs.Natives.{NativeAnswers}

@@ -7,7 +7,7 @@ ghost use Rattle.worked_examples.specs.Thermostat.{thermostat_effects};
 use crate::calls::thermostat::{DeclaredNative, declared, judged};
 use anyhow::Result;
 use basic_types::Value;
-use built_in_native::{class, twice};
+use native_slots::built_in::{class, twice};
 use native_slots::{Action, NativeSlot, Natives};
 use std::alloc::{AllocError, Global};
 
@@ -63,7 +63,7 @@ pub fn with_thermostat(alloc: Global, reply: Reply, task: &mut impl Task) -> Res
 pub fn with_idle_doubler(alloc: Global, task: &mut impl Task) -> Result<()> {
     let class = class(alloc)?;
     let sig = twice(alloc)?;
-    let effects = built_in_native::effects(alloc)?;
+    let effects = native_slots::built_in::effects(alloc)?;
     let work = Box::new(alloc, move |_: &[Value], _: &[Value]| Ok(Vec::new(alloc)))?;
     let mut slots = Vec::new(alloc);
     slots.push(NativeSlot::new(class, sig, effects, work))?;

@@ -1,5 +1,5 @@
 use Rattle.std.proofs.Common.{sym}
-use Rattle.machine_commands.proofs.Preparing.{carried-writes}
+use Rattle.trace_tool.proofs.Preparing.{carried-writes}
 use Rattle.explained_commands.proofs.ends.explained_command.Goals as goal
 
 pub returns-in-Ok-clause-answers : goal.returns-in-Ok-clause-answers

@@ -1,5 +1,5 @@
 use Rattle.std.proofs.Common.{◌≡◌, drop, ◌++◌}
-use Rattle.change_lines.specs.Telling.{Grouped, writes_of}
+use Rattle.machine_state.specs.Telling.{Grouped, writes_of}
 use Rattle.machine_state.proofs.binding.writes_of.Given as goal
 
 -- what is found, with what the sets that are left write

@@ -1,8 +1,8 @@
 use Rattle.std.proofs.Common.{◌∙◌, ℕ, List, ap, sym}
 use Rattle.basic_types.specs.declared.value.Value.{Value}
 use Rattle.object_tree.specs.Objects.{change_life, written}
-use Rattle.binding_plans.specs.Plans.{assigned}
-use Rattle.binding_plans.proofs.AssignedValues.{assigned-last}
+use Rattle.prop_bindings.specs.Plans.{assigned}
+use Rattle.prop_bindings.proofs.AssignedValues.{assigned-last}
 use Rattle.prop_bindings.proofs.assigning.assign.Goals as goal
 
 pub loop-key-preserved : goal.loop-key-preserved

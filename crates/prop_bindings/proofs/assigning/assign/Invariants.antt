@@ -1,5 +1,5 @@
 use Rattle.std.proofs.Common.{◌≡◌, length}
-use Rattle.binding_plans.specs.Plans.{assigned}
+use Rattle.prop_bindings.specs.Plans.{assigned}
 use Rattle.prop_bindings.specs.code.Parts.{ahead}
 use Rattle.prop_bindings.proofs.assigning.assign.Given as goal
 

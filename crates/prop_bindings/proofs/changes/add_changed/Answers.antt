@@ -1,10 +1,10 @@
 use Rattle.std.proofs.Common.{◌∷◌, ◌++◌, ◌∙◌, [], List, sym, subst}
 use Rattle.std.proofs.lemmas.Bool.{false≢true}
 use Rattle.binding_graph.specs.declared.place.Place.{Place}
-use Rattle.binding_plans.specs.Changes.{AreChanged}
+use Rattle.prop_bindings.specs.Changes.{AreChanged}
 use Rattle.prop_bindings.specs.code.Parts.{ahead}
 use Rattle.prop_bindings.proofs.Assigned.{ahead-values}
-use Rattle.binding_plans.proofs.AssignedValues.{assigned-differs}
+use Rattle.prop_bindings.proofs.AssignedValues.{assigned-differs}
 use Rattle.prop_bindings.proofs.Changed.{changed-more, stayed-more}
 use Rattle.prop_bindings.proofs.Staying.{alike-by, alike-from}
 use Rattle.prop_bindings.proofs.changes.add_changed.Goals as goal

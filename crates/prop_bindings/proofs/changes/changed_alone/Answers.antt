@@ -2,7 +2,7 @@ use Rattle.std.proofs.Common.{◌∙◌, ◌∷◌, [], List, sym, subst}
 use Rattle.std.proofs.lemmas.Bool.{false≢true}
 use Rattle.object_tree.specs.Objects.{change_life, written}
 use Rattle.binding_graph.specs.declared.place.Place.{Place}
-use Rattle.binding_plans.specs.Changes.{AreChanged}
+use Rattle.prop_bindings.specs.Changes.{AreChanged}
 use Rattle.prop_bindings.proofs.Alone.{alone-changed, alone-stayed}
 use Rattle.prop_bindings.proofs.changes.changed_alone.Goals as goal
 

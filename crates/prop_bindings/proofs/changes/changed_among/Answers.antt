@@ -2,7 +2,7 @@ use Rattle.std.proofs.Common.{◌++◌, ◌∷◌, ◌∙◌, [], List, take, ap
 use Rattle.std.proofs.lemmas.List.{append-nil, append_assoc}
 use Rattle.binding_graph.specs.declared.numbering.Numbered.{Numbered}
 use Rattle.binding_graph.specs.declared.place.Place.{Place}
-use Rattle.binding_plans.specs.Changes.{AreChanged, none_changed}
+use Rattle.prop_bindings.specs.Changes.{AreChanged, none_changed}
 use Rattle.binding_graph.specs.code.Numbering.{places_of}
 use Rattle.prop_bindings.specs.code.Parts.{ahead}
 use Rattle.binding_graph.proofs.Numbers.{taken-all}

@@ -1,5 +1,5 @@
 use Rattle.std.proofs.Common.{◌++◌, take}
-use Rattle.binding_plans.specs.Changes.{AreChanged}
+use Rattle.prop_bindings.specs.Changes.{AreChanged}
 use Rattle.binding_graph.specs.code.Numbering.{places_of}
 use Rattle.prop_bindings.specs.code.Parts.{ahead}
 use Rattle.prop_bindings.proofs.changes.changed_among.Given as goal

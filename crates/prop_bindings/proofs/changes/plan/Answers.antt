@@ -5,17 +5,17 @@ use Rattle.basic_types.specs.declared.value.Value.{Value}
 use Rattle.object_tree.specs.declared.object.Object.{Object}
 use Rattle.binding_graph.specs.declared.numbering.Numbered.{Numbered}
 use Rattle.binding_graph.specs.declared.place.Place.{Place}
-use Rattle.binding_plans.specs.Values.{values_in}
+use Rattle.prop_bindings.specs.Values.{values_in}
 use Rattle.binding_graph.specs.Bindings.{binding_at}
-use Rattle.binding_plans.specs.Changes.{AreChanged}
-use Rattle.binding_plans.specs.Plans.{assigned}
+use Rattle.prop_bindings.specs.Changes.{AreChanged}
+use Rattle.prop_bindings.specs.Plans.{assigned}
 use Rattle.binding_graph.specs.code.Graph.{bindings_in, slot_of}
 use Rattle.binding_graph.specs.code.Numbering.{places_of}
 use Rattle.binding_graph.specs.code.Orders.{pass}
 use Rattle.prop_bindings.specs.code.Parts.{IsSoundBySome, StaySound, ahead}
 use Rattle.binding_graph.proofs.Noted.{slots-apart}
 use Rattle.binding_graph.proofs.Sorting.{sorted-numbering, sorted-same}
-use Rattle.binding_plans.proofs.AssignedValues.{assigned-differs}
+use Rattle.prop_bindings.proofs.AssignedValues.{assigned-differs}
 use Rattle.prop_bindings.proofs.Evaluating.{rest-alike}
 use Rattle.prop_bindings.proofs.InOrder.{changes-in-slots}
 use Rattle.prop_bindings.proofs.changes.plan.Goals as goal

@@ -7,9 +7,9 @@ use Rattle.object_tree.specs.Objects.{change_life, written}
 use Rattle.binding_graph.specs.declared.binding.Binding.{Binding}
 use Rattle.binding_graph.specs.declared.numbering.Numbered.{Numbered}
 use Rattle.binding_graph.specs.declared.place.Place.{Place}
-use Rattle.binding_plans.specs.Values.{values_in}
+use Rattle.prop_bindings.specs.Values.{values_in}
 use Rattle.binding_graph.specs.Bindings.{binding_at, value_of}
-use Rattle.binding_plans.specs.Changes.{valueless}
+use Rattle.prop_bindings.specs.Changes.{valueless}
 use Rattle.binding_graph.specs.code.Graph.{bindings_in, slot_of}
 use Rattle.binding_graph.specs.code.Numbering.{AreNumbered, places_of}
 use Rattle.prop_bindings.specs.code.Parts.{StaySound, ahead, value_ahead}
@@ -18,7 +18,7 @@ use Rattle.prop_bindings.proofs.Evaluating.{evaluated-there, evaluated-values, e
 use Rattle.binding_graph.proofs.Passes.{pass-step}
 use Rattle.binding_graph.proofs.Ranked.{in-at, next-is, next-taken, taken-places}
 use Rattle.binding_graph.proofs.Sorting.{places-push}
-use Rattle.binding_plans.proofs.Values.{written-differs}
+use Rattle.prop_bindings.proofs.Values.{written-differs}
 use Rattle.prop_bindings.proofs.evaluation.evaluate_all.Goals as goal
 
 pub unreachable-requires : goal.unreachable-requires

@@ -1,8 +1,8 @@
 use Rattle.std.proofs.Common.{◌≡◌, ◌+◌, drop, take}
 use Rattle.binding_graph.specs.declared.place.Place.{Place}
-use Rattle.binding_plans.specs.Values.{values_in}
+use Rattle.prop_bindings.specs.Values.{values_in}
 use Rattle.binding_graph.specs.Bindings.{binding_at}
-use Rattle.binding_plans.specs.Changes.{DifferInValues}
+use Rattle.prop_bindings.specs.Changes.{DifferInValues}
 use Rattle.binding_graph.specs.code.Graph.{bindings_in, slot_of}
 use Rattle.binding_graph.specs.code.Numbering.{AreNumbered}
 use Rattle.binding_graph.specs.code.Orders.{pass}

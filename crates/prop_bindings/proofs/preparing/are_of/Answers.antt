@@ -1,4 +1,4 @@
-use Rattle.binding_plans.specs.Calls.{IsOf}
+use Rattle.prop_bindings.specs.Calls.{IsOf}
 use Rattle.prop_bindings.proofs.Covering.{zip-ends}
 use Rattle.prop_bindings.proofs.preparing.are_of.Goals as goal
 

@@ -1,6 +1,6 @@
 use Rattle.std.proofs.Common.{◌↔◌, length}
 use Rattle.std.specs.List.{AllZip}
-use Rattle.binding_plans.specs.Calls.{IsOf}
+use Rattle.prop_bindings.specs.Calls.{IsOf}
 use Rattle.prop_bindings.proofs.preparing.are_of.Given as goal
 
 -- what is left are of the classes that are left exactly where all are

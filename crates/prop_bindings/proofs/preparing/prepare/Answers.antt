@@ -3,9 +3,9 @@ use Rattle.std.specs.Prelude.{slice_get}
 use Rattle.std.proofs.lemmas.Bool.{false≢true}
 use Rattle.std.proofs.lemmas.Option.{slice_get_read}
 use Rattle.meta_model.specs.declared.site.MetaSite.{MetaSite}
-use Rattle.binding_plans.specs.Calls.{IsSited, MayBind, other_loop, no_memory}
-use Rattle.binding_plans.specs.FaultNumbers.{fault_of}
-use Rattle.binding_plans.specs.declared.fault.BindFault.TheVariants.{Memory}
+use Rattle.prop_bindings.specs.Calls.{IsSited, MayBind, other_loop, no_memory}
+use Rattle.prop_bindings.specs.FaultNumbers.{fault_of}
+use Rattle.prop_bindings.specs.declared.plans.fault.BindFault.TheVariants.{Memory}
 use Rattle.prop_bindings.proofs.Sited.{nothing-past, built-is, no-site, not-covered, evaluates-not, other-type, prepared, prepares-err}
 use Rattle.prop_bindings.proofs.preparing.prepare.Goals as goal
 

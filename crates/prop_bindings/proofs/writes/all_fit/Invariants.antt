@@ -1,6 +1,6 @@
 use Rattle.std.proofs.Common.{drop}
 use Rattle.std.specs.Prelude.{◌↔◌}
-use Rattle.binding_plans.specs.Calls.{AllFit}
+use Rattle.prop_bindings.specs.Calls.{AllFit}
 use Rattle.prop_bindings.proofs.writes.all_fit.Given as goal
 
 -- those that are left fit exactly where all do

@@ -4,7 +4,7 @@ use Rattle.std.proofs.lemmas.List.{take_more}
 use Rattle.indexmap.specs.IndexMap.{get}
 use Rattle.basic_types.specs.declared.value.Value.{Value}
 use Rattle.binding_graph.specs.declared.place.Place.{Place}
-use Rattle.binding_plans.specs.declared.assignment.Assignment.{Assignment}
+use Rattle.prop_bindings.specs.declared.plans.assignment.Assignment.{Assignment}
 use Rattle.binding_graph.specs.code.Keys.{key_of, same_key}
 use Rattle.prop_bindings.specs.code.Parts.{AreGiven}
 use Rattle.prop_bindings.proofs.Giving.{given-again, given-new}

@@ -3,17 +3,17 @@ use Rattle.object_tree.specs.declared.object.Object.{Object}
 use Rattle.binding_graph.specs.declared.place.Place.{Place}
 use Rattle.binding_graph.specs.declared.binding.Binding.{Binding}
 use Rattle.binding_graph.specs.Places.{Distinct, In}
-use Rattle.binding_plans.specs.Values.{values_in}
+use Rattle.prop_bindings.specs.Values.{values_in}
 use Rattle.binding_graph.specs.Bindings.{binding_at}
-use Rattle.binding_plans.specs.Changes.{places_in}
-use Rattle.binding_plans.specs.Plans.{after}
+use Rattle.prop_bindings.specs.Changes.{places_in}
+use Rattle.prop_bindings.specs.Plans.{after}
 use Rattle.binding_graph.specs.code.Graph.{bindings_of}
 use Rattle.binding_graph.specs.code.Orders.{AreBound, pass}
 use Rattle.prop_bindings.specs.code.Parts.{AreSound, ahead}
 use Rattle.prop_bindings.proofs.Calling.{lead-to}
 use Rattle.prop_bindings.proofs.Giving.{given-only, given-sound}
 use Rattle.prop_bindings.proofs.Settling.{affected-away, affected-bound}
-use Rattle.binding_plans.proofs.EachOnce.{once-distinct}
+use Rattle.prop_bindings.proofs.EachOnce.{once-distinct}
 use Rattle.prop_bindings.proofs.Wrote.{wrote-sound}
 use Rattle.prop_bindings.proofs.writes.plan_given.Goals as goal
 

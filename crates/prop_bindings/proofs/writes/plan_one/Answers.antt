@@ -1,4 +1,4 @@
-use Rattle.binding_plans.specs.Changes.{one}
+use Rattle.prop_bindings.specs.Changes.{one}
 use Rattle.prop_bindings.proofs.writes.plan_one.Goals as goal
 
 pub plan_given-requires-clause-given : goal.plan_given-requires-clause-given

@@ -1,4 +1,4 @@
-use Rattle.machine_commands.proofs.Preparing.{carried-failed, carried-writes}
+use Rattle.trace_tool.proofs.Preparing.{carried-failed, carried-writes}
 use Rattle.trace_tool.proofs.commands.command.Goals as goal
 
 pub returns-clause-answers : goal.returns-clause-answers

@@ -1,4 +1,4 @@
-use Rattle.machine_commands.proofs.Preparing.{carried-failed, carried-of, carried-writes}
+use Rattle.trace_tool.proofs.Preparing.{carried-failed, carried-of, carried-writes}
 use Rattle.trace_tool.proofs.commands.respond.Goals as goal
 
 pub carry_out-requires : goal.carry_out-requires

@@ -1,8 +1,8 @@
 use Rattle.std.proofs.Common.{IsTrue, Ok, sym, subst}
 use Rattle.native_slots.specs.Effects.{accepts}
 use Rattle.native_slots.proofs.Promising.{promised}
-use Rattle.machine_commands.proofs.Accepted.{accepted_comes}
-use Rattle.machine_commands.proofs.Preparing.{carried-as, carried-failed, carried-of, carried-writes}
+use Rattle.trace_tool.proofs.Accepted.{accepted_comes}
+use Rattle.trace_tool.proofs.Preparing.{carried-as, carried-failed, carried-of, carried-writes}
 use Rattle.trace_tool.proofs.Claims.{prepared-claims}
 use Rattle.trace_tool.proofs.runs.run.Goals as goal
 

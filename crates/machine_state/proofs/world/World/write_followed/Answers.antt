@@ -3,11 +3,11 @@ use Rattle.binding_graph.specs.declared.place.Place.{Place}
 use Rattle.binding_graph.specs.Bindings.{without}
 use Rattle.prop_bindings.specs.Changes.{one}
 use Rattle.prop_bindings.specs.Plans.{after}
-use Rattle.change_lines.specs.Telling.{Alone}
+use Rattle.machine_state.specs.Telling.{Alone}
 use Rattle.machine_state.specs.code.Changing.{noted}
 use Rattle.machine_state.proofs.Bound.{has-written, written-agrees, noted-over}
 use Rattle.trace_entries.specs.declared.entry.Entry.{Entry}
-use Rattle.change_lines.proofs.Changed.{written-ahead}
+use Rattle.machine_state.proofs.Changed.{written-ahead}
 use Rattle.machine_state.proofs.Trying.{tries-not}
 use Rattle.machine_state.proofs.world.World.write_followed.Goals as goal
 

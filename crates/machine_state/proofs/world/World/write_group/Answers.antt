@@ -1,9 +1,9 @@
 use Rattle.binding_graph.specs.Bindings.{without_all}
 use Rattle.prop_bindings.specs.Plans.{after}
-use Rattle.change_lines.specs.Telling.{Grouped, writes_of}
+use Rattle.machine_state.specs.Telling.{Grouped, writes_of}
 use Rattle.machine_state.specs.code.Changing.{noted}
 use Rattle.machine_state.proofs.Bound.{has-written, written-agrees, noted-over}
-use Rattle.change_lines.proofs.Changed.{written-ahead}
+use Rattle.machine_state.proofs.Changed.{written-ahead}
 use Rattle.machine_state.proofs.world.World.write_group.Goals as goal
 
 pub group_lines-requires-clause-can : goal.group_lines-requires-clause-can

@@ -7,7 +7,7 @@ use Rattle.trace_entries.specs.declared.entry.Entry.{Entry}
 use Rattle.machine_state.specs.code.Changing.{noted}
 use Rattle.machine_state.proofs.Alone.{alone-agreeing, alone-has-written}
 use Rattle.machine_state.proofs.Bound.{noted-over}
-use Rattle.change_lines.proofs.Changed.{fits-has}
+use Rattle.machine_state.proofs.Changed.{fits-has}
 use Rattle.machine_state.proofs.Trying.{tries-not}
 use Rattle.machine_state.proofs.world.World.write_unread.Goals as goal
 

@@ -5,11 +5,11 @@ use Rattle.object_tree.specs.declared.object.Object.{Object}
 use Rattle.binding_graph.specs.declared.place.Place.{Place}
 use Rattle.binding_graph.specs.declared.binding.Binding.{Binding}
 use Rattle.binding_graph.specs.Bindings.{binding_at, replaced}
-use Rattle.binding_plans.specs.Calls.{IsBound, no_memory}
+use Rattle.prop_bindings.specs.Calls.{IsBound, no_memory}
 use Rattle.prop_bindings.specs.Counts.{Kept, CountsFrom}
-use Rattle.binding_plans.specs.Fits.{Agree}
+use Rattle.prop_bindings.specs.Fits.{Agree}
 use Rattle.binding_graph.specs.Places.{property_of}
-use Rattle.binding_plans.specs.Plans.{after}
+use Rattle.prop_bindings.specs.Plans.{after}
 use Rattle.prop_bindings.proofs.Short.{on-err, binds-err}
 use Rattle.prop_bindings.proofs.bindings.Bindings.bind.Goals as goal
 

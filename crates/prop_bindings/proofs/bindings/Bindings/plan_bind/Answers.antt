@@ -1,5 +1,5 @@
 use Rattle.std.proofs.Common.{sym, subst}
-use Rattle.binding_plans.specs.Fits.{IsInOneLoop}
+use Rattle.prop_bindings.specs.Fits.{IsInOneLoop}
 use Rattle.prop_bindings.proofs.Short.{if-ok}
 use Rattle.prop_bindings.proofs.Sited.{binds-both}
 use Rattle.prop_bindings.proofs.bindings.Bindings.plan_bind.Goals as goal

@@ -3,13 +3,13 @@ use Rattle.std.proofs.lemmas.Bool.{false≢true}
 use Rattle.binding_graph.specs.declared.place.Place.{Place}
 use Rattle.binding_graph.specs.declared.binding.Binding.{Binding}
 use Rattle.binding_graph.specs.Bindings.{without_all}
-use Rattle.binding_plans.specs.Calls.{AllFit, bad_type}
-use Rattle.binding_plans.specs.Changes.{HaveLasting, places_in}
+use Rattle.prop_bindings.specs.Calls.{AllFit, bad_type}
+use Rattle.prop_bindings.specs.Changes.{HaveLasting, places_in}
 use Rattle.prop_bindings.specs.Counts.{Kept}
 use Rattle.prop_bindings.specs.code.Parts.{AreGiven, HaveAhead, MayGive, MayGiveSome, PlansGiven}
 use Rattle.prop_bindings.proofs.Calling.{counts-changed, kept-agrees, kept-counts, kept-plans}
 use Rattle.prop_bindings.proofs.Giving.{have-ahead, have-now}
-use Rattle.binding_plans.proofs.EachOnce.{without_all-once}
+use Rattle.prop_bindings.proofs.EachOnce.{without_all-once}
 use Rattle.prop_bindings.proofs.Short.{plans-group-short}
 use Rattle.prop_bindings.proofs.bindings.Bindings.plan_group.Goals as goal
 

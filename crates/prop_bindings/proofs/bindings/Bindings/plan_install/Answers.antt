@@ -2,14 +2,14 @@ use Rattle.std.proofs.Common.{◌≡◌, ◌∙◌, ◌-◌, ◌∷◌, [], ◌�
 use Rattle.basic_types.specs.declared.value.Value.{Value}
 use Rattle.binding_graph.specs.declared.place.Place.{Place}
 use Rattle.binding_graph.specs.declared.binding.Binding.{Binding}
-use Rattle.binding_plans.specs.declared.fault.BindFault.TheVariants.{BindingLoop}
+use Rattle.prop_bindings.specs.declared.plans.fault.BindFault.TheVariants.{BindingLoop}
 use Rattle.binding_graph.specs.Places.{Distinct, In}
-use Rattle.binding_plans.specs.Values.{values_in}
+use Rattle.prop_bindings.specs.Values.{values_in}
 use Rattle.binding_graph.specs.Bindings.{binding_at, Loop, replaced, reads_any, without}
-use Rattle.binding_plans.specs.Changes.{in_order, one, IsInstalled}
+use Rattle.prop_bindings.specs.Changes.{in_order, one, IsInstalled}
 use Rattle.prop_bindings.specs.Counts.{Kept, CountsFrom}
-use Rattle.binding_plans.specs.Fits.{Agree}
-use Rattle.binding_plans.specs.Plans.{after}
+use Rattle.prop_bindings.specs.Fits.{Agree}
+use Rattle.prop_bindings.specs.Plans.{after}
 use Rattle.binding_graph.specs.code.Graph.{bindings_of}
 use Rattle.binding_graph.specs.code.Orders.{AreBound, IsAffected, IsLater, bound, pass, update}
 use Rattle.prop_bindings.specs.code.Parts.{IsNotInstalled, IsSoundBySome, ahead, loops}

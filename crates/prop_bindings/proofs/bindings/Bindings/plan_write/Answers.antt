@@ -1,10 +1,10 @@
 use Rattle.std.proofs.Common.{List, ap, sym, subst, ◌∙◌}
 use Rattle.std.proofs.lemmas.Bool.{false≢true}
 use Rattle.binding_graph.specs.declared.binding.Binding.{Binding}
-use Rattle.binding_plans.specs.Calls.{bad_type}
-use Rattle.binding_plans.specs.Changes.{one}
+use Rattle.prop_bindings.specs.Calls.{bad_type}
+use Rattle.prop_bindings.specs.Changes.{one}
 use Rattle.prop_bindings.specs.Counts.{Kept}
-use Rattle.binding_plans.specs.Fits.{FitsAt}
+use Rattle.prop_bindings.specs.Fits.{FitsAt}
 use Rattle.prop_bindings.specs.code.Parts.{MayWriteOne, PlansOne}
 use Rattle.prop_bindings.proofs.Calling.{counts-changed, kept-agrees, kept-counts, kept-plans}
 use Rattle.prop_bindings.proofs.Short.{plans-short}

@@ -4,11 +4,11 @@ use Rattle.object_tree.specs.declared.object.Object.{Object}
 use Rattle.binding_graph.specs.declared.place.Place.{Place}
 use Rattle.binding_graph.specs.declared.binding.Binding.{Binding}
 use Rattle.binding_graph.specs.Bindings.{binding_at, without}
-use Rattle.binding_plans.specs.Calls.{bad_type}
-use Rattle.binding_plans.specs.Changes.{IsWritten, one}
+use Rattle.prop_bindings.specs.Calls.{bad_type}
+use Rattle.prop_bindings.specs.Changes.{IsWritten, one}
 use Rattle.prop_bindings.specs.Counts.{CountsWritten}
-use Rattle.binding_plans.specs.Fits.{Agree}
-use Rattle.binding_plans.specs.Plans.{after}
+use Rattle.prop_bindings.specs.Fits.{Agree}
+use Rattle.prop_bindings.specs.Plans.{after}
 use Rattle.prop_bindings.proofs.Alone.{alone-agrees, alone-counted, alone-written}
 use Rattle.prop_bindings.proofs.Short.{on-err, writes-err}
 use Rattle.prop_bindings.proofs.bindings.Bindings.write.Goals as goal

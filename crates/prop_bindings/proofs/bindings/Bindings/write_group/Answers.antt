@@ -3,10 +3,10 @@ use Rattle.object_tree.specs.declared.object.Object.{Object}
 use Rattle.binding_graph.specs.declared.place.Place.{Place}
 use Rattle.binding_graph.specs.declared.binding.Binding.{Binding}
 use Rattle.binding_graph.specs.Bindings.{binding_at, without_all}
-use Rattle.binding_plans.specs.Changes.{IsWritten, places_in}
+use Rattle.prop_bindings.specs.Changes.{IsWritten, places_in}
 use Rattle.prop_bindings.specs.Counts.{CountsGroup}
-use Rattle.binding_plans.specs.Fits.{Agree}
-use Rattle.binding_plans.specs.Plans.{after}
+use Rattle.prop_bindings.specs.Fits.{Agree}
+use Rattle.prop_bindings.specs.Plans.{after}
 use Rattle.prop_bindings.proofs.Short.{on-err, writes-err}
 use Rattle.prop_bindings.proofs.bindings.Bindings.write_group.Goals as goal
 

@@ -5,9 +5,9 @@ use Rattle.std.specs.Prelude.{IsTrue, is_some}
 use Rattle.native_slots.specs.declared.action.Action.{Action}
 use Rattle.machine_rules.specs.code.Answering.{member_of_action}
 use Rattle.machine_rules.specs.Settling.{notified}
-use Rattle.rule_laws.specs.Writing.{MayNotify}
+use Rattle.machine_rules.specs.Writing.{MayNotify}
 use Rattle.machine_rules.specs.code.Sound.{IsSoundWorld, MayBeHeardIn}
-use Rattle.rule_laws.specs.Reaches.{Reaches}
+use Rattle.machine_rules.specs.Reaches.{Reaches}
 use Rattle.machine_rules.specs.code.Keeps.{KeepsWorld}
 use Rattle.rule_interpreter.proofs.interpreter.Interpreter.+machine.Given as goal
 

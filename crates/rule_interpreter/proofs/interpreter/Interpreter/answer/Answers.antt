@@ -4,7 +4,7 @@ use Rattle.meta_model.specs.Members.{IsClass}
 use Rattle.native_slots.specs.declared.action.Action.{Action}
 use Rattle.machine_rules.specs.Natives.{MayAnswer}
 use Rattle.machine_rules.specs.code.Answering.{AreTellable}
-use Rattle.rule_laws.proofs.Promised.{declared-of, declaring-there, promised, reads-there, answer-told}
+use Rattle.machine_rules.proofs.Promised.{declared-of, declaring-there, promised, reads-there, answer-told}
 use Rattle.rule_interpreter.proofs.interpreter.Interpreter.answer.Goals as goal
 
 -- what is said of an answer follows from what the native says of it

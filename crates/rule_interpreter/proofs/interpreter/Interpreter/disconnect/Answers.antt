@@ -1,7 +1,7 @@
 use Rattle.std.proofs.Common.{ℕ, List, length, map, ap, arith, Option}
 use Rattle.machine_state.specs.State.{Run}
 use Rattle.machine_rules.specs.Operations.{Disconnect}
-use Rattle.statement_meaning.proofs.Yielding.{between-none}
+use Rattle.run_context.proofs.Yielding.{between-none}
 use Rattle.rule_interpreter.proofs.Bodies.{of-layer, lacks-value, advances-one, does-nothing, does-disconnect}
 use Rattle.rule_interpreter.proofs.interpreter.Interpreter.disconnect.Goals as goal
 

@@ -1,4 +1,4 @@
-use Rattle.rule_laws.specs.Writing.{missing}
+use Rattle.machine_rules.specs.Writing.{missing}
 use Rattle.rule_interpreter.proofs.Writes.{fits-or-not}
 use Rattle.rule_interpreter.proofs.interpreter.Interpreter.fits.Goals as goal
 

@@ -1,7 +1,7 @@
 use Rattle.std.proofs.Common.{ℕ, ◌<◌, length}
 use Rattle.std.proofs.lemmas.Result.{IfOk-weaker}
 use Rattle.prop_bindings.specs.Changes.{one}
-use Rattle.rule_laws.specs.Writing.{MayWrite}
+use Rattle.machine_rules.specs.Writing.{MayWrite}
 use Rattle.rule_interpreter.proofs.interpreter.Interpreter.may_begin_write.Goals as goal
 
 pub returns-clause-ok : goal.returns-clause-ok

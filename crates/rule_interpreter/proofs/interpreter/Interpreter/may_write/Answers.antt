@@ -1,6 +1,6 @@
 use Rattle.std.proofs.Common.{[], refl}
 use Rattle.prop_bindings.specs.Changes.{one}
-use Rattle.rule_laws.specs.Writing.{unfit}
+use Rattle.machine_rules.specs.Writing.{unfit}
 use Rattle.rule_interpreter.proofs.Writes.{fits-one, unfit-one, written-may, unwritten-deep}
 use Rattle.rule_interpreter.proofs.interpreter.Interpreter.may_write.Goals as goal
 

@@ -2,11 +2,11 @@ use Rattle.std.proofs.Common.{◌≡◌, suc, ◌+◌, ◌++◌, [], ◌∷◌, 
 use Rattle.std.specs.Prelude.{IfSome}
 use Rattle.std.proofs.lemmas.List.{take_more, take_all}
 use Rattle.std.proofs.lemmas.Option.{slice_get-get_or}
-use Rattle.prop_bindings.specs.Assignment.{Assignment}
+use Rattle.prop_bindings.specs.declared.plans.assignment.Assignment.{Assignment}
 use Rattle.prop_bindings.specs.Calls.{AllFit}
 use Rattle.prop_bindings.specs.Fits.{FitsAt}
 use Rattle.machine_state.specs.Telling.{Grouped, writes_of}
-use Rattle.rule_laws.specs.Writing.{unfit}
+use Rattle.machine_rules.specs.Writing.{unfit}
 use Rattle.rule_interpreter.proofs.Writes.{cut-at, fits-one, more-fit, unfit-one, unwritten-deep}
 use Rattle.rule_interpreter.proofs.interpreter.Interpreter.may_write_group.Goals.{in-Some+else-not-fits, in_default}
 use Rattle.rule_interpreter.proofs.interpreter.Interpreter.may_write_group.Goals as goal

@@ -1,5 +1,5 @@
-use Rattle.rule_laws.proofs.Reaching.{reaches-same, reaches-then, stops-after, stops-as, ends-left}
-use Rattle.rule_laws.proofs.Soundness.{reaches-sound}
+use Rattle.machine_rules.proofs.ReachedStates.{reaches-same, reaches-then, stops-after, stops-as, ends-left}
+use Rattle.machine_rules.proofs.Soundness.{reaches-sound}
 use Rattle.rule_interpreter.proofs.Turning.{stops-turn}
 use Rattle.rule_interpreter.proofs.interpreter.Interpreter.run_turn.Goals as goal
 

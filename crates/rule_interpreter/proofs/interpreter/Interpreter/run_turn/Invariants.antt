@@ -1,6 +1,6 @@
 use Rattle.std.proofs.Common.{[]}
 use Rattle.machine_rules.specs.code.Sound.{IsSoundWorld}
-use Rattle.rule_laws.specs.Reaches.{Reaches}
+use Rattle.machine_rules.specs.Reaches.{Reaches}
 use Rattle.rule_interpreter.proofs.interpreter.Interpreter.run_turn.Given as goal
 
 abbrev pub invariant-loop-world : goal.invariant-loop-world

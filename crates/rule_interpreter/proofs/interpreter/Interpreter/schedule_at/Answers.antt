@@ -1,8 +1,8 @@
 use Rattle.std.proofs.Common.{ℕ, List, length, map, ap, arith, refl, Option, Some}
 use Rattle.machine_state.specs.State.{Run}
 use Rattle.machine_rules.specs.Operations.{Nothing, Schedule}
-use Rattle.statement_meaning.specs.code.Scope.{path_in}
-use Rattle.statement_meaning.proofs.Yielding.{finds-none, at-null, at-object}
+use Rattle.run_context.specs.code.Scope.{path_in}
+use Rattle.run_context.proofs.Yielding.{finds-none, at-null, at-object}
 use Rattle.rule_interpreter.proofs.Bodies.{of-layer, lacks-value, advances-one, does-nothing, does-schedule}
 use Rattle.rule_interpreter.proofs.interpreter.Interpreter.schedule_at.Goals as goal
 

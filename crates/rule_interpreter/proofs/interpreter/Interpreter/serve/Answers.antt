@@ -1,6 +1,6 @@
 use Rattle.std.proofs.Common.{[], sym, subst}
 use Rattle.machine_state.specs.declared.world.World.{World}
-use Rattle.rule_laws.specs.Reaches.{Advances}
+use Rattle.machine_rules.specs.Reaches.{Advances}
 use Rattle.rule_interpreter.proofs.interpreter.Interpreter.serve.Goals as goal
 
 -- a sweep leaves the world as it is

@@ -2,7 +2,7 @@ use Rattle.std.proofs.Common.{◌∙◌, ap, arith}
 use Rattle.machine_state.specs.declared.world.World.{World}
 use Rattle.machine_rules.proofs.Dying.{copied-none, copied-living}
 use Rattle.rule_interpreter.proofs.Turning.{reaches-ended, reaches-passed, reaches-deleting, advances-served}
-use Rattle.rule_laws.proofs.Soundness.{reaches-sound}
+use Rattle.machine_rules.proofs.Soundness.{reaches-sound}
 use Rattle.rule_interpreter.proofs.interpreter.Interpreter.serve_first.Goals as goal
 
 pub returns-in_default : goal.returns-in_default

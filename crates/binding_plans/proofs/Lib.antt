@@ -1,4 +1,0 @@
-pub mod Values
-pub mod EachOnce
-pub mod Alive
-pub mod AssignedValues

@@ -1,9 +1,0 @@
-pub mod Values
-pub mod Changes
-pub mod Fits
-pub mod Calls
-pub mod Plans
-pub mod FaultNumbers
-pub mod code
-pub use Rattle.binding_graph.specs.Places
-pub use Rattle.binding_graph.specs.Bindings

@@ -1,2 +1,0 @@
--- How the code keeps what is planned.
-pub mod Holding

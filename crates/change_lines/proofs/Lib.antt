@@ -1,4 +1,0 @@
-pub mod Followers
-pub mod Changed
-pub mod Told
-pub mod Ahead

@@ -1,6 +1,0 @@
-use Rattle.std.proofs.Common.{◌≡◌, take}
-use Rattle.change_lines.specs.Objects.{all_shown}
-use Rattle.change_lines.proofs.showing.show_all.Given as goal
-
-abbrev pub invariant-loop-value : goal.invariant-loop-value
-invariant-loop-value l = l.texts ≡ all_shown l.objects (take l.value-index l.values)

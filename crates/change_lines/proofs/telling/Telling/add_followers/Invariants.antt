@@ -1,8 +1,0 @@
-use Rattle.std.proofs.Common.{take}
-use Rattle.binding_plans.specs.Plans.{after}
-use Rattle.change_lines.specs.code.Planned.{AddsFollowers}
-use Rattle.change_lines.proofs.telling.Telling.add_followers.Given as goal
-
--- the lines of the properties that were passed were added
-abbrev pub invariant-loop-place : goal.invariant-loop-place
-invariant-loop-place l = AddsFollowers l.self.meta.now (after l.self.planned.now l.self.tree.now) l.self.depth (take l.place-index l.followers) l.initial.lines.items l.lines.items

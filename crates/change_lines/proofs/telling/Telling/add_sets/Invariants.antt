@@ -1,8 +1,0 @@
-use Rattle.std.proofs.Common.{take}
-use Rattle.binding_plans.specs.Plans.{after}
-use Rattle.change_lines.specs.code.Planned.{AddsSets}
-use Rattle.change_lines.proofs.telling.Telling.add_sets.Given as goal
-
--- the lines of the sets that were passed were added
-abbrev pub invariant-loop-set : goal.invariant-loop-set
-invariant-loop-set l = AddsSets l.self.meta.now (after l.self.planned.now l.self.tree.now) l.self.depth (take l.set-index l.sets) l.initial.lines.items l.lines.items

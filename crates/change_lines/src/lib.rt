@@ -1,8 +1,0 @@
-//! How values are written down, and what a change of properties writes down.
-#![tactic(auto)]
-
-mod showing;
-mod telling;
-
-pub use showing::{show, show_all};
-pub use telling::{Cause, Telling, line_of};

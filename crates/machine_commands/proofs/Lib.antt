@@ -1,5 +1,0 @@
-pub mod Accepted
-pub mod Answering
-pub mod Preparing
-mod Reading
-mod Streaming

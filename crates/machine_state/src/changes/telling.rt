@@ -1,0 +1,270 @@
+//! What a change of properties writes down: those that are written or bound, and each other one that changes with them. The
+//! change is planned then, and nothing is changed yet.
+
+ghost use Rattle.std.specs.Prelude.{◌≡◌, [], ◌∷◌, IfOk, OnOk, OnErr};
+ghost use Rattle.std.specs.Option.{option_copied};
+ghost use Rattle.prop_bindings.specs.Changes.{DifferInValues, once, places_in};
+ghost use Rattle.prop_bindings.specs.Values.{values_in};
+ghost use Rattle.prop_bindings.specs.Plans.{after};
+ghost use Rattle.machine_state.specs.Telling.{HasValue, IsTold, IsToldWith, IsSetTold, AreTold, IsGroupTold, Grouped, entry_kind_of, others, writes_of};
+ghost use Rattle.machine_state.specs.code.Planned.{CanBeTold, HaveValues, AddsFollowers, AddsSets, AddsTold, StandFirst, WillBeTold, behind};
+
+use crate::changes::showing::show;
+use basic_types::{Name, Value};
+use binding_graph::Place;
+use meta_model::Meta;
+use object_tree::Tree;
+use prop_bindings::{Assignment, Planned};
+use std::alloc::{AllocError, Global};
+use trace_entries::{Entry, EntryKind, Shown, Trace};
+
+/// How a property comes to a value.
+#[derive(Clone, Copy)]
+pub enum Cause {
+    /// It is written.
+    Write,
+    /// It is bound.
+    Bind,
+    /// It follows, since it is bound.
+    Follow,
+}
+
+/// The telling of what changes.
+#[derive(Clone, Copy)]
+pub struct Telling<'w> {
+    /// The program.
+    pub meta: &'w Meta,
+    /// The objects, with the values that they have before the change.
+    pub tree: &'w Tree,
+    /// The change.
+    pub planned: &'w Planned,
+    /// The depth that is written down.
+    pub depth: usize,
+}
+
+impl<'w> Telling<'w> {
+    /// The lines of the property that is written or bound, whether it reads as it did or not, and of each other one that
+    /// changes, with the values that they will have.
+    #[inline(never)]
+    pub fn change(
+        &self,
+        alloc: Global,
+        cause: Cause,
+        first: &Place,
+    ) -> Result<Vec<Entry>, AllocError>
+        requires can { CanBeTold self.now.meta.now self.now.tree.now (first.now ∷ [])
+            self.now.planned.now }
+        ensures { IfOk result (λ lines. AreTold self.now.meta.now
+            (after self.now.planned.now self.now.tree.now) self.now.depth cause
+            first.now self.now.planned.now.changed lines.items) }
+    {
+        let followers = self.followers(&[*first]);
+        let mut lines = Vec::with_capacity(alloc, followers.len() + 1)?;
+        lines.push(self.line(cause, first)?)?;
+        self.add_followers(followers, &mut lines)?;
+        Ok(lines)
+    }
+
+    /// Adds the lines of a change, as `change` gives them, to the trace; without memory the trace stays as it was. A property
+    /// with which no other changes needs no list for its one line.
+    #[inline(always)]
+    pub fn note(&self, trace: &mut Trace, cause: Cause, first: &Place) -> Result<(), AllocError>
+        requires can { CanBeTold self.now.meta.now self.now.tree.now (first.now ∷ [])
+            self.now.planned.now }
+        ensures ok { OnOk result (AddsTold self.now.meta.now
+            (after self.now.planned.now self.now.tree.now) self.now.depth cause
+            first.now self.now.planned.now.changed trace.old trace.new) }
+        ensures err { OnErr result (trace.new ≡ trace.old) }
+    {
+        if self.followers(&[*first]).is_empty() {
+            let line = self.line(cause, first)?;
+            return trace.push(line);
+        }
+        let lines = self.change(trace.allocator(), cause, first)?;
+        trace.append_all(lines)
+    }
+
+    /// The lines of a group of sets, which write these properties, each once: its own, those of the sets, whatever the
+    /// properties will have in the end, and those of each other property that changes.
+    pub fn group(
+        &self,
+        alloc: Global,
+        sets: &[Option<Assignment>],
+        written: &[Place],
+    ) -> Result<Vec<Entry>, AllocError>
+        requires can { CanBeTold self.now.meta.now self.now.tree.now
+            (places_in (writes_of (Grouped sets.now))) self.now.planned.now }
+        requires written { written.now ≡ once (places_in (writes_of (Grouped sets.now))) }
+        ensures { IfOk result (λ lines. IsGroupTold self.now.meta.now
+            (after self.now.planned.now self.now.tree.now) self.now.depth sets.now
+            self.now.planned.now.changed lines.items) }
+    {
+        let mut lines = Vec::new(alloc);
+        lines.push(Entry::At(self.depth, EntryKind::Grouped))?;
+        self.add_sets(sets, &mut lines)?;
+        let followers = self.followers(written);
+        self.add_followers(followers, &mut lines)?;
+        Ok(lines)
+    }
+
+    /// Adds the lines of the sets of a group.
+    fn add_sets(
+        &self,
+        sets: &[Option<Assignment>],
+        lines: &mut Vec<Entry>,
+    ) -> Result<(), AllocError>
+        requires can { CanBeTold self.now.meta.now self.now.tree.now
+            (places_in (writes_of (Grouped sets.now))) self.now.planned.now }
+        ensures { OnOk result (AddsSets self.now.meta.now
+            (after self.now.planned.now self.now.tree.now) self.now.depth sets.now
+            lines.old.items lines.new.items) }
+    {
+        for set in sets {
+            let line = match set {
+                Some(set) => self.line_with(Cause::Write, &set.place, &set.value)?,
+                None => Entry::At(self.depth, EntryKind::OnNull),
+            };
+            lines.push(line)?;
+        }
+        Ok(())
+    }
+
+    /// The properties that change but for those that are written or bound, which stand before them.
+    #[inline(always)]
+    fn followers(&self, written: &[Place]) -> &'w [Place]
+        requires first { StandFirst (others written.now self.now.planned.now.changed) written.now
+            self.now.planned.now.changed }
+        ensures { result.now ≡ others written.now self.now.planned.now.changed }
+    {
+        let mut rest = self.planned.changed();
+        for place in written {
+            rest = behind(rest, place);
+        }
+        rest
+    }
+
+    /// Adds the lines of properties that change with those that are written or bound.
+    fn add_followers(&self, followers: &[Place], lines: &mut Vec<Entry>) -> Result<(), AllocError>
+        requires have { HaveValues self.now.meta.now self.now.tree.now followers.now }
+        requires will_have { HaveValues self.now.meta.now
+            (after self.now.planned.now self.now.tree.now) followers.now }
+        requires differ { DifferInValues self.now.tree.now
+            (after self.now.planned.now self.now.tree.now) }
+        ensures { OnOk result (AddsFollowers self.now.meta.now
+            (after self.now.planned.now self.now.tree.now) self.now.depth followers.now
+            lines.old.items lines.new.items) }
+    {
+        for place in followers {
+            lines.push(self.line(Cause::Follow, place)?)?;
+        }
+        Ok(())
+    }
+
+    /// The line of a property with the value that it will have.
+    #[inline(always)]
+    fn line(&self, cause: Cause, place: &Place) -> Result<Entry, AllocError>
+        requires has { HasValue self.now.meta.now self.now.tree.now place.now }
+        requires will_have { HasValue self.now.meta.now
+            (after self.now.planned.now self.now.tree.now) place.now }
+        requires differ { DifferInValues self.now.tree.now
+            (after self.now.planned.now self.now.tree.now) }
+        ensures { IfOk result (IsTold self.now.meta.now
+            (after self.now.planned.now self.now.tree.now) self.now.depth cause place.now) }
+    {
+        let Some(value) = self.value(place) else {
+            unreachable!()
+        };
+        self.line_with(cause, place, value)
+    }
+
+    /// The line of a property with this value.
+    #[inline(always)]
+    fn line_with(&self, cause: Cause, place: &Place, value: &Value) -> Result<Entry, AllocError>
+        requires has { HasValue self.now.meta.now self.now.tree.now place.now }
+        requires will_have { HasValue self.now.meta.now
+            (after self.now.planned.now self.now.tree.now) place.now }
+        requires differ { DifferInValues self.now.tree.now
+            (after self.now.planned.now self.now.tree.now) }
+        ensures { IfOk result (IsToldWith self.now.meta.now
+            (after self.now.planned.now self.now.tree.now) self.now.depth cause place.now
+            value.now) }
+    {
+        line_of(self.meta, self.tree, self.depth, cause, place, value)
+    }
+
+    /// The value that a property will have.
+    #[inline(always)]
+    fn value(&self, place: &Place) -> Option<&Value>
+        ensures { option_copied result ≡
+            values_in (after self.now.planned.now self.now.tree.now) place.now }
+    {
+        let planned = self.planned.value(place);
+        let own = self.tree.value(place.object, place.property)?;
+        match planned {
+            Some(value) => Some(value),
+            None => Some(own),
+        }
+    }
+}
+
+/// The line of a property with this value, before the change; it depends on no other value that the change gives.
+#[inline(always)]
+pub fn line_of(
+    meta: &Meta,
+    tree: &Tree,
+    depth: usize,
+    cause: Cause,
+    place: &Place,
+    value: &Value,
+) -> Result<Entry, AllocError>
+    requires has { HasValue meta.now tree.now place.now }
+    ensures { IfOk result (WillBeTold meta.now tree.now depth cause place.now value.now) }
+{
+    let Some((object, life)) = tree.get(place.object) else {
+        unreachable!()
+    };
+    let Some(class) = meta.object(life.class) else {
+        unreachable!()
+    };
+    let Some(property) = class.property(place.property) else {
+        unreachable!()
+    };
+    let value = show(tree, value)?;
+    let what = entry_kind(cause, object.name.copy()?, property.name.copy()?, value);
+    Ok(Entry::At(depth, what))
+}
+
+/// What is left of properties behind this one, if it stands first.
+#[inline(always)]
+fn behind<'p>(places: &'p [Place], place: &Place) -> &'p [Place]
+    ensures { result.now ≡ behind place.now places.now }
+{
+    match places.split_first() {
+        Some((first, rest)) if first.is_same(place) => rest,
+        _ => places,
+    }
+}
+
+/// What happens where a property comes to a value so.
+#[inline(always)]
+fn entry_kind(cause: Cause, object: Name, property: Name, value: Shown) -> EntryKind
+    ensures { result ≡ entry_kind_of cause object property value }
+{
+    match cause {
+        Cause::Write => EntryKind::Written {
+            object,
+            property,
+            value,
+        },
+        Cause::Bind => EntryKind::Bound {
+            object,
+            property,
+            value,
+        },
+        Cause::Follow => EntryKind::Followed {
+            object,
+            property,
+            value,
+        },
+    }
+}

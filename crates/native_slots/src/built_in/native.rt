@@ -1,0 +1,71 @@
+//! What the native is for, and what it does.
+
+ghost use Rattle.std.specs.Prelude.{◌≡◌, [], ◌∷◌, IfOk, IsTrue, codes};
+ghost use Rattle.basic_types.specs.Types.{value_type};
+ghost use Rattle.native_slots.specs.Effects.{are_within};
+ghost use Rattle.native_slots.specs.Doubling.{doubling};
+
+use crate::{Action, Effects, PlainProperty, PlainSignal, PlainType};
+use basic_types::{Arguments, Name, QType, Sig, Value};
+use sqlite_items::Items;
+use std::alloc::{AllocError, Global};
+
+/// The class that declares it.
+pub fn class(alloc: Global) -> Result<Name, AllocError>
+    ensures { IfOk result (λ name. name ≡ codes "Doubler") }
+{
+    Name::new(alloc, b"Doubler")
+}
+
+/// Its signature there, `twice(int)`.
+pub fn twice(alloc: Global) -> Result<Sig, AllocError>
+    ensures { IfOk result (λ sig. sig ≡ record { name = codes "twice"; types = value_type (codes "int") ∷ [] }) }
+{
+    let name = Name::new(alloc, b"twice")?;
+    let int = Name::new(alloc, b"int")?;
+    let mut types = Items::new(alloc);
+    types.push(QType::value(int))?;
+    Sig::new(alloc, name, types)
+}
+
+/// It takes an `int`, emits `done(int)` and sets `out`.
+pub fn effects(alloc: Global) -> Result<Effects, AllocError>
+    ensures { IfOk result (λ effects. effects ≡ doubling) }
+{
+    let mut parameters = Items::new(alloc);
+    parameters.push(PlainType::Int)?;
+    let mut types = Items::new(alloc);
+    types.push(PlainType::Int)?;
+    let done = PlainSignal {
+        name: Name::new(alloc, b"done")?,
+        types,
+    };
+    let mut emits = Items::new(alloc);
+    emits.push(done)?;
+    let out = PlainProperty {
+        name: Name::new(alloc, b"out")?,
+        kind: PlainType::Int,
+    };
+    let mut sets = Items::new(alloc);
+    sets.push(out)?;
+    Ok(Effects {
+        parameters,
+        reads: Items::new(alloc),
+        emits,
+        sets,
+    })
+}
+
+/// The property is set to the number, and then the signal is emitted with it.
+pub fn doubled(alloc: Global, number: i32) -> Result<Vec<Action>, AllocError>
+    ensures actions { IfOk result (λ actions. actions.items
+        ≡ Action.Set 0 (Value.Int number) ∷ Action.Emit 0 (Value.Int number ∷ []) ∷ []) }
+    ensures within { IfOk result (λ actions. IsTrue (are_within doubling actions.items)) }
+{
+    let mut arguments = Arguments::new(alloc);
+    arguments.push(Value::Int(number))?;
+    let mut actions = Vec::new(alloc);
+    actions.push(Action::Set(0, Value::Int(number)))?;
+    actions.push(Action::Emit(0, arguments))?;
+    Ok(actions)
+}

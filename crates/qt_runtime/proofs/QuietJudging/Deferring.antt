@@ -1,0 +1,67 @@
+-- `later`.
+use Rattle.std.proofs.Common.{None, ◌≡◌, ℕ, true, false, List, [], ◌∷◌, Ok, refl, sym, ap, subst, Option}
+use Rattle.meta_model.specs.Loaded.{Loaded}
+use Rattle.delete_later.specs.declared.store.Store.{Store}
+use Rattle.delete_later.specs.Scheduling.{deferred_to, scheduled_in, scheduled_with}
+use Rattle.event_loops.specs.Queues.{HasName}
+use Rattle.object_tree.specs.declared.life.Life.{Life}
+use Rattle.object_tree.specs.Objects.{scheduled}
+use Rattle.prop_bindings.specs.Fits.{Agree}
+use Rattle.prop_bindings.proofs.Agreeing.{scheduled_agree}
+use Rattle.script_lang.specs.declared.event.Event.TheVariants.{Later}
+use Rattle.trace_entries.specs.declared.entry.Entry.{Entry}
+use Rattle.trace_entries.specs.declared.entry.Entry.TheVariants.{At}
+use Rattle.trace_entries.specs.declared.entry.EntryKind.TheVariants.{Scheduled}
+use Rattle.trace_entries.specs.declared.fault.Answer.TheVariants as answer
+use Rattle.machine_state.specs.declared.world.World.{World}
+use Rattle.machine_state.specs.Accepting.{accepted, with_entries}
+use Rattle.machine_state.specs.State.{State}
+use Rattle.machine_state.specs.Worlds.{at, store_of, with_store}
+use Rattle.machine_state.specs.code.Changing.{with_scheduled, accepting, accepting_schedule}
+use Rattle.machine_state.proofs.Deferring.{scheduled-now}
+use Rattle.machine_rules.specs.Destroying.{scheduled_now}
+use Rattle.machine_rules.specs.Judgement.{Numbered, becomes, gives, goes_on}
+use Rattle.object_machine.specs.declared.not_accepted.NotAccepted.{NotAccepted}
+use Rattle.object_machine.specs.code.Judgement.{IsNotAccepted, IsLiving}
+use Rattle.object_machine.specs.Takes.{judged}
+use Rattle.qt_runtime.specs.code.Quiet.{TookQuietly}
+use Rattle.object_machine.specs.Events.{living}
+use Rattle.object_machine.proofs.Judged.{then-ends}
+use Rattle.object_machine.proofs.Judging.Naming.{living-ok}
+use Rattle.qt_runtime.proofs.QuietWorlds.{quietly-done}
+use Rattle.machine_rules.proofs.Scheduling.{schedules-before}
+
+module _ (p : Loaded) (w : World) (name : List ℕ) where
+  -- the name isn't accepted
+  pub not-later : {n : NotAccepted} → IsNotAccepted (living w.store.tree name) n → IsNotAccepted (judged p (at w []) (Later name)) n
+  not-later x = then-ends x
+
+  module _ (o : Numbered Life) (lives : IsLiving w.store.tree name o) where
+    -- the object is scheduled already
+    again : o.it.scheduled ≡ true → judged p (at w []) (Later name) (Ok (accepted (at w [])))
+    again marked = goes_on o (living-ok o lives) (becomes (schedules-before marked))
+
+    pub later-again : {v : World} → o.it.scheduled ≡ true → Agree p w.store.tree w.store.bindings → w.turn ≡ None → v ≡ accepting w → TookQuietly p w (Later name) v (Ok answer.Done)
+    later-again marked agree none v_is = quietly-done (accepted (at w [])) (Later name) (again marked) refl agree none v_is
+
+    -- .. or it is scheduled now
+    module _ (loop : List ℕ) (is_loop : HasName w.store.loops.loops loop o.it.home) (unmarked : o.it.scheduled ≡ false) where
+      abbrev entry : Entry
+      entry = At 0 (Scheduled loop name)
+
+      abbrev noted : State
+      noted = with_entries (accepted (at w [])) (entry ∷ [])
+
+      now : scheduled_in o.number (store_of noted) ≡ deferred_to o.it.home o.number (store_of noted)
+      now = scheduled-now o.number (store_of noted) o.it lives.lives unmarked
+
+      once : judged p (at w []) (Later name) (Ok (with_scheduled noted o.number))
+      once =
+          let state_of : Option Life → State = λ life. with_store noted (scheduled_with life o.number (store_of noted)) in
+          goes_on o (living-ok o lives) (becomes (record { lines = entry ∷ []; told = scheduled_now unmarked is_loop lives.named.named; gives = ap state_of lives.lives }))
+
+      pub later-once : {v : World} → Agree p w.store.tree w.store.bindings → w.turn ≡ None → v ≡ accepting_schedule w (At 0 (Scheduled loop name) ∷ []) o.number → TookQuietly p w (Later name) v (Ok answer.Done)
+      later-once agree none v_is =
+          let Agrees : Store → Type 0 = λ store. Agree p store.tree store.bindings in
+          let agree_after : Agrees (scheduled_in o.number (store_of noted)) = subst Agrees (sym now) (scheduled_agree p w.store.bindings w.store.tree o.number agree) in
+          quietly-done (with_scheduled noted o.number) (Later name) once refl agree_after none v_is

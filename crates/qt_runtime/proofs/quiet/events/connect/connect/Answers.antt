@@ -1,0 +1,15 @@
+use Rattle.std.proofs.Common.{[], refl}
+use Rattle.machine_state.specs.Accepting.{accepted}
+use Rattle.machine_state.specs.Worlds.{at, with_connection}
+use Rattle.qt_runtime.proofs.QuietWorlds.{quietly-done, quietly-unchanged, quietly-not-accepted}
+use Rattle.qt_runtime.proofs.quiet.events.connect.connect.Goals as goal
+
+pub returns-in-Err : goal.returns-in-Err
+returns-in-Err c = quietly-not-accepted _ c.refuse.result c.in-Err.ensures.refused c.refuse.ensures
+
+pub returns-in_err-accept_connection-in-Ok : goal.returns-in_err-accept_connection-in-Ok
+returns-in_err-accept_connection-in-Ok c = quietly-unchanged _ _ c.in_err-accept_connection-in-Ok.ensures c.from_residual.ensures.1
+
+pub returns-in_ok-accept_connection-in-Ok : goal.returns-in_ok-accept_connection-in-Ok
+returns-in_ok-accept_connection-in-Ok c =
+    quietly-done (with_connection (accepted (at c.args.world.now [])) c.in-Ok.ends c.args.how) _ c.in-Ok.ensures.accepted refl c.requires.keeps.sound.is.agree c.requires.idle c.in_ok-accept_connection-in-Ok.ensures

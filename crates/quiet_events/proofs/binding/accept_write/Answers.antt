@@ -1,4 +1,0 @@
-use Rattle.quiet_events.proofs.binding.accept_write.Goals as goal
-
-pub accept_unread-requires-clause-unread : goal.accept_unread-requires-clause-unread
-accept_unread-requires-clause-unread c = c.is_unread.ensures c.if-is_unread.true

@@ -1,9 +1,0 @@
-pub mod Stacks
-pub mod Keeps
-pub mod Reaching
-pub mod Delivered
-pub mod Notifying
-pub mod Hearing
-pub mod Soundness
-pub mod Promised
-pub mod Fitting

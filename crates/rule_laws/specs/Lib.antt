@@ -1,3 +1,0 @@
-pub mod Reaches
-pub mod Writing
-pub mod Laws

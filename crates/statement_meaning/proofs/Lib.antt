@@ -1,3 +1,0 @@
-pub mod Reading
-pub mod Yielding
-pub mod Overlaid

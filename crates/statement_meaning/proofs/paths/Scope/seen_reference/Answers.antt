@@ -1,7 +1,0 @@
-use Rattle.std.proofs.Common.{◌∙◌}
-use Rattle.std.specs.Option.{option_copied}
-use Rattle.statement_meaning.proofs.Overlaid.{overlaid-reference}
-use Rattle.statement_meaning.proofs.paths.Scope.seen_reference.Goals as goal
-
-pub returns : goal.returns
-returns c = c.seen_reference.ensures ∙ overlaid-reference (option_copied c.args.self.now.written) c.args.self.now.objects.now c.args.reference

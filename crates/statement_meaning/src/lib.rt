@@ -1,8 +1,0 @@
-//! What the statements of a body mean: where its paths lead, what its expressions give, and what its sets write.
-#![tactic(auto)]
-
-mod ends;
-mod paths;
-mod sets;
-
-pub use paths::Scope;
