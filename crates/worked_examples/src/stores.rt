@@ -11,7 +11,7 @@ mod telling;
 mod trees;
 mod worked;
 
-pub use fault::Fault;
+pub use fault::StoreFault;
 use links::ConnectionPair;
 use memory::{connected_in_turn, created_in_turn};
 use pair::compared;
@@ -21,7 +21,7 @@ use trees::TreePair;
 use worked::{break_duplicates, give_up_slots};
 
 /// Writes of each store how often it and the plain list of what it holds answer otherwise, and what memory it holds.
-pub fn tell_stores<R: Print + AllocGlobal>(rt: &R) -> Result<(), Fault> {
+pub fn tell_stores<R: Print + AllocGlobal>(rt: &R) -> Result<(), StoreFault> {
     let alloc = rt.alloc();
     let connections = compared::<ConnectionPair>(alloc, 0x2545_F491_4F6C_DD1D)?;
     tell(rt, "connections", connections)?;

@@ -1,6 +1,6 @@
 //! Command lines, answered by a call.
 
-use crate::calls::task::Task;
+use crate::calls::task::NativesTask;
 use anyhow::Result;
 use native_slots::Natives;
 use std::alloc::Global;
@@ -15,7 +15,7 @@ pub const CHECKED: &[&str] = &["run"];
 
 /// A command line with its input, and what it answers: what it writes and its exit status.
 #[derive(Drop)]
-pub struct CommandLine<'a> {
+pub struct CommandRun<'a> {
     alloc: Global,
     words: &'a [&'a str],
     input: &'a [u8],
@@ -23,10 +23,10 @@ pub struct CommandLine<'a> {
     pub status: u8,
 }
 
-impl<'a> CommandLine<'a> {
+impl<'a> CommandRun<'a> {
     /// A command line that has answered nothing yet.
-    pub fn new(alloc: Global, words: &'a [&'a str], input: &'a [u8]) -> CommandLine<'a> {
-        CommandLine {
+    pub fn new(alloc: Global, words: &'a [&'a str], input: &'a [u8]) -> CommandRun<'a> {
+        CommandRun {
             alloc,
             words,
             input,
@@ -36,7 +36,7 @@ impl<'a> CommandLine<'a> {
     }
 }
 
-impl Task for CommandLine<'_> {
+impl NativesTask for CommandRun<'_> {
     fn perform(&mut self, natives: Natives) -> Result<()> {
         let input = Ok(self.input);
         self.status = respond(self.alloc, self.words, input, natives, &mut self.output).status?;

@@ -17,7 +17,7 @@ pub const FOLLOWERS: &str =
     "class X { property int x; } class Y { property int y; } class Z { property int z; } class W { property int w; } class U { property int u; property int v; } binding by Y.y (X a) = a.x + 1; binding bz Z.z (X a) = a.x * 2; binding bw W.w (Y a, Z b) = a.y + b.z; binding bu U.u (U e) = e.v;";
 
 /// A bind, a write or a group of writes.
-enum Step {
+enum BindingOperation {
     /// The binding of a site, of an object to others.
     Bind {
         site: usize,
@@ -37,10 +37,10 @@ enum Step {
 }
 
 /// What is done one after another, under what is said of it.
-const STEPS: &[(&str, Step)] = &[
+const STEPS: &[(&str, BindingOperation)] = &[
     (
         "bind y to x",
-        Step::Bind {
+        BindingOperation::Bind {
             site: 0,
             target: 1,
             sources: &[0],
@@ -48,7 +48,7 @@ const STEPS: &[(&str, Step)] = &[
     ),
     (
         "bind z to x",
-        Step::Bind {
+        BindingOperation::Bind {
             site: 1,
             target: 2,
             sources: &[0],
@@ -56,7 +56,7 @@ const STEPS: &[(&str, Step)] = &[
     ),
     (
         "bind w to y and z",
-        Step::Bind {
+        BindingOperation::Bind {
             site: 2,
             target: 3,
             sources: &[1, 2],
@@ -64,7 +64,7 @@ const STEPS: &[(&str, Step)] = &[
     ),
     (
         "bind u to v",
-        Step::Bind {
+        BindingOperation::Bind {
             site: 3,
             target: 4,
             sources: &[4],
@@ -72,7 +72,7 @@ const STEPS: &[(&str, Step)] = &[
     ),
     (
         "write 5 to x",
-        Step::Write {
+        BindingOperation::Write {
             object: 0,
             property: 1,
             number: 5,
@@ -80,7 +80,7 @@ const STEPS: &[(&str, Step)] = &[
     ),
     (
         "write 5 to x again",
-        Step::Write {
+        BindingOperation::Write {
             object: 0,
             property: 1,
             number: 5,
@@ -88,7 +88,7 @@ const STEPS: &[(&str, Step)] = &[
     ),
     (
         "write 2 to v",
-        Step::Write {
+        BindingOperation::Write {
             object: 4,
             property: 2,
             number: 2,
@@ -96,7 +96,7 @@ const STEPS: &[(&str, Step)] = &[
     ),
     (
         "bind y to x again",
-        Step::Bind {
+        BindingOperation::Bind {
             site: 0,
             target: 1,
             sources: &[0],
@@ -104,20 +104,20 @@ const STEPS: &[(&str, Step)] = &[
     ),
     (
         "write 6 to x and 20 to z, which follows x",
-        Step::Group {
+        BindingOperation::Group {
             writes: &[(0, 1, 6), (2, 1, 20)],
         },
     ),
     (
         "write both again",
-        Step::Group {
+        BindingOperation::Group {
             writes: &[(0, 1, 6), (2, 1, 20)],
         },
     ),
-    ("write nothing", Step::Group { writes: &[] }),
+    ("write nothing", BindingOperation::Group { writes: &[] }),
     (
         "write 7 to x and 21 to z, which w follows",
-        Step::Group {
+        BindingOperation::Group {
             writes: &[(0, 1, 7), (2, 1, 21)],
         },
     ),
@@ -179,13 +179,13 @@ fn take(
     meta: &Meta,
     tree: &mut Tree,
     bindings: &mut Bindings,
-    step: &Step,
+    step: &BindingOperation,
 ) -> Result<usize>
     requires { Agree meta.now tree.old bindings.old.installed }
     ensures { Agree meta.now tree.new bindings.new.installed }
 {
     match step {
-        Step::Bind {
+        BindingOperation::Bind {
             site,
             target,
             sources,
@@ -195,7 +195,7 @@ fn take(
             let changed = bindings.bind(meta, tree, *site, target, sources.as_slice())?;
             Ok(changed.len())
         }
-        Step::Write {
+        BindingOperation::Write {
             object,
             property,
             number,
@@ -207,7 +207,7 @@ fn take(
             let changed = bindings.write(meta, tree, &place, Value::Int(*number))?;
             Ok(changed.len())
         }
-        Step::Group { writes } => {
+        BindingOperation::Group { writes } => {
             let writes = assignments(alloc, writes)?;
             let changed = bindings.write_group(meta, tree, &writes)?;
             Ok(changed.len())

@@ -4,7 +4,7 @@ ghost use Rattle.std.specs.Prelude.{IfOk};
 ghost use Rattle.qt_runtime.specs.Seen.{AreKept};
 
 use crate::calls::loading::loaded;
-use crate::calls::task::{Reply, Task, with_thermostat};
+use crate::calls::task::{NativesTask, Reply, with_thermostat};
 use crate::calls::thermostat::PROGRAM;
 use anyhow::Result;
 use native_slots::{Answering, Natives};
@@ -45,7 +45,7 @@ impl<'a> Taking<'a> {
     }
 }
 
-impl Task for Taking<'_> {
+impl NativesTask for Taking<'_> {
     fn perform(&mut self, natives: Natives) -> Result<()> {
         let mut machine = started(self.alloc, self.program, natives)?;
         take_each(&mut machine, self.events, &mut self.answers)?;

@@ -1,6 +1,6 @@
 //! Runs with the closures of a thermostat, and with one that does nothing for the program's own native.
 
-use crate::calls::command_line::{CHECKED, CommandLine, UNCHECKED};
+use crate::calls::command_line::{CHECKED, CommandRun, UNCHECKED};
 use crate::calls::task::{Reply, with_idle_doubler, with_thermostat};
 use crate::calls::thermostat::PROGRAM;
 use anyhow::Result;
@@ -8,7 +8,7 @@ use std::alloc::{AllocError, Global};
 use std::str;
 
 /// A run of a script with a thermostat.
-struct Run {
+struct ThermostatRun {
     title: &'static str,
     words: &'static [&'static str],
     script: &'static str,
@@ -22,32 +22,32 @@ const SCRIPT: &str =
 /// It is colder than is wanted, which is 0 at first.
 const FROST: &str = "new hall Thermostat\ncall hall.measured(-1)\n";
 
-const RUNS: &[Run] = &[
-    Run {
+const RUNS: &[ThermostatRun] = &[
+    ThermostatRun {
         title: "A thermostat",
         words: UNCHECKED,
         script: SCRIPT,
         reply: Reply::Judged,
     },
-    Run {
+    ThermostatRun {
         title: "A thermostat, with a certificate",
         words: CHECKED,
         script: SCRIPT,
         reply: Reply::Judged,
     },
-    Run {
+    ThermostatRun {
         title: "A thermostat that does nothing",
         words: UNCHECKED,
         script: FROST,
         reply: Reply::Nothing,
     },
-    Run {
+    ThermostatRun {
         title: "A thermostat without memory",
         words: UNCHECKED,
         script: FROST,
         reply: Reply::NoMemory,
     },
-    Run {
+    ThermostatRun {
         title: "A thermostat without memory, with a certificate",
         words: CHECKED,
         script: FROST,
@@ -61,27 +61,27 @@ const DOUBLER: &[u8] =
 
 /// Writes what the runs write, behind the certificate of those that need one.
 pub fn tell_runs<R: Print + AllocGlobal>(rt: &R) -> Result<()> {
-    let mut certify = CommandLine::new(rt.alloc(), &["certify"], PROGRAM.as_bytes());
+    let mut certify = CommandRun::new(rt.alloc(), &["certify"], PROGRAM.as_bytes());
     with_thermostat(rt.alloc(), Reply::Judged, &mut certify)?;
     tell_answer(rt, "The certificate of a thermostat", &certify)?;
     for run in RUNS {
         tell_run(rt, run, certify.output.as_slice())?;
     }
-    let mut doubled = CommandLine::new(rt.alloc(), UNCHECKED, DOUBLER);
+    let mut doubled = CommandRun::new(rt.alloc(), UNCHECKED, DOUBLER);
     with_idle_doubler(rt.alloc(), &mut doubled)?;
     tell_answer(rt, "A doubler that does nothing", &doubled)
 }
 
 /// Writes what a run writes, with this certificate where it is checked.
-fn tell_run<R: Print + AllocGlobal>(rt: &R, run: &Run, certificate: &[u8]) -> Result<()> {
+fn tell_run<R: Print + AllocGlobal>(rt: &R, run: &ThermostatRun, certificate: &[u8]) -> Result<()> {
     let input = input_of(rt.alloc(), run, certificate)?;
-    let mut line = CommandLine::new(rt.alloc(), run.words, input.as_slice());
+    let mut line = CommandRun::new(rt.alloc(), run.words, input.as_slice());
     with_thermostat(rt.alloc(), run.reply, &mut line)?;
     tell_answer(rt, run.title, &line)
 }
 
 /// The program and the script of a run, with the certificate between them where it is checked.
-fn input_of(alloc: Global, run: &Run, certificate: &[u8]) -> Result<Vec<u8>, AllocError> {
+fn input_of(alloc: Global, run: &ThermostatRun, certificate: &[u8]) -> Result<Vec<u8>, AllocError> {
     let mut input = Vec::from_slice(alloc, PROGRAM.as_bytes())?;
     if run.words.len() == 1 {
         input.extend_from_slice(b"\n%%\n")?;
@@ -93,7 +93,7 @@ fn input_of(alloc: Global, run: &Run, certificate: &[u8]) -> Result<Vec<u8>, All
 }
 
 /// Writes a command line's exit status, and below it what it writes.
-pub fn tell_answer(rt: &impl Print, title: &str, line: &CommandLine<'_>) -> Result<()> {
+pub fn tell_answer(rt: &impl Print, title: &str, line: &CommandRun<'_>) -> Result<()> {
     tell_text(rt, title, line.status, line.output.as_slice())
 }
 

@@ -1,8 +1,8 @@
 //! As many objects as a run may create, and one more; and inputs as large as a command takes, and larger.
 
-use crate::calls::command_line::{CommandLine, UNCHECKED};
+use crate::calls::command_line::{CommandRun, UNCHECKED};
 use crate::calls::runs::{tell_answer, tell_text};
-use crate::calls::task::Task;
+use crate::calls::task::NativesTask;
 use anyhow::Result;
 use native_slots::Natives;
 use std::alloc::{AllocError, Global};
@@ -56,7 +56,7 @@ pub fn tell_sizes<R: Print + AllocGlobal>(rt: &R) -> Result<()> {
 fn tell_creations<R: Print + AllocGlobal>(rt: &R) -> Result<()> {
     let mut input = creations(rt.alloc(), 100001)?;
     input.extend_from_slice(b"new AAA C\nnew Zzz D\n")?;
-    let mut line = CommandLine::new(rt.alloc(), UNCHECKED, input.as_slice());
+    let mut line = CommandRun::new(rt.alloc(), UNCHECKED, input.as_slice());
     line.perform(Natives::of(Vec::new(rt.alloc())))?;
     let accepted = accepted_lines(rt.alloc(), 100000)?;
     match line.output.strip_prefix(accepted.as_slice()) {
@@ -76,7 +76,7 @@ fn tell_bytes<R: Print + AllocGlobal>(rt: &R, title: &str, count: usize) -> Resu
     if let Some(front) = input.first_chunk_mut::<2>() {
         *front = *b"%%";
     }
-    let mut line = CommandLine::new(rt.alloc(), UNCHECKED, input.as_slice());
+    let mut line = CommandRun::new(rt.alloc(), UNCHECKED, input.as_slice());
     line.perform(Natives::of(Vec::new(rt.alloc())))?;
     tell_answer(rt, title, &line)
 }

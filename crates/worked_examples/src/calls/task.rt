@@ -12,7 +12,7 @@ use native_slots::{Action, NativeSlot, Natives};
 use std::alloc::{AllocError, Global};
 
 /// What is done once with natives.
-pub trait Task {
+pub trait NativesTask {
     fn perform(&mut self, natives: Natives) -> Result<()>;
 }
 
@@ -45,7 +45,7 @@ fn answer(
 }
 
 /// Performs a task with the native of a thermostat.
-pub fn with_thermostat(alloc: Global, reply: Reply, task: &mut impl Task) -> Result<()> {
+pub fn with_thermostat(alloc: Global, reply: Reply, task: &mut impl NativesTask) -> Result<()> {
     let DeclaredNative {
         class,
         sig,
@@ -60,7 +60,7 @@ pub fn with_thermostat(alloc: Global, reply: Reply, task: &mut impl Task) -> Res
 }
 
 /// Performs a task with a closure for the program's own native that does nothing.
-pub fn with_idle_doubler(alloc: Global, task: &mut impl Task) -> Result<()> {
+pub fn with_idle_doubler(alloc: Global, task: &mut impl NativesTask) -> Result<()> {
     let class = class(alloc)?;
     let sig = twice(alloc)?;
     let effects = native_slots::built_in::effects(alloc)?;

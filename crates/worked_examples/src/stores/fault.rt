@@ -7,7 +7,7 @@ use thiserror::Error;
 
 /// Why the stores aren't called to the end.
 #[derive(Debug, Drop, Error)]
-pub enum Fault {
+pub enum StoreFault {
     /// A growth of memory was refused.
     #[error("out of memory")]
     Memory(#[from] AllocError),

@@ -3,11 +3,13 @@
 mod call;
 mod plain;
 
-use crate::stores::fault::Fault;
-use crate::stores::pair::Pair;
+use crate::stores::fault::StoreFault;
+use crate::stores::pair::StorePair;
 use crate::stores::random::Random;
 use basic_types::ObjectId;
-use call::{Call, Link, MEMBERS, OBJECTS, Wanted, some_number, some_object};
+use call::{
+    ConnectionCall, ConnectionEnds, MEMBERS, NewConnection, OBJECTS, some_number, some_object,
+};
 use connections::{ConnectFault, Connection, Connections, DisconnectFault, SignalHint};
 use plain::PlainConnections;
 use std::alloc::{AllocError, Global};
@@ -23,8 +25,8 @@ pub struct ConnectionPair {
 /// How many connections are made at most; a list of calls makes fewer.
 const MOST_CONNECTIONS: u64 = 1_000_000;
 
-impl Pair for ConnectionPair {
-    fn new(alloc: Global) -> Result<ConnectionPair, Fault> {
+impl StorePair for ConnectionPair {
+    fn new(alloc: Global) -> Result<ConnectionPair, StoreFault> {
         Ok(ConnectionPair {
             store: Connections::new(alloc),
             plain: PlainConnections::new(alloc),
@@ -33,7 +35,7 @@ impl Pair for ConnectionPair {
     }
 
     fn call(&mut self, random: &mut Random) -> Result<bool, AllocError> {
-        let call = Call::random(random, self.plain.last);
+        let call = ConnectionCall::random(random, self.plain.last);
         let is_answered = self.answers_alike(&call);
         let is_asked = self.asks_alike(random);
         Ok(is_answered && is_asked && self.is_alike())
@@ -42,21 +44,22 @@ impl Pair for ConnectionPair {
 
 impl ConnectionPair {
     /// Makes a call on both, and says whether they answer it alike.
-    fn answers_alike(&mut self, call: &Call) -> bool {
+    fn answers_alike(&mut self, call: &ConnectionCall) -> bool {
         match call {
-            Call::Connect(wanted) => self.connect(wanted) == self.plain.connect(wanted),
-            Call::Disconnect(link) => self.disconnect(link) == self.plain.disconnect(link),
-            Call::DropObject(object) => {
+            ConnectionCall::Connect(wanted) => self.connect(wanted) == self.plain.connect(wanted),
+            ConnectionCall::Disconnect(link) => self.disconnect(link)
+                == self.plain.disconnect(link),
+            ConnectionCall::DropObject(object) => {
                 self.store.drop_object(*object);
                 self.plain.drop_object(*object);
                 true
             }
-            Call::Cut(number) => {
+            ConnectionCall::Cut(number) => {
                 self.store.cut(*number);
                 self.plain.cut(*number);
                 true
             }
-            Call::Sweep => {
+            ConnectionCall::Sweep => {
                 self.store.sweep();
                 self.plain.marked = 0;
                 true
@@ -64,7 +67,7 @@ impl ConnectionPair {
         }
     }
 
-    fn connect(&mut self, wanted: &Wanted) -> Result<(), ConnectFault> {
+    fn connect(&mut self, wanted: &NewConnection) -> Result<(), ConnectFault> {
         if self.store.last() >= MOST_CONNECTIONS {
             return Err(ConnectFault::Memory);
         }
@@ -80,7 +83,7 @@ impl ConnectionPair {
         )
     }
 
-    fn disconnect(&mut self, link: &Link) -> Result<(), DisconnectFault> {
+    fn disconnect(&mut self, link: &ConnectionEnds) -> Result<(), DisconnectFault> {
         self.store
             .disconnect(link.sender, link.signal, link.receiver, link.method)
     }
@@ -92,7 +95,7 @@ impl ConnectionPair {
         let signal = random.below(MEMBERS);
         let used = some_number(random, self.plain.last);
         let made = some_number(random, self.plain.last);
-        let link = Link::random(random);
+        let link = ConnectionEnds::random(random);
         let mut new = SignalHint::new();
         let mut kept = self.kept;
         let is_due = self.is_due_alike(sender, signal, used, made, &mut new)
@@ -116,7 +119,7 @@ impl ConnectionPair {
         )
     }
 
-    fn are_connected(&self, link: &Link) -> bool {
+    fn are_connected(&self, link: &ConnectionEnds) -> bool {
         self.store
             .are_connected(link.sender, link.signal, link.receiver, link.method)
     }

@@ -1,7 +1,7 @@
 //! What memory the stores hold: as much as what is in them needs, and not what ever was.
 
-use crate::stores::fault::Fault;
-use crate::stores::trees::{Class, loaded, name_of};
+use crate::stores::fault::StoreFault;
+use crate::stores::trees::{TreeClass, loaded, name_of};
 use basic_types::{Kind, LoopId, ObjectId};
 use connections::Connections;
 use object_tree::{MOST_OBJECTS, Tree};
@@ -16,9 +16,9 @@ pub struct Holding {
 }
 
 /// Creates as many objects as may be, each of which dies before the next one is created.
-pub fn created_in_turn(alloc: Global) -> Result<Holding, Fault> {
+pub fn created_in_turn(alloc: Global) -> Result<Holding, StoreFault> {
     let meta = loaded(alloc)?;
-    let class = Class::Node.name(alloc)?;
+    let class = TreeClass::Node.name(alloc)?;
     let mut tree = Tree::new(alloc);
     let mut most = 0;
     for number in 0..MOST_OBJECTS {

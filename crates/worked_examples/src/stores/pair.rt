@@ -1,13 +1,13 @@
 //! A store beside the plain list that its specification says.
 
-use crate::stores::fault::Fault;
+use crate::stores::fault::StoreFault;
 use crate::stores::random::Random;
 use std::alloc::{AllocError, Global};
 
 /// A store, and the plain list that it has to be seen as.
-pub trait Pair: Drop {
+pub trait StorePair: Drop {
     /// Both without anything in them.
-    fn new(alloc: Global) -> Result<Self, Fault>;
+    fn new(alloc: Global) -> Result<Self, StoreFault>;
 
     /// Makes a call that is drawn at random on both, and says whether they answer it alike and are alike after it.
     fn call(&mut self, random: &mut Random) -> Result<bool, AllocError>;
@@ -16,7 +16,7 @@ pub trait Pair: Drop {
 /// How many lists of calls were made, with how many calls in all, and how many of these had another answer than the plain
 /// list's.
 #[derive(Clone, Copy)]
-pub struct Tally {
+pub struct CallTally {
     pub lists: u32,
     pub calls: u32,
     pub others: u32,
@@ -29,9 +29,9 @@ const LISTS: u32 = 400;
 const CALLS: u32 = 100;
 
 /// Makes lists of random calls on a pair, each from the beginning.
-pub fn compared<P: Pair>(alloc: Global, seed: u64) -> Result<Tally, Fault> {
+pub fn compared<P: StorePair>(alloc: Global, seed: u64) -> Result<CallTally, StoreFault> {
     let mut random = Random::seeded(seed);
-    let mut tally = Tally {
+    let mut tally = CallTally {
         lists: 0,
         calls: 0,
         others: 0,
@@ -43,11 +43,11 @@ pub fn compared<P: Pair>(alloc: Global, seed: u64) -> Result<Tally, Fault> {
 }
 
 /// Makes a list of random calls on a pair.
-fn call_in_turn<P: Pair>(
+fn call_in_turn<P: StorePair>(
     alloc: Global,
     random: &mut Random,
-    tally: &mut Tally,
-) -> Result<(), Fault> {
+    tally: &mut CallTally,
+) -> Result<(), StoreFault> {
     let mut pair = P::new(alloc)?;
     for _ in 0..CALLS {
         let is_alike = pair.call(random)?;

@@ -3,11 +3,11 @@
 mod call;
 mod plain;
 
-use crate::stores::fault::Fault;
-use crate::stores::pair::Pair;
+use crate::stores::fault::StoreFault;
+use crate::stores::pair::StorePair;
 use crate::stores::random::Random;
 use basic_types::{LoopId, ObjectId};
-use call::{Call, Delivery, HOMES, Label, Waiting, some_home, some_number};
+use call::{Delivery, HOMES, Label, LoopCall, Waiting, some_home, some_number};
 use event_loops::{AddFault, Loops, PostFault};
 use plain::PlainLoops;
 use std::alloc::{AllocError, Global};
@@ -23,8 +23,8 @@ pub struct LoopPair {
 /// The number from which on nothing is posted; a list of calls doesn't come to it.
 const LAST_NUMBER: u64 = 1_000_000;
 
-impl Pair for LoopPair {
-    fn new(alloc: Global) -> Result<LoopPair, Fault> {
+impl StorePair for LoopPair {
+    fn new(alloc: Global) -> Result<LoopPair, StoreFault> {
         let store = Loops::new(alloc)?;
         let plain = PlainLoops::new(alloc)?;
         Ok(LoopPair {
@@ -35,7 +35,7 @@ impl Pair for LoopPair {
     }
 
     fn call(&mut self, random: &mut Random) -> Result<bool, AllocError> {
-        let call = Call::random(random, self.plain.posted);
+        let call = LoopCall::random(random, self.plain.posted);
         let is_answered = self.answers_alike(&call)?;
         let is_asked = self.asks_alike(random)?;
         Ok(is_answered && is_asked && self.is_alike())
@@ -44,10 +44,10 @@ impl Pair for LoopPair {
 
 impl LoopPair {
     /// Makes a call on both, and says whether they answer it alike.
-    fn answers_alike(&mut self, call: &Call) -> Result<bool, AllocError> {
+    fn answers_alike(&mut self, call: &LoopCall) -> Result<bool, AllocError> {
         match call {
-            Call::Add(label) => Ok(self.add(*label)? == self.plain.add(*label)),
-            Call::Post {
+            LoopCall::Add(label) => Ok(self.add(*label)? == self.plain.add(*label)),
+            LoopCall::Post {
                 home,
                 object,
                 delivery,
@@ -55,11 +55,11 @@ impl LoopPair {
                 let answer = self.post(*home, *object, *delivery)?;
                 Ok(answer == self.plain.post(*home, *object, *delivery))
             }
-            Call::TakeBefore { home, number } => {
+            LoopCall::TakeBefore { home, number } => {
                 let answer = self.take_before(*home, *number);
                 Ok(answer == self.plain.take_before(*home, *number))
             }
-            Call::DropObject(object) => {
+            LoopCall::DropObject(object) => {
                 self.store.drop_object(*object);
                 self.plain.drop_object(*object);
                 Ok(true)

@@ -1,13 +1,13 @@
 //! What is written of the stores.
 
 use crate::stores::memory::Holding;
-use crate::stores::pair::Tally;
+use crate::stores::pair::CallTally;
 use crate::stores::worked::{Broken, Slots};
 use std::io;
 
 /// Writes how a store's calls were answered.
-pub fn tell(rt: &impl Print, store: &str, tally: Tally) -> io::Result<()> {
-    let Tally {
+pub fn tell(rt: &impl Print, store: &str, tally: CallTally) -> io::Result<()> {
+    let CallTally {
         lists,
         calls,
         others,

@@ -3,12 +3,12 @@
 mod call;
 mod plain;
 
-use crate::stores::fault::Fault;
-use crate::stores::pair::Pair;
+use crate::stores::fault::StoreFault;
+use crate::stores::pair::StorePair;
 use crate::stores::random::Random;
 use basic_types::{ObjectId, Value};
-pub use call::{Class, loaded, name_of};
-use call::{Call, FRIEND, SIZE, Wanted, some_name, some_object};
+pub use call::{TreeClass, loaded, name_of};
+use call::{FRIEND, NewObject, SIZE, TreeCall, some_name, some_object};
 use meta_model::Meta;
 use object_tree::{CreateFault, Life, Tree};
 use plain::{PlainObject, PlainTree};
@@ -23,8 +23,8 @@ pub struct TreePair {
     plain: PlainTree,
 }
 
-impl Pair for TreePair {
-    fn new(alloc: Global) -> Result<TreePair, Fault> {
+impl StorePair for TreePair {
+    fn new(alloc: Global) -> Result<TreePair, StoreFault> {
         Ok(TreePair {
             alloc,
             meta: loaded(alloc)?,
@@ -34,7 +34,7 @@ impl Pair for TreePair {
     }
 
     fn call(&mut self, random: &mut Random) -> Result<bool, AllocError> {
-        let call = Call::random(random, self.plain.len());
+        let call = TreeCall::random(random, self.plain.len());
         let is_answered = self.answers_alike(&call)?;
         let is_found = self.finds_alike(some_name(random))?;
         let object = some_object(random, self.plain.len());
@@ -44,13 +44,13 @@ impl Pair for TreePair {
 
 impl TreePair {
     /// Makes a call on both, and says whether they answer it alike.
-    fn answers_alike(&mut self, call: &Call) -> Result<bool, AllocError> {
+    fn answers_alike(&mut self, call: &TreeCall) -> Result<bool, AllocError> {
         match call {
-            Call::Create(wanted) => {
+            TreeCall::Create(wanted) => {
                 let answer = self.create(wanted)?;
                 Ok(answer == self.plain.create(wanted))
             }
-            Call::Adopt { parent, child } => {
+            TreeCall::Adopt { parent, child } => {
                 let answer = self.store.adopt(&self.meta, *parent, *child);
                 Ok(answer == self.plain.adopt(*parent, *child))
             }
@@ -61,33 +61,33 @@ impl TreePair {
         }
     }
 
-    fn create(&mut self, wanted: &Wanted) -> Result<Result<ObjectId, CreateFault>, AllocError> {
+    fn create(&mut self, wanted: &NewObject) -> Result<Result<ObjectId, CreateFault>, AllocError> {
         let name = name_of(self.alloc, wanted.name)?;
         let class = wanted.class.name(self.alloc)?;
         Ok(self.store.create(&self.meta, &name, &class, wanted.home))
     }
 
     /// Makes a call on both that has no answer.
-    fn change(&mut self, call: &Call) {
+    fn change(&mut self, call: &TreeCall) {
         match call {
-            Call::Block(object, on) => {
+            TreeCall::Block(object, on) => {
                 self.store.block(*object, *on);
                 self.plain.block(*object, *on);
             }
-            Call::MarkScheduled(object) => {
+            TreeCall::MarkScheduled(object) => {
                 self.store.mark_scheduled(*object);
                 self.plain.mark_scheduled(*object);
             }
-            Call::Write(object, written) => {
+            TreeCall::Write(object, written) => {
                 self.store
                     .set_value(*object, written.property(), written.value());
                 self.plain.write(*object, *written);
             }
-            Call::MarkDead(object) => {
+            TreeCall::MarkDead(object) => {
                 self.store.mark_dead(*object);
                 self.plain.mark_dead(*object);
             }
-            Call::Create(_) | Call::Adopt { .. } => {}
+            TreeCall::Create(_) | TreeCall::Adopt { .. } => {}
         }
     }
 

@@ -1,7 +1,7 @@
 //! The slots of objects and the marks of connections, step by step.
 
-use crate::stores::fault::Fault;
-use crate::stores::trees::{Class, loaded, name_of};
+use crate::stores::fault::StoreFault;
+use crate::stores::trees::{TreeClass, loaded, name_of};
 use basic_types::{Kind, LoopId, ObjectId};
 use connections::{ConnectFault, Connections};
 use meta_model::Meta;
@@ -48,7 +48,7 @@ pub struct Slots {
 }
 
 /// A parent that dies before its child, and an object that is created afterwards.
-pub fn give_up_slots(alloc: Global) -> Result<Slots, Fault> {
+pub fn give_up_slots(alloc: Global) -> Result<Slots, StoreFault> {
     let meta = loaded(alloc)?;
     let mut tree = Tree::new(alloc);
     create(alloc, &meta, &mut tree, 0)?;
@@ -78,7 +78,7 @@ pub fn give_up_slots(alloc: Global) -> Result<Slots, Fault> {
 /// Creates the node of a number.
 fn create(alloc: Global, meta: &Meta, tree: &mut Tree, number: usize) -> Result<(), AllocError> {
     let name = name_of(alloc, number)?;
-    let class = Class::Node.name(alloc)?;
+    let class = TreeClass::Node.name(alloc)?;
     let _ = tree.create(meta, &name, &class, LoopId::new(0));
     Ok(())
 }

@@ -12,7 +12,7 @@ pub const MEMBERS: usize = 3;
 
 /// A signal of an object, and the method that it is connected to.
 #[derive(Clone, Copy)]
-pub struct Link {
+pub struct ConnectionEnds {
     pub sender: ObjectId,
     pub signal: usize,
     pub receiver: ObjectId,
@@ -21,8 +21,8 @@ pub struct Link {
 
 /// A connection that is asked for.
 #[derive(Clone, Copy)]
-pub struct Wanted {
-    pub link: Link,
+pub struct NewConnection {
+    pub link: ConnectionEnds,
     pub kind: Kind,
     pub unique: bool,
     pub single: bool,
@@ -30,30 +30,30 @@ pub struct Wanted {
 
 /// A call that changes the connections.
 #[derive(Clone, Copy)]
-pub enum Call {
-    Connect(Wanted),
-    Disconnect(Link),
+pub enum ConnectionCall {
+    Connect(NewConnection),
+    Disconnect(ConnectionEnds),
     DropObject(ObjectId),
     Cut(u64),
     Sweep,
 }
 
-impl Call {
+impl ConnectionCall {
     /// A call, mostly one that connects, where so many connections were made.
-    pub fn random(random: &mut Random, last: u64) -> Call {
+    pub fn random(random: &mut Random, last: u64) -> ConnectionCall {
         match random.below(12) {
-            0 | 1 => Call::Disconnect(Link::random(random)),
-            2 => Call::DropObject(some_object(random)),
-            3 | 4 => Call::Cut(some_number(random, last)),
-            5 => Call::Sweep,
-            _ => Call::Connect(Wanted::random(random)),
+            0 | 1 => ConnectionCall::Disconnect(ConnectionEnds::random(random)),
+            2 => ConnectionCall::DropObject(some_object(random)),
+            3 | 4 => ConnectionCall::Cut(some_number(random, last)),
+            5 => ConnectionCall::Sweep,
+            _ => ConnectionCall::Connect(NewConnection::random(random)),
         }
     }
 }
 
-impl Link {
-    pub fn random(random: &mut Random) -> Link {
-        Link {
+impl ConnectionEnds {
+    pub fn random(random: &mut Random) -> ConnectionEnds {
+        ConnectionEnds {
             sender: some_object(random),
             signal: random.below(MEMBERS),
             receiver: some_object(random),
@@ -62,10 +62,10 @@ impl Link {
     }
 }
 
-impl Wanted {
-    fn random(random: &mut Random) -> Wanted {
-        Wanted {
-            link: Link::random(random),
+impl NewConnection {
+    fn random(random: &mut Random) -> NewConnection {
+        NewConnection {
+            link: ConnectionEnds::random(random),
             kind: some_kind(random),
             unique: random.is_heads(),
             single: random.is_heads(),

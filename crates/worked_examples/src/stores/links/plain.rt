@@ -1,6 +1,6 @@
 //! The connections as a plain list.
 
-use crate::stores::links::call::{Link, Wanted};
+use crate::stores::links::call::{ConnectionEnds, NewConnection};
 use basic_types::ObjectId;
 use connections::{ConnectFault, Connection, DisconnectFault};
 use std::alloc::Global;
@@ -24,7 +24,7 @@ impl PlainConnections {
     }
 
     /// Whether a connection joins what the link joins.
-    pub fn are_connected(&self, link: &Link) -> bool {
+    pub fn are_connected(&self, link: &ConnectionEnds) -> bool {
         self.connections.iter().any(|c| joins(c, link))
     }
 
@@ -42,7 +42,7 @@ impl PlainConnections {
     }
 
     /// One more at the end, with the next number; none where a unique one is asked for and one joins the same.
-    pub fn connect(&mut self, wanted: &Wanted) -> Result<(), ConnectFault> {
+    pub fn connect(&mut self, wanted: &NewConnection) -> Result<(), ConnectFault> {
         if wanted.unique && self.are_connected(&wanted.link) {
             return Err(ConnectFault::Exists);
         }
@@ -56,7 +56,7 @@ impl PlainConnections {
     }
 
     /// Without all that join what the link joins, where there is one.
-    pub fn disconnect(&mut self, link: &Link) -> Result<(), DisconnectFault> {
+    pub fn disconnect(&mut self, link: &ConnectionEnds) -> Result<(), DisconnectFault> {
         if !self.are_connected(link) {
             return Err(DisconnectFault::NoConnection);
         }
@@ -89,7 +89,7 @@ impl PlainConnections {
 }
 
 /// Whether a connection joins what the link joins.
-fn joins(c: &Connection, link: &Link) -> bool {
+fn joins(c: &Connection, link: &ConnectionEnds) -> bool {
     c.sender == link.sender
         && c.signal == link.signal
         && c.receiver == link.receiver

@@ -38,7 +38,7 @@ pub struct Waiting {
 
 /// A call that changes the loops.
 #[derive(Clone, Copy)]
-pub enum Call {
+pub enum LoopCall {
     Add(Label),
     Post {
         home: LoopId,
@@ -128,17 +128,17 @@ impl Waiting {
     }
 }
 
-impl Call {
+impl LoopCall {
     /// A call, mostly one that posts or takes, where so many items were posted.
-    pub fn random(random: &mut Random, posted: u64) -> Call {
+    pub fn random(random: &mut Random, posted: u64) -> LoopCall {
         match random.below(16) {
-            0 => Call::DropObject(some_object(random)),
-            1 | 2 => Call::Add(Label::random(random)),
-            3 | 4 | 5 | 6 | 7 => Call::TakeBefore {
+            0 => LoopCall::DropObject(some_object(random)),
+            1 | 2 => LoopCall::Add(Label::random(random)),
+            3 | 4 | 5 | 6 | 7 => LoopCall::TakeBefore {
                 home: some_home(random),
                 number: some_number(random, posted),
             },
-            _ => Call::Post {
+            _ => LoopCall::Post {
                 home: some_home(random),
                 object: some_object(random),
                 delivery: Delivery::random(random),

@@ -1,6 +1,6 @@
 //! Calls of the tree of objects, drawn at random.
 
-use crate::stores::fault::Fault;
+use crate::stores::fault::StoreFault;
 use crate::stores::random::Random;
 use basic_types::{LoopId, Name, ObjectId, Value};
 use class_lang::read_program;
@@ -23,7 +23,7 @@ const NAMES: usize = 60;
 
 /// A class of the program, or one that it doesn't have.
 #[derive(Clone, Copy, PartialEq, Eq)]
-pub enum Class {
+pub enum TreeClass {
     Node,
     Leaf,
     Unknown,
@@ -38,16 +38,16 @@ pub enum Written {
 
 /// An object that is asked for.
 #[derive(Clone, Copy)]
-pub struct Wanted {
+pub struct NewObject {
     pub name: usize,
-    pub class: Class,
+    pub class: TreeClass,
     pub home: LoopId,
 }
 
 /// A call that changes the objects.
 #[derive(Clone, Copy)]
-pub enum Call {
-    Create(Wanted),
+pub enum TreeCall {
+    Create(NewObject),
     Adopt { parent: ObjectId, child: ObjectId },
     Block(ObjectId, bool),
     MarkScheduled(ObjectId),
@@ -56,36 +56,36 @@ pub enum Call {
 }
 
 /// The program, loaded.
-pub fn loaded(alloc: Global) -> Result<Meta, Fault> {
+pub fn loaded(alloc: Global) -> Result<Meta, StoreFault> {
     let program = read_program(alloc, PROGRAM)?;
     let meta = Meta::build(alloc, &program)?;
     Ok(meta)
 }
 
-impl Class {
-    fn random(random: &mut Random) -> Class {
+impl TreeClass {
+    fn random(random: &mut Random) -> TreeClass {
         match random.below(12) {
-            0 => Class::Unknown,
-            1 | 2 | 3 => Class::Leaf,
-            _ => Class::Node,
+            0 => TreeClass::Unknown,
+            1 | 2 | 3 => TreeClass::Leaf,
+            _ => TreeClass::Node,
         }
     }
 
     /// The name that it has in the program, or none of the program's.
     pub fn name(self, alloc: Global) -> Result<Name, AllocError> {
         match self {
-            Class::Node => Name::new(alloc, b"Node"),
-            Class::Leaf => Name::new(alloc, b"Leaf"),
-            Class::Unknown => Name::new(alloc, b"Stem"),
+            TreeClass::Node => Name::new(alloc, b"Node"),
+            TreeClass::Leaf => Name::new(alloc, b"Leaf"),
+            TreeClass::Unknown => Name::new(alloc, b"Stem"),
         }
     }
 
     /// Its number in the program, where `QObject` is 0.
     pub fn number(self) -> usize {
         match self {
-            Class::Node => 1,
-            Class::Leaf => 2,
-            Class::Unknown => 3,
+            TreeClass::Node => 1,
+            TreeClass::Leaf => 2,
+            TreeClass::Unknown => 3,
         }
     }
 }
@@ -117,27 +117,27 @@ impl Written {
     }
 }
 
-impl Wanted {
-    fn random(random: &mut Random) -> Wanted {
-        Wanted {
+impl NewObject {
+    fn random(random: &mut Random) -> NewObject {
+        NewObject {
             name: some_name(random),
-            class: Class::random(random),
+            class: TreeClass::random(random),
             home: some_home(random),
         }
     }
 }
 
-impl Call {
+impl TreeCall {
     /// A call, where so many objects were created.
-    pub fn random(random: &mut Random, created: usize) -> Call {
+    pub fn random(random: &mut Random, created: usize) -> TreeCall {
         let object = some_object(random, created);
         match random.below(16) {
-            0 => Call::Block(object, random.is_heads()),
-            1 => Call::MarkScheduled(object),
-            2 | 3 => Call::Write(object, Written::random(random, created)),
-            4 | 5 => Call::MarkDead(object),
-            6 | 7 | 8 | 9 => Call::Create(Wanted::random(random)),
-            _ => Call::Adopt {
+            0 => TreeCall::Block(object, random.is_heads()),
+            1 => TreeCall::MarkScheduled(object),
+            2 | 3 => TreeCall::Write(object, Written::random(random, created)),
+            4 | 5 => TreeCall::MarkDead(object),
+            6 | 7 | 8 | 9 => TreeCall::Create(NewObject::random(random)),
+            _ => TreeCall::Adopt {
                 parent: some_object(random, created),
                 child: object,
             },

@@ -1,6 +1,6 @@
 //! The objects as a plain list, and the adoptions as another one.
 
-use crate::stores::trees::call::{Class, Wanted, Written};
+use crate::stores::trees::call::{NewObject, TreeClass, Written};
 use basic_types::{LoopId, ObjectId};
 use object_tree::{AdoptFault, CreateFault};
 use std::alloc::Global;
@@ -9,7 +9,7 @@ use std::alloc::Global;
 #[derive(Clone, Copy)]
 pub struct PlainObject {
     pub name: usize,
-    pub class: Class,
+    pub class: TreeClass,
     pub home: LoopId,
     pub parent: Option<ObjectId>,
     pub is_living: bool,
@@ -21,7 +21,7 @@ pub struct PlainObject {
 
 /// That one object is the child of another.
 #[derive(Clone, Copy)]
-struct Adoption {
+struct ParentChild {
     parent: ObjectId,
     child: ObjectId,
 }
@@ -30,7 +30,7 @@ struct Adoption {
 #[derive(Drop)]
 pub struct PlainTree {
     objects: Vec<PlainObject>,
-    adoptions: Vec<Adoption>,
+    adoptions: Vec<ParentChild>,
 }
 
 impl PlainTree {
@@ -90,11 +90,11 @@ impl PlainTree {
     }
 
     /// One more object at the end, if its name is new and its class is there.
-    pub fn create(&mut self, wanted: &Wanted) -> Result<ObjectId, CreateFault> {
+    pub fn create(&mut self, wanted: &NewObject) -> Result<ObjectId, CreateFault> {
         if self.find(wanted.name).is_some() {
             return Err(CreateFault::NameUsed);
         }
-        if wanted.class == Class::Unknown {
+        if wanted.class == TreeClass::Unknown {
             return Err(CreateFault::NoClass);
         }
         let number = self.objects.len();
@@ -120,7 +120,7 @@ impl PlainTree {
         let (Some(owner), Some(owned)) = (self.living(parent), self.living(child)) else {
             return Err(AdoptFault::NotOwned);
         };
-        if owner.class != Class::Node {
+        if owner.class != TreeClass::Node {
             return Err(AdoptFault::NotOwned);
         }
         if self.is_above(child, parent) {
@@ -133,7 +133,7 @@ impl PlainTree {
             return Ok(());
         }
         self.leave(child);
-        let adopted = self.adoptions.push(Adoption { parent, child });
+        let adopted = self.adoptions.push(ParentChild { parent, child });
         if adopted.is_err() {
             return Err(AdoptFault::Memory);
         }
