@@ -11,13 +11,13 @@ mod scheduling;
 mod stores;
 mod words;
 
-use crate::trials::{Told, TrialAnswer};
+use crate::trials::{ReportBuffer, TrialAnswer};
 use bindings::{DIAMOND, GROUP, SUM, step_of};
 use std::alloc::Global;
 
 /// Makes what the call of this word is made on, makes the call, and tells what it answers. `None` where no call has the
 /// word, and where there is no memory for what the call is made on.
-pub fn make_call(alloc: Global, word: &str, told: &mut Told) -> Option<TrialAnswer> {
+pub fn make_call(alloc: Global, word: &str, told: &mut ReportBuffer) -> Option<TrialAnswer> {
     match word {
         "normalise" => Some(words::normal_form(alloc, told)),
         "sig_text" => words::signature_text(alloc, told),
@@ -39,7 +39,7 @@ pub fn make_call(alloc: Global, word: &str, told: &mut Told) -> Option<TrialAnsw
 }
 
 /// The calls that check programs.
-fn make_check(alloc: Global, word: &str, told: &mut Told) -> Option<TrialAnswer> {
+fn make_check(alloc: Global, word: &str, told: &mut ReportBuffer) -> Option<TrialAnswer> {
     match word {
         "unfit_wire" => checking::unfit(alloc, told),
         "untyped" => checking::untyped_part(alloc, told),
@@ -54,7 +54,7 @@ fn make_check(alloc: Global, word: &str, told: &mut Told) -> Option<TrialAnswer>
 }
 
 /// The calls of the stores and of natives.
-fn make_change(alloc: Global, word: &str, told: &mut Told) -> Option<TrialAnswer> {
+fn make_change(alloc: Global, word: &str, told: &mut ReportBuffer) -> Option<TrialAnswer> {
     match word {
         "new_tree" => Some(stores::empty_tree(alloc, told)),
         "new_connections" => Some(stores::no_connections(alloc, told)),

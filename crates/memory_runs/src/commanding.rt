@@ -1,6 +1,6 @@
 //! The commands.
 
-use crate::trials::{CERTIFICATE, SCRIPT, SOURCE, Told, TrialAnswer};
+use crate::trials::{CERTIFICATE, ReportBuffer, SCRIPT, SOURCE, TrialAnswer};
 use native_slots::Natives;
 use std::alloc::Global;
 use trace_tool::{WriteFault, certify, check, command, meta, run, run_unchecked};
@@ -25,17 +25,17 @@ fn ended(status: Result<u8, WriteFault>) -> TrialAnswer {
 }
 
 /// `meta`.
-pub fn described(alloc: Global, told: &mut Told) -> TrialAnswer {
+pub fn described(alloc: Global, told: &mut ReportBuffer) -> TrialAnswer {
     ended(meta(alloc, SOURCE.as_bytes(), &mut told.text))
 }
 
 /// `certify` of no program at all.
-pub fn certified(alloc: Global, told: &mut Told) -> TrialAnswer {
+pub fn certified(alloc: Global, told: &mut ReportBuffer) -> TrialAnswer {
     ended(certify(alloc, b"", &mut told.text))
 }
 
 /// `check`, the command.
-pub fn judged(alloc: Global, told: &mut Told) -> TrialAnswer {
+pub fn judged(alloc: Global, told: &mut ReportBuffer) -> TrialAnswer {
     ended(check(
         alloc,
         SOURCE.as_bytes(),
@@ -45,7 +45,7 @@ pub fn judged(alloc: Global, told: &mut Told) -> TrialAnswer {
 }
 
 /// `run`.
-pub fn checked_run(alloc: Global, told: &mut Told) -> TrialAnswer {
+pub fn checked_run(alloc: Global, told: &mut ReportBuffer) -> TrialAnswer {
     ended(
         run(
             alloc,
@@ -61,7 +61,7 @@ pub fn checked_run(alloc: Global, told: &mut Told) -> TrialAnswer {
 }
 
 /// `run_unchecked`.
-pub fn unchecked_run(alloc: Global, told: &mut Told) -> TrialAnswer {
+pub fn unchecked_run(alloc: Global, told: &mut ReportBuffer) -> TrialAnswer {
     ended(
         run_unchecked(
             alloc,
@@ -77,7 +77,7 @@ pub fn unchecked_run(alloc: Global, told: &mut Told) -> TrialAnswer {
 }
 
 /// `command`.
-pub fn command_line(alloc: Global, told: &mut Told) -> Option<TrialAnswer> {
+pub fn command_line(alloc: Global, told: &mut ReportBuffer) -> Option<TrialAnswer> {
     let input = format!(in alloc; "{SOURCE}%%\n{CERTIFICATE}%%\n{SCRIPT}").ok()?;
     let mut reader = input.as_bytes();
     let natives = Natives::of(Vec::new(alloc));

@@ -4,7 +4,7 @@ ghost use Rattle.std.specs.Prelude.{IfOk};
 ghost use Rattle.qt_runtime.specs.Seen.{AreKept};
 
 use crate::commanding::COUNTER;
-use crate::trials::{SCRIPT, SOURCE, Told, TrialAnswer, certificate, loaded};
+use crate::trials::{ReportBuffer, SCRIPT, SOURCE, TrialAnswer, certificate, loaded};
 use command_lines::Output;
 use native_slots::{Answering, Natives};
 use qt_runtime::{Answer, Checked, Entry, Event, Fault, Machine, ObjectMachine, read_script};
@@ -22,7 +22,7 @@ fn checked_program(alloc: Global) -> Option<Checked> {
 }
 
 /// `Machine::checked`, which takes over the program.
-pub fn checked_machine(alloc: Global, told: &mut Told) -> Option<TrialAnswer> {
+pub fn checked_machine(alloc: Global, told: &mut ReportBuffer) -> Option<TrialAnswer> {
     let program = checked_program(alloc)?;
     match started(alloc, program, Natives::of(Vec::new(alloc))) {
         Ok(machine) => told.count("entries ", machine.trace().len()),
@@ -32,7 +32,7 @@ pub fn checked_machine(alloc: Global, told: &mut Told) -> Option<TrialAnswer> {
 }
 
 /// `Machine::unchecked`, which takes over the program.
-pub fn unchecked_machine(alloc: Global, told: &mut Told) -> Option<TrialAnswer> {
+pub fn unchecked_machine(alloc: Global, told: &mut ReportBuffer) -> Option<TrialAnswer> {
     let meta = loaded(alloc, COUNTER)?;
     let natives = Natives::of(Vec::new(alloc));
     let Ok(()) = natives.fits(&meta) else {
@@ -46,7 +46,7 @@ pub fn unchecked_machine(alloc: Global, told: &mut Told) -> Option<TrialAnswer> 
 }
 
 /// `apply` of each event of a script.
-pub fn events(alloc: Global, told: &mut Told) -> Option<TrialAnswer> {
+pub fn events(alloc: Global, told: &mut ReportBuffer) -> Option<TrialAnswer> {
     let events = read_script(alloc, SCRIPT.as_bytes()).ok()?;
     let program = checked_program(alloc)?;
     let Ok(mut machine) = started(alloc, program, Natives::of(Vec::new(alloc))) else {
@@ -75,7 +75,7 @@ fn apply_each<N: Answering + Drop>(
     alloc: Global,
     machine: &mut Machine<N>,
     events: &[Event],
-    told: &mut Told,
+    told: &mut ReportBuffer,
 ) -> TrialAnswer
     requires { AreKept N.takes N.gives machine.old }
 {
@@ -94,7 +94,7 @@ fn stopped<N: Answering + Drop>(
     alloc: Global,
     machine: &mut Machine<N>,
     event: &Event,
-    told: &mut Told,
+    told: &mut ReportBuffer,
 ) -> TrialAnswer
     requires { AreKept N.takes N.gives machine.old }
 {
@@ -108,7 +108,7 @@ fn stopped<N: Answering + Drop>(
 }
 
 /// Tells the lines of a trace.
-fn tell_trace(alloc: Global, trace: &[Entry], told: &mut Told) -> TrialAnswer {
+fn tell_trace(alloc: Global, trace: &[Entry], told: &mut ReportBuffer) -> TrialAnswer {
     let mut output = Output::new(alloc, &mut told.text);
     output.entries(trace);
     match output.finish(0) {

@@ -4,9 +4,9 @@
 mod answer;
 mod calls;
 mod programs;
-mod told;
+mod report_buffer;
 
 pub use answer::TrialAnswer;
-pub use calls::{Calls, tell_calls};
+pub use calls::{CallTable, tell_calls};
 pub use programs::{CERTIFICATE, SCRIPT, SOURCE, certificate, loaded};
-pub use told::Told;
+pub use report_buffer::ReportBuffer;

@@ -4,10 +4,10 @@ ghost use Rattle.object_tree.specs.Typed.{AreTyped};
 ghost use Rattle.prop_bindings.specs.Fits.{Agree};
 
 use crate::calls::holding::Bound;
-use crate::calls::holds::{Holds, is_as_told, told_of};
+use crate::calls::holds::{Reportable, is_as_told, told_of};
 use crate::calls::stores::put;
 use crate::once_or_twice;
-use crate::trials::{Told, TrialAnswer, loaded};
+use crate::trials::{ReportBuffer, TrialAnswer, loaded};
 use basic_types::{ObjectId, Value};
 use meta_model::Meta;
 use object_tree::Tree;
@@ -15,14 +15,14 @@ use prop_bindings::{Assignment, BindFault, Bindings, Place, WriteFault};
 use std::alloc::Global;
 
 /// A program, of whose classes there is one object each, and what is done with these one after another.
-pub struct Row {
+pub struct BindingCase {
     program: &'static str,
     classes: &'static [&'static [u8]],
-    steps: &'static [Step],
+    steps: &'static [BindingStep],
 }
 
 /// A bind, a write, or a group of writes.
-enum Step {
+enum BindingStep {
     /// The binding of a site, of an object to one or two others.
     Bind {
         site: usize,
@@ -42,20 +42,20 @@ enum Step {
 }
 
 /// A sum that follows a number: the number is written, the sum is bound, and the number is written again.
-pub const SUM: Row = Row {
+pub const SUM: BindingCase = BindingCase {
     program: "class Cell { property int x; } class Adder { property int sum notify sumChanged(int); signal sumChanged(int); } binding sumOf Adder.sum (Cell c) = c.x + 1;",
     classes: &[b"Cell", b"Adder"],
     steps: &[
-        Step::Write {
+        BindingStep::Write {
             object: 0,
             number: 2147483646,
         },
-        Step::Bind {
+        BindingStep::Bind {
             site: 0,
             target: 1,
             sources: (0, None),
         },
-        Step::Write {
+        BindingStep::Write {
             object: 0,
             number: 2147483647,
         },
@@ -63,26 +63,26 @@ pub const SUM: Row = Row {
 };
 
 /// Two that follow a number, and one that follows both: they are bound, and the number is written.
-pub const DIAMOND: Row = Row {
+pub const DIAMOND: BindingCase = BindingCase {
     program: "class X { property int x notify xc(int); signal xc(int); } class Y { property int y notify yc(int); signal yc(int); } class Z { property int z notify zc(int); signal zc(int); } class W { property int w notify wc(int); signal wc(int); } binding by Y.y (X a) = a.x + 1; binding bz Z.z (X a) = a.x * 2; binding bw W.w (Y a, Z b) = a.y + b.z;",
     classes: &[b"X", b"Y", b"Z", b"W"],
     steps: &[
-        Step::Bind {
+        BindingStep::Bind {
             site: 0,
             target: 1,
             sources: (0, None),
         },
-        Step::Bind {
+        BindingStep::Bind {
             site: 1,
             target: 2,
             sources: (0, None),
         },
-        Step::Bind {
+        BindingStep::Bind {
             site: 2,
             target: 3,
             sources: (1, Some(2)),
         },
-        Step::Write {
+        BindingStep::Write {
             object: 0,
             number: 5,
         },
@@ -90,16 +90,16 @@ pub const DIAMOND: Row = Row {
 };
 
 /// A sum that follows two numbers, which are written at once.
-pub const GROUP: Row = Row {
+pub const GROUP: BindingCase = BindingCase {
     program: "class X { property int a notify ac(int); property int b; signal ac(int); } class W { property int w notify wc(int); signal wc(int); } binding bw W.w (X x) = x.a + x.b;",
     classes: &[b"X", b"W"],
     steps: &[
-        Step::Bind {
+        BindingStep::Bind {
             site: 0,
             target: 1,
             sources: (0, None),
         },
-        Step::Group {
+        BindingStep::Group {
             object: 0,
             numbers: (4, 5),
         },
@@ -112,7 +112,12 @@ const FIRST: usize = 1;
 const SECOND: usize = 2;
 
 /// The step at this place, which is a call of `bind`, of `write` or of `write_group`, after those before it.
-pub fn step_of(alloc: Global, row: &Row, place: usize, told: &mut Told) -> Option<TrialAnswer> {
+pub fn step_of(
+    alloc: Global,
+    row: &BindingCase,
+    place: usize,
+    told: &mut ReportBuffer,
+) -> Option<TrialAnswer> {
     let meta = loaded(alloc, row.program)?;
     let mut tree = Tree::new(alloc);
     let mut bindings = Bindings::new(alloc);
@@ -144,8 +149,8 @@ fn last_step(
     meta: &Meta,
     tree: &mut Tree,
     bindings: &mut Bindings,
-    steps: &[Step],
-    told: &mut Told,
+    steps: &[BindingStep],
+    told: &mut ReportBuffer,
 ) -> Option<TrialAnswer>
     requires { Agree meta.now tree.old bindings.old.installed }
 {
@@ -159,7 +164,12 @@ fn last_step(
 }
 
 /// Takes steps that are done.
-fn take_each(meta: &Meta, tree: &mut Tree, bindings: &mut Bindings, steps: &[Step]) -> Option<()>
+fn take_each(
+    meta: &Meta,
+    tree: &mut Tree,
+    bindings: &mut Bindings,
+    steps: &[BindingStep],
+) -> Option<()>
     requires { Agree meta.now tree.old bindings.old.installed }
     ensures { Agree meta.now tree.new bindings.new.installed }
 {
@@ -176,8 +186,8 @@ fn tell_step(
     meta: &Meta,
     tree: &mut Tree,
     bindings: &mut Bindings,
-    step: &Step,
-    told: &mut Told,
+    step: &BindingStep,
+    told: &mut ReportBuffer,
 ) -> TrialAnswer
     requires { Agree meta.now tree.old bindings.old.installed }
     ensures { Agree meta.now tree.new bindings.new.installed }
@@ -189,18 +199,20 @@ fn tell_step(
     answer
 }
 
-fn take(meta: &Meta, tree: &mut Tree, bindings: &mut Bindings, step: &Step) -> TrialAnswer
+fn take(meta: &Meta, tree: &mut Tree, bindings: &mut Bindings, step: &BindingStep) -> TrialAnswer
     requires { Agree meta.now tree.old bindings.old.installed }
     ensures { Agree meta.now tree.new bindings.new.installed }
 {
     match step {
-        Step::Bind {
+        BindingStep::Bind {
             site,
             target,
             sources,
         } => bind(meta, tree, bindings, *site, *target, *sources),
-        Step::Write { object, number } => write(meta, tree, bindings, *object, *number),
-        Step::Group { object, numbers } => write_group(meta, tree, bindings, *object, *numbers),
+        BindingStep::Write { object, number } => write(meta, tree, bindings, *object, *number),
+        BindingStep::Group { object, numbers } => write_group(
+            meta, tree, bindings, *object, *numbers,
+        ),
     }
 }
 

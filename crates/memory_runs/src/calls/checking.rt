@@ -1,7 +1,7 @@
 //! The calls that check programs.
 
 use crate::once_or_twice;
-use crate::trials::{SOURCE, Told, TrialAnswer, certificate, loaded};
+use crate::trials::{ReportBuffer, SOURCE, TrialAnswer, certificate, loaded};
 use effect_scan::{Member, Node, Scan};
 use meta_model::Meta;
 use rank_check::{No, Spot, check, unfit_wire, untyped};
@@ -17,7 +17,7 @@ const UNFIT: &str =
 const UNTYPED: &str = "class A { property int p = \"x\"; }";
 
 /// `unfit_wire`.
-pub fn unfit(alloc: Global, told: &mut Told) -> Option<TrialAnswer> {
+pub fn unfit(alloc: Global, told: &mut ReportBuffer) -> Option<TrialAnswer> {
     let meta = loaded(alloc, UNFIT)?;
     match unfit_wire(&meta) {
         Some(place) => told.count("wire ", place),
@@ -27,12 +27,12 @@ pub fn unfit(alloc: Global, told: &mut Told) -> Option<TrialAnswer> {
 }
 
 /// `untyped`.
-pub fn untyped_part(alloc: Global, told: &mut Told) -> Option<TrialAnswer> {
+pub fn untyped_part(alloc: Global, told: &mut ReportBuffer) -> Option<TrialAnswer> {
     let meta = loaded(alloc, UNTYPED)?;
     Some(once_or_twice!(tell_untyped(alloc, &meta, told), true))
 }
 
-fn tell_untyped(alloc: Global, meta: &Meta, told: &mut Told) -> TrialAnswer {
+fn tell_untyped(alloc: Global, meta: &Meta, told: &mut ReportBuffer) -> TrialAnswer {
     match untyped(alloc, meta) {
         Ok(Some(Spot::Node(node))) => tell_node(&node, told),
         Ok(_) => return TrialAnswer::Other,
@@ -41,7 +41,7 @@ fn tell_untyped(alloc: Global, meta: &Meta, told: &mut Told) -> TrialAnswer {
     TrialAnswer::Ample
 }
 
-fn tell_node(node: &Node, told: &mut Told) {
+fn tell_node(node: &Node, told: &mut ReportBuffer) {
     told.count("class ", node.class);
     match node.member {
         Member::Method(number) => told.count(" method ", number),
@@ -51,12 +51,12 @@ fn tell_node(node: &Node, told: &mut Told) {
 }
 
 /// `Scan::of`.
-pub fn scan(alloc: Global, told: &mut Told) -> Option<TrialAnswer> {
+pub fn scan(alloc: Global, told: &mut ReportBuffer) -> Option<TrialAnswer> {
     let meta = loaded(alloc, SOURCE)?;
     Some(once_or_twice!(tell_scan(alloc, &meta, told), true))
 }
 
-fn tell_scan(alloc: Global, meta: &Meta, told: &mut Told) -> TrialAnswer {
+fn tell_scan(alloc: Global, meta: &Meta, told: &mut ReportBuffer) -> TrialAnswer {
     match Scan::of(alloc, meta) {
         Ok(scan) => {
             told.count("nodes ", scan.nodes().len());
@@ -72,7 +72,7 @@ fn scanned(alloc: Global) -> Option<Scan> {
 }
 
 /// `nodes`.
-pub fn nodes(alloc: Global, told: &mut Told) -> Option<TrialAnswer> {
+pub fn nodes(alloc: Global, told: &mut ReportBuffer) -> Option<TrialAnswer> {
     let scan = scanned(alloc)?;
     for node in scan.nodes() {
         tell_node(node, told);
@@ -82,12 +82,12 @@ pub fn nodes(alloc: Global, told: &mut Told) -> Option<TrialAnswer> {
 }
 
 /// `edges`.
-pub fn edges(alloc: Global, told: &mut Told) -> Option<TrialAnswer> {
+pub fn edges(alloc: Global, told: &mut ReportBuffer) -> Option<TrialAnswer> {
     let scan = scanned(alloc)?;
     Some(once_or_twice!(tell_edges(alloc, &scan, told), true))
 }
 
-fn tell_edges(alloc: Global, scan: &Scan, told: &mut Told) -> TrialAnswer {
+fn tell_edges(alloc: Global, scan: &Scan, told: &mut ReportBuffer) -> TrialAnswer {
     match scan.edges(alloc) {
         Ok(edges) => {
             tell_pairs(edges.as_slice(), told);
@@ -97,7 +97,7 @@ fn tell_edges(alloc: Global, scan: &Scan, told: &mut Told) -> TrialAnswer {
     }
 }
 
-fn tell_pairs(edges: &[(usize, usize)], told: &mut Told) {
+fn tell_pairs(edges: &[(usize, usize)], told: &mut ReportBuffer) {
     for (from, to) in edges {
         told.count("", *from);
         told.count(" -> ", *to);
@@ -106,13 +106,13 @@ fn tell_pairs(edges: &[(usize, usize)], told: &mut Told) {
 }
 
 /// `destroys`.
-pub fn destroys(alloc: Global, told: &mut Told) -> Option<TrialAnswer> {
+pub fn destroys(alloc: Global, told: &mut ReportBuffer) -> Option<TrialAnswer> {
     let scan = scanned(alloc)?;
     tell_sets(scan.destroys(), told);
     Some(TrialAnswer::Ample)
 }
 
-fn tell_sets(sets: &[Items<usize>], told: &mut Told) {
+fn tell_sets(sets: &[Items<usize>], told: &mut ReportBuffer) {
     for classes in sets {
         for class in classes.as_slice() {
             told.count("class ", *class);
@@ -122,12 +122,12 @@ fn tell_sets(sets: &[Items<usize>], told: &mut Told) {
 }
 
 /// `make`.
-pub fn made(alloc: Global, told: &mut Told) -> Option<TrialAnswer> {
+pub fn made(alloc: Global, told: &mut ReportBuffer) -> Option<TrialAnswer> {
     let meta = loaded(alloc, SOURCE)?;
     Some(once_or_twice!(tell_made(alloc, &meta, told), true))
 }
 
-fn tell_made(alloc: Global, meta: &Meta, told: &mut Told) -> TrialAnswer {
+fn tell_made(alloc: Global, meta: &Meta, told: &mut ReportBuffer) -> TrialAnswer {
     match make(alloc, meta) {
         Ok(certificate) => {
             told.number("bound ", certificate.bound as u64);
@@ -140,7 +140,7 @@ fn tell_made(alloc: Global, meta: &Meta, told: &mut Told) -> TrialAnswer {
 }
 
 /// `check`, which takes over the program and the certificate.
-pub fn checked(alloc: Global, told: &mut Told) -> Option<TrialAnswer> {
+pub fn checked(alloc: Global, told: &mut ReportBuffer) -> Option<TrialAnswer> {
     let meta = loaded(alloc, SOURCE)?;
     let certificate = certificate(alloc)?;
     match check(alloc, meta, certificate) {

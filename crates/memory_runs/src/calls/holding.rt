@@ -1,7 +1,7 @@
 //! What stores hold, part by part.
 
-use crate::calls::holds::Holds;
-use crate::trials::Told;
+use crate::calls::holds::Reportable;
+use crate::trials::ReportBuffer;
 use basic_types::{LoopId, ObjectId};
 use connections::{Connection, Connections, SignalHint};
 use delete_later::Store;
@@ -12,8 +12,8 @@ use prop_bindings::{Binding, Bindings};
 /// How many objects, signals, loops and bindings are looked at.
 const FEW: usize = 6;
 
-impl Holds for Tree {
-    fn tell(&self, told: &mut Told) {
+impl Reportable for Tree {
+    fn tell(&self, told: &mut ReportBuffer) {
         told.count("created ", self.len());
         told.count(", held ", self.held());
         told.end();
@@ -24,7 +24,7 @@ impl Holds for Tree {
 }
 
 /// Tells an object: whether its name finds it, what it has while it lives, and its first child.
-fn tell_object(tree: &Tree, object: ObjectId, told: &mut Told) {
+fn tell_object(tree: &Tree, object: ObjectId, told: &mut ReportBuffer) {
     let Some(name) = tree.name(object) else {
         return;
     };
@@ -39,7 +39,7 @@ fn tell_object(tree: &Tree, object: ObjectId, told: &mut Told) {
     told.end();
 }
 
-fn tell_life(life: &Life, told: &mut Told) {
+fn tell_life(life: &Life, told: &mut ReportBuffer) {
     told.count(" class ", life.class);
     told.count(" loop ", life.home.number());
     if let Some(parent) = life.parent {
@@ -50,8 +50,8 @@ fn tell_life(life: &Life, told: &mut Told) {
     told.values(life.values.as_slice());
 }
 
-impl Holds for Connections {
-    fn tell(&self, told: &mut Told) {
+impl Reportable for Connections {
+    fn tell(&self, told: &mut ReportBuffer) {
         told.number("numbered ", self.last());
         told.count(", marked ", self.marked());
         told.end();
@@ -64,7 +64,12 @@ impl Holds for Connections {
 }
 
 /// Tells the first connections from a signal, in the order in which they were made.
-fn tell_connected(connections: &Connections, sender: ObjectId, signal: usize, told: &mut Told) {
+fn tell_connected(
+    connections: &Connections,
+    sender: ObjectId,
+    signal: usize,
+    told: &mut ReportBuffer,
+) {
     let mut last = 0;
     for _ in 0..FEW {
         if let Some(connection) = connections.next_after(sender, signal, last) {
@@ -74,7 +79,7 @@ fn tell_connected(connections: &Connections, sender: ObjectId, signal: usize, to
     }
 }
 
-fn tell_connection(connection: &Connection, told: &mut Told) {
+fn tell_connection(connection: &Connection, told: &mut ReportBuffer) {
     told.number("connection ", connection.number);
     told.count(" from #", connection.sender.number());
     told.count(" signal ", connection.signal);
@@ -85,8 +90,8 @@ fn tell_connection(connection: &Connection, told: &mut Told) {
     told.end();
 }
 
-impl Holds for Loops {
-    fn tell(&self, told: &mut Told) {
+impl Reportable for Loops {
+    fn tell(&self, told: &mut ReportBuffer) {
         told.number("next item ", self.next_number());
         told.end();
         for number in 0..FEW {
@@ -96,7 +101,7 @@ impl Holds for Loops {
 }
 
 /// Tells a loop with the first item that waits in it.
-fn tell_loop(loops: &Loops, home: LoopId, told: &mut Told) {
+fn tell_loop(loops: &Loops, home: LoopId, told: &mut ReportBuffer) {
     let Some(name) = loops.name(home) else {
         return;
     };
@@ -109,7 +114,7 @@ fn tell_loop(loops: &Loops, home: LoopId, told: &mut Told) {
     told.end();
 }
 
-fn tell_item(item: &Item, told: &mut Told) {
+fn tell_item(item: &Item, told: &mut ReportBuffer) {
     told.count(" for #", item.object().number());
     if let Item::Call {
         method,
@@ -122,8 +127,8 @@ fn tell_item(item: &Item, told: &mut Told) {
     }
 }
 
-impl Holds for Bindings {
-    fn tell(&self, told: &mut Told) {
+impl Reportable for Bindings {
+    fn tell(&self, told: &mut ReportBuffer) {
         told.count("last evaluated ", self.last_evaluated());
         told.end();
         for number in 0..FEW {
@@ -134,7 +139,7 @@ impl Holds for Bindings {
     }
 }
 
-fn tell_binding(binding: &Binding, told: &mut Told) {
+fn tell_binding(binding: &Binding, told: &mut ReportBuffer) {
     told.count("site ", binding.site);
     told.count(" of #", binding.target.object.number());
     told.count(" property ", binding.target.property);
@@ -151,15 +156,15 @@ pub struct Bound<'a> {
     pub bindings: &'a Bindings,
 }
 
-impl Holds for Bound<'_> {
-    fn tell(&self, told: &mut Told) {
+impl Reportable for Bound<'_> {
+    fn tell(&self, told: &mut ReportBuffer) {
         self.tree.tell(told);
         self.bindings.tell(told);
     }
 }
 
-impl Holds for Store {
-    fn tell(&self, told: &mut Told) {
+impl Reportable for Store {
+    fn tell(&self, told: &mut ReportBuffer) {
         self.tree.tell(told);
         told.number("connections numbered ", self.connections.last());
         told.end();

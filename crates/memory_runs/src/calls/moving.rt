@@ -1,9 +1,9 @@
 //! The calls that move objects from one event loop to another.
 
-use crate::calls::holds::{Holds, is_as_told, told_of};
+use crate::calls::holds::{Reportable, is_as_told, told_of};
 use crate::calls::stores::{IO, MAIN, call_of, post_to, put};
 use crate::once_or_twice;
-use crate::trials::{Told, TrialAnswer, loaded};
+use crate::trials::{ReportBuffer, TrialAnswer, loaded};
 use basic_types::{LoopId, Name, ObjectId};
 use delete_later::{MoveFault, Store};
 use event_loops::{Item, Loops, PostFault};
@@ -29,7 +29,7 @@ fn filled(alloc: Global) -> Option<Store> {
 }
 
 /// `Tree::below`.
-pub fn below(alloc: Global, told: &mut Told) -> Option<TrialAnswer> {
+pub fn below(alloc: Global, told: &mut ReportBuffer) -> Option<TrialAnswer> {
     let store = filled(alloc)?;
     let before = told_of(alloc, &store)?;
     Some(once_or_twice!(
@@ -38,7 +38,7 @@ pub fn below(alloc: Global, told: &mut Told) -> Option<TrialAnswer> {
     ))
 }
 
-fn tell_below(tree: &Tree, told: &mut Told) -> TrialAnswer {
+fn tell_below(tree: &Tree, told: &mut ReportBuffer) -> TrialAnswer {
     let object = ObjectId::new(0);
     if tree.life(object).is_none() {
         return TrialAnswer::Other;
@@ -55,7 +55,7 @@ fn tell_below(tree: &Tree, told: &mut Told) -> TrialAnswer {
 }
 
 /// `Loops::rehome`.
-pub fn rehome(alloc: Global, told: &mut Told) -> Option<TrialAnswer> {
+pub fn rehome(alloc: Global, told: &mut ReportBuffer) -> Option<TrialAnswer> {
     let mut store = filled(alloc)?;
     let before = told_of(alloc, &store)?;
     Some(once_or_twice!(
@@ -64,7 +64,7 @@ pub fn rehome(alloc: Global, told: &mut Told) -> Option<TrialAnswer> {
     ))
 }
 
-fn tell_rehome(loops: &mut Loops, told: &mut Told) -> TrialAnswer {
+fn tell_rehome(loops: &mut Loops, told: &mut ReportBuffer) -> TrialAnswer {
     match loops.rehome(&[ObjectId::new(0), ObjectId::new(1)], LoopId::new(IO)) {
         Ok(()) => {
             loops.tell(told);
@@ -76,7 +76,7 @@ fn tell_rehome(loops: &mut Loops, told: &mut Told) -> TrialAnswer {
 }
 
 /// `Store::move_tree`.
-pub fn move_tree(alloc: Global, told: &mut Told) -> Option<TrialAnswer> {
+pub fn move_tree(alloc: Global, told: &mut ReportBuffer) -> Option<TrialAnswer> {
     let mut store = filled(alloc)?;
     let before = told_of(alloc, &store)?;
     Some(once_or_twice!(
@@ -85,7 +85,7 @@ pub fn move_tree(alloc: Global, told: &mut Told) -> Option<TrialAnswer> {
     ))
 }
 
-fn tell_move(store: &mut Store, told: &mut Told) -> TrialAnswer {
+fn tell_move(store: &mut Store, told: &mut ReportBuffer) -> TrialAnswer {
     let object = ObjectId::new(0);
     if store.tree.life(object).is_none() {
         return TrialAnswer::Other;

@@ -4,7 +4,7 @@ ghost use Rattle.std.specs.Prelude.{◌≡◌, ◌<◌, IfOk, Some, length, slic
 ghost use Rattle.native_slots.specs.Doubling.{doubling};
 
 use crate::once_or_twice;
-use crate::trials::{Told, TrialAnswer, loaded};
+use crate::trials::{ReportBuffer, TrialAnswer, loaded};
 use basic_types::{Name, Sig, Value};
 use meta_model::Meta;
 use native_slots::built_in::{class, doubled, effects, twice};
@@ -16,13 +16,13 @@ const DOUBLER: &str =
     "class Doubler { property int out; signal done(int); native twice(int v) emits done(int) sets out; }";
 
 /// `NativeSlot::new`, `Natives::of`, `fits` and `find`, none of which takes memory.
-pub fn doubler_fits(alloc: Global, told: &mut Told) -> Option<TrialAnswer> {
+pub fn doubler_fits(alloc: Global, told: &mut ReportBuffer) -> Option<TrialAnswer> {
     let meta = loaded(alloc, DOUBLER)?;
     with_doubler(alloc, Some(&meta), told).ok()
 }
 
 /// `Natives::call`.
-pub fn doubler_call(alloc: Global, told: &mut Told) -> Option<TrialAnswer> {
+pub fn doubler_call(alloc: Global, told: &mut ReportBuffer) -> Option<TrialAnswer> {
     with_doubler(alloc, None, told).ok()
 }
 
@@ -40,7 +40,7 @@ fn parts(alloc: Global) -> Result<(Name, Sig, Effects), AllocError>
 fn with_doubler(
     alloc: Global,
     program: Option<&Meta>,
-    told: &mut Told,
+    told: &mut ReportBuffer,
 ) -> Result<TrialAnswer, AllocError> {
     let (class, sig, effects) = parts(alloc)?;
     let work = Box::new(alloc, move |arguments: &[Value], _: &[Value]| {
@@ -58,7 +58,7 @@ fn with_doubler(
     }
 }
 
-fn tell_fitting(natives: &Natives, meta: &Meta, told: &mut Told) -> TrialAnswer {
+fn tell_fitting(natives: &Natives, meta: &Meta, told: &mut ReportBuffer) -> TrialAnswer {
     told.flag("fits ", natives.fits(meta).is_ok());
     for slot in natives.slots.as_slice() {
         if let Some(place) = natives.find(&slot.head.class, &slot.head.sig) {
@@ -68,7 +68,7 @@ fn tell_fitting(natives: &Natives, meta: &Meta, told: &mut Told) -> TrialAnswer 
     TrialAnswer::Ample
 }
 
-fn tell_actions(natives: &Natives, told: &mut Told) -> TrialAnswer
+fn tell_actions(natives: &Natives, told: &mut ReportBuffer) -> TrialAnswer
     requires there { 0 < length natives.now.slots.items }
     requires doubling { (slot : _) → slice_get natives.now.slots.items 0 ≡ Some slot
         → slot.head.effects ≡ doubling }
@@ -84,7 +84,7 @@ fn tell_actions(natives: &Natives, told: &mut Told) -> TrialAnswer
     }
 }
 
-fn tell_action(action: &Action, told: &mut Told) {
+fn tell_action(action: &Action, told: &mut ReportBuffer) {
     match action {
         Action::Set(place, value) => {
             told.count("set ", *place);

@@ -1,7 +1,7 @@
 //! The calls that read texts.
 
 use crate::once_or_twice;
-use crate::trials::{CERTIFICATE, SCRIPT, SOURCE, Told, TrialAnswer};
+use crate::trials::{CERTIFICATE, ReportBuffer, SCRIPT, SOURCE, TrialAnswer};
 use certificate_lang::{CertificateFault, read_certificate};
 use class_lang::{TextFault, read_program};
 use meta_model::Meta;
@@ -18,7 +18,7 @@ const BODY: &str = "{ set this.value = v; }";
 const EXPRESSION: &str = "v + 1";
 
 /// `tokens`.
-pub fn program_tokens(alloc: Global, told: &mut Told) -> TrialAnswer {
+pub fn program_tokens(alloc: Global, told: &mut ReportBuffer) -> TrialAnswer {
     match tokens(alloc, SOURCE.as_bytes()) {
         Ok(tokens) => {
             told.count("tokens ", tokens.len());
@@ -34,19 +34,19 @@ fn tokens_of(alloc: Global, text: &str) -> Option<Items<Token>> {
 }
 
 /// `nesting`.
-pub fn program_nesting(alloc: Global, told: &mut Told) -> Option<TrialAnswer> {
+pub fn program_nesting(alloc: Global, told: &mut ReportBuffer) -> Option<TrialAnswer> {
     let tokens = tokens_of(alloc, SOURCE)?;
     told.flag("too deep ", nesting(tokens.as_slice()));
     Some(TrialAnswer::Ample)
 }
 
 /// `parse_body`.
-pub fn body(alloc: Global, told: &mut Told) -> Option<TrialAnswer> {
+pub fn body(alloc: Global, told: &mut ReportBuffer) -> Option<TrialAnswer> {
     let tokens = tokens_of(alloc, BODY)?;
     Some(once_or_twice!(tell_body(alloc, tokens.as_slice(), told), true))
 }
 
-fn tell_body(alloc: Global, tokens: &[Token], told: &mut Told) -> TrialAnswer {
+fn tell_body(alloc: Global, tokens: &[Token], told: &mut ReportBuffer) -> TrialAnswer {
     match parse_body(alloc, tokens) {
         Ok(body) => {
             told.count("statements ", body.len());
@@ -58,12 +58,12 @@ fn tell_body(alloc: Global, tokens: &[Token], told: &mut Told) -> TrialAnswer {
 }
 
 /// `parse_expr`.
-pub fn expression(alloc: Global, told: &mut Told) -> Option<TrialAnswer> {
+pub fn expression(alloc: Global, told: &mut ReportBuffer) -> Option<TrialAnswer> {
     let tokens = tokens_of(alloc, EXPRESSION)?;
     Some(once_or_twice!(tell_expression(alloc, tokens.as_slice(), told), true))
 }
 
-fn tell_expression(alloc: Global, tokens: &[Token], told: &mut Told) -> TrialAnswer {
+fn tell_expression(alloc: Global, tokens: &[Token], told: &mut ReportBuffer) -> TrialAnswer {
     match parse_expr(alloc, tokens) {
         Ok(_) => {
             told.bytes(b"an expression");
@@ -75,7 +75,7 @@ fn tell_expression(alloc: Global, tokens: &[Token], told: &mut Told) -> TrialAns
 }
 
 /// `read_program`.
-pub fn program(alloc: Global, told: &mut Told) -> TrialAnswer {
+pub fn program(alloc: Global, told: &mut ReportBuffer) -> TrialAnswer {
     match read_program(alloc, SOURCE.as_bytes()) {
         Ok(program) => {
             told.count("classes ", program.classes.len());
@@ -88,12 +88,12 @@ pub fn program(alloc: Global, told: &mut Told) -> TrialAnswer {
 }
 
 /// `Meta::build`.
-pub fn meta_objects(alloc: Global, told: &mut Told) -> Option<TrialAnswer> {
+pub fn meta_objects(alloc: Global, told: &mut ReportBuffer) -> Option<TrialAnswer> {
     let program = read_program(alloc, SOURCE.as_bytes()).ok()?;
     Some(once_or_twice!(tell_meta(alloc, &program, told), true))
 }
 
-fn tell_meta(alloc: Global, program: &Program, told: &mut Told) -> TrialAnswer {
+fn tell_meta(alloc: Global, program: &Program, told: &mut ReportBuffer) -> TrialAnswer {
     match Meta::build(alloc, program) {
         Ok(meta) => {
             tell_classes(&meta, told);
@@ -105,7 +105,7 @@ fn tell_meta(alloc: Global, program: &Program, told: &mut Told) -> TrialAnswer {
 }
 
 /// Tells each class with its numbers of methods and properties.
-fn tell_classes(meta: &Meta, told: &mut Told) {
+fn tell_classes(meta: &Meta, told: &mut ReportBuffer) {
     for class in meta.classes() {
         told.name(&class.name);
         told.count(": methods ", class.methods.len());
@@ -116,7 +116,7 @@ fn tell_classes(meta: &Meta, told: &mut Told) {
 }
 
 /// `read_script`.
-pub fn script(alloc: Global, told: &mut Told) -> TrialAnswer {
+pub fn script(alloc: Global, told: &mut ReportBuffer) -> TrialAnswer {
     match read_script(alloc, SCRIPT.as_bytes()) {
         Ok(events) => {
             told.count("events ", events.len());
@@ -128,7 +128,7 @@ pub fn script(alloc: Global, told: &mut Told) -> TrialAnswer {
 }
 
 /// `read_certificate`.
-pub fn certificate(alloc: Global, told: &mut Told) -> TrialAnswer {
+pub fn certificate(alloc: Global, told: &mut ReportBuffer) -> TrialAnswer {
     match read_certificate(alloc, CERTIFICATE.as_bytes()) {
         Ok(certificate) => {
             told.number("bound ", certificate.bound as u64);

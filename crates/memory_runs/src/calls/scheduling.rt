@@ -1,9 +1,9 @@
 //! The deletion of an object at a later time.
 
-use crate::calls::holds::{Holds, is_as_told, told_of};
+use crate::calls::holds::{Reportable, is_as_told, told_of};
 use crate::calls::stores::put;
 use crate::once_or_twice;
-use crate::trials::{Told, TrialAnswer, loaded};
+use crate::trials::{ReportBuffer, TrialAnswer, loaded};
 use basic_types::{Arguments, Kind, LoopId, ObjectId, Value};
 use delete_later::Store;
 use event_loops::Item;
@@ -17,7 +17,7 @@ const TARGETS: &str =
 const LAST_NUMBER: u64 = 1000;
 
 /// `schedule` of an object that is connected, and for which something waits.
-pub fn schedule(alloc: Global, told: &mut Told) -> Option<TrialAnswer> {
+pub fn schedule(alloc: Global, told: &mut ReportBuffer) -> Option<TrialAnswer> {
     let mut store = Store::new(alloc).ok()?;
     fill(alloc, &mut store)?;
     let before = told_of(alloc, &store)?;
@@ -54,7 +54,7 @@ fn connect_and_post(alloc: Global, store: &mut Store) -> Option<()> {
     store.loops.post(LoopId::new(0), item).ok()
 }
 
-fn tell_schedule(store: &mut Store, told: &mut Told) -> TrialAnswer {
+fn tell_schedule(store: &mut Store, told: &mut ReportBuffer) -> TrialAnswer {
     let object = ObjectId::new(1);
     match store.tree.home(object) {
         Some(home) if store.loops.name(home).is_some() => {}

@@ -2,9 +2,9 @@
 
 ghost use Rattle.object_tree.specs.Typed.{AreTyped};
 
-use crate::calls::holds::{Holds, is_as_told, told_of};
+use crate::calls::holds::{Reportable, is_as_told, told_of};
 use crate::once_or_twice;
-use crate::trials::{Told, TrialAnswer, loaded};
+use crate::trials::{ReportBuffer, TrialAnswer, loaded};
 use basic_types::{Arguments, Kind, LoopId, Name, ObjectId, Value};
 use connections::{ConnectFault, Connections};
 use delete_later::Store;
@@ -25,23 +25,23 @@ pub const MAIN: usize = 0;
 pub const IO: usize = 1;
 
 /// `Tree::new`, `Connections::new` and `Bindings::new`, which take no memory.
-pub fn empty_tree(alloc: Global, told: &mut Told) -> TrialAnswer {
+pub fn empty_tree(alloc: Global, told: &mut ReportBuffer) -> TrialAnswer {
     Tree::new(alloc).tell(told);
     TrialAnswer::Ample
 }
 
-pub fn no_connections(alloc: Global, told: &mut Told) -> TrialAnswer {
+pub fn no_connections(alloc: Global, told: &mut ReportBuffer) -> TrialAnswer {
     Connections::new(alloc).tell(told);
     TrialAnswer::Ample
 }
 
-pub fn no_bindings(alloc: Global, told: &mut Told) -> TrialAnswer {
+pub fn no_bindings(alloc: Global, told: &mut ReportBuffer) -> TrialAnswer {
     Bindings::new(alloc).tell(told);
     TrialAnswer::Ample
 }
 
 /// `Loops::new`.
-pub fn first_loops(alloc: Global, told: &mut Told) -> TrialAnswer {
+pub fn first_loops(alloc: Global, told: &mut ReportBuffer) -> TrialAnswer {
     match Loops::new(alloc) {
         Ok(loops) => {
             loops.tell(told);
@@ -52,7 +52,7 @@ pub fn first_loops(alloc: Global, told: &mut Told) -> TrialAnswer {
 }
 
 /// `Store::new`.
-pub fn first_store(alloc: Global, told: &mut Told) -> TrialAnswer {
+pub fn first_store(alloc: Global, told: &mut ReportBuffer) -> TrialAnswer {
     match Store::new(alloc) {
         Ok(store) => {
             store.tell(told);
@@ -82,7 +82,7 @@ pub fn put(
 }
 
 /// `create`, where an object is there.
-pub fn create(alloc: Global, told: &mut Told) -> Option<TrialAnswer> {
+pub fn create(alloc: Global, told: &mut ReportBuffer) -> Option<TrialAnswer> {
     let meta = loaded(alloc, NODES)?;
     let mut tree = Tree::new(alloc);
     put(alloc, &meta, &mut tree, b"a", b"Node", MAIN)?;
@@ -94,8 +94,8 @@ fn create_in(
     alloc: Global,
     meta: &Meta,
     tree: &mut Tree,
-    before: &Told,
-    told: &mut Told,
+    before: &ReportBuffer,
+    told: &mut ReportBuffer,
 ) -> Option<TrialAnswer> {
     let name = Name::new(alloc, b"b").ok()?;
     let class = Name::new(alloc, b"Node").ok()?;
@@ -110,7 +110,7 @@ fn tell_create(
     tree: &mut Tree,
     name: &Name,
     class: &Name,
-    told: &mut Told,
+    told: &mut ReportBuffer,
 ) -> TrialAnswer {
     match tree.create(meta, name, class, LoopId::new(IO)) {
         Ok(_) => {
@@ -123,7 +123,7 @@ fn tell_create(
 }
 
 /// `adopt`, where the parent and the child have each another parent already or none.
-pub fn adopt(alloc: Global, told: &mut Told) -> Option<TrialAnswer> {
+pub fn adopt(alloc: Global, told: &mut ReportBuffer) -> Option<TrialAnswer> {
     let meta = loaded(alloc, NODES)?;
     let mut tree = Tree::new(alloc);
     put_family(alloc, &meta, &mut tree)?;
@@ -144,7 +144,7 @@ fn put_family(alloc: Global, meta: &Meta, tree: &mut Tree) -> Option<()> {
     Some(())
 }
 
-fn tell_adopt(meta: &Meta, tree: &mut Tree, told: &mut Told) -> TrialAnswer {
+fn tell_adopt(meta: &Meta, tree: &mut Tree, told: &mut ReportBuffer) -> TrialAnswer {
     match tree.adopt(meta, ObjectId::new(1), ObjectId::new(3)) {
         Ok(()) => {
             tree.tell(told);
@@ -156,7 +156,7 @@ fn tell_adopt(meta: &Meta, tree: &mut Tree, told: &mut Told) -> TrialAnswer {
 }
 
 /// `connect` of two objects, where two others are connected and were connected before.
-pub fn connect(alloc: Global, told: &mut Told) -> Option<TrialAnswer> {
+pub fn connect(alloc: Global, told: &mut ReportBuffer) -> Option<TrialAnswer> {
     let mut store = Connections::new(alloc);
     join(&mut store, 2, 3).ok()?;
     let (sender, receiver) = (ObjectId::new(2), ObjectId::new(3));
@@ -178,7 +178,7 @@ fn join(store: &mut Connections, sender: usize, receiver: usize) -> Result<(), C
     store.connect(sender, 4, receiver, 4, Kind::Direct, true, false)
 }
 
-fn tell_connect(store: &mut Connections, told: &mut Told) -> TrialAnswer {
+fn tell_connect(store: &mut Connections, told: &mut ReportBuffer) -> TrialAnswer {
     match join(store, 0, 1) {
         Ok(()) => {
             store.tell(told);
@@ -190,7 +190,7 @@ fn tell_connect(store: &mut Connections, told: &mut Told) -> TrialAnswer {
 }
 
 /// `add`.
-pub fn add(alloc: Global, told: &mut Told) -> Option<TrialAnswer> {
+pub fn add(alloc: Global, told: &mut ReportBuffer) -> Option<TrialAnswer> {
     let mut loops = Loops::new(alloc).ok()?;
     let name = Name::new(alloc, b"io").ok()?;
     let before = told_of(alloc, &loops)?;
@@ -200,7 +200,7 @@ pub fn add(alloc: Global, told: &mut Told) -> Option<TrialAnswer> {
     ))
 }
 
-fn tell_add(loops: &mut Loops, name: &Name, told: &mut Told) -> TrialAnswer {
+fn tell_add(loops: &mut Loops, name: &Name, told: &mut ReportBuffer) -> TrialAnswer {
     match loops.add(name) {
         Ok(()) => {
             loops.tell(told);
@@ -212,7 +212,7 @@ fn tell_add(loops: &mut Loops, name: &Name, told: &mut Told) -> TrialAnswer {
 }
 
 /// `post` to a loop in which nothing waits, where something waits in another one.
-pub fn post(alloc: Global, told: &mut Told) -> Option<TrialAnswer> {
+pub fn post(alloc: Global, told: &mut ReportBuffer) -> Option<TrialAnswer> {
     let mut loops = Loops::new(alloc).ok()?;
     let name = Name::new(alloc, b"io").ok()?;
     loops.add(&name).ok()?;
@@ -233,8 +233,8 @@ pub fn post_to(loops: &mut Loops, home: usize, item: Item) -> Result<(), PostFau
 fn post_in(
     alloc: Global,
     loops: &mut Loops,
-    before: &Told,
-    told: &mut Told,
+    before: &ReportBuffer,
+    told: &mut ReportBuffer,
 ) -> Option<TrialAnswer> {
     let first = call_of(alloc, ObjectId::new(1))?;
     match tell_post(loops, first, told) {
@@ -258,7 +258,7 @@ pub fn call_of(alloc: Global, object: ObjectId) -> Option<Item> {
     })
 }
 
-fn tell_post(loops: &mut Loops, item: Item, told: &mut Told) -> TrialAnswer {
+fn tell_post(loops: &mut Loops, item: Item, told: &mut ReportBuffer) -> TrialAnswer {
     match post_to(loops, IO, item) {
         Ok(()) => {
             loops.tell(told);

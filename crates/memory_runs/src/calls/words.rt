@@ -1,7 +1,7 @@
 //! The calls for signatures, texts and values, and for expressions.
 
 use crate::once_or_twice;
-use crate::trials::{Told, TrialAnswer};
+use crate::trials::{ReportBuffer, TrialAnswer};
 use basic_types::{LONGEST_TEXT, Name, QType, Sig, Text, Value};
 use signatures::{SigFault, normalise};
 use slot_lang::{EvalFault, Expr, ExprType, Names, Path, World, eval, parse_expr, tokens, type_of};
@@ -11,7 +11,7 @@ use std::alloc::{AllocError, Global};
 const SIGNATURE: &str = "f(Cell const *, int const)";
 
 /// `normalise`.
-pub fn normal_form(alloc: Global, told: &mut Told) -> TrialAnswer {
+pub fn normal_form(alloc: Global, told: &mut ReportBuffer) -> TrialAnswer {
     match normalise(alloc, SIGNATURE) {
         Ok(sig) => {
             told.signature(&sig);
@@ -23,13 +23,13 @@ pub fn normal_form(alloc: Global, told: &mut Told) -> TrialAnswer {
 }
 
 /// `Sig::text`.
-pub fn signature_text(alloc: Global, told: &mut Told) -> Option<TrialAnswer> {
+pub fn signature_text(alloc: Global, told: &mut ReportBuffer) -> Option<TrialAnswer> {
     let sig = normalise(alloc, SIGNATURE).ok()?;
     let twin = normalise(alloc, SIGNATURE).ok()?;
     Some(once_or_twice!(tell_signature(alloc, &sig, told), sig.is_same(&twin)))
 }
 
-fn tell_signature(alloc: Global, sig: &Sig, told: &mut Told) -> TrialAnswer {
+fn tell_signature(alloc: Global, sig: &Sig, told: &mut ReportBuffer) -> TrialAnswer {
     match sig.text(alloc) {
         Ok(text) => {
             told.bytes(text.as_slice());
@@ -40,7 +40,7 @@ fn tell_signature(alloc: Global, sig: &Sig, told: &mut Told) -> TrialAnswer {
 }
 
 /// `Text::of`.
-pub fn text_of(alloc: Global, told: &mut Told) -> TrialAnswer {
+pub fn text_of(alloc: Global, told: &mut ReportBuffer) -> TrialAnswer {
     match Text::of(alloc, b"hi") {
         Ok(Some(text)) => {
             told.value(&Value::Text(text));
@@ -52,7 +52,7 @@ pub fn text_of(alloc: Global, told: &mut Told) -> TrialAnswer {
 }
 
 /// `Value::copy`.
-pub fn value_copy(alloc: Global, told: &mut Told) -> Option<TrialAnswer> {
+pub fn value_copy(alloc: Global, told: &mut ReportBuffer) -> Option<TrialAnswer> {
     let value = text_value(alloc, b"hi")?;
     let twin = text_value(alloc, b"hi")?;
     Some(once_or_twice!(tell_copy(&value, told), value.is_same(&twin)))
@@ -62,7 +62,7 @@ fn text_value(alloc: Global, bytes: &[u8]) -> Option<Value> {
     Some(Value::Text(Text::of(alloc, bytes).ok()??))
 }
 
-fn tell_copy(value: &Value, told: &mut Told) -> TrialAnswer {
+fn tell_copy(value: &Value, told: &mut ReportBuffer) -> TrialAnswer {
     match value.copy() {
         Ok(copy) => {
             told.value(&copy);
@@ -123,7 +123,7 @@ fn expression(alloc: Global, text: &str) -> Option<Expr<Path>> {
 }
 
 /// `type_of`.
-pub fn expression_type(alloc: Global, told: &mut Told) -> Option<TrialAnswer> {
+pub fn expression_type(alloc: Global, told: &mut ReportBuffer) -> Option<TrialAnswer> {
     let paths = int_paths(alloc, 0)?;
     let expression = expression(alloc, "v + 1")?;
     Some(once_or_twice!(tell_type(alloc, &expression, &paths, told), true))
@@ -133,7 +133,7 @@ fn tell_type(
     alloc: Global,
     expression: &Expr<Path>,
     paths: &Everywhere,
-    told: &mut Told,
+    told: &mut ReportBuffer,
 ) -> TrialAnswer {
     match type_of(alloc, expression, paths) {
         Ok(Some(ExprType::Of(kind))) => {
@@ -146,14 +146,14 @@ fn tell_type(
 }
 
 /// `eval` of a sum.
-pub fn sum(alloc: Global, told: &mut Told) -> Option<TrialAnswer> {
+pub fn sum(alloc: Global, told: &mut ReportBuffer) -> Option<TrialAnswer> {
     let paths = int_paths(alloc, 2147483646)?;
     let expression = expression(alloc, "c.x + 1")?;
     Some(once_or_twice!(tell_eval(alloc, &expression, &paths, told), true))
 }
 
 /// `eval` of two texts that are joined.
-pub fn joined(alloc: Global, told: &mut Told) -> Option<TrialAnswer> {
+pub fn joined(alloc: Global, told: &mut ReportBuffer) -> Option<TrialAnswer> {
     let paths = text_paths(alloc)?;
     let expression = expression(alloc, "this.t + s")?;
     Some(once_or_twice!(tell_eval(alloc, &expression, &paths, told), true))
@@ -163,7 +163,7 @@ fn tell_eval(
     alloc: Global,
     expression: &Expr<Path>,
     paths: &Everywhere,
-    told: &mut Told,
+    told: &mut ReportBuffer,
 ) -> TrialAnswer {
     match eval(alloc, expression, paths) {
         Ok(value) => {

@@ -1,23 +1,23 @@
 //! Calls by their words, and what is written of them.
 
 use crate::trials::answer::TrialAnswer;
-use crate::trials::told::Told;
+use crate::trials::report_buffer::ReportBuffer;
 use std::alloc::Global;
 use std::rt::Env;
 use std::{env, io};
 
 /// Calls by their words.
-pub trait Calls {
+pub trait CallTable {
     /// The words, each with a blank behind it but the last one.
     const WORDS: &'static str;
 
     /// Makes what the call of this word is made on, makes the call, and tells what it answers. `None` where no call has
     /// the word, and where there is no memory for what the call is made on.
-    fn make(alloc: Global, word: &str, told: &mut Told) -> Option<TrialAnswer>;
+    fn make(alloc: Global, word: &str, told: &mut ReportBuffer) -> Option<TrialAnswer>;
 }
 
 /// Makes the calls of the process's words, or all where there is none, and writes how each was answered and what it told.
-pub fn tell_calls<C: Calls, R: Print + AllocGlobal + Env>(rt: &R) -> io::Result<()> {
+pub fn tell_calls<C: CallTable, R: Print + AllocGlobal + Env>(rt: &R) -> io::Result<()> {
     let Ok(words) = env::args(rt) else {
         return tell_unmade(rt);
     };
@@ -34,15 +34,15 @@ pub fn tell_calls<C: Calls, R: Print + AllocGlobal + Env>(rt: &R) -> io::Result<
 }
 
 /// Makes all calls.
-fn tell_each<C: Calls, R: Print + AllocGlobal>(rt: &R) -> io::Result<()> {
+fn tell_each<C: CallTable, R: Print + AllocGlobal>(rt: &R) -> io::Result<()> {
     for word in C::WORDS.split(' ') {
         tell_call::<C, R>(rt, word)?;
     }
     Ok(())
 }
 
-fn tell_call<C: Calls, R: Print + AllocGlobal>(rt: &R, word: &str) -> io::Result<()> {
-    let Ok(mut told) = Told::new(rt.alloc()) else {
+fn tell_call<C: CallTable, R: Print + AllocGlobal>(rt: &R, word: &str) -> io::Result<()> {
+    let Ok(mut told) = ReportBuffer::new(rt.alloc()) else {
         return tell_unmade(rt);
     };
     match C::make(rt.alloc(), word, &mut told) {

@@ -11,19 +11,19 @@ const ROOM: usize = 4096;
 
 /// A text whose room is there from the beginning, so that no memory is asked for when something is reported.
 #[derive(Drop)]
-pub struct Told {
+pub struct ReportBuffer {
     pub text: Vec<u8>,
 }
 
-impl Told {
+impl ReportBuffer {
     /// Nothing is reported yet.
-    pub fn new(alloc: Global) -> Result<Told, AllocError> {
+    pub fn new(alloc: Global) -> Result<ReportBuffer, AllocError> {
         let text = Vec::with_capacity(alloc, ROOM)?;
-        Ok(Told { text })
+        Ok(ReportBuffer { text })
     }
 
     /// Whether both are one text.
-    pub fn is_same(&self, other: &Told) -> bool {
+    pub fn is_same(&self, other: &ReportBuffer) -> bool {
         self.text.as_slice() == other.text.as_slice()
     }
 
