@@ -15,6 +15,6 @@ mod telling;
 pub use case::{Case, cases};
 pub use example::tell_example;
 pub use fault::CaseFault;
-pub use section::{Marks, Part, Section};
+pub use section::{CasePart, Section, SectionMarks};
 pub use sections::read_sections;
 pub use telling::tell_file;

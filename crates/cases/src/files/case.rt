@@ -1,7 +1,7 @@
 //! The cases of a file.
 
 use crate::files::fault::CaseFault;
-use crate::files::section::{Part, Section};
+use crate::files::section::{CasePart, Section};
 use std::alloc::{AllocError, Global};
 
 /// A case: its title, and its other sections.
@@ -14,9 +14,9 @@ pub struct Case<'a> {
 /// The cases that a file's sections are.
 pub fn cases<'a>(alloc: Global, sections: &'a [Section]) -> Result<Vec<Case<'a>>, AllocError> {
     let mut cases = Vec::new(alloc);
-    for chunk in sections.chunk_by(|_, next| next.part != Part::Title) {
+    for chunk in sections.chunk_by(|_, next| next.part != CasePart::Title) {
         if let Some((title, sections)) = chunk.split_first() {
-            if title.part == Part::Title {
+            if title.part == CasePart::Title {
                 cases.push(Case { title, sections })?;
             }
         }
@@ -41,7 +41,7 @@ impl<'a> Case<'a> {
     }
 
     /// The text that its sections of this part have together; `None` where there is no such section.
-    pub fn text(&self, alloc: Global, part: Part) -> Result<Option<Vec<u8>>, CaseFault> {
+    pub fn text(&self, alloc: Global, part: CasePart) -> Result<Option<Vec<u8>>, CaseFault> {
         let mut text = Vec::new(alloc);
         let mut is_there = false;
         for section in self.sections {
@@ -54,14 +54,14 @@ impl<'a> Case<'a> {
     }
 
     /// Whether it has a section of this part.
-    pub fn has(&self, part: Part) -> bool {
+    pub fn has(&self, part: CasePart) -> bool {
         self.sections.iter().any(|section| section.part == part)
     }
 
     /// The exit status of each of its command lines; 0 where it has no such section.
     pub fn status(&self) -> Result<u8, CaseFault> {
         for section in self.sections {
-            if section.part == Part::Status {
+            if section.part == CasePart::Status {
                 return match section.head.as_str().parse::<u8>() {
                     Ok(status) => Ok(status),
                     Err(_) => Err(CaseFault::Malformed(section.line, "this is no status")),

@@ -8,7 +8,7 @@ use std::{fs, io, str};
 
 /// What an example's files say it answers.
 #[derive(Drop)]
-struct Wanted {
+struct ExampleOutput {
     output: Vec<u8>,
     status: String,
 }
@@ -31,7 +31,7 @@ pub fn tell_example<R: Files + Print + AllocGlobal>(rt: &R, name: &str) -> io::R
         &mut found,
         &mut errors,
     )?;
-    let wanted = Wanted {
+    let wanted = ExampleOutput {
         output: bytes_of(rt, name, "out")?,
         status: status_of(rt, name)?,
     };
@@ -42,7 +42,7 @@ pub fn tell_example<R: Files + Print + AllocGlobal>(rt: &R, name: &str) -> io::R
 fn tell_answer<R: Print + AllocGlobal>(
     rt: &R,
     name: &str,
-    wanted: &Wanted,
+    wanted: &ExampleOutput,
     found: &[u8],
     status: u8,
 ) -> io::Result<()> {

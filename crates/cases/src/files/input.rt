@@ -2,18 +2,21 @@
 
 use crate::files::case::Case;
 use crate::files::fault::CaseFault;
-use crate::files::section::Part;
+use crate::files::section::CasePart;
 use std::alloc::{AllocError, Global};
 
 /// The texts that a command takes, in their order; `None` for words that are no command.
-fn texts_of(words: &[&str]) -> Option<&'static [Part]> {
+fn texts_of(words: &[&str]) -> Option<&'static [CasePart]> {
     let (command, options) = words.split_first()?;
     match *command {
-        "meta" | "certify" => Some(&[Part::Program]),
-        "check" => Some(&[Part::Program, Part::Certificate]),
+        "meta" | "certify" => Some(&[CasePart::Program]),
+        "check" => Some(&[CasePart::Program, CasePart::Certificate]),
         "run" => match options.first() {
-            Some(option) if *option == "--unchecked" => Some(&[Part::Program, Part::Script]),
-            _ => Some(&[Part::Program, Part::Certificate, Part::Script]),
+            Some(option) if *option == "--unchecked" => Some(&[
+                CasePart::Program,
+                CasePart::Script,
+            ]),
+            _ => Some(&[CasePart::Program, CasePart::Certificate, CasePart::Script]),
         },
         _ => None,
     }
@@ -21,8 +24,8 @@ fn texts_of(words: &[&str]) -> Option<&'static [Part]> {
 
 /// Whether the words ask for a certificate that the case doesn't have.
 pub fn wants_certificate(case: &Case<'_>, words: &[&str]) -> bool {
-    let wants = texts_of(words).is_some_and(|parts| parts.contains(&Part::Certificate));
-    wants && !case.has(Part::Certificate) && !case.has(Part::Input)
+    let wants = texts_of(words).is_some_and(|parts| parts.contains(&CasePart::Certificate));
+    wants && !case.has(CasePart::Certificate) && !case.has(CasePart::Input)
 }
 
 /// The input of a command line of the case: the whole one that it gives, or the texts that the words ask for, parted by
@@ -33,18 +36,18 @@ pub fn input_of(
     words: &[&str],
     certificate: Option<&[u8]>,
 ) -> Result<Vec<u8>, CaseFault> {
-    if let Some(input) = case.text(alloc, Part::Input)? {
+    if let Some(input) = case.text(alloc, CasePart::Input)? {
         return Ok(input);
     }
     let asked = texts_of(words);
-    let parts = asked.unwrap_or(&[Part::Program, Part::Certificate, Part::Script]);
+    let parts = asked.unwrap_or(&[CasePart::Program, CasePart::Certificate, CasePart::Script]);
     let mut input = Vec::new(alloc);
     let mut is_first = true;
     for part in parts {
         let text = match case.text(alloc, *part)? {
             Some(text) => text,
             None => match (*part, certificate) {
-                (Part::Certificate, Some(made)) => Vec::from_slice(alloc, made)?,
+                (CasePart::Certificate, Some(made)) => Vec::from_slice(alloc, made)?,
                 _ if asked.is_none() => continue,
                 _ => return Err(CaseFault::Malformed(case.line(), "the case lacks a text")),
             },

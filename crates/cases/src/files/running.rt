@@ -4,7 +4,7 @@ use crate::files::answering::answered;
 use crate::files::case::Case;
 use crate::files::fault::CaseFault;
 use crate::files::input::{input_of, wants_certificate};
-use crate::files::section::Part;
+use crate::files::section::CasePart;
 use std::alloc::{AllocError, Global};
 
 /// What a command line answers.
@@ -51,7 +51,7 @@ fn answer_on(
 ) -> Result<CaseAnswer, CaseFault> {
     let mut output = Vec::new(alloc);
     let mut errors = Vec::new(alloc);
-    let tells_refusals = case.has(Part::Explained);
+    let tells_refusals = case.has(CasePart::Explained);
     let status = answered(
         alloc,
         words,

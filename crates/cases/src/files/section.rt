@@ -9,7 +9,7 @@ use std::str;
 
 /// What a section gives.
 #[derive(Clone, Copy, Debug, PartialEq, Eq)]
-pub enum Part {
+pub enum CasePart {
     /// What the file is about.
     Preface,
     /// What a case is about; with it the case begins.
@@ -34,19 +34,19 @@ pub enum Part {
     Explained,
 }
 
-impl Part {
+impl CasePart {
     /// The part whose sections have this name.
-    fn named(name: &str) -> Option<Part> {
+    fn named(name: &str) -> Option<CasePart> {
         match name {
-            "words" => Some(Part::Words),
-            "input" => Some(Part::Input),
-            "program" => Some(Part::Program),
-            "certificate" => Some(Part::Certificate),
-            "script" => Some(Part::Script),
-            "output" => Some(Part::Output),
-            "errors" => Some(Part::Errors),
-            "status" => Some(Part::Status),
-            "explained" => Some(Part::Explained),
+            "words" => Some(CasePart::Words),
+            "input" => Some(CasePart::Input),
+            "program" => Some(CasePart::Program),
+            "certificate" => Some(CasePart::Certificate),
+            "script" => Some(CasePart::Script),
+            "output" => Some(CasePart::Output),
+            "errors" => Some(CasePart::Errors),
+            "status" => Some(CasePart::Status),
+            "explained" => Some(CasePart::Explained),
             _ => None,
         }
     }
@@ -54,20 +54,24 @@ impl Part {
     /// Whether the lines below such a section's first one are its text.
     fn has_text(self) -> bool {
         match self {
-            Part::Input
-            | Part::Program
-            | Part::Certificate
-            | Part::Script
-            | Part::Output
-            | Part::Errors => true,
-            Part::Preface | Part::Title | Part::Words | Part::Status | Part::Explained => false,
+            CasePart::Input
+            | CasePart::Program
+            | CasePart::Certificate
+            | CasePart::Script
+            | CasePart::Output
+            | CasePart::Errors => true,
+            CasePart::Preface
+            | CasePart::Title
+            | CasePart::Words
+            | CasePart::Status
+            | CasePart::Explained => false,
         }
     }
 }
 
 /// How the lines of a section are meant.
 #[derive(Clone, Copy, Debug, PartialEq, Eq)]
-pub struct Marks {
+pub struct SectionMarks {
     /// The last newline isn't part of the text.
     pub is_bare: bool,
     /// A backslash begins an escape.
@@ -76,17 +80,17 @@ pub struct Marks {
     pub times: usize,
 }
 
-impl Marks {
+impl SectionMarks {
     /// The lines as they stand, once.
-    pub const NONE: Marks = Marks {
+    pub const NONE: SectionMarks = SectionMarks {
         is_bare: false,
         is_escaped: false,
         times: 1,
     };
 
     /// The marks that these words are; `None` for other words.
-    fn of(words: &str) -> Option<Marks> {
-        let mut marks = Marks::NONE;
+    fn of(words: &str) -> Option<SectionMarks> {
+        let mut marks = SectionMarks::NONE;
         for word in words.split(' ') {
             match word {
                 "bare" => marks.is_bare = true,
@@ -103,13 +107,13 @@ impl Marks {
 #[derive(Drop)]
 pub struct Section {
     /// What it gives.
-    pub part: Part,
+    pub part: CasePart,
     /// The number of its first line in the file, counted from 1; 0 of the preface, which has none.
     pub line: usize,
     /// What follows the name in the first line: of a title the title, of words the words, of a status the status.
     pub head: String,
     /// How its lines are meant.
-    pub marks: Marks,
+    pub marks: SectionMarks,
     /// Its lines, each with a newline, without the first one.
     pub lines: Vec<u8>,
 }
@@ -117,15 +121,15 @@ pub struct Section {
 impl Section {
     /// What comes before the first case.
     pub fn preface(alloc: Global) -> Section
-        ensures part { result.part ≡ Part.Preface }
+        ensures part { result.part ≡ CasePart.Preface }
         ensures line { result.line ≡ 0 }
         ensures empty { result.lines.items ≡ [] }
     {
         Section {
-            part: Part::Preface,
+            part: CasePart::Preface,
             line: 0,
             head: String::new(alloc),
-            marks: Marks::NONE,
+            marks: SectionMarks::NONE,
             lines: Vec::new(alloc),
         }
     }
@@ -138,10 +142,10 @@ impl Section {
     {
         if let Some(title) = text.strip_prefix(b"=== ".as_slice()) {
             return Ok(Some(Section {
-                part: Part::Title,
+                part: CasePart::Title,
                 line,
                 head: String::from_str(alloc, text_of(line, title)?)?,
-                marks: Marks::NONE,
+                marks: SectionMarks::NONE,
                 lines: Vec::new(alloc),
             }));
         }
@@ -161,7 +165,7 @@ impl Section {
             self.lines.push(b'\n').map_err(AllocError::from)?;
             return Ok(());
         }
-        let may_have_comments = matches!(&self.part, Part::Preface | Part::Title);
+        let may_have_comments = matches!(&self.part, CasePart::Preface | CasePart::Title);
         if may_have_comments && (text.is_empty() || text.starts_with(b"#")) {
             Ok(())
         } else {
@@ -197,16 +201,16 @@ fn headed(alloc: Global, line: usize, heading: &str) -> Result<Section, CaseFaul
     ensures empty { IfOk result (λ section. section.lines.items ≡ []) }
 {
     let (name, rest) = heading.split_once(' ').unwrap_or((heading, ""));
-    let Some(part) = Part::named(name) else {
+    let Some(part) = CasePart::named(name) else {
         return Err(CaseFault::Malformed(line, "no section has this name"));
     };
     let marks = if part.has_text() {
-        match Marks::of(rest) {
+        match SectionMarks::of(rest) {
             Some(marks) => marks,
             None => return Err(CaseFault::Malformed(line, "no section has this mark")),
         }
     } else {
-        Marks::NONE
+        SectionMarks::NONE
     };
     Ok(Section {
         part,

@@ -4,7 +4,7 @@ ghost use Rattle.std.specs.Prelude.{◌≡◌, ◌++◌, ◌∷◌, [], IfOk, On
 ghost use Rattle.cases.specs.Order.{AreInOrder};
 
 use crate::files::fault::CaseFault;
-use crate::files::section::{Part, Section};
+use crate::files::section::{CasePart, Section};
 use std::alloc::{AllocError, Global};
 
 /// The sections of a file in their order, behind the preface. `Malformed` at the first line that no section has, or that
@@ -21,7 +21,7 @@ pub fn read_sections(alloc: Global, text: &[u8]) -> Result<Vec<Section>, CaseFau
         match Section::begun(alloc, number, line)? {
             None => current.add(number, line)?,
             Some(next) => {
-                if current.part == Part::Preface && next.part != Part::Title {
+                if current.part == CasePart::Preface && next.part != CasePart::Title {
                     return Err(CaseFault::Malformed(number, "no case has this section"));
                 }
                 keep(&mut sections, current)?;

@@ -3,7 +3,7 @@
 use crate::files::case::{Case, cases};
 use crate::files::fault::CaseFault;
 use crate::files::running::{CaseAnswer, run_answer};
-use crate::files::section::Part;
+use crate::files::section::CasePart;
 use crate::files::sections::read_sections;
 use script_tests::first_difference;
 use std::rt::Files;
@@ -11,7 +11,7 @@ use std::{fs, io, str};
 
 /// How the runs of a file ended.
 #[derive(Clone, Copy)]
-struct Tally {
+struct RunTally {
     cases: usize,
     runs: usize,
     others: usize,
@@ -31,8 +31,8 @@ pub fn tell_file<R: Files + Print + AllocGlobal>(rt: &R, name: &str) -> io::Resu
 }
 
 /// Writes how the runs of a file ended.
-fn tell_tally<R: Print>(rt: &R, name: &str, tally: Tally) -> io::Result<()> {
-    let Tally {
+fn tell_tally<R: Print>(rt: &R, name: &str, tally: RunTally) -> io::Result<()> {
+    let RunTally {
         cases,
         runs,
         others,
@@ -45,10 +45,14 @@ fn tell_tally<R: Print>(rt: &R, name: &str, tally: Tally) -> io::Result<()> {
 }
 
 /// Runs the cases that a file's text has.
-fn tell_cases<R: Print + AllocGlobal>(rt: &R, name: &str, text: &[u8]) -> Result<Tally, CaseFault> {
+fn tell_cases<R: Print + AllocGlobal>(
+    rt: &R,
+    name: &str,
+    text: &[u8],
+) -> Result<RunTally, CaseFault> {
     let sections = read_sections(rt.alloc(), text)?;
     let cases = cases(rt.alloc(), sections.as_slice())?;
-    let mut tally = Tally {
+    let mut tally = RunTally {
         cases: cases.len(),
         runs: 0,
         others: 0,
@@ -64,13 +68,13 @@ fn tell_case<R: Print + AllocGlobal>(
     rt: &R,
     name: &str,
     case: &Case<'_>,
-    tally: &mut Tally,
+    tally: &mut RunTally,
 ) -> Result<(), CaseFault> {
-    if !case.has(Part::Words) {
+    if !case.has(CasePart::Words) {
         return Err(CaseFault::Malformed(case.line(), "the case has no words"));
     }
     for section in case.sections() {
-        if section.part == Part::Words {
+        if section.part == CasePart::Words {
             let line = section.head.as_str();
             tally.runs = tally.runs.saturating_add(1);
             if !tell_run(rt, name, case, line)? {
@@ -93,8 +97,22 @@ fn tell_run<R: Print + AllocGlobal>(
         println!(rt; "{name}: {title} ({line}): `certify` gives no certificate")?;
         return Ok(false);
     };
-    let has_output = tell_text(rt, name, case, line, Part::Output, found.output.as_slice())?;
-    let has_errors = tell_text(rt, name, case, line, Part::Errors, found.errors.as_slice())?;
+    let has_output = tell_text(
+        rt,
+        name,
+        case,
+        line,
+        CasePart::Output,
+        found.output.as_slice(),
+    )?;
+    let has_errors = tell_text(
+        rt,
+        name,
+        case,
+        line,
+        CasePart::Errors,
+        found.errors.as_slice(),
+    )?;
     let has_status = tell_status(rt, name, case, line, &found)?;
     Ok(has_output && has_errors && has_status)
 }
@@ -105,11 +123,11 @@ fn tell_text<R: Print + AllocGlobal>(
     name: &str,
     case: &Case<'_>,
     line: &str,
-    part: Part,
+    part: CasePart,
     found: &[u8],
 ) -> Result<bool, CaseFault> {
     let Some(wanted) = case.text(rt.alloc(), part)? else {
-        return if part == Part::Output {
+        return if part == CasePart::Output {
             Err(CaseFault::Malformed(case.line(), "the case has no output"))
         } else {
             Ok(true)
@@ -119,7 +137,7 @@ fn tell_text<R: Print + AllocGlobal>(
         return Ok(true);
     };
     let title = case.title();
-    let stream = if part == Part::Errors {
+    let stream = if part == CasePart::Errors {
         "standard error"
     } else {
         "standard output"
