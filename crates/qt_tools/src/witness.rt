@@ -4,7 +4,7 @@ use crate::fault::ToolFault;
 use crate::streams::{program, write};
 use class_lang::Limits;
 use native_slots::Natives;
-use run_witness::{Sought, find_witness};
+use run_witness::{SearchOutcome, find_witness};
 
 /// Writes such a script for the program on standard input, which is read by these limits.
 pub fn witness(rt: &HostRuntime, limits: Limits, words: &[&str]) -> Result<(), ToolFault> {
@@ -17,9 +17,9 @@ pub fn witness(rt: &HostRuntime, limits: Limits, words: &[&str]) -> Result<(), T
     };
     let natives = Natives::of(Vec::new(rt.alloc()));
     let script = match find_witness(rt.alloc(), limits, program.as_slice(), &natives)? {
-        Sought::Found(script) => script,
-        Sought::NotFound => return Err(ToolFault::NoWitness),
-        Sought::Certified => return Err(ToolFault::Certified),
+        SearchOutcome::Found(script) => script,
+        SearchOutcome::NotFound => return Err(ToolFault::NoWitness),
+        SearchOutcome::Certified => return Err(ToolFault::Certified),
     };
     match write(rt, script.as_str()) {
         Ok(()) => Ok(()),

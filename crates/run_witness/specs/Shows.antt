@@ -17,8 +17,8 @@ use Rattle.program_commands.specs.Loading.{LoadsProgram}
 use Rattle.trace_tool.specs.Commands.{MayRun}
 use Rattle.trace_tool.specs.declared.any_machine.outcome.Outcome.{Outcome}
 use Rattle.trace_tool.specs.declared.any_machine.outcome.Outcome.TheVariants.{Ran}
-use Rattle.run_witness.specs.declared.search.Sought.{Sought}
-use Rattle.run_witness.specs.declared.search.Sought.TheVariants.{Found, NotFound, Certified}
+use Rattle.run_witness.specs.declared.search.SearchOutcome.{SearchOutcome}
+use Rattle.run_witness.specs.declared.search.SearchOutcome.TheVariants.{Found, NotFound, Certified}
 
 -- activations nest too deep (61), bindings form a loop (62), or an object dies in a body of its own (63)
 abbrev pub is_shown : Fault → Bool
@@ -46,10 +46,10 @@ pub record IsCertified (limits : Limits) (program : List ℕ) : Type 0 where
   pub valid : IsValid loaded certificate
 
 -- a script that is found shows this, and a program that is certified is so; that none is found says nothing
-abbrev pub IsSought : (List ℕ → Type 0) → Type 0 → Sought → Type 0
-IsSought Shown Known (Found script) = Shown (string_bytes script)
-IsSought Shown Known NotFound = Unit {0}
-IsSought Shown Known Certified = Known
+abbrev pub IsSearchOutcome : (List ℕ → Type 0) → Type 0 → SearchOutcome → Type 0
+IsSearchOutcome Shown Known (Found script) = Shown (string_bytes script)
+IsSearchOutcome Shown Known NotFound = Unit {0}
+IsSearchOutcome Shown Known Certified = Known
 
 -- a run, and one of these faults ended it
 abbrev pub ends_shown : Result (Unit {0}) Fault → Bool

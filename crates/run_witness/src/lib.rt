@@ -2,7 +2,7 @@
 //! in a slot of its own.
 #![tactic(auto)]
 
-mod choice;
+mod event_subset;
 mod events;
 mod lent;
 mod names;
@@ -10,4 +10,4 @@ mod search;
 mod stage;
 mod trials;
 
-pub use search::{Sought, WitnessFault, find_witness};
+pub use search::{SearchOutcome, WitnessFault, find_witness};

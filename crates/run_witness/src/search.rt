@@ -1,9 +1,9 @@
 //! The search for a script, and what of it is needed.
 
 ghost use Rattle.std.specs.Prelude.{IfOk};
-ghost use Rattle.run_witness.specs.Shows.{IsCertified, IsSought, Shows};
+ghost use Rattle.run_witness.specs.Shows.{IsCertified, IsSearchOutcome, Shows};
 
-use crate::choice::{Choice, Part};
+use crate::event_subset::{EventRange, EventSubset};
 use crate::events::{push_begins, push_joints};
 use crate::stage::push_stage;
 use crate::trials::Trials;
@@ -33,7 +33,7 @@ const PARTS: [usize; 7] = [4096, 1024, 256, 64, 16, 4, 1];
 
 /// What was found.
 #[derive(Drop)]
-pub enum Sought {
+pub enum SearchOutcome {
     /// A script whose run ends so, in whole lines.
     Found(String),
     /// No such script was found, which proves nothing.
@@ -77,17 +77,17 @@ pub fn find_witness<N: FittingNatives>(
     limits: Limits,
     program: &[u8],
     natives: &N,
-) -> Result<Sought, WitnessFault>
+) -> Result<SearchOutcome, WitnessFault>
     ensures { let heads = N.heads natives.now in
-        IfOk result (IsSought
+        IfOk result (IsSearchOutcome
         (λ script. Shows limits heads (N.gives natives.now) program.now script 1000000)
         (IsCertified limits program.now)) }
 {
     let meta = load_program(alloc, limits, program)?;
     match make(alloc, &meta) {
-        Ok(_) => Ok(Sought::Certified),
+        Ok(_) => Ok(SearchOutcome::Certified),
         Err(Why::Memory) => Err(WitnessFault::Memory),
-        Err(Why::Wire(_) | Why::BodyType(_)) => Ok(Sought::NotFound),
+        Err(Why::Wire(_) | Why::BodyType(_)) => Ok(SearchOutcome::NotFound),
         Err(Why::Cycle(nodes) | Why::DestroyPath(nodes) | Why::TooHigh(nodes)) => {
             let trials = Trials {
                 limits,
@@ -102,9 +102,14 @@ pub fn find_witness<N: FittingNatives>(
 
 impl<N: FittingNatives> Trials<'_, N> {
     /// Tries the events for these members, and leaves out those that aren't needed.
-    fn search(&self, alloc: Global, meta: &Meta, nodes: &[Node]) -> Result<Sought, AllocError>
+    fn search(
+        &self,
+        alloc: Global,
+        meta: &Meta,
+        nodes: &[Node],
+    ) -> Result<SearchOutcome, AllocError>
         ensures { let heads = N.heads self.now.natives.now in
-            IfOk result (IsSought
+            IfOk result (IsSearchOutcome
             (λ script. Shows self.now.limits heads (N.gives self.now.natives.now)
             self.now.program.now script 1000000)
             (IsCertified self.now.limits self.now.program.now)) }
@@ -113,50 +118,50 @@ impl<N: FittingNatives> Trials<'_, N> {
         push_stage(alloc, meta, &mut events)?;
         push_joints(alloc, meta, nodes, &mut events)?;
         push_begins(alloc, meta, nodes, &mut events)?;
-        let mut choice = Choice::of(alloc, events)?;
-        let whole = choice.script(alloc, Part::NONE)?;
+        let mut subset = EventSubset::of(alloc, events)?;
+        let whole = subset.script(alloc, EventRange::NONE)?;
         if !self.ends_so(alloc, whole.as_bytes(), STEPS) {
-            return Ok(Sought::NotFound);
+            return Ok(SearchOutcome::NotFound);
         }
-        self.leave_out(alloc, &mut choice)?;
-        let script = choice.script(alloc, Part::NONE)?;
+        self.leave_out(alloc, &mut subset)?;
+        let script = subset.script(alloc, EventRange::NONE)?;
         let sought = self.judge(alloc, script);
         Ok(sought)
     }
 
     /// This script, if its run ends so.
-    fn judge(&self, alloc: Global, script: String) -> Sought
+    fn judge(&self, alloc: Global, script: String) -> SearchOutcome
         ensures { let heads = N.heads self.now.natives.now in
-            IsSought
+            IsSearchOutcome
             (λ script. Shows self.now.limits heads (N.gives self.now.natives.now)
             self.now.program.now script 1000000)
             (IsCertified self.now.limits self.now.program.now)
             result }
     {
         if self.ends_so(alloc, script.as_bytes(), STEPS) {
-            Sought::Found(script)
+            SearchOutcome::Found(script)
         } else {
-            Sought::NotFound
+            SearchOutcome::NotFound
         }
     }
 
     /// Leaves out what isn't needed, in smaller and smaller parts, each time from the last one on, until the trials are used up.
-    fn leave_out(&self, alloc: Global, choice: &mut Choice) -> Result<(), AllocError> {
+    fn leave_out(&self, alloc: Global, subset: &mut EventSubset) -> Result<(), AllocError> {
         let mut trials = (TRIED_BYTES / self.program.len().max(1)).min(MOST_TRIALS);
         for size in PARTS {
-            let count = choice.len().checked_div(size).unwrap_or(0);
+            let count = subset.len().checked_div(size).unwrap_or(0);
             for place in (0..=count).rev() {
                 let start = place.saturating_mul(size);
                 let end = start.saturating_add(size);
-                let part = Part { start, end };
+                let range = EventRange { start, end };
                 if trials == 0 {
                     return Ok(());
                 }
-                if choice.has_some(part) {
+                if subset.has_some(range) {
                     trials = trials.saturating_sub(1);
-                    let script = choice.script(alloc, part)?;
+                    let script = subset.script(alloc, range)?;
                     if self.ends_so(alloc, script.as_bytes(), TRIAL_STEPS) {
-                        choice.leave_out(part);
+                        subset.leave_out(range);
                     }
                 }
             }
