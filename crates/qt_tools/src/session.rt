@@ -3,7 +3,7 @@
 use crate::fault::ToolFault;
 use crate::streams::{input, write, write_bytes};
 use native_slots::Natives;
-use script_tests::{Form, judge, record, report};
+use script_tests::{TestFormat, judge, record, report};
 use std::alloc::{AllocError, Global};
 use texts::{MOST_BYTES, number, split_at_line};
 use trace_tool::{LARGEST_INPUT, command};
@@ -19,9 +19,9 @@ const UNCHECKED: &str = "--unchecked";
 
 /// What is done with what happened.
 #[derive(Clone, Copy)]
-enum Task {
+enum SessionTask {
     /// It is told which events went otherwise than the script's comments expect.
-    Tell(Form),
+    Tell(TestFormat),
     /// The script is written, with comments that expect what happened.
     Record,
 }
@@ -32,9 +32,9 @@ enum Task {
 pub fn session(rt: &HostRuntime, is_wide: bool, words: &[&str]) -> Result<(), ToolFault> {
     let alloc = rt.alloc();
     let (task, options) = match words {
-        [word, options @ ..] if *word == "--tap" => (Task::Tell(Form::Tap), options),
-        [word, options @ ..] if *word == "--record" => (Task::Record, options),
-        _ => (Task::Tell(Form::Plain), words),
+        [word, options @ ..] if *word == "--tap" => (SessionTask::Tell(TestFormat::Tap), options),
+        [word, options @ ..] if *word == "--record" => (SessionTask::Record, options),
+        _ => (SessionTask::Tell(TestFormat::Plain), words),
     };
     let input = match input(rt, MOST_READ) {
         Ok(input) => input,
@@ -43,13 +43,13 @@ pub fn session(rt: &HostRuntime, is_wide: bool, words: &[&str]) -> Result<(), To
     let trace = trace_of(alloc, is_wide, options, input.as_slice())?;
     let script = script_of(options, input.as_slice()).unwrap_or(&[]);
     match task {
-        Task::Tell(form) => tell(rt, script, trace.as_slice(), form),
-        Task::Record => record_run(rt, script, trace.as_slice()),
+        SessionTask::Tell(form) => tell(rt, script, trace.as_slice(), form),
+        SessionTask::Record => record_run(rt, script, trace.as_slice()),
     }
 }
 
 /// Writes which events of the script went otherwise than its comments expect.
-fn tell(rt: &HostRuntime, script: &[u8], trace: &[u8], form: Form) -> Result<(), ToolFault> {
+fn tell(rt: &HostRuntime, script: &[u8], trace: &[u8], form: TestFormat) -> Result<(), ToolFault> {
     let tests = judge(rt.alloc(), script, trace)?;
     let (text, failed) = report(rt.alloc(), tests.as_slice(), form)?;
     match write(rt, text.as_str()) {
@@ -69,7 +69,7 @@ fn record_run(rt: &HostRuntime, script: &[u8], trace: &[u8]) -> Result<(), ToolF
         return Err(ToolFault::LongScript);
     }
     let tests = judge(alloc, recorded.script.as_slice(), trace)?;
-    let (text, failed) = report(alloc, tests.as_slice(), Form::Plain)?;
+    let (text, failed) = report(alloc, tests.as_slice(), TestFormat::Plain)?;
     if let Err(reason) = write_bytes(rt, recorded.script.as_slice()) {
         return Err(ToolFault::Unwritten(reason));
     }

@@ -4,7 +4,7 @@ ghost use Rattle.std.specs.Prelude.{◌≡◌, ◌↔◌, IsNone};
 
 /// The first line in which two texts differ.
 #[derive(Clone, Copy)]
-pub struct Difference<'a> {
+pub struct LineDifference<'a> {
     /// Its number, counted from 1.
     pub line: usize,
     /// The line as it has to be, with its newline; empty where the text ends before it.
@@ -14,7 +14,7 @@ pub struct Difference<'a> {
 }
 
 /// The first line in which a text differs from what it has to be; `None` where they are equal.
-pub fn first_difference<'a>(wanted: &'a [u8], found: &'a [u8]) -> Option<Difference<'a>>
+pub fn first_difference<'a>(wanted: &'a [u8], found: &'a [u8]) -> Option<LineDifference<'a>>
     ensures { IsNone result ↔ (wanted.now ≡ found.now) }
 {
     if wanted == found {
@@ -26,7 +26,7 @@ pub fn first_difference<'a>(wanted: &'a [u8], found: &'a [u8]) -> Option<Differe
     for wanted in wanted_lines {
         let found = found_lines.next().unwrap_or(&[]);
         if wanted != found {
-            return Some(Difference {
+            return Some(LineDifference {
                 line,
                 wanted,
                 found,
@@ -34,7 +34,7 @@ pub fn first_difference<'a>(wanted: &'a [u8], found: &'a [u8]) -> Option<Differe
         }
         line = line.saturating_add(1);
     }
-    Some(Difference {
+    Some(LineDifference {
         line,
         wanted: &[],
         found: found_lines.next().unwrap_or(&[]),

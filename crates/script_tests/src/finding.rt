@@ -3,13 +3,13 @@
 ghost use Rattle.std.specs.Prelude.{◌≡◌, ◌↔◌, ◌⊎◌, Some, None, IfSome, IsSome, IsTrue};
 ghost use Rattle.script_tests.specs.Expectations.{WentAsExpected};
 
-use crate::difference::{Difference, first_difference};
+use crate::difference::{LineDifference, first_difference};
 use crate::expected::{Expected, ExpectedAnswer};
 use crate::happened::Happened;
 
 /// How an event went beside what is expected of it.
 #[derive(Clone, Copy)]
-pub enum Finding<'t> {
+pub enum EventOutcome<'t> {
     /// It went as is expected.
     AsExpected,
     /// It was answered otherwise: so.
@@ -17,7 +17,7 @@ pub enum Finding<'t> {
     /// It isn't run, as the run ended before it.
     NotRun,
     /// The run wrote other lines of it; this is where they differ first.
-    Wrote(Difference<'t>),
+    Wrote(LineDifference<'t>),
     /// The run stopped with this fault, which isn't expected.
     Stopped(u8),
     /// The run went on, and is expected to stop.
@@ -26,23 +26,23 @@ pub enum Finding<'t> {
 
 /// How an event went beside what is expected of it: where several findings hold, the first of these is given: the answer,
 /// the lines, the stop.
-pub fn find<'t>(expected: &'t Expected<'_>, happened: Happened<'t>) -> Finding<'t> {
+pub fn find<'t>(expected: &'t Expected<'_>, happened: Happened<'t>) -> EventOutcome<'t> {
     if went_as_expected(expected, &happened) {
-        return Finding::AsExpected;
+        return EventOutcome::AsExpected;
     }
     match happened.answer {
-        Some(answer) if answer != expected.answer => return Finding::Answered(answer),
-        None if expected.fault.is_none() => return Finding::NotRun,
+        Some(answer) if answer != expected.answer => return EventOutcome::Answered(answer),
+        None if expected.fault.is_none() => return EventOutcome::NotRun,
         _ => {}
     }
     if let Some(lines) = &expected.lines {
         if let Some(difference) = first_difference(lines.as_slice(), happened.lines) {
-            return Finding::Wrote(difference);
+            return EventOutcome::Wrote(difference);
         }
     }
     match happened.fault {
-        Some(number) => Finding::Stopped(number),
-        None => Finding::WentOn,
+        Some(number) => EventOutcome::Stopped(number),
+        None => EventOutcome::WentOn,
     }
 }
 

@@ -10,10 +10,10 @@ mod judging;
 mod recording;
 mod telling;
 
-pub use difference::{Difference, first_difference};
+pub use difference::{LineDifference, first_difference};
 pub use expected::{ExpectationFault, Expected, ExpectedAnswer, expectations};
-pub use finding::{Finding, find, went_as_expected};
+pub use finding::{EventOutcome, find, went_as_expected};
 pub use happened::{Happened, split_event};
 pub use judging::{Test, judge};
 pub use recording::{Recorded, record};
-pub use telling::{Form, report};
+pub use telling::{TestFormat, report};

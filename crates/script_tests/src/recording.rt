@@ -65,14 +65,14 @@ enum Comments<'r> {
     /// They stay as they are.
     Stay,
     /// In the place of the first one comes what is told of an event, and the others go.
-    Become(Told<'r>),
+    Become(RecordedLines<'r>),
     /// They go.
     Go,
 }
 
 /// What is told of an event's lines.
 #[derive(Clone, Copy)]
-enum Told<'r> {
+enum RecordedLines<'r> {
     /// Nothing.
     Nothing,
     /// That there are none.
@@ -83,7 +83,7 @@ enum Told<'r> {
 
 /// What stands behind an event.
 #[derive(Clone, Copy, PartialEq, Eq)]
-enum Ending {
+enum RecordedEnding {
     /// Nothing: it is accepted, and the run goes on.
     Nothing,
     /// That it is refused with this number.
@@ -102,12 +102,15 @@ impl<'r> Recorder<'r> {
             self.comments = Comments::Stay;
             return self.script.extend_from_slice(line);
         }
-        let (old, new) = (Ending::expected(expected), Ending::happened(happened));
+        let (old, new) = (
+            RecordedEnding::expected(expected),
+            RecordedEnding::happened(happened),
+        );
         match old == new {
             true => self.script.extend_from_slice(line)?,
             false => self.push_event(expected.event, line, new)?,
         }
-        let told = Told::of(expected, happened);
+        let told = RecordedLines::of(expected, happened);
         let has_lines = match &expected.lines {
             Some(lines) if lines.as_slice() == happened.lines => {
                 self.comments = Comments::Stay;
@@ -120,7 +123,7 @@ impl<'r> Recorder<'r> {
             None => {
                 self.comments = Comments::Go;
                 self.push_told(told, line)?;
-                matches!(told, Told::Nothing)
+                matches!(told, RecordedLines::Nothing)
             }
         };
         if old != new || !has_lines {
@@ -145,14 +148,19 @@ impl<'r> Recorder<'r> {
     }
 
     /// Adds the line of an event with another ending. What stands between the two stays.
-    fn push_event(&mut self, event: &[u8], line: &[u8], ending: Ending) -> Result<(), AllocError> {
+    fn push_event(
+        &mut self,
+        event: &[u8],
+        line: &[u8],
+        ending: RecordedEnding,
+    ) -> Result<(), AllocError> {
         let behind = line.trim_ascii_start();
         let behind = behind.strip_prefix(event).unwrap_or(&[]);
         let blanks = behind.trim_ascii_end();
         let blanks = blanks.len().saturating_sub(blanks.trim_ascii_start().len());
         self.script.extend_from_slice(indent_of(line))?;
         self.script.extend_from_slice(event)?;
-        if ending != Ending::Nothing {
+        if ending != RecordedEnding::Nothing {
             let gap = behind.get(..blanks).unwrap_or(&[]);
             self.script
                 .extend_from_slice(if gap.is_empty() { b" " } else { gap })?;
@@ -165,11 +173,11 @@ impl<'r> Recorder<'r> {
     }
 
     /// Adds what is told of an event's lines: each with the blanks in front and the line break that this line has.
-    fn push_told(&mut self, told: Told<'_>, line: &[u8]) -> Result<(), AllocError> {
+    fn push_told(&mut self, told: RecordedLines<'_>, line: &[u8]) -> Result<(), AllocError> {
         match told {
-            Told::Nothing => Ok(()),
-            Told::Silence => self.push_comment(&[], line),
-            Told::Lines(lines) => {
+            RecordedLines::Nothing => Ok(()),
+            RecordedLines::Silence => self.push_comment(&[], line),
+            RecordedLines::Lines(lines) => {
                 for wanted in lines.split_inclusive(|byte| *byte == b'\n') {
                     self.push_comment(wanted.trim_ascii(), line)?;
                 }
@@ -195,9 +203,9 @@ impl<'r> Recorder<'r> {
     }
 }
 
-impl<'r> Told<'r> {
+impl<'r> RecordedLines<'r> {
     /// What is told of the lines of an event.
-    fn of(expected: &Expected<'_>, happened: &Happened<'r>) -> Told<'r> {
+    fn of(expected: &Expected<'_>, happened: &Happened<'r>) -> RecordedLines<'r> {
         let word = expected
             .event
             .split(|byte| *byte == b' ')
@@ -206,31 +214,31 @@ impl<'r> Told<'r> {
         let is_whole = happened.fault.is_none()
             && happened.answer == Some(ExpectedAnswer::Accepted);
         if !happened.lines.is_empty() {
-            Told::Lines(happened.lines)
+            RecordedLines::Lines(happened.lines)
         } else if is_whole && MAY_BE_SILENT.iter().any(|it| *it == word) {
-            Told::Silence
+            RecordedLines::Silence
         } else {
-            Told::Nothing
+            RecordedLines::Nothing
         }
     }
 }
 
-impl Ending {
+impl RecordedEnding {
     /// What a script has behind an event.
-    fn expected(expected: &Expected<'_>) -> Ending {
+    fn expected(expected: &Expected<'_>) -> RecordedEnding {
         match (expected.answer, expected.fault) {
-            (_, Some(number)) => Ending::Fault(number),
-            (ExpectedAnswer::Refused(number), None) => Ending::Refused(number),
-            (ExpectedAnswer::Accepted, None) => Ending::Nothing,
+            (_, Some(number)) => RecordedEnding::Fault(number),
+            (ExpectedAnswer::Refused(number), None) => RecordedEnding::Refused(number),
+            (ExpectedAnswer::Accepted, None) => RecordedEnding::Nothing,
         }
     }
 
     /// What a trace tells of an event.
-    fn happened(happened: &Happened<'_>) -> Ending {
+    fn happened(happened: &Happened<'_>) -> RecordedEnding {
         match (happened.answer, happened.fault) {
-            (Some(ExpectedAnswer::Refused(number)), _) => Ending::Refused(number),
-            (_, Some(number)) => Ending::Fault(number),
-            (_, None) => Ending::Nothing,
+            (Some(ExpectedAnswer::Refused(number)), _) => RecordedEnding::Refused(number),
+            (_, Some(number)) => RecordedEnding::Fault(number),
+            (_, None) => RecordedEnding::Nothing,
         }
     }
 
@@ -238,9 +246,9 @@ impl Ending {
     fn push(self, script: &mut Vec<u8>) -> Result<(), AllocError> {
         let mut text = String::new(*script.allocator());
         match self {
-            Ending::Nothing => {}
-            Ending::Refused(number) => write!(text, "{REFUSED} {number}")?,
-            Ending::Fault(number) => write!(text, "{FAULT} {number}")?,
+            RecordedEnding::Nothing => {}
+            RecordedEnding::Refused(number) => write!(text, "{REFUSED} {number}")?,
+            RecordedEnding::Fault(number) => write!(text, "{FAULT} {number}")?,
         }
         script.extend_from_slice(text.as_bytes())
     }

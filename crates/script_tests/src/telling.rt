@@ -1,15 +1,15 @@
 //! What is said of the events of a script that was run as a test.
 
-use crate::difference::Difference;
+use crate::difference::LineDifference;
 use crate::expected::ExpectedAnswer;
-use crate::finding::{Finding, find};
+use crate::finding::{EventOutcome, find};
 use crate::judging::Test;
 use diagnostics::push_printed;
 use std::alloc::{AllocError, Global};
 
 /// How it is said.
 #[derive(Clone, Copy, Debug, PartialEq, Eq)]
-pub enum Form {
+pub enum TestFormat {
     /// The events that went otherwise than is expected, and how many there are.
     Plain,
     /// Each event, in the Test Anything Protocol, version 13.
@@ -20,27 +20,27 @@ pub enum Form {
 pub fn report(
     alloc: Global,
     tests: &[Test<'_>],
-    form: Form,
+    form: TestFormat,
 ) -> Result<(String, usize), AllocError> {
     let mut text = String::new(alloc);
     let count = tests.len();
-    if form == Form::Tap {
+    if form == TestFormat::Tap {
         write!(text, "TAP version 13\n1..{count}\n")?;
     }
     let mut failed = 0usize;
     for (place, test) in tests.iter().enumerate() {
         let finding = find(&test.expected, test.happened);
-        let is_as_expected = matches!(finding, Finding::AsExpected);
+        let is_as_expected = matches!(finding, EventOutcome::AsExpected);
         if !is_as_expected {
             failed = failed.saturating_add(1);
         }
         match form {
-            Form::Tap => push_tap(&mut text, place.saturating_add(1), test, finding)?,
-            Form::Plain if is_as_expected => {}
-            Form::Plain => push_plain(&mut text, test, finding)?,
+            TestFormat::Tap => push_tap(&mut text, place.saturating_add(1), test, finding)?,
+            TestFormat::Plain if is_as_expected => {}
+            TestFormat::Plain => push_plain(&mut text, test, finding)?,
         }
     }
-    if form == Form::Plain {
+    if form == TestFormat::Plain {
         match failed {
             0 => write!(text, "{count} events, each as expected\n")?,
             _ => write!(text, "{count} events, {failed} not as expected\n")?,
@@ -50,9 +50,13 @@ pub fn report(
 }
 
 /// Adds how an event went, with the line of the script that expects it otherwise: a comment below the event, or its own.
-fn push_plain(text: &mut String, test: &Test<'_>, finding: Finding<'_>) -> Result<(), AllocError> {
+fn push_plain(
+    text: &mut String,
+    test: &Test<'_>,
+    finding: EventOutcome<'_>,
+) -> Result<(), AllocError> {
     let line = match finding {
-        Finding::Wrote(difference) => test.expected.comment(difference.line),
+        EventOutcome::Wrote(difference) => test.expected.comment(difference.line),
         _ => test.expected.line,
     };
     write!(text, "line {line} of the script, `")?;
@@ -67,9 +71,9 @@ fn push_tap(
     text: &mut String,
     number: usize,
     test: &Test<'_>,
-    finding: Finding<'_>,
+    finding: EventOutcome<'_>,
 ) -> Result<(), AllocError> {
-    let is_as_expected = matches!(finding, Finding::AsExpected);
+    let is_as_expected = matches!(finding, EventOutcome::AsExpected);
     text.push_str(if is_as_expected { "ok" } else { "not ok" })?;
     let line = test.expected.line;
     write!(text, " {number} - line {line}: ")?;
@@ -77,7 +81,7 @@ fn push_tap(
     text.push_str("\n")?;
     if !is_as_expected {
         text.push_str("# ")?;
-        if let Finding::Wrote(difference) = finding {
+        if let EventOutcome::Wrote(difference) = finding {
             let line = test.expected.comment(difference.line);
             write!(text, "line {line}: ")?;
         }
@@ -91,19 +95,19 @@ fn push_tap(
 fn push_finding(
     text: &mut String,
     test: &Test<'_>,
-    finding: Finding<'_>,
+    finding: EventOutcome<'_>,
 ) -> Result<(), AllocError> {
     match finding {
-        Finding::AsExpected => text.push_str("as expected"),
-        Finding::Answered(answer) => {
+        EventOutcome::AsExpected => text.push_str("as expected"),
+        EventOutcome::Answered(answer) => {
             push_answer(text, answer)?;
             text.push_str(", and is expected to be ")?;
             push_answer(text, test.expected.answer)
         }
-        Finding::NotRun => text.push_str("not run, as the run ended before"),
-        Finding::Wrote(difference) => push_difference(text, difference),
-        Finding::Stopped(number) => write!(text, "the run stopped with fault {number}"),
-        Finding::WentOn => text.push_str("the run went on, and is expected to stop"),
+        EventOutcome::NotRun => text.push_str("not run, as the run ended before"),
+        EventOutcome::Wrote(difference) => push_difference(text, difference),
+        EventOutcome::Stopped(number) => write!(text, "the run stopped with fault {number}"),
+        EventOutcome::WentOn => text.push_str("the run went on, and is expected to stop"),
     }
 }
 
@@ -115,8 +119,8 @@ fn push_answer(text: &mut String, answer: ExpectedAnswer) -> Result<(), AllocErr
 }
 
 /// Adds the first line that the run wrote otherwise.
-fn push_difference(text: &mut String, difference: Difference<'_>) -> Result<(), AllocError> {
-    let Difference {
+fn push_difference(text: &mut String, difference: LineDifference<'_>) -> Result<(), AllocError> {
+    let LineDifference {
         line,
         wanted,
         found,
