@@ -8,8 +8,8 @@ use Rattle.texts.specs.Numerals.{IsNumeral}
 use Rattle.traces.specs.Words.{CutsWord, IsFollowed}
 use Rattle.traces.specs.Lines.{BeginsAsKind, IsTraceLine, EndsEvent, IsPlain, IsWide, IsLine, EndsLine, IsEntry, TellsLine, TellsEnd, TellsEntry, TellsPlain, TellsReason, TellsNumber, kind_word}
 use Rattle.traces.specs.Events.{IsEventsLine, event_of}
-use Rattle.traces.specs.declared.reading.line.EntryKind.{EntryKind}
-use Rattle.traces.specs.declared.reading.line.EntryKind.TheVariants as kind
+use Rattle.traces.specs.declared.reading.line.LineKind.{LineKind}
+use Rattle.traces.specs.declared.reading.line.LineKind.TheVariants as kind
 use Rattle.traces.specs.declared.reading.line.TraceLine.{TraceLine}
 use Rattle.traces.specs.declared.reading.line.TraceLine.TheVariants as line
 
@@ -76,7 +76,7 @@ event_word = one_by_test (codes "event") refl
 fault_word : IsOneWord (codes "fault")
 fault_word = one_by_test (codes "fault") refl
 
-kind_blankless : (k : EntryKind) → no_blanks (kind_word k) ≡ true
+kind_blankless : (k : LineKind) → no_blanks (kind_word k) ≡ true
 kind_blankless kind.Emit = refl
 kind_blankless kind.Call = refl
 kind_blankless kind.Native = refl
@@ -91,7 +91,7 @@ kind_blankless (kind.Refused reason) = refl
 kind_blankless kind.Null = refl
 kind_blankless kind.Group = refl
 
-kind_word_is_one : (k : EntryKind) → IsOneWord (kind_word k)
+kind_word_is_one : (k : LineKind) → IsOneWord (kind_word k)
 kind_word_is_one k = one_by_test (kind_word k) (kind_blankless k)
 
 -- ---- words that differ by their first bytes
@@ -107,7 +107,7 @@ false_not_true : false ≡ true → ⊥
 false_not_true e = cc
 
 -- the kind is that of a refusal, by its word
-refused_so : (k : EntryKind) → kind_word k ≡ codes "refused" → (reason : ℕ) × (k ≡ kind.Refused reason)
+refused_so : (k : LineKind) → kind_word k ≡ codes "refused" → (reason : ℕ) × (k ≡ kind.Refused reason)
 refused_so kind.Emit e = let f : false ≡ true = ap (begins_with 114) e in absurd (false_not_true f)
 refused_so kind.Call e = let f : false ≡ true = ap (begins_with 114) e in absurd (false_not_true f)
 refused_so kind.Native e = let f : false ≡ true = ap (begins_with 114) e in absurd (false_not_true f)
@@ -124,13 +124,13 @@ refused_so kind.Group e = let f : false ≡ true = ap (begins_with 114) e in abs
 
 -- ---- an entry, by its word and what follows it
 
-abbrev pub Follows : EntryKind → List ℕ → Type 0
+abbrev pub Follows : LineKind → List ℕ → Type 0
 Follows (kind.Refused reason) rest = IsNumeral rest reason
 Follows kind.Null rest = ⊥
 Follows kind.Group rest = ⊥
 Follows _ rest = Unit {0}
 
-plain_bounded : (k : EntryKind) (text : List ℕ) → IsPlain k → BeginsAsKind text k → IsEntry text k
+plain_bounded : (k : LineKind) (text : List ℕ) → IsPlain k → BeginsAsKind text k → IsEntry text k
 plain_bounded kind.Emit text h b = (tt, b)
 plain_bounded kind.Call text h b = (tt, b)
 plain_bounded kind.Native text h b = (tt, b)
@@ -165,10 +165,10 @@ module _ (text word : List ℕ) (after : Option (Bor (List ℕ))) (c : CutsWord 
   alone_so : after ≡ None → text ≡ word
   alone_so e = subst (λ o. IsFollowed text word o) e c.followed
 
-  not_alone : (what : EntryKind) (rest : Bor (List ℕ)) → after ≡ Some rest → text ≡ kind_word what → ⊥
+  not_alone : (what : LineKind) (rest : Bor (List ℕ)) → after ≡ Some rest → text ≡ kind_word what → ⊥
   not_alone what rest e t = no_blank (kind_word what) word rest.now (kind_word_is_one what) (sym t ∙ whole_of rest e)
 
-  entry_behind : (rest : Bor (List ℕ)) → after ≡ Some rest → (what : EntryKind) → BeginsAsKind text what → (word ≡ kind_word what) × Follows what rest.now
+  entry_behind : (rest : Bor (List ℕ)) → after ≡ Some rest → (what : LineKind) → BeginsAsKind text what → (word ≡ kind_word what) × Follows what rest.now
   entry_behind rest e kind.Emit b = ((cut_so (kind_word kind.Emit) b.0 rest e (kind_word_is_one kind.Emit) b.1).0, tt)
   entry_behind rest e kind.Call b = ((cut_so (kind_word kind.Call) b.0 rest e (kind_word_is_one kind.Call) b.1).0, tt)
   entry_behind rest e kind.Native (inl t) = absurd (not_alone kind.Native rest e t)
@@ -186,7 +186,7 @@ module _ (text word : List ℕ) (after : Option (Bor (List ℕ))) (c : CutsWord 
   entry_behind rest e kind.Null b = absurd (not_alone kind.Null rest e b)
   entry_behind rest e kind.Group b = absurd (not_alone kind.Group rest e b)
 
-  entry_from : (rest : Bor (List ℕ)) → after ≡ Some rest → (what : EntryKind) → word ≡ kind_word what → Follows what rest.now → BeginsAsKind text what
+  entry_from : (rest : Bor (List ℕ)) → after ≡ Some rest → (what : LineKind) → word ≡ kind_word what → Follows what rest.now → BeginsAsKind text what
   entry_from rest e kind.Emit w f = (rest.now, whole_of rest e ∙ ap (λ x. x ++ 32 ∷ rest.now) w)
   entry_from rest e kind.Call w f = (rest.now, whole_of rest e ∙ ap (λ x. x ++ 32 ∷ rest.now) w)
   entry_from rest e kind.Native w f = inr (rest.now, whole_of rest e ∙ ap (λ x. x ++ 32 ∷ rest.now) w)
@@ -201,7 +201,7 @@ module _ (text word : List ℕ) (after : Option (Bor (List ℕ))) (c : CutsWord 
   entry_from rest e kind.Null w f = absurd f
   entry_from rest e kind.Group w f = absurd f
 
-  plain_follows : (rest : Bor (List ℕ)) (what : EntryKind) → (word ≡ codes "refused" → ⊥) → word ≡ kind_word what → Follows what rest.now → IsPlain what
+  plain_follows : (rest : Bor (List ℕ)) (what : LineKind) → (word ≡ codes "refused" → ⊥) → word ≡ kind_word what → Follows what rest.now → IsPlain what
   plain_follows rest kind.Emit other w f = tt
   plain_follows rest kind.Call other w f = tt
   plain_follows rest kind.Native other w f = tt
@@ -216,7 +216,7 @@ module _ (text word : List ℕ) (after : Option (Bor (List ℕ))) (c : CutsWord 
   plain_follows rest kind.Null other w f = absurd f
   plain_follows rest kind.Group other w f = absurd f
 
-  follows_plain : (rest : Bor (List ℕ)) (what : EntryKind) → IsPlain what → Follows what rest.now
+  follows_plain : (rest : Bor (List ℕ)) (what : LineKind) → IsPlain what → Follows what rest.now
   follows_plain rest kind.Emit p = tt
   follows_plain rest kind.Call p = tt
   follows_plain rest kind.Native p = tt
@@ -245,7 +245,7 @@ module _ (text word : List ℕ) (after : Option (Bor (List ℕ))) (c : CutsWord 
     (λ s. let n = (r reason).1 s in (n.0, entry_from rest e (kind.Refused reason) w n.1)),
   )
 
-  pub tells_refused : (rest : Bor (List ℕ)) (found : Option ℕ) (told : Option EntryKind) → after ≡ Some rest → word ≡ codes "refused" → TellsNumber rest.now found → told ≡ option_map kind.Refused found → TellsEntry text told
+  pub tells_refused : (rest : Bor (List ℕ)) (found : Option ℕ) (told : Option LineKind) → after ≡ Some rest → word ≡ codes "refused" → TellsNumber rest.now found → told ≡ option_map kind.Refused found → TellsEntry text told
   tells_refused rest found told e w r t what = (there, back found r t)
     where
       there : IsEntry text what → told ≡ Some what
@@ -264,7 +264,7 @@ module _ (text word : List ℕ) (after : Option (Bor (List ℕ))) (c : CutsWord 
           let i = (q n).1 refl in
           subst (λ x. IsEntry text x) same (i.0, entry_from rest e (kind.Refused n) w i.1)
 
-  pub tells_plain : (rest : Bor (List ℕ)) (found : Option EntryKind) → after ≡ Some rest → (word ≡ codes "refused" → ⊥) → TellsPlain word found → TellsEntry text found
+  pub tells_plain : (rest : Bor (List ℕ)) (found : Option LineKind) → after ≡ Some rest → (word ≡ codes "refused" → ⊥) → TellsPlain word found → TellsEntry text found
   tells_plain rest found e other p what = (
     (λ g. let f = entry_behind rest e what g.1 in (p what).0 (plain_follows rest what other f.0 f.1, f.0)),
     (λ s. let i = (p what).1 s in plain_bounded what text i.0 (entry_from rest e what i.1 (follows_plain rest what i.0))),
@@ -400,7 +400,7 @@ module _ (text word : List ℕ) (after : Option (Bor (List ℕ))) (c : CutsWord 
           subst (λ y. IsLine text y) same (i.0, tells_from rest e (line.Fault fault) (w, i.1))
 
   -- a line of a depth, where the first word is another one
-  at_depth : (rest : Bor (List ℕ)) → after ≡ Some rest → (word ≡ codes "event" → ⊥) → (word ≡ codes "fault" → ⊥) → (it : TraceLine) → IsLine text it → (depth : ℕ) × (what : EntryKind) × (it ≡ line.At depth what) × IsWide depth × IsNumeral word depth × IsEntry rest.now what
+  at_depth : (rest : Bor (List ℕ)) → after ≡ Some rest → (word ≡ codes "event" → ⊥) → (word ≡ codes "fault" → ⊥) → (it : TraceLine) → IsLine text it → (depth : ℕ) × (what : LineKind) × (it ≡ line.At depth what) × IsWide depth × IsNumeral word depth × IsEntry rest.now what
   at_depth rest e v f (line.Accepted event) g = absurd (v (tells_by rest e (line.Accepted event) g.1).0)
   at_depth rest e v f (line.Refused event reason) g = absurd (v (tells_by rest e (line.Refused event reason) g.1).0)
   at_depth rest e v f (line.At depth what) g =
@@ -412,7 +412,7 @@ module _ (text word : List ℕ) (after : Option (Bor (List ℕ))) (c : CutsWord 
   no_depth rest e v f none told =
       ((λ g. let a = at_depth rest e v f told g in let least = none a.0 a.4 in let most = a.3 in absurd (omega (arith, least, most))), (λ s. cc))
 
-  pub depth_behind : (rest : Bor (List ℕ)) (n : ℕ) (entry : Option EntryKind) (found : Option TraceLine) → after ≡ Some rest → (word ≡ codes "event" → ⊥) → (word ≡ codes "fault" → ⊥) → IsNumeral word n → n ≤ 18446744073709551615 → TellsEntry rest.now entry → found ≡ option_map (line.At n) entry → TellsLine text found
+  pub depth_behind : (rest : Bor (List ℕ)) (n : ℕ) (entry : Option LineKind) (found : Option TraceLine) → after ≡ Some rest → (word ≡ codes "event" → ⊥) → (word ≡ codes "fault" → ⊥) → IsNumeral word n → n ≤ 18446744073709551615 → TellsEntry rest.now entry → found ≡ option_map (line.At n) entry → TellsLine text found
   depth_behind rest n entry found e v f k most r t told = (there, back entry r t)
     where
       there : IsLine text told → found ≡ Some told
@@ -421,7 +421,7 @@ module _ (text word : List ℕ) (after : Option (Bor (List ℕ))) (c : CutsWord 
           let same : n ≡ a.0 = one_number word word n a.0 k a.4 refl in
           t ∙ ap (option_map (line.At n)) ((r a.1).0 a.5) ∙ ap (λ m. Some (line.At m a.1)) same ∙ ap Some (sym a.2)
 
-      back : (o : Option EntryKind) → TellsEntry rest.now o → found ≡ option_map (line.At n) o → found ≡ Some told → IsLine text told
+      back : (o : Option LineKind) → TellsEntry rest.now o → found ≡ option_map (line.At n) o → found ≡ Some told → IsLine text told
       back None q u s = let x : None ≡ Some told = sym u ∙ s in cc
       back (Some what) q u s =
           let x : Some (line.At n what) ≡ Some told = sym u ∙ s in
@@ -451,6 +451,6 @@ pub found_as : (text : List ℕ) (told also : Option TraceLine) (found : Option 
 found_as text told also found t f each = subst (λ o. (event : ℕ) → IsEventsLine text event ↔ (o ≡ Some event)) (ap event_of t ∙ sym f) each
 
 -- .. no event's, where that is what happens at a depth or a fault
-pub no_event : (text : List ℕ) (it : TraceLine) → ((depth : ℕ) × (what : EntryKind) × (it ≡ line.At depth what)) ⊎ ((fault : ℕ) × (it ≡ line.Fault fault)) → ((event : ℕ) → IsEventsLine text event ↔ (event_of (Some it) ≡ Some event)) → (event : ℕ) → IsEventsLine text event ↔ (None ≡ Some event)
+pub no_event : (text : List ℕ) (it : TraceLine) → ((depth : ℕ) × (what : LineKind) × (it ≡ line.At depth what)) ⊎ ((fault : ℕ) × (it ≡ line.Fault fault)) → ((event : ℕ) → IsEventsLine text event ↔ (event_of (Some it) ≡ Some event)) → (event : ℕ) → IsEventsLine text event ↔ (None ≡ Some event)
 no_event text it (inl w) each = found_as text (Some it) (Some (line.At w.0 w.1)) None (ap Some w.2) refl each
 no_event text it (inr w) each = found_as text (Some it) (Some (line.Fault w.0)) None (ap Some w.1) refl each

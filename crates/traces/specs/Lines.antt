@@ -1,13 +1,13 @@
 -- The lines of a trace, as far as they are told apart (docs/commands.md, "The trace").
 use Rattle.std.specs.Prelude.{ℕ, ◌≡◌, ◌<◌, ◌^◌, ◌↔◌, List, ◌∷◌, ◌++◌, codes, ◌⊎◌, Option, Some}
 use Rattle.texts.specs.Numerals.{IsNumeral}
-use Rattle.traces.specs.declared.reading.line.EntryKind.{EntryKind}
-use Rattle.traces.specs.declared.reading.line.EntryKind.TheVariants as kind
+use Rattle.traces.specs.declared.reading.line.LineKind.{LineKind}
+use Rattle.traces.specs.declared.reading.line.LineKind.TheVariants as kind
 use Rattle.traces.specs.declared.reading.line.TraceLine.{TraceLine}
 use Rattle.traces.specs.declared.reading.line.TraceLine.TheVariants as line
 
 -- the word with which an entry begins
-abbrev pub kind_word : EntryKind → List ℕ
+abbrev pub kind_word : LineKind → List ℕ
 kind_word kind.Emit = codes "emit"
 kind_word kind.Call = codes "call"
 kind_word kind.Native = codes "native"
@@ -23,7 +23,7 @@ kind_word kind.Null = codes "null"
 kind_word kind.Group = codes "group"
 
 -- whatever may follow the word
-abbrev pub IsPlain : EntryKind → Type 0
+abbrev pub IsPlain : LineKind → Type 0
 IsPlain (kind.Refused reason) = ⊥
 IsPlain kind.Null = ⊥
 IsPlain kind.Group = ⊥
@@ -38,7 +38,7 @@ abbrev pub GivesNumber : List ℕ → List ℕ → ℕ → Type 0
 GivesNumber text word n = (digits : List ℕ) × IsNumeral digits n × (text ≡ word ++ 32 ∷ digits)
 
 -- the text begins as an entry of this kind, whose depth stands before it
-abbrev pub BeginsAsKind : List ℕ → EntryKind → Type 0
+abbrev pub BeginsAsKind : List ℕ → LineKind → Type 0
 BeginsAsKind text kind.Emit = GoesOn text (kind_word kind.Emit)
 BeginsAsKind text kind.Call = GoesOn text (kind_word kind.Call)
 BeginsAsKind text kind.Native = (text ≡ kind_word kind.Native) ⊎ GoesOn text (kind_word kind.Native)
@@ -78,7 +78,7 @@ IsWide number = number < 2 ^ 64
 abbrev pub IsSmall : ℕ → Type 0
 IsSmall number = number < 2 ^ 8
 
-abbrev pub KindHasBounds : EntryKind → Type 0
+abbrev pub KindHasBounds : LineKind → Type 0
 KindHasBounds (kind.Refused reason) = IsSmall reason
 KindHasBounds _ = Unit {0}
 
@@ -97,7 +97,7 @@ abbrev pub EndsLine : List ℕ → TraceLine → Type 0
 EndsLine text told = HasBounds told × EndsEvent text told
 
 -- what follows the depth and a blank in a line that tells this
-abbrev pub IsEntry : List ℕ → EntryKind → Type 0
+abbrev pub IsEntry : List ℕ → LineKind → Type 0
 IsEntry text what = KindHasBounds what × BeginsAsKind text what
 
 -- ---- what is found is what the text tells, and nothing is found just where it tells nothing
@@ -108,12 +108,12 @@ TellsLine text found = (told : TraceLine) → IsLine text told ↔ (found ≡ So
 abbrev pub TellsEnd : List ℕ → Option TraceLine → Type 0
 TellsEnd text found = (told : TraceLine) → EndsLine text told ↔ (found ≡ Some told)
 
-abbrev pub TellsEntry : List ℕ → Option EntryKind → Type 0
-TellsEntry text found = (what : EntryKind) → IsEntry text what ↔ (found ≡ Some what)
+abbrev pub TellsEntry : List ℕ → Option LineKind → Type 0
+TellsEntry text found = (what : LineKind) → IsEntry text what ↔ (found ≡ Some what)
 
 -- .. of a word that something follows
-abbrev pub TellsPlain : List ℕ → Option EntryKind → Type 0
-TellsPlain word found = (what : EntryKind) → (IsPlain what × (word ≡ kind_word what)) ↔ (found ≡ Some what)
+abbrev pub TellsPlain : List ℕ → Option LineKind → Type 0
+TellsPlain word found = (what : LineKind) → (IsPlain what × (word ≡ kind_word what)) ↔ (found ≡ Some what)
 
 -- .. of the word `refused` and the number of a reason
 abbrev pub TellsReason : List ℕ → Option ℕ → Type 0

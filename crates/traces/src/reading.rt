@@ -4,5 +4,5 @@ mod line;
 mod statements;
 mod words;
 
-pub use line::{EntryKind, TraceLine};
+pub use line::{LineKind, TraceLine};
 pub use statements::Statements;

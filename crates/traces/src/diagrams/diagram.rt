@@ -1,7 +1,7 @@
 //! The diagram of a trace, line by line.
 
-use crate::diagrams::drawing::{Arrow, Drawing};
-use crate::reading::{EntryKind, TraceLine};
+use crate::diagrams::drawing::{Arrow, SequenceDrawing};
+use crate::reading::{LineKind, TraceLine};
 use std::alloc::{AllocError, Global};
 use texts::split_line;
 
@@ -9,7 +9,7 @@ use texts::split_line;
 /// An arrow leads from the object whose activation brings something about to the object where it happens; what an event of
 /// the script brings about comes from the script.
 pub fn sequence_diagram(alloc: Global, trace: &[u8]) -> Result<String, AllocError> {
-    let mut drawing = Drawing::new(alloc);
+    let mut drawing = SequenceDrawing::new(alloc);
     let mut left = trace;
     while let Some((line, rest)) = split_line(left) {
         left = rest;
@@ -33,33 +33,33 @@ fn depth_of(depth: u64) -> usize {
 
 /// Draws what a line says that happens at a depth, of which this comes after the depth.
 fn draw<'t>(
-    drawing: &mut Drawing<'t>,
+    drawing: &mut SequenceDrawing<'t>,
     depth: usize,
-    kind: EntryKind,
+    kind: LineKind,
     told: &'t [u8],
 ) -> Result<(), AllocError> {
     let said = behind(told, b' ');
     let (name, member) = (before(said, b'.'), behind(said, b'.'));
     match kind {
-        EntryKind::Emit => drawing.begin(depth, Arrow::Solid, name, &[b"emit ", member]),
-        EntryKind::Call => drawing.begin(depth, Arrow::Solid, name, &[member]),
-        EntryKind::Set => drawing.begin(depth, Arrow::Solid, name, &[b"set ", member]),
-        EntryKind::Bind => drawing.begin(depth, Arrow::Solid, name, &[b"bind ", member]),
-        EntryKind::Dead => drawing.begin(depth, Arrow::Cross, said, &[b"dead"]),
-        EntryKind::Follow => drawing.reach(depth, Arrow::Dashed, name, &[b"follow ", member]),
-        EntryKind::Post => draw_post(drawing, depth, said),
-        EntryKind::Group => drawing.begin_group(depth),
-        EntryKind::Native
-        | EntryKind::Connect
-        | EntryKind::Disconnect
-        | EntryKind::Refused(_)
-        | EntryKind::Null => drawing.note(drawing.at(depth), told),
+        LineKind::Emit => drawing.begin(depth, Arrow::Solid, name, &[b"emit ", member]),
+        LineKind::Call => drawing.begin(depth, Arrow::Solid, name, &[member]),
+        LineKind::Set => drawing.begin(depth, Arrow::Solid, name, &[b"set ", member]),
+        LineKind::Bind => drawing.begin(depth, Arrow::Solid, name, &[b"bind ", member]),
+        LineKind::Dead => drawing.begin(depth, Arrow::Cross, said, &[b"dead"]),
+        LineKind::Follow => drawing.reach(depth, Arrow::Dashed, name, &[b"follow ", member]),
+        LineKind::Post => draw_post(drawing, depth, said),
+        LineKind::Group => drawing.begin_group(depth),
+        LineKind::Native
+        | LineKind::Connect
+        | LineKind::Disconnect
+        | LineKind::Refused(_)
+        | LineKind::Null => drawing.note(drawing.at(depth), told),
     }
 }
 
 /// Draws that a call or a deletion is posted to an event loop.
 fn draw_post<'t>(
-    drawing: &mut Drawing<'t>,
+    drawing: &mut SequenceDrawing<'t>,
     depth: usize,
     said: &'t [u8],
 ) -> Result<(), AllocError> {

@@ -30,16 +30,16 @@ impl Arrow {
 
 /// A diagram that is being drawn, with the lifelines of the activations that are active.
 #[derive(Drop)]
-pub struct Drawing<'t> {
+pub struct SequenceDrawing<'t> {
     lifelines: Lifelines<'t>,
     messages: String,
     active: Vec<usize>,
 }
 
-impl<'t> Drawing<'t> {
+impl<'t> SequenceDrawing<'t> {
     /// Nothing is drawn yet.
-    pub fn new(alloc: Global) -> Drawing<'t> {
-        Drawing {
+    pub fn new(alloc: Global) -> SequenceDrawing<'t> {
+        SequenceDrawing {
             lifelines: Lifelines::new(alloc),
             messages: String::new(alloc),
             active: Vec::new(alloc),

@@ -2,7 +2,7 @@
 
 ghost use Rattle.traces.specs.Shown.{IsColour};
 
-use crate::reading::{EntryKind, TraceLine};
+use crate::reading::{LineKind, TraceLine};
 
 /// The colour in which a line is shown.
 pub fn colour_of(line: TraceLine) -> &'static [u8]
@@ -16,22 +16,22 @@ pub fn colour_of(line: TraceLine) -> &'static [u8]
     }
 }
 
-fn colour_of_kind(kind: EntryKind) -> &'static [u8]
+fn colour_of_kind(kind: LineKind) -> &'static [u8]
     ensures { IsColour result.now }
 {
     match kind {
-        EntryKind::Emit => b"\x1b[33m",
-        EntryKind::Call => b"\x1b[32m",
-        EntryKind::Native => b"\x1b[92m",
-        EntryKind::Post => b"\x1b[36m",
-        EntryKind::Dead => b"\x1b[35m",
-        EntryKind::Set => b"\x1b[34m",
-        EntryKind::Bind => b"\x1b[94m",
-        EntryKind::Follow => b"\x1b[96m",
-        EntryKind::Connect => b"\x1b[93m",
-        EntryKind::Disconnect => b"\x1b[95m",
-        EntryKind::Refused(_) => b"\x1b[31m",
-        EntryKind::Null => b"\x1b[90m",
-        EntryKind::Group => b"\x1b[34m",
+        LineKind::Emit => b"\x1b[33m",
+        LineKind::Call => b"\x1b[32m",
+        LineKind::Native => b"\x1b[92m",
+        LineKind::Post => b"\x1b[36m",
+        LineKind::Dead => b"\x1b[35m",
+        LineKind::Set => b"\x1b[34m",
+        LineKind::Bind => b"\x1b[94m",
+        LineKind::Follow => b"\x1b[96m",
+        LineKind::Connect => b"\x1b[93m",
+        LineKind::Disconnect => b"\x1b[95m",
+        LineKind::Refused(_) => b"\x1b[31m",
+        LineKind::Null => b"\x1b[90m",
+        LineKind::Group => b"\x1b[34m",
     }
 }

@@ -1,22 +1,22 @@
 //! The kinds of lines, as the page's style names them.
 
-use crate::reading::EntryKind;
+use crate::reading::LineKind;
 
 /// The class of an entry's line, by which the style colours it.
-pub fn class_of(kind: EntryKind) -> &'static str {
+pub fn class_of(kind: LineKind) -> &'static str {
     match kind {
-        EntryKind::Emit => "emit",
-        EntryKind::Call => "call",
-        EntryKind::Native => "native",
-        EntryKind::Post => "post",
-        EntryKind::Dead => "dead",
-        EntryKind::Set => "set",
-        EntryKind::Bind => "bind",
-        EntryKind::Follow => "follow",
-        EntryKind::Connect => "connect",
-        EntryKind::Disconnect => "disconnect",
-        EntryKind::Refused(_) => "refused",
-        EntryKind::Null => "null",
-        EntryKind::Group => "group",
+        LineKind::Emit => "emit",
+        LineKind::Call => "call",
+        LineKind::Native => "native",
+        LineKind::Post => "post",
+        LineKind::Dead => "dead",
+        LineKind::Set => "set",
+        LineKind::Bind => "bind",
+        LineKind::Follow => "follow",
+        LineKind::Connect => "connect",
+        LineKind::Disconnect => "disconnect",
+        LineKind::Refused(_) => "refused",
+        LineKind::Null => "null",
+        LineKind::Group => "group",
     }
 }

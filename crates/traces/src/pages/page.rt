@@ -33,14 +33,14 @@ struct Page<'s> {
     text: String,
     statements: Statements<'s>,
     /// What is to be written of the event that has begun.
-    event: Event<'s>,
+    event: EventMarkup<'s>,
     /// Whether an event was written that is open.
     has_open: bool,
 }
 
 /// What is to be written of an event.
 #[derive(Clone, Copy)]
-enum Event<'s> {
+enum EventMarkup<'s> {
     /// No event has begun that isn't closed.
     None,
     /// Its head, which tells of this event by this line.
@@ -55,7 +55,7 @@ impl<'s> Page<'s> {
         Ok(Page {
             text: String::from_str(alloc, HEAD)?,
             statements: Statements::of(alloc, script)?,
-            event: Event::None,
+            event: EventMarkup::None,
             has_open: false,
         })
     }
@@ -68,13 +68,13 @@ impl<'s> Page<'s> {
         line: &'s [u8],
     ) -> Result<(), AllocError> {
         self.close()?;
-        self.event = Event::Head(event, told, line);
+        self.event = EventMarkup::Head(event, told, line);
         Ok(())
     }
 
     /// Writes the head of the event that has begun, if it isn't written yet. Of those that have lines the first one is open.
     fn write_head(&mut self, has_lines: bool) -> Result<(), AllocError> {
-        let Event::Head(event, told, line) = self.event else {
+        let EventMarkup::Head(event, told, line) = self.event else {
             return Ok(());
         };
         let classes = match told {
@@ -94,17 +94,17 @@ impl<'s> Page<'s> {
         self.push_remark(told)?;
         self.text.push_str("</summary>\n")?;
         self.has_open |= is_open;
-        self.event = Event::End;
+        self.event = EventMarkup::End;
         Ok(())
     }
 
     /// Closes the event that has begun, if one has.
     fn close(&mut self) -> Result<(), AllocError> {
         self.write_head(false)?;
-        if matches!(self.event, Event::End) {
+        if matches!(self.event, EventMarkup::End) {
             self.text.push_str("</details>\n")?;
         }
-        self.event = Event::None;
+        self.event = EventMarkup::None;
         Ok(())
     }
 

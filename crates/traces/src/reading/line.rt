@@ -21,14 +21,14 @@ pub enum TraceLine {
     /// `event n refused k`
     Refused(u64, u8),
     /// `d`, and what happens at this depth.
-    At(u64, EntryKind),
+    At(u64, LineKind),
     /// `fault k`
     Fault(u8),
 }
 
 /// What happens at a depth.
 #[derive(Clone, Copy, Debug, PartialEq, Eq)]
-pub enum EntryKind {
+pub enum LineKind {
     /// `emit o.s(args)`
     Emit,
     /// `call o.m(args)`
@@ -74,7 +74,7 @@ impl TraceLine {
             return Some(TraceLine::Fault(fault));
         }
         let depth = number(first, LARGEST)?;
-        let kind = EntryKind::of(rest)?;
+        let kind = LineKind::of(rest)?;
         Some(TraceLine::At(depth, kind))
     }
 
@@ -125,23 +125,23 @@ fn reason(digits: &[u8]) -> Option<u8>
     Some(number as u8)
 }
 
-impl EntryKind {
+impl LineKind {
     /// What happens by this text, which begins with the word for it; `None` where no entry begins so.
-    pub fn of(text: &[u8]) -> Option<EntryKind>
+    pub fn of(text: &[u8]) -> Option<LineKind>
         ensures { TellsEntry text.now result }
     {
         let (word, rest) = cut_word(text);
         let Some(rest) = rest else {
             return match word {
-                b"null" => Some(EntryKind::Null),
-                b"group" => Some(EntryKind::Group),
-                b"native" => Some(EntryKind::Native),
+                b"null" => Some(LineKind::Null),
+                b"group" => Some(LineKind::Group),
+                b"native" => Some(LineKind::Native),
                 _ => None,
             };
         };
         if word == b"refused".as_slice() {
             let reason = reason(rest)?;
-            return Some(EntryKind::Refused(reason));
+            return Some(LineKind::Refused(reason));
         }
         of_word(word)
     }
@@ -149,38 +149,38 @@ impl EntryKind {
     /// Whether an activation begins with it, which is the innermost one then.
     pub fn begins(self) -> bool {
         match self {
-            EntryKind::Emit
-            | EntryKind::Call
-            | EntryKind::Dead
-            | EntryKind::Set
-            | EntryKind::Bind
-            | EntryKind::Group => true,
-            EntryKind::Native
-            | EntryKind::Post
-            | EntryKind::Follow
-            | EntryKind::Connect
-            | EntryKind::Disconnect
-            | EntryKind::Refused(_)
-            | EntryKind::Null => false,
+            LineKind::Emit
+            | LineKind::Call
+            | LineKind::Dead
+            | LineKind::Set
+            | LineKind::Bind
+            | LineKind::Group => true,
+            LineKind::Native
+            | LineKind::Post
+            | LineKind::Follow
+            | LineKind::Connect
+            | LineKind::Disconnect
+            | LineKind::Refused(_)
+            | LineKind::Null => false,
         }
     }
 }
 
 /// What happens by this word, which something follows.
-fn of_word(word: &[u8]) -> Option<EntryKind>
+fn of_word(word: &[u8]) -> Option<LineKind>
     ensures { TellsPlain word.now result }
 {
     match word {
-        b"emit" => Some(EntryKind::Emit),
-        b"call" => Some(EntryKind::Call),
-        b"native" => Some(EntryKind::Native),
-        b"post" => Some(EntryKind::Post),
-        b"dead" => Some(EntryKind::Dead),
-        b"set" => Some(EntryKind::Set),
-        b"bind" => Some(EntryKind::Bind),
-        b"follow" => Some(EntryKind::Follow),
-        b"connect" => Some(EntryKind::Connect),
-        b"disconnect" => Some(EntryKind::Disconnect),
+        b"emit" => Some(LineKind::Emit),
+        b"call" => Some(LineKind::Call),
+        b"native" => Some(LineKind::Native),
+        b"post" => Some(LineKind::Post),
+        b"dead" => Some(LineKind::Dead),
+        b"set" => Some(LineKind::Set),
+        b"bind" => Some(LineKind::Bind),
+        b"follow" => Some(LineKind::Follow),
+        b"connect" => Some(LineKind::Connect),
+        b"disconnect" => Some(LineKind::Disconnect),
         _ => None,
     }
 }

@@ -2,7 +2,7 @@ use Rattle.std.proofs.Common.{◌∙◌, sym, refl, Some, None}
 use Rattle.std.proofs.lemmas.Bool.Decides.{Decides-eqb, not_from_Decides}
 use Rattle.std.proofs.lemmas.Slice.Eq.{slice_eq-Decides}
 use Rattle.traces.proofs.Telling.{tells_refused, tells_plain}
-use Rattle.traces.proofs.reading.line.EntryKind.of.Goals as goal
+use Rattle.traces.proofs.reading.line.LineKind.of.Goals as goal
 
 pub returns-in_err-reason : goal.returns-in_err-reason
 returns-in_err-reason c = tells_refused c.args.text.now c.cut_word.result.0.now c.cut_word.result.1 c.cut_word.ensures c.in-Some.rest None c.from_residual.result c.in-Some.is ((slice_eq-Decides Decides-eqb _ _ _ c.eq.ensures).0 c.if-eq.true ∙ c.as_slice.ensures) c.in_err-reason.ensures c.from_residual.ensures
