@@ -3,7 +3,7 @@
 ghost use Rattle.std.specs.Prelude.{◌≤◌, length, IfOk, IfSome};
 
 use crate::parts::within;
-use crate::unexpected::Source;
+use crate::unexpected::TokenizedText;
 use class_lang::Limits;
 use diagnostics::Flaw;
 use std::alloc::{AllocError, Global};
@@ -63,7 +63,7 @@ struct Excess {
 
 impl Limit {
     /// What goes over it, if anything does.
-    fn excess(&self, source: Source, trail: &Trail) -> Option<Excess> {
+    fn excess(&self, source: TokenizedText, trail: &Trail) -> Option<Excess> {
         let mut found: Option<Excess> = None;
         let mut total = 0usize;
         let mut class = 0usize;
@@ -97,7 +97,7 @@ impl Limit {
 pub fn count_flaw(
     alloc: Global,
     limits: Limits,
-    source: Source,
+    source: TokenizedText,
     trail: &Trail,
 ) -> Result<Option<Flaw>, AllocError> {
     let Some((limit, excess)) = first_excess(limits, source, trail) else {
@@ -113,7 +113,11 @@ pub fn count_flaw(
 }
 
 /// The first name with more bytes than this.
-fn name_flaw(alloc: Global, most: usize, source: Source) -> Result<Option<Flaw>, AllocError> {
+fn name_flaw(
+    alloc: Global,
+    most: usize,
+    source: TokenizedText,
+) -> Result<Option<Flaw>, AllocError> {
     let Some((at, length)) = long_name(most, source) else {
         return Ok(None);
     };
@@ -122,7 +126,7 @@ fn name_flaw(alloc: Global, most: usize, source: Source) -> Result<Option<Flaw>,
 }
 
 /// The number of the first token that is a name with more bytes than this, and how many it has.
-fn long_name(most: usize, source: Source) -> Option<(usize, usize)> {
+fn long_name(most: usize, source: TokenizedText) -> Option<(usize, usize)> {
     for at in 0..source.tokens.len() {
         let length = source.spelled(at).len();
         if length > most && source.is_name(at) {
@@ -133,7 +137,7 @@ fn long_name(most: usize, source: Source) -> Option<(usize, usize)> {
 }
 
 /// The first declaration that goes over one of these limits, and over which, if one does.
-fn first_excess(limits: Limits, source: Source, trail: &Trail) -> Option<(Limit, Excess)> {
+fn first_excess(limits: Limits, source: TokenizedText, trail: &Trail) -> Option<(Limit, Excess)> {
     let mut first: Option<(Limit, Excess)> = None;
     for limit in &counted(limits) {
         if let Some(excess) = limit.excess(source, trail) {
@@ -156,7 +160,7 @@ fn wide_advice(alloc: Global, most: usize) -> Result<String, AllocError> {
 
 fn excess_sentence(
     alloc: Global,
-    source: Source,
+    source: TokenizedText,
     limit: &Limit,
     excess: &Excess,
 ) -> Result<String, AllocError> {
@@ -218,7 +222,7 @@ fn size_flaw(
 }
 
 /// The first token with which more than 32 of `(` and `{` are open, or more than 200 tokens stand together.
-pub fn depth_flaw(alloc: Global, source: Source) -> Result<Option<Flaw>, AllocError> {
+pub fn depth_flaw(alloc: Global, source: TokenizedText) -> Result<Option<Flaw>, AllocError> {
     let mut open = 0u32;
     let mut together = 0u32;
     for placed in source.tokens {
@@ -245,7 +249,7 @@ pub fn depth_flaw(alloc: Global, source: Source) -> Result<Option<Flaw>, AllocEr
 }
 
 /// The first reference that isn't const.
-pub fn reference_flaw(alloc: Global, source: Source) -> Result<Option<Flaw>, AllocError> {
+pub fn reference_flaw(alloc: Global, source: TokenizedText) -> Result<Option<Flaw>, AllocError> {
     for at in 1..source.tokens.len() {
         if is_plain_reference(source, at) {
             return Ok(Some(plain_reference(alloc, source, at)?));
@@ -255,7 +259,7 @@ pub fn reference_flaw(alloc: Global, source: Source) -> Result<Option<Flaw>, All
 }
 
 /// The reference with this `&`, which isn't const.
-fn plain_reference(alloc: Global, source: Source, at: usize) -> Result<Flaw, AllocError> {
+fn plain_reference(alloc: Global, source: TokenizedText, at: usize) -> Result<Flaw, AllocError> {
     let name = source.shown(at.saturating_sub(1));
     let sentence = format!(in alloc; "the reference `{name} &` isn't `const`")?;
     let advice = format!(in alloc;
@@ -269,7 +273,7 @@ fn plain_reference(alloc: Global, source: Source, at: usize) -> Result<Flaw, All
 }
 
 /// Whether the token is the `&` of a reference without `const`.
-fn is_plain_reference(source: Source, at: usize) -> bool {
+fn is_plain_reference(source: TokenizedText, at: usize) -> bool {
     let is_const = match source.token(at.saturating_sub(2)) {
         Some(Token::Word(Word::Const)) => at >= 2,
         _ => false,
@@ -281,7 +285,7 @@ fn is_plain_reference(source: Source, at: usize) -> bool {
 /// come after a dot.
 pub fn parameters_flaw(
     alloc: Global,
-    source: Source,
+    source: TokenizedText,
     is_certificate: bool,
 ) -> Result<Option<Flaw>, AllocError> {
     for at in 0..source.tokens.len() {
@@ -295,7 +299,7 @@ pub fn parameters_flaw(
 }
 
 /// Whether `(` begins arguments: behind `emit` and a name, behind a path, or in an expression.
-fn begins_arguments(source: Source, at: usize) -> bool {
+fn begins_arguments(source: TokenizedText, at: usize) -> bool {
     if is_of_binding(source, at) {
         return false;
     }
@@ -307,7 +311,7 @@ fn begins_arguments(source: Source, at: usize) -> bool {
 }
 
 /// Whether `(` begins the formal sources of a binding, behind its name and the property.
-fn is_of_binding(source: Source, at: usize) -> bool {
+fn is_of_binding(source: TokenizedText, at: usize) -> bool {
     match source.token(at.saturating_sub(5)) {
         Some(Token::Word(Word::Binding)) => true,
         _ => false,
@@ -315,7 +319,7 @@ fn is_of_binding(source: Source, at: usize) -> bool {
 }
 
 /// A list that begins with this `(`, and has more than eight parts.
-fn long_list(alloc: Global, source: Source, at: usize) -> Result<Option<Flaw>, AllocError> {
+fn long_list(alloc: Global, source: TokenizedText, at: usize) -> Result<Option<Flaw>, AllocError> {
     let list = List::of(source, at);
     let Some(ninth) = list.ninth else {
         return Ok(None);
@@ -327,7 +331,7 @@ fn long_list(alloc: Global, source: Source, at: usize) -> Result<Option<Flaw>, A
 /// That the list which begins with this `(` has so many parts.
 fn long_sentence(
     alloc: Global,
-    source: Source,
+    source: TokenizedText,
     at: usize,
     total: usize,
 ) -> Result<String, AllocError> {
@@ -351,7 +355,7 @@ struct List {
 
 impl List {
     /// The list that begins with this `(`.
-    fn of(source: Source, at: usize) -> List {
+    fn of(source: TokenizedText, at: usize) -> List {
         let mut list = List {
             total: 1,
             ninth: None,

@@ -6,7 +6,7 @@ ghost use Rattle.text_flaws.specs.LinePlaces.{IsInLine};
 use crate::bytes::bad_byte;
 use crate::limits::{parameters_flaw, reference_flaw};
 use crate::parts::{plain_tokens, whole, within};
-use crate::unexpected::{Source, Unexpected, is_among};
+use crate::unexpected::{TokenizedText, Unexpected, is_among};
 use certificate_lang::{Row, Version, row_trail};
 use diagnostics::Flaw;
 use script_lang::event_trail;
@@ -40,7 +40,7 @@ fn event_flaw(alloc: Global, line: &[u8]) -> Result<Option<Flaw>, AllocError> {
         Ok(placed) => placed,
         Err(flaw) => return Ok(Some(flaw)),
     };
-    let source = Source {
+    let source = TokenizedText {
         text: line,
         tokens: placed.as_slice(),
     };
@@ -95,7 +95,7 @@ fn row_behind(
     if placed.is_empty() {
         return Ok(Ok((row, version)));
     }
-    let source = Source {
+    let source = TokenizedText {
         text: line,
         tokens: placed.as_slice(),
     };
@@ -109,7 +109,7 @@ fn row_behind(
 }
 
 /// The version that is known behind these tokens of a line of a certificate.
-fn version_behind(source: Source, row: Row, version: Version) -> Version {
+fn version_behind(source: TokenizedText, row: Row, version: Version) -> Version {
     match row {
         Row::Version => version_of(source).unwrap_or(version),
         Row::Bound | Row::Node(_) => version,
@@ -125,7 +125,7 @@ fn row_after(row: Row, version: Version) -> Row {
 }
 
 /// What is wrong with a line of a certificate.
-fn row_flaw(alloc: Global, source: Source, row: Row) -> Result<Option<Flaw>, AllocError> {
+fn row_flaw(alloc: Global, source: TokenizedText, row: Row) -> Result<Option<Flaw>, AllocError> {
     let trail = trail_of_row(alloc, source.text, row)?;
     match line_flaw(alloc, source, &trail, true)? {
         Some(flaw) => Ok(Some(flaw)),
@@ -143,7 +143,7 @@ fn trail_of_row(alloc: Global, line: &[u8], row: Row) -> Result<Trail, AllocErro
 }
 
 /// A first line that names no version of certificates.
-fn no_version(alloc: Global, source: Source) -> Result<Flaw, AllocError> {
+fn no_version(alloc: Global, source: TokenizedText) -> Result<Flaw, AllocError> {
     let number = source.shown(1);
     let sentence = format!(in alloc; "there is no version {number} of certificates")?;
     let advice = "write `certificate 2`; `certificate 1` is read too";
@@ -151,7 +151,7 @@ fn no_version(alloc: Global, source: Source) -> Result<Flaw, AllocError> {
 }
 
 /// The version that the tokens of a certificate's first line name.
-fn version_of(source: Source) -> Option<Version> {
+fn version_of(source: TokenizedText) -> Option<Version> {
     match source.token(1)? {
         Token::Number(digits) => {
             let number = number(digits.as_slice(), u64::from(u32::MAX))?;
@@ -171,7 +171,7 @@ fn ends_early(alloc: Global, at: usize) -> Result<Flaw, AllocError> {
 /// What is wrong with a line through which the reader went so.
 fn line_flaw(
     alloc: Global,
-    source: Source,
+    source: TokenizedText,
     trail: &Trail,
     is_certificate: bool,
 ) -> Result<Option<Flaw>, AllocError> {

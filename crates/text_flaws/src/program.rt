@@ -5,7 +5,7 @@ ghost use Rattle.std.specs.Prelude.{◌≤◌, length, IfOk, IfSome};
 use crate::bytes::bad_byte;
 use crate::limits::{count_flaw, depth_flaw, parameters_flaw, program_size_flaw, reference_flaw};
 use crate::parts::{plain_tokens, whole, within};
-use crate::unexpected::{Source, Unexpected};
+use crate::unexpected::{TokenizedText, Unexpected};
 use class_lang::{Limits, program_trail};
 use diagnostics::{Flaw, meaning};
 use std::alloc::{AllocError, Global};
@@ -41,7 +41,7 @@ fn flaw_of(
     match placed_tokens(alloc, text) {
         Ok(placed) => {
             let tokens = placed.as_slice();
-            flaw_in(alloc, limits, Source { text, tokens }, number)
+            flaw_in(alloc, limits, TokenizedText { text, tokens }, number)
         }
         Err(PlaceFault::BadByte(at)) => Ok(Some(bad_byte(alloc, text, at)?)),
         Err(PlaceFault::Memory) => Err(AllocError),
@@ -52,7 +52,7 @@ fn flaw_of(
 fn flaw_in(
     alloc: Global,
     limits: Limits,
-    source: Source,
+    source: TokenizedText,
     number: u8,
 ) -> Result<Option<Flaw>, AllocError> {
     match number {

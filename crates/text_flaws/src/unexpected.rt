@@ -8,6 +8,6 @@ mod source;
 mod unexpected;
 mod wanted;
 
-pub use source::Source;
+pub use source::TokenizedText;
 pub use unexpected::Unexpected;
 pub use wanted::is_among;

@@ -5,7 +5,7 @@ use crate::unexpected::habits::{
     of_members, of_statements, others,
 };
 use crate::unexpected::pattern::{fits, start_of};
-use crate::unexpected::source::Part;
+use crate::unexpected::source::ShownTokens;
 use crate::unexpected::unexpected::Unexpected;
 use diagnostics::{Printed, TextPlace, nearest};
 use std::alloc::{AllocError, Global};
@@ -81,7 +81,7 @@ fn habit_of(
 }
 
 /// The tokens for which this stands in the words of a habit with this pattern.
-fn slot<'a>(unexpected: Unexpected<'a>, pattern: &str, slot: &str) -> Part<'a> {
+fn slot<'a>(unexpected: Unexpected<'a>, pattern: &str, slot: &str) -> ShownTokens<'a> {
     let source = unexpected.source;
     if slot == "part" {
         return source.part(unexpected.head().saturating_add(1), unexpected.at);

@@ -11,7 +11,7 @@ use token_reading::Wanted;
 
 /// Where a habit is met: by what could come there.
 #[derive(Clone, Copy)]
-enum Spot {
+enum HabitContext {
     /// Anywhere.
     Any,
     Declaration,
@@ -50,7 +50,7 @@ enum Spot {
 
 /// A habit.
 pub struct Habit {
-    spot: Spot,
+    spot: HabitContext,
     /// The tokens around the unexpected token.
     pub pattern: &'static str,
     /// What to write instead.
@@ -59,7 +59,7 @@ pub struct Habit {
 
 macro_rules! habits {
     ($($spot:ident $pattern:literal => $advice:literal;)*) => {
-        &[$(Habit { spot: Spot::$spot, pattern: $pattern, advice: $advice },)*]
+        &[$(Habit { spot: HabitContext::$spot, pattern: $pattern, advice: $advice },)*]
     };
 }
 
@@ -296,7 +296,7 @@ impl Habit {
     }
 }
 
-impl Spot {
+impl HabitContext {
     /// Whether an unexpected token is at such a spot.
     fn holds(self, unexpected: Unexpected) -> bool {
         let comes = match self.wanted() {
@@ -313,26 +313,27 @@ impl Spot {
     /// What could come there, if that is one thing.
     fn wanted(self) -> Option<Wanted> {
         let wanted = match self {
-            Spot::Any | Spot::Setting | Spot::Line | Spot::Number => return None,
-            Spot::Declaration => Wanted::Word(Word::Wire),
-            Spot::Member => Wanted::Word(Word::Property),
-            Spot::Statement => Wanted::Word(Word::Emit),
-            Spot::Set => Wanted::Word(Word::Set),
-            Spot::Operand => Wanted::Symbol(Symbol::Not),
-            Spot::Operator => Wanted::Symbol(Symbol::Or),
-            Spot::Literal => Wanted::Text,
-            Spot::Kind => Wanted::Word(Word::Auto),
-            Spot::Event => Wanted::Verb,
-            Spot::Name => Wanted::Name,
-            Spot::Object => Wanted::Word(Word::This),
-            Spot::Type => Wanted::Symbol(Symbol::Ampersand),
-            Spot::Brace => Wanted::Symbol(Symbol::OpenBrace),
-            Spot::Open => Wanted::Symbol(Symbol::Open),
-            Spot::Comma => Wanted::Symbol(Symbol::Comma),
-            Spot::Semicolon => Wanted::Symbol(Symbol::Semicolon),
-            Spot::Arrow => Wanted::Symbol(Symbol::Arrow),
-            Spot::Assign => Wanted::Symbol(Symbol::Assign),
-            Spot::Dot => Wanted::Symbol(Symbol::Dot),
+            HabitContext::Any | HabitContext::Setting | HabitContext::Line | HabitContext::Number =>
+                return None,
+            HabitContext::Declaration => Wanted::Word(Word::Wire),
+            HabitContext::Member => Wanted::Word(Word::Property),
+            HabitContext::Statement => Wanted::Word(Word::Emit),
+            HabitContext::Set => Wanted::Word(Word::Set),
+            HabitContext::Operand => Wanted::Symbol(Symbol::Not),
+            HabitContext::Operator => Wanted::Symbol(Symbol::Or),
+            HabitContext::Literal => Wanted::Text,
+            HabitContext::Kind => Wanted::Word(Word::Auto),
+            HabitContext::Event => Wanted::Verb,
+            HabitContext::Name => Wanted::Name,
+            HabitContext::Object => Wanted::Word(Word::This),
+            HabitContext::Type => Wanted::Symbol(Symbol::Ampersand),
+            HabitContext::Brace => Wanted::Symbol(Symbol::OpenBrace),
+            HabitContext::Open => Wanted::Symbol(Symbol::Open),
+            HabitContext::Comma => Wanted::Symbol(Symbol::Comma),
+            HabitContext::Semicolon => Wanted::Symbol(Symbol::Semicolon),
+            HabitContext::Arrow => Wanted::Symbol(Symbol::Arrow),
+            HabitContext::Assign => Wanted::Symbol(Symbol::Assign),
+            HabitContext::Dot => Wanted::Symbol(Symbol::Dot),
         };
         Some(wanted)
     }
@@ -340,11 +341,11 @@ impl Spot {
     /// What couldn't come there, and could at another spot that is like it.
     fn unwanted(self) -> Option<Wanted> {
         match self {
-            Spot::Set => Some(Wanted::Word(Word::Emit)),
-            Spot::Line => Some(Wanted::Word(Word::Wire)),
-            Spot::Literal | Spot::Open => Some(Wanted::Symbol(Symbol::Not)),
-            Spot::Comma | Spot::Assign => Some(Wanted::Symbol(Symbol::Semicolon)),
-            Spot::Name | Spot::Object | Spot::Number => Some(Wanted::Text),
+            HabitContext::Set => Some(Wanted::Word(Word::Emit)),
+            HabitContext::Line => Some(Wanted::Word(Word::Wire)),
+            HabitContext::Literal | HabitContext::Open => Some(Wanted::Symbol(Symbol::Not)),
+            HabitContext::Comma | HabitContext::Assign => Some(Wanted::Symbol(Symbol::Semicolon)),
+            HabitContext::Name | HabitContext::Object | HabitContext::Number => Some(Wanted::Text),
             _ => None,
         }
     }
@@ -352,9 +353,9 @@ impl Spot {
     /// Whether the unexpected token stands where this spot alone can be.
     fn is_around(self, unexpected: Unexpected) -> bool {
         match self {
-            Spot::Setting => unexpected.is_in_line() && unexpected.wants_spelled(),
-            Spot::Line => unexpected.is_in_line(),
-            Spot::Number => unexpected.wants_number(),
+            HabitContext::Setting => unexpected.is_in_line() && unexpected.wants_spelled(),
+            HabitContext::Line => unexpected.is_in_line(),
+            HabitContext::Number => unexpected.wants_number(),
             _ => true,
         }
     }

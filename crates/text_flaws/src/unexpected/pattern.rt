@@ -6,7 +6,7 @@
 //! `$number`, `$text`, `$any`, `$tail` (a name right behind the token before it), `$path` (`this` or a name, and names
 //! behind dots or arrows, as far as they go), `$end` (the end of the text).
 
-use crate::unexpected::source::Source;
+use crate::unexpected::source::TokenizedText;
 use crate::unexpected::unexpected::Unexpected;
 use texts::{Symbol, Token};
 
@@ -36,7 +36,7 @@ fn fits_around(around: &str, unexpected: Unexpected) -> bool {
 }
 
 /// What follows the words, if they fit the tokens from this one on.
-fn after_words(source: Source, at: usize, words: &str) -> Option<usize> {
+fn after_words(source: TokenizedText, at: usize, words: &str) -> Option<usize> {
     let mut at = at;
     for word in words.split_whitespace() {
         at = after(source, at, word)?;
@@ -60,7 +60,7 @@ pub fn start_of(pattern: &str, unexpected: Unexpected, number: usize) -> usize {
 }
 
 /// What follows the word, if it fits the tokens from this one on.
-fn after(source: Source, at: usize, word: &str) -> Option<usize> {
+fn after(source: TokenizedText, at: usize, word: &str) -> Option<usize> {
     if word == "$path" {
         return after_path(source, at);
     }
@@ -72,7 +72,7 @@ fn after(source: Source, at: usize, word: &str) -> Option<usize> {
 }
 
 /// What follows the path that begins with this token.
-fn after_path(source: Source, at: usize) -> Option<usize> {
+fn after_path(source: TokenizedText, at: usize) -> Option<usize> {
     if !is_one_of(source, at, "$name/this") {
         return None;
     }
@@ -89,12 +89,12 @@ fn after_path(source: Source, at: usize) -> Option<usize> {
 }
 
 /// Whether the token is one of these.
-fn is_one_of(source: Source, at: usize, word: &str) -> bool {
+fn is_one_of(source: TokenizedText, at: usize, word: &str) -> bool {
     word.split('/').any(|one| is(source, at, one))
 }
 
 /// Whether the token is this one, or of this kind.
-fn is(source: Source, at: usize, one: &str) -> bool {
+fn is(source: TokenizedText, at: usize, one: &str) -> bool {
     match (one, source.token(at)) {
         ("$end", token) => token.is_none(),
         (_, None) => false,

@@ -9,12 +9,12 @@ const MOST_SHOWN: usize = 40;
 
 /// A text, and the tokens that it is cut into.
 #[derive(Clone, Copy)]
-pub struct Source<'a> {
+pub struct TokenizedText<'a> {
     pub text: &'a [u8],
     pub tokens: &'a [PlacedToken],
 }
 
-impl<'a> Source<'a> {
+impl<'a> TokenizedText<'a> {
     /// The token of this number, counted from 0; `None` at the end.
     pub fn token(self, number: usize) -> Option<&'a Token> {
         let placed = self.tokens.get(number)?;
@@ -75,9 +75,9 @@ impl<'a> Source<'a> {
     }
 
     /// The tokens from this one up to that one.
-    pub fn part(self, from: usize, to: usize) -> Part<'a> {
+    pub fn part(self, from: usize, to: usize) -> ShownTokens<'a> {
         let to = to.min(from.saturating_add(MOST_SHOWN));
-        Part {
+        ShownTokens {
             source: self,
             from,
             to,
@@ -97,13 +97,13 @@ impl<'a> Source<'a> {
 
 /// Tokens of a text, as a person is shown them: a blank where there is space between two, and `.` for `->`.
 #[derive(Clone, Copy)]
-pub struct Part<'a> {
-    source: Source<'a>,
+pub struct ShownTokens<'a> {
+    source: TokenizedText<'a>,
     from: usize,
     to: usize,
 }
 
-impl fmt::Display for Part<'_> {
+impl fmt::Display for ShownTokens<'_> {
     fn fmt<W: fmt::Write>(&self, f: &mut fmt::Formatter<W>) -> fmt::Result {
         for number in self.from..self.to {
             if number > self.from && self.source.is_apart(number) {

@@ -1,7 +1,7 @@
 //! A token that can't stand where it does, or an end that comes too early.
 
 use crate::unexpected::advice::advice;
-use crate::unexpected::source::Source;
+use crate::unexpected::source::TokenizedText;
 use crate::unexpected::wanted::{is_among, push_wanted};
 use basic_types::LONGEST_TEXT;
 use diagnostics::Flaw;
@@ -13,7 +13,7 @@ use token_reading::{Trail, Wanted};
 #[derive(Clone, Copy)]
 pub struct Unexpected<'a> {
     /// The text, which may be a line of one.
-    pub source: Source<'a>,
+    pub source: TokenizedText<'a>,
     /// How many tokens come before it.
     pub at: usize,
     trail: &'a Trail,
@@ -21,7 +21,7 @@ pub struct Unexpected<'a> {
 
 impl<'a> Unexpected<'a> {
     /// Where a reader stopped that went so through a text.
-    pub fn new(source: Source<'a>, trail: &'a Trail) -> Unexpected<'a> {
+    pub fn new(source: TokenizedText<'a>, trail: &'a Trail) -> Unexpected<'a> {
         Unexpected {
             source,
             at: trail.farthest(),
