@@ -1,6 +1,6 @@
 //! Edges by name, and lists of those that are accepted.
 
-use crate::finding::Step;
+use crate::finding::ChainStep;
 use diagnostics::{Printed, TextPlace};
 use std::alloc::{AllocError, Global};
 use thiserror::Error;
@@ -29,7 +29,7 @@ impl Edge {
     }
 
     /// The edge of the step.
-    pub fn of_step(alloc: Global, step: &Step) -> Result<Edge, AllocError> {
+    pub fn of_step(alloc: Global, step: &ChainStep) -> Result<Edge, AllocError> {
         Edge::of(alloc, step.from.as_str(), step.to.as_str())
     }
 

@@ -6,7 +6,7 @@ use edge_reasons::Reason;
 
 /// The text that something is in.
 #[derive(Clone, Copy, Debug, PartialEq, Eq)]
-pub enum TextKind {
+pub enum JudgedText {
     Program,
     Certificate,
 }
@@ -21,16 +21,16 @@ pub struct Finding {
     /// What to do about it, where that is known.
     pub help: Option<String>,
     /// The text that it is in.
-    pub text: TextKind,
+    pub text: JudgedText,
     /// Where it is there; `None` for what is in no line, as the objects' class `QObject`.
     pub place: Option<TextPlace>,
     /// The steps that lead to it, one after another; there may be none.
-    pub chain: Vec<Step>,
+    pub chain: Vec<ChainStep>,
 }
 
 impl Finding {
     /// The step that the finding is about, if it has steps: of one on deletions the last one, which deletes, else the first.
-    pub fn edge(&self) -> Option<&Step> {
+    pub fn edge(&self) -> Option<&ChainStep> {
         match self.rule {
             Rule::DestroyPath | Rule::SenderDeleted | Rule::DeletesConnected => self.chain.last(),
             _ => self.chain.first(),
@@ -83,7 +83,7 @@ impl Link {
 
 /// That one member may lead to another. Members are written as in certificates.
 #[derive(Drop)]
-pub struct Step {
+pub struct ChainStep {
     /// The first member.
     pub from: String,
     /// What it may lead to.

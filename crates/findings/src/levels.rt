@@ -1,10 +1,10 @@
 //! How grave rules are made by whoever asks.
 
 ghost use Rattle.std.specs.Prelude.{◌≡◌, ◌≢◌, [], Some, None, IfSome};
-ghost use Rattle.findings.specs.declared.severity.Severity.TheVariants.{Error};
+ghost use Rattle.findings.specs.declared.severity.FindingSeverity.TheVariants.{Error};
 
 use crate::rule::Rule;
-use crate::severity::Severity;
+use crate::severity::FindingSeverity;
 use std::alloc::AllocError;
 use thiserror::Error;
 
@@ -14,7 +14,7 @@ pub struct LevelChange {
     /// The rule.
     pub rule: Rule,
     /// How grave it is; `None` where it is off.
-    pub severity: Option<Severity>,
+    pub severity: Option<FindingSeverity>,
 }
 
 /// How grave each rule is: as the table says, but for these changes, of which the last one of a rule counts.
@@ -45,7 +45,7 @@ impl From<AllocError> for LevelFault {
 
 impl<'l> Levels<'l> {
     /// How grave the rule is; `None` where it is off.
-    pub fn of(self, rule: Rule) -> Option<Severity> {
+    pub fn of(self, rule: Rule) -> Option<FindingSeverity> {
         match self.change_of(rule) {
             Some(change) => change.severity,
             None => Some(rule.severity()),
@@ -53,14 +53,14 @@ impl<'l> Levels<'l> {
     }
 
     /// How grave the rule is of which a program is told that has a certificate. It is no error but where that is asked for.
-    pub fn of_remark(self, rule: Rule) -> Option<Severity>
+    pub fn of_remark(self, rule: Rule) -> Option<FindingSeverity>
         ensures { self.entry.changes.now ≡ [] → result ≢ Some Error }
     {
         match self.change_of(rule) {
             Some(change) => change.severity,
             None => match rule.severity() {
-                Severity::Note => Some(Severity::Note),
-                Severity::Error | Severity::Warning => Some(Severity::Warning),
+                FindingSeverity::Note => Some(FindingSeverity::Note),
+                FindingSeverity::Error | FindingSeverity::Warning => Some(FindingSeverity::Warning),
             },
         }
     }
@@ -92,7 +92,7 @@ fn push_change(changes: &mut Vec<LevelChange>, change: LevelChange) -> Result<()
 pub fn change_levels(
     changes: &mut Vec<LevelChange>,
     names: &str,
-    severity: Option<Severity>,
+    severity: Option<FindingSeverity>,
 ) -> Result<(), LevelFault> {
     for name in names.split(',') {
         let Some(rule) = Rule::named(name) else {

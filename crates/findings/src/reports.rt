@@ -12,7 +12,7 @@ mod uri;
 
 pub use json::json_report;
 pub use junit::junit_report;
-pub use names::Names;
+pub use names::FileNames;
 pub use rules::rules_report;
 pub use sarif::sarif_report;
 pub use text::text_report;

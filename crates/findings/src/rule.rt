@@ -1,6 +1,6 @@
 //! The rules that a program or a certificate may break.
 
-use crate::severity::Severity;
+use crate::severity::FindingSeverity;
 use crate::table::{Basis, RuleRow};
 
 /// A rule that a finding is about. Those of texts and of loading have the number of the refusal, those of the check the number
@@ -109,7 +109,7 @@ impl Rule {
     }
 
     /// How grave it is where nothing else is asked for.
-    pub fn severity(self) -> Severity {
+    pub fn severity(self) -> FindingSeverity {
         self.row().severity
     }
 

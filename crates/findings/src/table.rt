@@ -1,7 +1,7 @@
 //! The table of rules. All that is written of a rule is made of it: reports, the help of the words, and docs/rules.md.
 
 use crate::rule::Rule;
-use crate::severity::Severity;
+use crate::severity::FindingSeverity;
 use diagnostics::meaning;
 
 /// What a rule goes by.
@@ -25,7 +25,7 @@ pub struct RuleRow {
     /// Its number, if it has one.
     pub number: Option<u8>,
     /// How grave it is by default.
-    pub severity: Severity,
+    pub severity: FindingSeverity,
     /// What breaks it, in one sentence.
     pub summary: &'static str,
     /// What to do about it.
@@ -115,7 +115,7 @@ impl RuleRow {
                 "let a member on the way stop it: what is posted comes round with each turn of the event loop",
             ),
             Rule::DeletesConnected => RuleRow {
-                severity: Severity::Note,
+                severity: FindingSeverity::Note,
                 ..warning(
                     "deletes-connected",
                     "an object may be deleted while a call to it is posted, which is dropped",
@@ -157,7 +157,7 @@ fn warning(id: &'static str, summary: &'static str, help: &'static str) -> RuleR
         basis: Basis::Advice,
         id,
         number: None,
-        severity: Severity::Warning,
+        severity: FindingSeverity::Warning,
         summary,
         help,
     }
@@ -180,7 +180,7 @@ fn check(id: &'static str, number: u8, help: &'static str) -> RuleRow {
         basis: Basis::Check,
         id,
         number: Some(number),
-        severity: Severity::Error,
+        severity: FindingSeverity::Error,
         summary: meaning(number).unwrap_or(""),
         help,
     }

@@ -1,13 +1,13 @@
 //! What is found of a program and its certificate.
 
 ghost use Rattle.std.specs.Prelude.{◌≡◌, ◌≢◌, ◌<◌, ◌+◌, ◌-◌, ◌^◌, ◌↔◌, ◌++◌, ◌∷◌, [], Some, None, IfSome, OnOk, length};
-ghost use Rattle.findings.specs.declared.severity.Severity.{Severity};
-ghost use Rattle.findings.specs.declared.severity.Severity.TheVariants.{Error};
+ghost use Rattle.findings.specs.declared.severity.FindingSeverity.{FindingSeverity};
+ghost use Rattle.findings.specs.declared.severity.FindingSeverity.TheVariants.{Error};
 ghost use Rattle.findings.specs.Listed.{findings_of};
 
 use crate::edge::PlacedEdge;
 use crate::finding::Finding;
-use crate::severity::Severity;
+use crate::severity::FindingSeverity;
 use std::alloc::{AllocError, Global};
 
 /// So many findings of one severity are reported.
@@ -66,9 +66,9 @@ impl Verdict {
 
     /// The severity of one more finding that is as grave as this, or off, if it is reported: where it isn't, but isn't off, it
     /// is counted.
-    pub fn taken(&mut self, asked: Option<Severity>) -> Option<Severity>
+    pub fn taken(&mut self, asked: Option<FindingSeverity>) -> Option<FindingSeverity>
         ensures same { IfSome result (λ severity. asked ≡ Some severity) }
-        ensures told { (severity : Severity) → asked ≡ Some severity →
+        ensures told { (severity : FindingSeverity) → asked ≡ Some severity →
             (result ≡ asked ↔ (length (findings_of severity self.old) < 100)) }
         ensures counted { asked ≡ Some Error → result ≡ None → self.old.more_errors < 2 ^ 64 - 1 →
             self.new.more_errors ≡ self.old.more_errors + 1 }
@@ -83,11 +83,11 @@ impl Verdict {
             return Some(severity);
         }
         match severity {
-            Severity::Error => {
+            FindingSeverity::Error => {
                 self.more_errors = self.more_errors.saturating_add(1);
                 None
             }
-            Severity::Warning | Severity::Note => {
+            FindingSeverity::Warning | FindingSeverity::Note => {
                 self.more_others = self.more_others.saturating_add(1);
                 None
             }
@@ -95,22 +95,22 @@ impl Verdict {
     }
 
     /// Adds a finding that is reported.
-    pub fn push(&mut self, severity: Severity, finding: Finding) -> Result<(), AllocError>
+    pub fn push(&mut self, severity: FindingSeverity, finding: Finding) -> Result<(), AllocError>
         ensures added { OnOk result (findings_of severity self.new ≡ findings_of severity self.old ++ finding ∷ []) }
         ensures errors { severity ≢ Error → self.new.errors ≡ self.old.errors }
         ensures more_errors { self.new.more_errors ≡ self.old.more_errors }
         ensures status { self.new.status ≡ self.old.status }
     {
         match severity {
-            Severity::Error => {
+            FindingSeverity::Error => {
                 self.errors.push(finding)?;
                 Ok(())
             }
-            Severity::Warning => {
+            FindingSeverity::Warning => {
                 self.warnings.push(finding)?;
                 Ok(())
             }
-            Severity::Note => {
+            FindingSeverity::Note => {
                 self.notes.push(finding)?;
                 Ok(())
             }
@@ -118,13 +118,13 @@ impl Verdict {
     }
 
     /// Those findings of this severity that are reported.
-    pub fn findings_of(&self, severity: Severity) -> &[Finding]
+    pub fn findings_of(&self, severity: FindingSeverity) -> &[Finding]
         ensures { result.now ≡ findings_of severity self.now }
     {
         match severity {
-            Severity::Error => self.errors.as_slice(),
-            Severity::Warning => self.warnings.as_slice(),
-            Severity::Note => self.notes.as_slice(),
+            FindingSeverity::Error => self.errors.as_slice(),
+            FindingSeverity::Warning => self.warnings.as_slice(),
+            FindingSeverity::Note => self.notes.as_slice(),
         }
     }
 

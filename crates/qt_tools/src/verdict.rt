@@ -7,8 +7,8 @@ use crate::streams::{input, write};
 use class_lang::Limits;
 use diagnostics::Printed;
 use findings::{
-    Edge, LevelChange, Levels, Names, Severity, Verdict, change_levels, edge_list, json_report,
-    junit_report, read_edges, rules_report, sarif_report, text_report,
+    Edge, FileNames, FindingSeverity, LevelChange, Levels, Verdict, change_levels, edge_list,
+    json_report, junit_report, read_edges, rules_report, sarif_report, text_report,
 };
 use std::alloc::{AllocError, Global};
 use text_places::{TextPlaces, read_places};
@@ -50,7 +50,7 @@ enum Awaited {
     Program,
     Certificate,
     /// Names of rules, which are as grave as this, or off.
-    Rules(Option<Severity>),
+    Rules(Option<FindingSeverity>),
 }
 
 /// What the words say, with names by their places among the words.
@@ -112,8 +112,8 @@ impl Said {
             }
             "--program" => return Ok(Some(Awaited::Program)),
             "--certificate" => return Ok(Some(Awaited::Certificate)),
-            "--error" => return Ok(Some(Awaited::Rules(Some(Severity::Error)))),
-            "--warning" => return Ok(Some(Awaited::Rules(Some(Severity::Warning)))),
+            "--error" => return Ok(Some(Awaited::Rules(Some(FindingSeverity::Error)))),
+            "--warning" => return Ok(Some(Awaited::Rules(Some(FindingSeverity::Warning)))),
             "--off" => return Ok(Some(Awaited::Rules(None))),
             _ => return Err(ToolFault::Usage),
         }
@@ -195,7 +195,7 @@ fn tell_judged<'x>(
     judged: &'x Judged,
     places: &'x TextPlaces<'x>,
 ) -> Result<(), ToolFault> {
-    let names = Names {
+    let names = FileNames {
         program: name(given, said.program, b"program"),
         certificate: name(given, said.certificate, b"certificate"),
         places: Some(places),
@@ -305,7 +305,7 @@ fn report(
     alloc: Global,
     found: &Verdict,
     form: Form,
-    names: Names<'_>,
+    names: FileNames<'_>,
 ) -> Result<String, AllocError> {
     match form {
         Form::Json => json_report(alloc, found, names),
@@ -316,7 +316,7 @@ fn report(
 }
 
 /// Writes the list of the edges that can be accepted.
-fn write_edges(rt: &HostRuntime, found: &Verdict, names: Names<'_>) -> Result<(), ToolFault> {
+fn write_edges(rt: &HostRuntime, found: &Verdict, names: FileNames<'_>) -> Result<(), ToolFault> {
     if found.status == REFUSED {
         return Err(ToolFault::Unjudged);
     }

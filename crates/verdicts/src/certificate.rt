@@ -5,7 +5,7 @@ use crate::refusal::refusal_finding;
 use certificate_lang::{Certificate, read_certificate};
 use class_lang::Limits;
 use effect_scan::Numbering;
-use findings::{Finding, Rule, TextKind, Verdict};
+use findings::{Finding, JudgedText, Rule, Verdict};
 use program_commands::Refusal;
 use program_flaws::{cause_place, cause_text};
 use rank_check::{Cause, Mistake, judge};
@@ -67,7 +67,7 @@ fn cause_finding(
         rule: rule_of(cause),
         message: told.message,
         help: told.help,
-        text: TextKind::Certificate,
+        text: JudgedText::Certificate,
         place: Some(cause_place(alloc, text, cause)?),
         chain,
     })

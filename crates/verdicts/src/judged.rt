@@ -2,7 +2,7 @@
 
 use crate::certificate::rule_of;
 use diagnostics::TextPlace;
-use findings::{Finding, Rule, TextKind};
+use findings::{Finding, JudgedText, Rule};
 use program_commands::{Outcome, Refusal, Why};
 use rank_check::Cause;
 use std::alloc::{AllocError, Global};
@@ -38,13 +38,13 @@ fn broken_rule(judged: &Outcome) -> Rule {
 }
 
 /// The text that it is about.
-fn text_of(judged: &Outcome) -> TextKind {
+fn text_of(judged: &Outcome) -> JudgedText {
     match judged {
-        Outcome::Refused(Refusal::Certificate(_)) => TextKind::Certificate,
+        Outcome::Refused(Refusal::Certificate(_)) => JudgedText::Certificate,
         Outcome::Refused(Refusal::Check(denied)) => match denied.cause() {
-            Cause::Wire(_) | Cause::BodyType(_) => TextKind::Program,
-            _ => TextKind::Certificate,
+            Cause::Wire(_) | Cause::BodyType(_) => JudgedText::Program,
+            _ => JudgedText::Certificate,
         },
-        _ => TextKind::Program,
+        _ => JudgedText::Program,
     }
 }

@@ -12,7 +12,7 @@ use crate::program::{Located, Places, gather_program, program_remarks};
 use crate::refusal::refusal_finding;
 use class_lang::{Limits, read_within};
 use effect_scan::Scan;
-use findings::{Edge, Finding, LevelChange, Levels, PlacedEdge, Rule, Severity, Verdict};
+use findings::{Edge, Finding, FindingSeverity, LevelChange, Levels, PlacedEdge, Rule, Verdict};
 use meta_model::Meta;
 use meta_objects::FromProgram;
 use program_commands::{Outcome, Refusal, certify_outcome, check_outcome};
@@ -329,7 +329,7 @@ fn gather(
         Ok(loaded) => loaded,
         Err(refusal) => {
             let finding = refusal_finding(alloc, limits, texts.program, &refusal)?;
-            return found.push(Severity::Error, finding);
+            return found.push(FindingSeverity::Error, finding);
         }
     };
     let places = Places::of(alloc, texts.program)?;

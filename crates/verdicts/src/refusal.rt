@@ -2,7 +2,7 @@
 
 use class_lang::Limits;
 use diagnostics::{Flaw, TextPlace, meaning};
-use findings::{Finding, Rule, TextKind};
+use findings::{Finding, JudgedText, Rule};
 use program_commands::Refusal;
 use program_flaws::declaration_flaw;
 use std::alloc::{AllocError, Global};
@@ -19,8 +19,8 @@ pub fn refusal_finding(
         return Err(AllocError);
     };
     let kind = match refusal {
-        Refusal::Certificate(_) => TextKind::Certificate,
-        _ => TextKind::Program,
+        Refusal::Certificate(_) => JudgedText::Certificate,
+        _ => JudgedText::Program,
     };
     let flaw = match refusal {
         Refusal::Text(_) => program_flaw(alloc, limits, text, number)?,
@@ -46,7 +46,7 @@ fn flaw_finding(
     alloc: Global,
     text: &[u8],
     rule: Rule,
-    kind: TextKind,
+    kind: JudgedText,
     flaw: Flaw,
 ) -> Result<Finding, AllocError> {
     let Flaw {

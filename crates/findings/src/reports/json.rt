@@ -1,9 +1,9 @@
 //! A verdict as JSON (docs/verdict.md).
 
-use crate::reports::names::{Names, name_text};
+use crate::reports::names::{FileNames, name_text};
 use crate::reports::pretty::json_text;
 use crate::reports::spots::origin;
-use crate::{Finding, Severity, Step, TextKind, TextPlace, Verdict};
+use crate::{ChainStep, Finding, FindingSeverity, JudgedText, TextPlace, Verdict};
 use serde::Serialize;
 use std::alloc::{AllocError, Global};
 
@@ -14,14 +14,14 @@ const FORM: usize = 1;
 #[derive(Drop, Serialize)]
 struct Report<'v> {
     version: usize,
-    findings: Vec<Entry<'v>>,
+    findings: Vec<FindingEntry<'v>>,
     more: usize,
     accepted: usize,
 }
 
 /// A finding.
 #[derive(Drop, Serialize)]
-struct Entry<'v> {
+struct FindingEntry<'v> {
     rule: &'v str,
     #[serde(skip_serializing_if = "Option::is_none")]
     number: Option<u8>,
@@ -49,7 +49,7 @@ struct StepEntry<'v> {
 
 /// A place of a text.
 #[derive(Drop, Serialize)]
-struct Spot {
+struct PlaceEntry {
     file: String,
     #[serde(skip_serializing_if = "Option::is_none")]
     line: Option<usize>,
@@ -61,23 +61,23 @@ struct Spot {
 #[derive(Drop, Serialize)]
 struct Standing {
     #[serde(flatten)]
-    spot: Spot,
+    spot: PlaceEntry,
     #[serde(skip_serializing_if = "Option::is_none")]
     words: Option<String>,
     #[serde(skip_serializing_if = "Vec::is_empty")]
     conditions: Vec<String>,
     #[serde(skip_serializing_if = "Option::is_none")]
-    program: Option<Spot>,
+    program: Option<PlaceEntry>,
 }
 
 /// The verdict as one object of JSON. Its only error is that memory was refused.
 pub fn json_report(
     alloc: Global,
     verdict: &Verdict,
-    names: Names<'_>,
+    names: FileNames<'_>,
 ) -> Result<String, AllocError> {
     let mut findings = Vec::new(alloc);
-    for severity in Severity::ALL {
+    for severity in FindingSeverity::ALL {
         for finding in verdict.findings_of(severity) {
             findings.push(entry_of(alloc, severity, finding, names)?)?;
         }
@@ -94,15 +94,15 @@ pub fn json_report(
 /// A finding, with its steps.
 fn entry_of<'v>(
     alloc: Global,
-    severity: Severity,
+    severity: FindingSeverity,
     finding: &'v Finding,
-    names: Names<'_>,
-) -> Result<Entry<'v>, AllocError> {
+    names: FileNames<'_>,
+) -> Result<FindingEntry<'v>, AllocError> {
     let mut chain = Vec::new(alloc);
     for step in finding.chain.as_slice() {
         chain.push(step_of(alloc, step, names)?)?;
     }
-    Ok(Entry {
+    Ok(FindingEntry {
         rule: finding.rule.id(),
         number: finding.rule.number(),
         severity: severity.word(),
@@ -116,8 +116,8 @@ fn entry_of<'v>(
 /// A step.
 fn step_of<'v>(
     alloc: Global,
-    step: &'v Step,
-    names: Names<'_>,
+    step: &'v ChainStep,
+    names: FileNames<'_>,
 ) -> Result<StepEntry<'v>, AllocError> {
     Ok(StepEntry {
         from: step.from.as_str(),
@@ -125,18 +125,18 @@ fn step_of<'v>(
         by: step.link.word(),
         queued: if step.is_posted { Some(true) } else { None },
         message: step.message.as_str(),
-        standing: standing_at(alloc, names, TextKind::Program, step.place)?,
+        standing: standing_at(alloc, names, JudgedText::Program, step.place)?,
     })
 }
 
 /// Where this place of a text stands.
 fn standing_at(
     alloc: Global,
-    names: Names<'_>,
-    text: TextKind,
+    names: FileNames<'_>,
+    text: JudgedText,
     place: Option<TextPlace>,
 ) -> Result<Standing, AllocError> {
-    let own = Spot {
+    let own = PlaceEntry {
         file: name_text(alloc, names.of(text))?,
         line: line_of(place),
         column: column_of(place),
@@ -154,7 +154,7 @@ fn standing_at(
         conditions.push(name_text(alloc, condition)?)?;
     }
     Ok(Standing {
-        spot: Spot {
+        spot: PlaceEntry {
             file: name_text(alloc, other.file)?,
             line: Some(other.other_line),
             column: Some(other.other_column),

@@ -1,9 +1,9 @@
 //! A verdict in the form of JUnit's reports, which build servers read that take no SARIF.
 
-use crate::reports::names::{Names, name_text};
+use crate::reports::names::{FileNames, name_text};
 use crate::reports::spots::told_at;
 use crate::reports::text::push_below;
-use crate::{Finding, Severity, TextPlace, Verdict};
+use crate::{Finding, FindingSeverity, TextPlace, Verdict};
 use std::alloc::{AllocError, Global};
 
 /// The verdict as a suite with a test for each finding: an error is a failure, and a warning or a note an output of a test that
@@ -11,19 +11,19 @@ use std::alloc::{AllocError, Global};
 pub fn junit_report(
     alloc: Global,
     verdict: &Verdict,
-    names: Names<'_>,
+    names: FileNames<'_>,
 ) -> Result<String, AllocError> {
     let mut tests = String::new(alloc);
-    for severity in Severity::ALL {
+    for severity in FindingSeverity::ALL {
         for finding in verdict.findings_of(severity) {
             push_test(&mut tests, alloc, severity, finding, names)?;
         }
     }
-    let failures = verdict.findings_of(Severity::Error).len();
+    let failures = verdict.findings_of(FindingSeverity::Error).len();
     let others = verdict
-        .findings_of(Severity::Warning)
+        .findings_of(FindingSeverity::Warning)
         .len()
-        .saturating_add(verdict.findings_of(Severity::Note).len());
+        .saturating_add(verdict.findings_of(FindingSeverity::Note).len());
     let mut count = failures.saturating_add(others);
     if count == 0 {
         tests.push_str("  <testcase classname=\"gammonfig\" name=\"no findings\"/>\n")?;
@@ -36,7 +36,11 @@ pub fn junit_report(
 }
 
 /// What stands below a finding in a text.
-fn details_of(alloc: Global, finding: &Finding, names: Names<'_>) -> Result<String, AllocError> {
+fn details_of(
+    alloc: Global,
+    finding: &Finding,
+    names: FileNames<'_>,
+) -> Result<String, AllocError> {
     let mut details = String::new(alloc);
     push_below(&mut details, alloc, finding, names)?;
     Ok(details)
@@ -46,9 +50,9 @@ fn details_of(alloc: Global, finding: &Finding, names: Names<'_>) -> Result<Stri
 fn push_test(
     text: &mut String,
     alloc: Global,
-    severity: Severity,
+    severity: FindingSeverity,
     finding: &Finding,
-    names: Names<'_>,
+    names: FileNames<'_>,
 ) -> Result<(), AllocError> {
     let details = details_of(alloc, finding, names)?;
     let details = details.as_str();
@@ -63,14 +67,14 @@ fn push_test(
     }
     text.push_str("\">\n")?;
     match severity {
-        Severity::Error => {
+        FindingSeverity::Error => {
             write!(text, "    <failure type=\"{rule}\" message=\"")?;
             push_escaped(text, finding.message.as_str())?;
             text.push_str("\">")?;
             push_escaped(text, details)?;
             text.push_str("</failure>\n")?;
         }
-        Severity::Warning | Severity::Note => {
+        FindingSeverity::Warning | FindingSeverity::Note => {
             let word = severity.word();
             write!(text, "    <system-out>{word}: ")?;
             push_escaped(text, finding.message.as_str())?;

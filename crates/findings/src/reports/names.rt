@@ -1,6 +1,6 @@
 //! The names of the texts.
 
-use crate::TextKind;
+use crate::JudgedText;
 use diagnostics::push_printed;
 use std::alloc::{AllocError, Global};
 use std::str;
@@ -8,7 +8,7 @@ use text_places::TextPlaces;
 
 /// What the texts are called: the names of their files, where they are files. Such a name may be any bytes.
 #[derive(Clone, Copy)]
-pub struct Names<'n> {
+pub struct FileNames<'n> {
     /// The program.
     pub program: &'n [u8],
     /// Its certificate.
@@ -18,12 +18,12 @@ pub struct Names<'n> {
     pub places: Option<&'n TextPlaces<'n>>,
 }
 
-impl<'n> Names<'n> {
+impl<'n> FileNames<'n> {
     /// What the text is called.
-    pub fn of(&self, text: TextKind) -> &'n [u8] {
+    pub fn of(&self, text: JudgedText) -> &'n [u8] {
         match text {
-            TextKind::Program => self.program,
-            TextKind::Certificate => self.certificate,
+            JudgedText::Program => self.program,
+            JudgedText::Certificate => self.certificate,
         }
     }
 }

@@ -1,12 +1,12 @@
 //! A verdict as SARIF 2.1.0, which code hosts and editors take in: the parts that are written, by the names that they have
 //! there, and how they are made.
 
-use crate::reports::names::Names;
+use crate::reports::names::FileNames;
 use crate::reports::pretty::json_text;
 use crate::reports::rules::page_of;
 use crate::reports::spots::{origin, step_text, told_at};
 use crate::reports::uri::uri_of;
-use crate::{Finding, Rule, Severity, Step, TextKind, TextPlace, Verdict};
+use crate::{ChainStep, Finding, FindingSeverity, JudgedText, Rule, TextPlace, Verdict};
 use serde::Serialize;
 use std::alloc::{AllocError, Global};
 
@@ -27,20 +27,20 @@ struct Log<'v> {
     #[serde(rename = "$schema")]
     schema: &'v str,
     version: &'v str,
-    runs: Vec<Run<'v>>,
+    runs: Vec<SarifRun<'v>>,
 }
 
 /// A run of a tool.
 #[derive(Drop, Serialize)]
-struct Run<'v> {
+struct SarifRun<'v> {
     tool: Tool<'v>,
-    results: Vec<Outcome<'v>>,
-    properties: Counts,
+    results: Vec<SarifResult<'v>>,
+    properties: SarifCounts,
 }
 
 /// What isn't reported, by its number.
 #[derive(Drop, Serialize)]
-struct Counts {
+struct SarifCounts {
     more: usize,
     accepted: usize,
 }
@@ -56,13 +56,13 @@ struct Tool<'v> {
 struct Driver<'v> {
     name: &'v str,
     version: &'v str,
-    rules: Vec<RuleEntry<'v>>,
+    rules: Vec<SarifRule<'v>>,
 }
 
 /// A rule.
 #[derive(Drop, Serialize)]
 #[serde(rename_all = "camelCase")]
-struct RuleEntry<'v> {
+struct SarifRule<'v> {
     id: &'v str,
     short_description: Words<'v>,
     help: Words<'v>,
@@ -93,7 +93,7 @@ struct Words<'v> {
 /// A finding.
 #[derive(Drop, Serialize)]
 #[serde(rename_all = "camelCase")]
-struct Outcome<'v> {
+struct SarifResult<'v> {
     rule_id: &'v str,
     level: &'v str,
     message: Message,
@@ -175,7 +175,7 @@ struct FlowLocation {
 pub fn sarif_report(
     alloc: Global,
     verdict: &Verdict,
-    names: Names<'_>,
+    names: FileNames<'_>,
 ) -> Result<String, AllocError> {
     let run = run_of(alloc, verdict, names)?;
     let mut runs = Vec::new(alloc);
@@ -192,15 +192,15 @@ pub fn sarif_report(
 fn run_of<'v>(
     alloc: Global,
     verdict: &'v Verdict,
-    names: Names<'_>,
-) -> Result<Run<'v>, AllocError> {
+    names: FileNames<'_>,
+) -> Result<SarifRun<'v>, AllocError> {
     let mut results = Vec::new(alloc);
-    for severity in Severity::ALL {
+    for severity in FindingSeverity::ALL {
         for finding in verdict.findings_of(severity) {
             results.push(outcome_of(alloc, severity, finding, names)?)?;
         }
     }
-    Ok(Run {
+    Ok(SarifRun {
         tool: Tool {
             driver: Driver {
                 name: TOOL,
@@ -209,7 +209,7 @@ fn run_of<'v>(
             },
         },
         results,
-        properties: Counts {
+        properties: SarifCounts {
             more: verdict.more(),
             accepted: verdict.accepted,
         },
@@ -217,10 +217,10 @@ fn run_of<'v>(
 }
 
 /// The rules.
-fn rules_of<'v>(alloc: Global) -> Result<Vec<RuleEntry<'v>>, AllocError> {
+fn rules_of<'v>(alloc: Global) -> Result<Vec<SarifRule<'v>>, AllocError> {
     let mut rules = Vec::new(alloc);
     for rule in Rule::ALL {
-        rules.push(RuleEntry {
+        rules.push(SarifRule {
             id: rule.id(),
             short_description: Words {
                 text: rule.summary(),
@@ -241,10 +241,10 @@ fn rules_of<'v>(alloc: Global) -> Result<Vec<RuleEntry<'v>>, AllocError> {
 /// A finding.
 fn outcome_of<'v>(
     alloc: Global,
-    severity: Severity,
+    severity: FindingSeverity,
     finding: &'v Finding,
-    names: Names<'_>,
-) -> Result<Outcome<'v>, AllocError> {
+    names: FileNames<'_>,
+) -> Result<SarifResult<'v>, AllocError> {
     let (text, place) = (finding.text, finding.place);
     let mut locations = Vec::new(alloc);
     locations.push(location_of(alloc, names, text, place, None)?)?;
@@ -259,7 +259,7 @@ fn outcome_of<'v>(
     if !finding.chain.is_empty() {
         code_flows.push(flow_of(alloc, finding.chain.as_slice(), names)?)?;
     }
-    Ok(Outcome {
+    Ok(SarifResult {
         rule_id: finding.rule.id(),
         level: severity.word(),
         message: Message {
@@ -307,7 +307,11 @@ fn push_literal(text: &mut String, literal: &str) -> Result<(), AllocError> {
 }
 
 /// The steps to a finding, as a way.
-fn flow_of(alloc: Global, chain: &[Step], names: Names<'_>) -> Result<CodeFlow, AllocError> {
+fn flow_of(
+    alloc: Global,
+    chain: &[ChainStep],
+    names: FileNames<'_>,
+) -> Result<CodeFlow, AllocError> {
     let mut locations = Vec::new(alloc);
     for location in steps_of(alloc, chain, names)? {
         locations.push(FlowLocation { location })?;
@@ -318,14 +322,18 @@ fn flow_of(alloc: Global, chain: &[Step], names: Names<'_>) -> Result<CodeFlow, 
 }
 
 /// The places of the steps to a finding, with what is said of each.
-fn steps_of(alloc: Global, chain: &[Step], names: Names<'_>) -> Result<Vec<Location>, AllocError> {
+fn steps_of(
+    alloc: Global,
+    chain: &[ChainStep],
+    names: FileNames<'_>,
+) -> Result<Vec<Location>, AllocError> {
     let mut locations = Vec::new(alloc);
     for step in chain {
         let told = step_text(alloc, names, step)?;
         let mut text = String::new(alloc);
         push_literal(&mut text, told.as_str())?;
         let message = Some(Message { text });
-        locations.push(location_of(alloc, names, TextKind::Program, step.place, message)?)?;
+        locations.push(location_of(alloc, names, JudgedText::Program, step.place, message)?)?;
     }
     Ok(locations)
 }
@@ -333,8 +341,8 @@ fn steps_of(alloc: Global, chain: &[Step], names: Names<'_>) -> Result<Vec<Locat
 /// A place of a text, or what it stands for in the other one.
 fn location_of(
     alloc: Global,
-    names: Names<'_>,
-    text: TextKind,
+    names: FileNames<'_>,
+    text: JudgedText,
     place: Option<TextPlace>,
     message: Option<Message>,
 ) -> Result<Location, AllocError> {
@@ -345,8 +353,8 @@ fn location_of(
 /// A place of the program, where it isn't the place that is told.
 fn own_location(
     alloc: Global,
-    names: Names<'_>,
-    text: TextKind,
+    names: FileNames<'_>,
+    text: JudgedText,
     place: Option<TextPlace>,
 ) -> Result<Location, AllocError> {
     let message = Message {

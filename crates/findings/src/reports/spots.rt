@@ -1,30 +1,30 @@
 //! Where something stands: in a text that is judged, or in the one from which a tool wrote the program.
 
-use crate::reports::names::Names;
-use crate::{Step, TextKind, TextPlace};
+use crate::reports::names::FileNames;
+use crate::{ChainStep, JudgedText, TextPlace};
 use diagnostics::Printed;
 use std::alloc::{AllocError, Global};
 use text_places::Place;
 
 /// What this place of a text stands for in the other text, where that is known.
 pub fn origin<'n>(
-    names: Names<'n>,
-    text: TextKind,
+    names: FileNames<'n>,
+    text: JudgedText,
     place: Option<TextPlace>,
 ) -> Option<&'n Place<'n>> {
     match text {
-        TextKind::Program => {
+        JudgedText::Program => {
             let TextPlace { line, column } = place?;
             names.places?.at(line, column)
         }
-        TextKind::Certificate => None,
+        JudgedText::Certificate => None,
     }
 }
 
 /// The file and the place that are told of this place of a text: those in the other text, where they are known.
 pub fn told_at<'n>(
-    names: Names<'n>,
-    text: TextKind,
+    names: FileNames<'n>,
+    text: JudgedText,
     place: Option<TextPlace>,
 ) -> (&'n [u8], Option<TextPlace>) {
     match origin(names, text, place) {
@@ -38,8 +38,12 @@ pub fn told_at<'n>(
 
 /// What is said of a step: of one that stands in the other text, by the words that stand there, and under which conditions it is
 /// made; else what is said in the program.
-pub fn step_text(alloc: Global, names: Names<'_>, step: &Step) -> Result<String, AllocError> {
-    let Some(place) = origin(names, TextKind::Program, step.place) else {
+pub fn step_text(
+    alloc: Global,
+    names: FileNames<'_>,
+    step: &ChainStep,
+) -> Result<String, AllocError> {
+    let Some(place) = origin(names, JudgedText::Program, step.place) else {
         return String::from_str(alloc, step.message.as_str());
     };
     let mut text = if place.words.is_empty() {

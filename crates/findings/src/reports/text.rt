@@ -1,8 +1,8 @@
 //! A verdict as lines, as compilers write them.
 
-use crate::reports::names::Names;
+use crate::reports::names::FileNames;
 use crate::reports::spots::{step_text, told_at};
-use crate::{Finding, Severity, Step, TextKind, TextPlace, Verdict};
+use crate::{ChainStep, Finding, FindingSeverity, JudgedText, TextPlace, Verdict};
 use diagnostics::Printed;
 use std::alloc::{AllocError, Global};
 
@@ -14,10 +14,10 @@ const MOST_STEPS: usize = 12;
 pub fn text_report(
     alloc: Global,
     verdict: &Verdict,
-    names: Names<'_>,
+    names: FileNames<'_>,
 ) -> Result<String, AllocError> {
     let mut text = String::new(alloc);
-    for severity in Severity::ALL {
+    for severity in FindingSeverity::ALL {
         for finding in verdict.findings_of(severity) {
             push_finding(&mut text, alloc, severity, finding, names)?;
         }
@@ -30,9 +30,9 @@ pub fn text_report(
 fn push_finding(
     text: &mut String,
     alloc: Global,
-    severity: Severity,
+    severity: FindingSeverity,
     finding: &Finding,
-    names: Names<'_>,
+    names: FileNames<'_>,
 ) -> Result<(), AllocError> {
     let severity = severity.word();
     let message = finding.message.as_str();
@@ -47,7 +47,7 @@ pub fn push_below(
     text: &mut String,
     alloc: Global,
     finding: &Finding,
-    names: Names<'_>,
+    names: FileNames<'_>,
 ) -> Result<(), AllocError> {
     for step in finding.chain.iter().take(MOST_STEPS) {
         push_step(text, alloc, step, names)?;
@@ -67,10 +67,10 @@ pub fn push_below(
 fn push_step(
     text: &mut String,
     alloc: Global,
-    step: &Step,
-    names: Names<'_>,
+    step: &ChainStep,
+    names: FileNames<'_>,
 ) -> Result<(), AllocError> {
-    push_place(text, names, TextKind::Program, step.place)?;
+    push_place(text, names, JudgedText::Program, step.place)?;
     let message = step_text(alloc, names, step)?;
     writeln!(text, " note: {message}")
 }
@@ -78,8 +78,8 @@ fn push_step(
 /// Adds a place in a text, or what it stands for in another one.
 fn push_place(
     text: &mut String,
-    names: Names<'_>,
-    kind: TextKind,
+    names: FileNames<'_>,
+    kind: JudgedText,
     place: Option<TextPlace>,
 ) -> Result<(), AllocError> {
     let (name, place) = told_at(names, kind, place);
@@ -92,9 +92,9 @@ fn push_place(
 
 /// Adds how many findings there are, of which severities where not all are errors, and how many are accepted.
 fn push_count(text: &mut String, verdict: &Verdict) -> Result<(), AllocError> {
-    let errors = verdict.findings_of(Severity::Error).len();
-    let warnings = verdict.findings_of(Severity::Warning).len();
-    let notes = verdict.findings_of(Severity::Note).len();
+    let errors = verdict.findings_of(FindingSeverity::Error).len();
+    let warnings = verdict.findings_of(FindingSeverity::Warning).len();
+    let notes = verdict.findings_of(FindingSeverity::Note).len();
     let others = warnings.saturating_add(notes);
     match errors.saturating_add(others) {
         0 => text.push_str("no findings")?,
@@ -103,7 +103,7 @@ fn push_count(text: &mut String, verdict: &Verdict) -> Result<(), AllocError> {
     }
     if others > 0 {
         let mut joint = ": ";
-        for severity in Severity::ALL {
+        for severity in FindingSeverity::ALL {
             let count = verdict.findings_of(severity).len();
             let word = severity.word();
             if count > 0 {

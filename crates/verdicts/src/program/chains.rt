@@ -4,7 +4,7 @@ use crate::program::places::Located;
 use crate::program::search::Search;
 use crate::program::walks::{marks, set_mark};
 use effect_scan::Node;
-use findings::{Finding, Rule, TextKind, Verdict};
+use findings::{Finding, JudgedText, Rule, Verdict};
 use program_flaws::node_text;
 use rank_check::MOST_BOUND;
 use std::alloc::AllocError;
@@ -50,7 +50,7 @@ fn chain_finding(located: Located<'_>, nodes: &[Node]) -> Result<Finding, AllocE
         rule: Rule::ChainTooLong,
         message,
         help,
-        text: TextKind::Program,
+        text: JudgedText::Program,
         place,
         chain: located.steps(nodes)?,
     })

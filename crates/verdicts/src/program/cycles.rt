@@ -5,7 +5,7 @@ use crate::program::search::Search;
 use crate::program::sentences::push_names;
 use crate::program::walks::{Graph, knots, knots_of_nodes};
 use effect_scan::{Member, Node};
-use findings::{Edge, Finding, Link, PlacedEdge, Rule, Step, TextKind, TextPlace, Verdict};
+use findings::{ChainStep, Edge, Finding, JudgedText, Link, PlacedEdge, Rule, TextPlace, Verdict};
 use program_flaws::{breaking, node_text};
 use std::alloc::AllocError;
 use std::collections::BTreeSet;
@@ -185,7 +185,7 @@ impl Told<'_> {
         let help = Some(String::from_str(alloc, advice)?);
         // Where others are accepted it is told by the edge that isn't.
         let place = if self.has_accepted {
-            chain.first().and_then(|step: &Step| step.place)
+            chain.first().and_then(|step: &ChainStep| step.place)
         } else {
             place_in(chain.as_slice())
         };
@@ -193,7 +193,7 @@ impl Told<'_> {
             rule: Rule::Cycle,
             message: cycle_text(located, cycle, self.knot.len())?,
             help,
-            text: TextKind::Program,
+            text: JudgedText::Program,
             place,
             chain,
         })
@@ -220,8 +220,10 @@ fn cycle_text(located: Located<'_>, cycle: &[Node], members: usize) -> Result<St
 }
 
 /// Where a cycle is reported: at its first wire, where it has one.
-fn place_in(chain: &[Step]) -> Option<TextPlace> {
-    let wire = chain.iter().find(|step: &&Step| step.link == Link::Wire);
+fn place_in(chain: &[ChainStep]) -> Option<TextPlace> {
+    let wire = chain
+        .iter()
+        .find(|step: &&ChainStep| step.link == Link::Wire);
     match wire {
         Some(step) => step.place,
         None => chain.first()?.place,
@@ -229,6 +231,6 @@ fn place_in(chain: &[Step]) -> Option<TextPlace> {
 }
 
 /// Whether one of the steps is of this sort.
-fn has_link(chain: &[Step], link: Link) -> bool {
-    chain.iter().any(|step: &Step| step.link == link)
+fn has_link(chain: &[ChainStep], link: Link) -> bool {
+    chain.iter().any(|step: &ChainStep| step.link == link)
 }

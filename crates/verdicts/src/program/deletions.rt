@@ -6,7 +6,7 @@ use crate::program::search::Search;
 use crate::program::walks::{Hops, marks};
 use edge_reasons::{Reason, reason_for};
 use effect_scan::{Member, Node, row_at};
-use findings::{Finding, Rule, Step, TextKind, Verdict};
+use findings::{ChainStep, Finding, JudgedText, Rule, Verdict};
 use meta_model::{DESTROYED, Meta, Work};
 use program_flaws::{class_text, node_text};
 use std::alloc::AllocError;
@@ -244,7 +244,7 @@ fn destroy_path(located: Located<'_>, members: &Members) -> Result<Finding, Allo
         rule: Rule::DestroyPath,
         message,
         help,
-        text: TextKind::Program,
+        text: JudgedText::Program,
         place,
         chain: located.steps(members.way.as_slice())?,
     })
@@ -269,7 +269,7 @@ fn lost_sender(located: Located<'_>, members: &Members) -> Result<Finding, Alloc
         )?;
     }
     let chain = located.steps(members.way.as_slice())?;
-    let place = chain.last().and_then(|step: &Step| step.place);
+    let place = chain.last().and_then(|step: &ChainStep| step.place);
     let help = Some(String::from_str(
         alloc,
         "write `later` in the place of `delete`, or make a wire on the way `queued`: then the deletion waits until the signal was emitted",
@@ -278,7 +278,7 @@ fn lost_sender(located: Located<'_>, members: &Members) -> Result<Finding, Alloc
         rule: Rule::SenderDeleted,
         message,
         help,
-        text: TextKind::Program,
+        text: JudgedText::Program,
         place,
         chain,
     })

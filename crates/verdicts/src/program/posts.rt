@@ -5,7 +5,7 @@ use crate::program::search::Search;
 use crate::program::walks::Graph;
 use basic_types::Kind;
 use effect_scan::{Member, Node, Scan, named};
-use findings::{Link, Step, TextPlace};
+use findings::{ChainStep, Link, TextPlace};
 use meta_model::{Meta, MetaPath, MetaRoot, MetaWire, Statement};
 use program_flaws::{OwnSlot, node_text, wire_text};
 use std::alloc::{AllocError, Global};
@@ -165,7 +165,11 @@ impl Posts {
     }
 
     /// The steps along these nodes, of which some may post.
-    pub fn steps(&self, search: Search<'_>, numbers: &[usize]) -> Result<Vec<Step>, AllocError> {
+    pub fn steps(
+        &self,
+        search: Search<'_>,
+        numbers: &[usize],
+    ) -> Result<Vec<ChainStep>, AllocError> {
         let mut steps = Vec::new(self.graph.alloc);
         let mut last: Option<Node> = None;
         let mut posted: Option<Post> = None;
@@ -299,7 +303,7 @@ pub fn step(
     from: Node,
     to: Node,
     posted: Option<Post>,
-) -> Result<Step, AllocError> {
+) -> Result<ChainStep, AllocError> {
     let Some(post) = posted else {
         return located.step(from, to);
     };
@@ -317,7 +321,7 @@ pub fn step(
         }
         Post::Later(_) => message.push_str("its body schedules the deletion by `later`")?,
     }
-    Ok(Step {
+    Ok(ChainStep {
         from: first,
         to: second,
         link: match post {

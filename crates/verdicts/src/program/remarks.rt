@@ -7,7 +7,7 @@ use crate::program::posts::Posts;
 use crate::program::search::Search;
 use crate::program::turns::{add_queued_cycles, add_re_entries};
 use diagnostics::TextPlace;
-use findings::{Finding, Rule, TextKind};
+use findings::{Finding, JudgedText, Rule};
 use program_flaws::{Warning, warning_text, warnings};
 use std::alloc::AllocError;
 
@@ -36,7 +36,7 @@ fn warning_finding(located: Located<'_>, warning: &Warning) -> Result<Finding, A
         rule,
         message: warning_text(alloc, located.source.meta, warning)?,
         help: Some(String::from_str(alloc, rule.help())?),
-        text: TextKind::Program,
+        text: JudgedText::Program,
         place: place_of(located, warning),
         chain: Vec::new(alloc),
     })

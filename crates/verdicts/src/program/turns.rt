@@ -4,7 +4,7 @@ use crate::program::posts::Posts;
 use crate::program::search::Search;
 use crate::program::walks::{knots, marks};
 use effect_scan::{Member, Node};
-use findings::{Finding, Rule, Step, TextKind, TextPlace};
+use findings::{ChainStep, Finding, JudgedText, Rule, TextPlace};
 use program_flaws::node_text;
 use std::alloc::AllocError;
 use std::collections::BTreeSet;
@@ -76,7 +76,7 @@ fn queued_cycle(
             "`{name}` may lead back to itself through an event loop, and so go on for as long as that runs"
         )?;
     }
-    let place = chain.first().and_then(|step: &Step| step.place);
+    let place = chain.first().and_then(|step: &ChainStep| step.place);
     remark(search, Rule::QueuedCycle, message, place, chain)
 }
 
@@ -86,13 +86,13 @@ pub fn remark(
     rule: Rule,
     message: String,
     place: Option<TextPlace>,
-    chain: Vec<Step>,
+    chain: Vec<ChainStep>,
 ) -> Result<Finding, AllocError> {
     Ok(Finding {
         rule,
         message,
         help: Some(String::from_str(search.located.source.alloc, rule.help())?),
-        text: TextKind::Program,
+        text: JudgedText::Program,
         place,
         chain,
     })

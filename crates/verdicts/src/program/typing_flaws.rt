@@ -5,7 +5,7 @@ use crate::program::sentences::Told;
 use basic_types::fits;
 use diagnostics::TextPlace;
 use effect_scan::Node;
-use findings::{Finding, Rule, TextKind, Verdict};
+use findings::{Finding, JudgedText, Rule, Verdict};
 use meta_model::{Meta, MetaWire};
 use program_flaws::{flaw_text, unfit_text};
 use std::alloc::AllocError;
@@ -90,7 +90,7 @@ fn finding(
         rule,
         message: told.message,
         help: told.help,
-        text: TextKind::Program,
+        text: JudgedText::Program,
         place,
         chain: Vec::new(located.source.alloc),
     })

@@ -4,7 +4,7 @@ use crate::program::places::places::Places;
 use diagnostics::TextPlace;
 use edge_reasons::{Reason, reason_for};
 use effect_scan::{Member, Node};
-use findings::{Levels, Link, Step};
+use findings::{ChainStep, Levels, Link};
 use program_flaws::{Source, node_text, push_edge};
 use std::alloc::AllocError;
 
@@ -140,11 +140,11 @@ impl<'s> Located<'s> {
     }
 
     /// The step from the one node to the other, to which it leads.
-    pub fn step(&self, from: Node, to: Node) -> Result<Step, AllocError> {
+    pub fn step(&self, from: Node, to: Node) -> Result<ChainStep, AllocError> {
         let alloc = self.source.alloc;
         let mut line = String::new(alloc);
         let reason = push_edge(&mut line, self.source, from, to)?.unwrap_or(Reason::Deletion);
-        Ok(Step {
+        Ok(ChainStep {
             from: node_text(alloc, self.source.meta, from)?,
             to: node_text(alloc, self.source.meta, to)?,
             link: Link::of(reason),
@@ -155,7 +155,7 @@ impl<'s> Located<'s> {
     }
 
     /// The steps from each of the nodes to the one behind it.
-    pub fn steps(&self, nodes: &[Node]) -> Result<Vec<Step>, AllocError> {
+    pub fn steps(&self, nodes: &[Node]) -> Result<Vec<ChainStep>, AllocError> {
         let mut steps = Vec::new(self.source.alloc);
         for (from, to) in nodes.iter().zip(nodes.iter().skip(1)) {
             steps.push(self.step(*from, *to)?)?;
