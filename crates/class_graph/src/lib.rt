@@ -25,7 +25,7 @@ use findings::Levels;
 use meta_model::Meta;
 pub use part::Part;
 use program_commands::load_program;
-use program_flaws::{Source, declarations_of};
+use program_flaws::{ProgramSource, declarations_of};
 use std::alloc::Global;
 use text_places::TextPlaces;
 use verdicts::{Located, Places};
@@ -97,7 +97,7 @@ fn told_text<'x>(
     places: &'x TextPlaces<'x>,
 ) -> Result<String, PartFault> {
     let located = Located {
-        source: Source {
+        source: ProgramSource {
             alloc,
             program,
             meta,

@@ -5,7 +5,7 @@ use crate::ill_typed::untyped_text;
 use crate::names::{class_text, node_text, text_of};
 use crate::node_name::node_name_text;
 use crate::rows::{cause_place, line_place};
-use crate::source::Source;
+use crate::source::ProgramSource;
 use crate::wire::unfit_text;
 use effect_scan::{Node, Numbering};
 use rank_check::{
@@ -17,7 +17,7 @@ use std::alloc::AllocError;
 #[derive(Clone, Copy)]
 struct Compared<'s> {
     /// The program.
-    source: Source<'s>,
+    source: ProgramSource<'s>,
     /// Its nodes, in their order.
     nodes: &'s [Node],
     /// The text of the certificate.
@@ -29,7 +29,7 @@ struct Compared<'s> {
 /// What of the program or the certificate breaks a condition, for a person, in whole lines; the certificate has this text.
 /// The error is that memory was refused, which may be what the cause says.
 pub fn cause_text(
-    source: Source<'_>,
+    source: ProgramSource<'_>,
     text: &[u8],
     certificate: &Certificate,
     cause: Cause,

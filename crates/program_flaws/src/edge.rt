@@ -5,7 +5,7 @@ ghost use Rattle.effect_scan.specs.Edges.{MayLead};
 ghost use Rattle.edge_reasons.specs.Reasons.{Draws};
 
 use crate::names::{class_text, node_text, text_of};
-use crate::source::Source;
+use crate::source::ProgramSource;
 use crate::statement::statement_of;
 use crate::wire::wire_at;
 use edge_reasons::{Reason, reason_for};
@@ -15,7 +15,7 @@ use std::alloc::AllocError;
 /// Adds a line that says what draws the edge from one node to the other, and answers it: none only where there is no edge.
 pub fn push_edge(
     text: &mut String,
-    source: Source<'_>,
+    source: ProgramSource<'_>,
     from: Node,
     to: Node,
 ) -> Result<Option<Reason>, AllocError>
@@ -36,7 +36,7 @@ pub fn push_edge(
 /// Adds what draws an edge.
 fn push_reason(
     text: &mut String,
-    source: Source<'_>,
+    source: ProgramSource<'_>,
     reason: Reason,
     from: Node,
     to: Node,
@@ -57,7 +57,7 @@ fn push_reason(
 /// Adds the statement of this number in the body of the slot that the node is.
 fn push_statement(
     text: &mut String,
-    source: Source<'_>,
+    source: ProgramSource<'_>,
     number: usize,
     from: Node,
 ) -> Result<(), AllocError> {
@@ -69,7 +69,11 @@ fn push_statement(
 }
 
 /// Adds the binding at this place.
-fn push_binding(text: &mut String, source: Source<'_>, place: usize) -> Result<(), AllocError> {
+fn push_binding(
+    text: &mut String,
+    source: ProgramSource<'_>,
+    place: usize,
+) -> Result<(), AllocError> {
     if let Some(site) = source.meta.site_at(place) {
         let name = text_of(source.alloc, site.name.bytes())?;
         write!(text, "the binding `{name}` reads it")?;
@@ -80,7 +84,7 @@ fn push_binding(text: &mut String, source: Source<'_>, place: usize) -> Result<(
 /// Adds that objects of one class may be deleted with one of the other: as its children, or as the children of what it owns.
 fn push_deletion(
     text: &mut String,
-    source: Source<'_>,
+    source: ProgramSource<'_>,
     from: Node,
     to: Node,
 ) -> Result<(), AllocError> {

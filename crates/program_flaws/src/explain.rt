@@ -1,7 +1,7 @@
 //! What a no is about, for a person.
 
 use crate::compared::cause_text;
-use crate::source::{Source, declarations_of};
+use crate::source::{ProgramSource, declarations_of};
 use rank_check::Denied;
 use std::alloc::{AllocError, Global};
 
@@ -18,7 +18,7 @@ pub fn broken_condition(
     let Some(tree) = declarations_of(alloc, program)? else {
         return Ok(None);
     };
-    let source = Source {
+    let source = ProgramSource {
         alloc,
         program: &tree,
         meta: denied.meta(),

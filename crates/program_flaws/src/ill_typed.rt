@@ -1,8 +1,8 @@
 //! Literals, bodies and bindings that aren't typed.
 
 use crate::names::{class_text, node_text, property_text, text_of, type_text};
-use crate::source::Source;
-use crate::statement::{Body, statement_of};
+use crate::source::ProgramSource;
+use crate::statement::{BodyContext, statement_of};
 use effect_scan::{Member, Node};
 use meta_model::Statement;
 use statement_order::Numbered;
@@ -10,7 +10,7 @@ use std::alloc::AllocError;
 use type_check::{Flaw, Spot, flaw_at};
 
 /// What isn't typed at the spot, and what has to be of which type; nothing where all is typed there.
-pub fn untyped_text(source: Source<'_>, spot: Spot) -> Result<String, AllocError> {
+pub fn untyped_text(source: ProgramSource<'_>, spot: Spot) -> Result<String, AllocError> {
     match flaw_at(source.alloc, source.meta, spot)? {
         Some(flaw) => flaw_text(source, spot, flaw),
         None => Ok(String::new(source.alloc)),
@@ -18,7 +18,7 @@ pub fn untyped_text(source: Source<'_>, spot: Spot) -> Result<String, AllocError
 }
 
 /// The same of this flaw, which is the spot's.
-pub fn flaw_text(source: Source<'_>, spot: Spot, flaw: Flaw) -> Result<String, AllocError> {
+pub fn flaw_text(source: ProgramSource<'_>, spot: Spot, flaw: Flaw) -> Result<String, AllocError> {
     match spot {
         Spot::Node(node) => match node.member {
             Member::Method(_) => body_text(source, node, flaw.statement),
@@ -30,7 +30,11 @@ pub fn flaw_text(source: Source<'_>, spot: Spot, flaw: Flaw) -> Result<String, A
 }
 
 /// A property whose value at first isn't of its type.
-fn literal_text(source: Source<'_>, node: Node, property: usize) -> Result<String, AllocError> {
+fn literal_text(
+    source: ProgramSource<'_>,
+    node: Node,
+    property: usize,
+) -> Result<String, AllocError> {
     let alloc = source.alloc;
     let name = node_text(alloc, source.meta, node)?;
     let kind = declared_text(source, node.class, property)?;
@@ -40,7 +44,11 @@ fn literal_text(source: Source<'_>, node: Node, property: usize) -> Result<Strin
 }
 
 /// The type that a property is declared with.
-fn declared_text(source: Source<'_>, class: usize, property: usize) -> Result<String, AllocError> {
+fn declared_text(
+    source: ProgramSource<'_>,
+    class: usize,
+    property: usize,
+) -> Result<String, AllocError> {
     if let Some(object) = source.meta.object(class) {
         if let Some(found) = object.property(property) {
             return type_text(source.alloc, &found.declared);
@@ -50,7 +58,7 @@ fn declared_text(source: Source<'_>, class: usize, property: usize) -> Result<St
 }
 
 /// A binding whose expression isn't of its target's type.
-fn binding_text(source: Source<'_>, place: usize) -> Result<String, AllocError> {
+fn binding_text(source: ProgramSource<'_>, place: usize) -> Result<String, AllocError> {
     let alloc = source.alloc;
     let Some(site) = source.meta.site_at(place) else {
         return Ok(String::new(alloc));
@@ -66,7 +74,7 @@ fn binding_text(source: Source<'_>, place: usize) -> Result<String, AllocError> 
 
 /// A slot whose body isn't typed: the statement of this number, which is the first that isn't.
 fn body_text(
-    source: Source<'_>,
+    source: ProgramSource<'_>,
     node: Node,
     statement: Option<usize>,
 ) -> Result<String, AllocError> {
@@ -80,7 +88,11 @@ fn body_text(
 }
 
 /// That the statement isn't typed, which is one of the node's body.
-fn statement_text(body: Body<'_>, node: Node, flawed: Numbered<'_>) -> Result<String, AllocError> {
+fn statement_text(
+    body: BodyContext<'_>,
+    node: Node,
+    flawed: Numbered<'_>,
+) -> Result<String, AllocError> {
     let alloc = body.source.alloc;
     let name = node_text(alloc, body.source.meta, node)?;
     let number = flawed.place.saturating_add(1);

@@ -24,6 +24,6 @@ pub use ill_typed::{flaw_text, untyped_text};
 pub use names::{class_text, node_text, property_text, sig_text, text_of};
 pub use reasons::{breaking, missing_certificate};
 pub use rows::cause_place;
-pub use source::{Source, declarations_of, declaring_class, meta_of};
+pub use source::{ProgramSource, declarations_of, declaring_class, meta_of};
 pub use warned::{OwnSlot, Ranked, Warning, Yes, told_beside, warning_text, warnings};
 pub use wire::{unfit_text, wire_text};

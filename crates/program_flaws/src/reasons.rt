@@ -3,7 +3,7 @@
 use crate::edge::push_edge;
 use crate::ill_typed::untyped_text;
 use crate::names::class_text;
-use crate::source::{Source, declarations_of};
+use crate::source::{ProgramSource, declarations_of};
 use crate::wire::unfit_text;
 use edge_reasons::{Reason, reason_for};
 use effect_scan::{Member, Node};
@@ -26,7 +26,7 @@ pub fn missing_certificate(
     let Some(tree) = declarations_of(alloc, program)? else {
         return Ok(None);
     };
-    let source = Source {
+    let source = ProgramSource {
         alloc,
         program: &tree,
         meta,
@@ -36,7 +36,7 @@ pub fn missing_certificate(
 }
 
 /// What this reason is about.
-fn why_text(source: Source<'_>, why: &Why) -> Result<String, AllocError> {
+fn why_text(source: ProgramSource<'_>, why: &Why) -> Result<String, AllocError> {
     match why {
         Why::Wire(place) => unfit_text(source, *place),
         Why::BodyType(spot) => untyped_text(source, *spot),
@@ -48,7 +48,7 @@ fn why_text(source: Source<'_>, why: &Why) -> Result<String, AllocError> {
 }
 
 /// What leads from each member of a cycle to the next one, how to break it, and whether it may come to rest.
-fn cycle_text(source: Source<'_>, nodes: &[Node]) -> Result<String, AllocError> {
+fn cycle_text(source: ProgramSource<'_>, nodes: &[Node]) -> Result<String, AllocError> {
     let mut text = String::new(source.alloc);
     let links = push_chain(&mut text, source, nodes)?;
     let advice = breaking(links.wired, links.bound);
@@ -78,7 +78,7 @@ fn is_property(node: &Node) -> bool {
 }
 
 /// What leads from each member of a path to the next one, and why it ends with the object's own deletion.
-fn destroy_text(source: Source<'_>, nodes: &[Node]) -> Result<String, AllocError> {
+fn destroy_text(source: ProgramSource<'_>, nodes: &[Node]) -> Result<String, AllocError> {
     let mut text = String::new(source.alloc);
     push_chain(&mut text, source, nodes)?;
     if let (Some(first), Some(last)) = (nodes.first(), nodes.last()) {
@@ -98,7 +98,7 @@ fn destroy_text(source: Source<'_>, nodes: &[Node]) -> Result<String, AllocError
 }
 
 /// What leads from each member of a long chain to the next one, and how to break it.
-fn high_text(source: Source<'_>, nodes: &[Node]) -> Result<String, AllocError> {
+fn high_text(source: ProgramSource<'_>, nodes: &[Node]) -> Result<String, AllocError> {
     let mut text = String::new(source.alloc);
     push_chain(&mut text, source, nodes)?;
     text.push_str(
@@ -117,7 +117,11 @@ struct Links {
 }
 
 /// Adds what leads from each node to the next one, for the first of them, and answers what does so of all.
-fn push_chain(text: &mut String, source: Source<'_>, nodes: &[Node]) -> Result<Links, AllocError> {
+fn push_chain(
+    text: &mut String,
+    source: ProgramSource<'_>,
+    nodes: &[Node],
+) -> Result<Links, AllocError> {
     let mut links = Links {
         wired: false,
         bound: false,

@@ -9,7 +9,7 @@ use syntax_trees::{Class, Program, Slot};
 
 /// A program that loads.
 #[derive(Clone, Copy)]
-pub struct Source<'s> {
+pub struct ProgramSource<'s> {
     /// What memory is taken from.
     pub alloc: Global,
     /// Its declarations, with the names of parameters.
@@ -18,7 +18,7 @@ pub struct Source<'s> {
     pub meta: &'s Meta,
 }
 
-impl<'s> Source<'s> {
+impl<'s> ProgramSource<'s> {
     /// The class that declares the method which the class of this number has.
     pub fn declaring(&self, class: usize, method: usize) -> usize {
         declaring_class(self.meta, class, method)

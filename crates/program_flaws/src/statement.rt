@@ -1,7 +1,7 @@
 //! How a statement is written, with `..` in the place of its expressions.
 
 use crate::names::{method_text, property_text, text_of};
-use crate::source::Source;
+use crate::source::ProgramSource;
 use effect_scan::{Member, Node};
 use meta_model::{MetaMethod, MetaPath, MetaRoot, Statement, ValueType, Work};
 use statement_order::{Numbered, statement_at};
@@ -10,9 +10,9 @@ use syntax_trees::Slot;
 
 /// Where a statement stands.
 #[derive(Clone, Copy)]
-pub struct Body<'s> {
+pub struct BodyContext<'s> {
     /// The program.
-    pub source: Source<'s>,
+    pub source: ProgramSource<'s>,
     /// The class that declares the slot.
     pub class: usize,
     /// The types of the slot's parameters.
@@ -23,10 +23,10 @@ pub struct Body<'s> {
 
 /// The statement of this number in the body of the slot that the node is, and where it stands.
 pub fn statement_of<'s>(
-    source: Source<'s>,
+    source: ProgramSource<'s>,
     node: Node,
     number: usize,
-) -> Option<(Body<'s>, Numbered<'s>)> {
+) -> Option<(BodyContext<'s>, Numbered<'s>)> {
     let Member::Method(method) = node.member else {
         return None;
     };
@@ -35,7 +35,7 @@ pub fn statement_of<'s>(
         return None;
     };
     let numbered = statement_at(statements.as_slice(), number)?;
-    let body = Body {
+    let body = BodyContext {
         source,
         class: source.declaring(node.class, method),
         kinds: found.kinds.as_slice(),
@@ -51,7 +51,7 @@ struct Spelled {
     class: Option<usize>,
 }
 
-impl<'s> Body<'s> {
+impl<'s> BodyContext<'s> {
     /// The statement as it is written, with `..` in the place of its expressions and of what is in it.
     pub fn statement_text(&self, statement: &Statement) -> Result<String, AllocError> {
         let alloc = self.source.alloc;

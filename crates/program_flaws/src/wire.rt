@@ -1,13 +1,13 @@
 //! Wires: how they are written, and why one doesn't fit.
 
 use crate::names::{class_text, sig_text, type_text};
-use crate::source::Source;
+use crate::source::ProgramSource;
 use basic_types::{Kind, Sig};
 use meta_model::{Meta, MetaWire};
 use std::alloc::{AllocError, Global};
 
 /// The wire at this place as it is declared, if there is one.
-pub fn wire_at(source: Source<'_>, place: usize) -> Result<String, AllocError> {
+pub fn wire_at(source: ProgramSource<'_>, place: usize) -> Result<String, AllocError> {
     match source.meta.wires().get(place) {
         Some(wire) => wire_text(source.alloc, source.meta, wire),
         None => Ok(String::new(source.alloc)),
@@ -41,7 +41,7 @@ fn kind_word(kind: Kind) -> &'static str {
 }
 
 /// Why the wire at this place, which is one whose method doesn't fit its signal, can't work.
-pub fn unfit_text(source: Source<'_>, place: usize) -> Result<String, AllocError> {
+pub fn unfit_text(source: ProgramSource<'_>, place: usize) -> Result<String, AllocError> {
     let number = place.saturating_add(1);
     let wire = wire_at(source, place)?;
     let mut text = format!(in source.alloc; "wire {number}, `{wire}`, can't work: ")?;
@@ -57,7 +57,7 @@ pub fn unfit_text(source: Source<'_>, place: usize) -> Result<String, AllocError
 /// Adds where the method of a wire takes something else than its signal gives.
 fn push_difference(
     text: &mut String,
-    source: Source<'_>,
+    source: ProgramSource<'_>,
     wire: &MetaWire,
 ) -> Result<(), AllocError> {
     let Some(signal) = source.meta.method_at(wire.sender, wire.signal) else {

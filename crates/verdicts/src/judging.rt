@@ -16,7 +16,7 @@ use findings::{Edge, Finding, FindingSeverity, LevelChange, Levels, PlacedEdge, 
 use meta_model::Meta;
 use meta_objects::FromProgram;
 use program_commands::{Outcome, Refusal, certify_outcome, check_outcome};
-use program_flaws::{Source, declarations_of};
+use program_flaws::{ProgramSource, declarations_of};
 use std::alloc::{AllocError, Global};
 use syntax_trees::Program;
 
@@ -153,7 +153,7 @@ fn remarks_by(
     };
     let places = Places::of(alloc, text)?;
     let located = Located {
-        source: Source {
+        source: ProgramSource {
             alloc,
             program: &program,
             meta,
@@ -334,7 +334,7 @@ fn gather(
     };
     let places = Places::of(alloc, texts.program)?;
     let located = Located {
-        source: Source {
+        source: ProgramSource {
             alloc,
             program: &program,
             meta: &meta,

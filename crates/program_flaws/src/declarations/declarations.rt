@@ -1,6 +1,6 @@
 //! Declarations by their places in a program.
 
-use crate::declarations::sentence::{Piece, push_pieces};
+use crate::declarations::sentence::{SentencePiece, push_pieces};
 use basic_types::Name;
 use class_outlines::{Declaration, Member};
 use std::alloc::{AllocError, Global};
@@ -8,7 +8,7 @@ use syntax_trees::{Class, Owns, Parameter, Program, Property, Signal, Site, Slot
 
 /// A declaration of a program.
 #[derive(Clone, Copy)]
-pub enum Declared<'a> {
+pub enum DeclarationRef<'a> {
     Class(&'a Class),
     /// A property of this class.
     Property(&'a Class, &'a Property),
@@ -22,33 +22,33 @@ pub enum Declared<'a> {
 }
 
 /// The declaration at this place of the program.
-pub fn declared_at(program: &Program, declaration: Declaration) -> Option<Declared<'_>> {
+pub fn declared_at(program: &Program, declaration: Declaration) -> Option<DeclarationRef<'_>> {
     let declared = match declaration {
-        Declaration::Class(number) => Declared::Class(program.classes.get(number)?),
+        Declaration::Class(number) => DeclarationRef::Class(program.classes.get(number)?),
         Declaration::Member(number, member) => member_at(program.classes.get(number)?, member)?,
-        Declaration::Wire(number) => Declared::Wire(program.wires.get(number)?),
-        Declaration::Owns(number) => Declared::Owns(program.owns.get(number)?),
-        Declaration::Site(number) => Declared::Site(program.sites.get(number)?),
+        Declaration::Wire(number) => DeclarationRef::Wire(program.wires.get(number)?),
+        Declaration::Owns(number) => DeclarationRef::Owns(program.owns.get(number)?),
+        Declaration::Site(number) => DeclarationRef::Site(program.sites.get(number)?),
     };
     Some(declared)
 }
 
 /// The member at this place of the class.
-fn member_at(class: &Class, member: Member) -> Option<Declared<'_>> {
+fn member_at(class: &Class, member: Member) -> Option<DeclarationRef<'_>> {
     let declared = match member {
-        Member::Property(place) => Declared::Property(class, class.properties.get(place)?),
-        Member::Signal(place) => Declared::Signal(class, class.signals.get(place)?),
-        Member::Slot(place) => Declared::Slot(class, class.slots.get(place)?),
+        Member::Property(place) => DeclarationRef::Property(class, class.properties.get(place)?),
+        Member::Signal(place) => DeclarationRef::Signal(class, class.signals.get(place)?),
+        Member::Slot(place) => DeclarationRef::Slot(class, class.slots.get(place)?),
     };
     Some(declared)
 }
 
-impl<'a> Declared<'a> {
+impl<'a> DeclarationRef<'a> {
     /// The parameters of a method.
     pub fn parameters(&self) -> &'a [Parameter] {
         match self {
-            Declared::Signal(_, signal) => signal.parameters.as_slice(),
-            Declared::Slot(_, slot) => slot.parameters.as_slice(),
+            DeclarationRef::Signal(_, signal) => signal.parameters.as_slice(),
+            DeclarationRef::Slot(_, slot) => slot.parameters.as_slice(),
             _ => &[],
         }
     }
@@ -56,27 +56,27 @@ impl<'a> Declared<'a> {
     /// Adds which declaration it is.
     pub fn push_heading(&self, text: &mut String, alloc: Global) -> Result<(), AllocError> {
         match self {
-            Declared::Class(class) => push_named(text, alloc, "class ", &class.name),
-            Declared::Property(class, property) => {
+            DeclarationRef::Class(class) => push_named(text, alloc, "class ", &class.name),
+            DeclarationRef::Property(class, property) => {
                 push_member(
                     text,
                     alloc,
                     class,
                     ", property ",
-                    Piece::Name(&property.name),
+                    SentencePiece::Name(&property.name),
                 )
             }
-            Declared::Signal(class, signal) => {
-                let method = Piece::Method(&signal.name, signal.parameters.as_slice());
+            DeclarationRef::Signal(class, signal) => {
+                let method = SentencePiece::Method(&signal.name, signal.parameters.as_slice());
                 push_member(text, alloc, class, ", signal ", method)
             }
-            Declared::Slot(class, slot) => {
-                let method = Piece::Method(&slot.name, slot.parameters.as_slice());
+            DeclarationRef::Slot(class, slot) => {
+                let method = SentencePiece::Method(&slot.name, slot.parameters.as_slice());
                 push_member(text, alloc, class, sort_of(slot), method)
             }
-            Declared::Wire(wire) => push_wire(text, alloc, wire),
-            Declared::Owns(_) => text.push_str("owns"),
-            Declared::Site(site) => push_named(text, alloc, "binding ", &site.name),
+            DeclarationRef::Wire(wire) => push_wire(text, alloc, wire),
+            DeclarationRef::Owns(_) => text.push_str("owns"),
+            DeclarationRef::Site(site) => push_named(text, alloc, "binding ", &site.name),
         }
     }
 }
@@ -88,7 +88,11 @@ fn push_named(
     sort: &'static str,
     name: &Name,
 ) -> Result<(), AllocError> {
-    push_pieces(text, alloc, &[Piece::Words(sort), Piece::Name(name)])
+    push_pieces(
+        text,
+        alloc,
+        &[SentencePiece::Words(sort), SentencePiece::Name(name)],
+    )
 }
 
 /// Adds which member of this sort it is, behind its class.
@@ -97,12 +101,12 @@ fn push_member<'a>(
     alloc: Global,
     class: &'a Class,
     sort: &'static str,
-    member: Piece<'a>,
+    member: SentencePiece<'a>,
 ) -> Result<(), AllocError> {
     let pieces = [
-        Piece::Words("class "),
-        Piece::Name(&class.name),
-        Piece::Words(sort),
+        SentencePiece::Words("class "),
+        SentencePiece::Name(&class.name),
+        SentencePiece::Words(sort),
         member,
     ];
     push_pieces(text, alloc, &pieces)
@@ -111,10 +115,10 @@ fn push_member<'a>(
 /// Adds which wire it is.
 fn push_wire(text: &mut String, alloc: Global, wire: &Wire) -> Result<(), AllocError> {
     let pieces = [
-        Piece::Words("wire from "),
-        Piece::Name(&wire.sender),
-        Piece::Words(" to "),
-        Piece::Name(&wire.receiver),
+        SentencePiece::Words("wire from "),
+        SentencePiece::Name(&wire.sender),
+        SentencePiece::Words(" to "),
+        SentencePiece::Name(&wire.receiver),
     ];
     push_pieces(text, alloc, &pieces)
 }

@@ -1,11 +1,11 @@
 //! What is found to be wrong with a declaration.
 
-use crate::declarations::sentence::{Piece, sentence};
+use crate::declarations::sentence::{SentencePiece, sentence};
 use std::alloc::{AllocError, Global};
 
 /// What is wrong with a declaration.
 #[derive(Drop)]
-pub struct Finding {
+pub struct DeclarationFlaw {
     /// What is wrong with it, in one sentence.
     pub sentence: String,
     /// What to write instead, where that is known.
@@ -15,9 +15,9 @@ pub struct Finding {
 /// This sentence, with what to write instead.
 pub fn found(
     alloc: Global,
-    pieces: &[Piece],
+    pieces: &[SentencePiece],
     advice: Option<&'static str>,
-) -> Result<Finding, AllocError> {
+) -> Result<DeclarationFlaw, AllocError> {
     let sentence = sentence(alloc, pieces)?;
-    Ok(Finding { sentence, advice })
+    Ok(DeclarationFlaw { sentence, advice })
 }

@@ -6,7 +6,7 @@ use crate::declarations::declarations::declared_at;
 use crate::declarations::likely::likely;
 use crate::declarations::source::source_of;
 use crate::declarations::walk::first_token;
-use crate::declarations::words::Told;
+use crate::declarations::words::ReportedOffence;
 use basic_types::Name;
 use class_outlines::{Declaration, LoadFault, Offence};
 use diagnostics::Flaw;
@@ -68,7 +68,7 @@ fn of_offence(
 }
 
 /// The flaw, in words.
-fn told_flaw(told: &Told, offence: &Offence) -> Result<Flaw, AllocError> {
+fn told_flaw(told: &ReportedOffence, offence: &Offence) -> Result<Flaw, AllocError> {
     let finding = told.finding(offence)?;
     let advice = advice_on(told, offence, finding.advice)?;
     told.flaw(finding.sentence.as_str(), advice)
@@ -76,7 +76,7 @@ fn told_flaw(told: &Told, offence: &Offence) -> Result<Flaw, AllocError> {
 
 /// What to write instead: this where it is known, else a name that is like the one that is wrong.
 fn advice_on(
-    told: &Told,
+    told: &ReportedOffence,
     offence: &Offence,
     known: Option<&'static str>,
 ) -> Result<Option<String>, AllocError> {
@@ -94,11 +94,11 @@ pub fn told_at<'a>(
     tokens: &'a [PlacedToken],
     declaration: Declaration,
     name: usize,
-) -> Option<Told<'a>> {
+) -> Option<ReportedOffence<'a>> {
     let declared = declared_at(program, declaration)?;
     let first = first_token(tokens, declaration)?;
     let (at, name) = name_of(tokens, first, name)?;
-    Some(Told {
+    Some(ReportedOffence {
         alloc,
         program,
         declared,

@@ -3,7 +3,7 @@
 ghost use Rattle.std.specs.Prelude.{◌≤◌, length, IfOk, IfSome};
 
 use crate::declarations::flaws::told_at;
-use crate::declarations::source::{Source, source_of};
+use crate::declarations::source::{ParsedProgram, source_of};
 use class_outlines::{Declaration, LoadFault, Member, names_before_work, names_of_sig};
 use diagnostics::Flaw;
 use meta_model::Meta;
@@ -28,7 +28,11 @@ pub fn native_flaw(alloc: Global, text: &[u8], misfit: Misfit) -> Result<Option<
 }
 
 /// The same of this program.
-fn misfit_flaw(alloc: Global, source: &Source, misfit: Misfit) -> Result<Option<Flaw>, AllocError> {
+fn misfit_flaw(
+    alloc: Global,
+    source: &ParsedProgram,
+    misfit: Misfit,
+) -> Result<Option<Flaw>, AllocError> {
     match load(alloc, &source.program) {
         Ok(meta) => loaded_flaw(alloc, source, &meta, misfit),
         Err(LoadFault::Offence(_)) => Ok(None),
@@ -39,7 +43,7 @@ fn misfit_flaw(alloc: Global, source: &Source, misfit: Misfit) -> Result<Option<
 /// The same of this program, which loads so.
 fn loaded_flaw(
     alloc: Global,
-    source: &Source,
+    source: &ParsedProgram,
     meta: &Meta,
     misfit: Misfit,
 ) -> Result<Option<Flaw>, AllocError> {

@@ -7,7 +7,7 @@ use syntax_trees::Parameter;
 
 /// A part of a sentence. Names, types and signatures stand between backquotes.
 #[derive(Clone, Copy)]
-pub enum Piece<'a> {
+pub enum SentencePiece<'a> {
     /// Words, as they are.
     Words(&'static str),
     Name(&'a Name),
@@ -22,30 +22,34 @@ pub enum Piece<'a> {
 }
 
 /// The sentence with these parts.
-pub fn sentence(alloc: Global, pieces: &[Piece]) -> Result<String, AllocError> {
+pub fn sentence(alloc: Global, pieces: &[SentencePiece]) -> Result<String, AllocError> {
     let mut text = String::new(alloc);
     push_pieces(&mut text, alloc, pieces)?;
     Ok(text)
 }
 
 /// Adds these parts.
-pub fn push_pieces(text: &mut String, alloc: Global, pieces: &[Piece]) -> Result<(), AllocError> {
+pub fn push_pieces(
+    text: &mut String,
+    alloc: Global,
+    pieces: &[SentencePiece],
+) -> Result<(), AllocError> {
     for piece in pieces {
         push_piece(text, alloc, *piece)?;
     }
     Ok(())
 }
 
-fn push_piece(text: &mut String, alloc: Global, piece: Piece) -> Result<(), AllocError> {
+fn push_piece(text: &mut String, alloc: Global, piece: SentencePiece) -> Result<(), AllocError> {
     match piece {
-        Piece::Words(words) => text.push_str(words),
-        Piece::Name(name) => push_quoted(text, name.bytes()),
-        Piece::Known(name) => push_quoted(text, name),
-        Piece::Type(kind) => push_type(text, alloc, kind),
-        Piece::Sig(sig) => push_sig(text, alloc, sig),
-        Piece::Method(name, parameters) => push_method(text, alloc, name, parameters),
-        Piece::Parameters(1) => text.push_str("1 parameter"),
-        Piece::Parameters(many) => write!(text, "{many} parameters"),
+        SentencePiece::Words(words) => text.push_str(words),
+        SentencePiece::Name(name) => push_quoted(text, name.bytes()),
+        SentencePiece::Known(name) => push_quoted(text, name),
+        SentencePiece::Type(kind) => push_type(text, alloc, kind),
+        SentencePiece::Sig(sig) => push_sig(text, alloc, sig),
+        SentencePiece::Method(name, parameters) => push_method(text, alloc, name, parameters),
+        SentencePiece::Parameters(1) => text.push_str("1 parameter"),
+        SentencePiece::Parameters(many) => write!(text, "{many} parameters"),
     }
 }
 

@@ -8,20 +8,20 @@ use texts::{PlaceFault, PlacedToken, placed_tokens};
 
 /// What a text says, and its tokens with their places.
 #[derive(Drop)]
-pub struct Source {
+pub struct ParsedProgram {
     pub program: Program,
     pub tokens: Items<PlacedToken>,
 }
 
 /// The program of this text, however large, with the text's tokens; `None` where the text is no program.
-pub fn source_of(alloc: Global, text: &[u8]) -> Result<Option<Source>, AllocError> {
+pub fn source_of(alloc: Global, text: &[u8]) -> Result<Option<ParsedProgram>, AllocError> {
     let program = match read_within(alloc, Limits::wide(), text) {
         Ok(program) => program,
         Err(TextFault::Memory) => return Err(AllocError),
         Err(_) => return Ok(None),
     };
     match placed_tokens(alloc, text) {
-        Ok(tokens) => Ok(Some(Source { program, tokens })),
+        Ok(tokens) => Ok(Some(ParsedProgram { program, tokens })),
         Err(PlaceFault::Memory) => Err(AllocError),
         Err(PlaceFault::BadByte(_)) => Ok(None),
     }

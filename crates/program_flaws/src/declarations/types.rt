@@ -1,9 +1,9 @@
 //! Types that aren't there, and references where only values may stand, in words.
 
-use crate::declarations::declarations::Declared;
-use crate::declarations::finding::{Finding, found};
-use crate::declarations::sentence::Piece;
-use crate::declarations::words::Told;
+use crate::declarations::declarations::DeclarationRef;
+use crate::declarations::finding::{DeclarationFlaw, found};
+use crate::declarations::sentence::SentencePiece;
+use crate::declarations::words::ReportedOffence;
 use basic_types::{Name, QType};
 use class_outlines::{Unfit, names_before_parameter};
 use std::alloc::AllocError;
@@ -32,7 +32,11 @@ const FOREIGN_KINDS: &[(&[u8], &str)] = &[
 ];
 
 /// What is wrong with the type, or the property, of this name among the declaration's.
-pub fn unfit_type(told: &Told, unfit: &Unfit, name: usize) -> Result<Finding, AllocError> {
+pub fn unfit_type(
+    told: &ReportedOffence,
+    unfit: &Unfit,
+    name: usize,
+) -> Result<DeclarationFlaw, AllocError> {
     match unfit {
         Unfit::Unknown => missing(told, name, " isn't a type", kind_advice(told.name)),
         Unfit::ClassAlone => {
@@ -49,14 +53,18 @@ pub fn unfit_type(told: &Told, unfit: &Unfit, name: usize) -> Result<Finding, Al
         }
         Unfit::Taken(kind) => {
             let words = "a native takes no references, and this parameter is a ";
-            found(told.alloc, &[Piece::Words(words), Piece::Type(kind)], None)
+            found(
+                told.alloc,
+                &[SentencePiece::Words(words), SentencePiece::Type(kind)],
+                None,
+            )
         }
         Unfit::Emitted(sig, kind) => {
             let pieces = [
-                Piece::Words("a native emits no references, and "),
-                Piece::Sig(sig),
-                Piece::Words(" has a "),
-                Piece::Type(kind),
+                SentencePiece::Words("a native emits no references, and "),
+                SentencePiece::Sig(sig),
+                SentencePiece::Words(" has a "),
+                SentencePiece::Type(kind),
             ];
             found(told.alloc, &pieces, None)
         }
@@ -69,36 +77,36 @@ pub fn unfit_type(told: &Told, unfit: &Unfit, name: usize) -> Result<Finding, Al
 
 /// That the property of the name is a reference.
 fn reference<'a>(
-    told: &Told<'a>,
+    told: &ReportedOffence<'a>,
     words: &'static str,
     kind: &'a QType,
-) -> Result<Finding, AllocError> {
+) -> Result<DeclarationFlaw, AllocError> {
     let pieces = [
-        Piece::Words(words),
-        Piece::Name(told.name),
-        Piece::Words(" is a "),
-        Piece::Type(kind),
+        SentencePiece::Words(words),
+        SentencePiece::Name(told.name),
+        SentencePiece::Words(" is a "),
+        SentencePiece::Type(kind),
     ];
     found(told.alloc, &pieces, None)
 }
 
 /// This, of the type of this name among the declaration's.
 fn missing(
-    told: &Told,
+    told: &ReportedOffence,
     name: usize,
     words: &'static str,
     advice: Option<&'static str>,
-) -> Result<Finding, AllocError> {
+) -> Result<DeclarationFlaw, AllocError> {
     let kind = match kind_at(told.declared, name) {
-        Some(kind) => Piece::Type(kind),
-        None => Piece::Name(told.name),
+        Some(kind) => SentencePiece::Type(kind),
+        None => SentencePiece::Name(told.name),
     };
-    found(told.alloc, &[kind, Piece::Words(words)], advice)
+    found(told.alloc, &[kind, SentencePiece::Words(words)], advice)
 }
 
 /// The type of this name among the declaration's, as it is declared.
-fn kind_at(declared: Declared<'_>, name: usize) -> Option<&QType> {
-    if let Declared::Property(_, property) = declared {
+fn kind_at(declared: DeclarationRef<'_>, name: usize) -> Option<&QType> {
+    if let DeclarationRef::Property(_, property) = declared {
         return Some(&property.kind);
     }
     let parameters = declared.parameters();

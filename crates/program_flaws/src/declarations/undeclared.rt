@@ -1,24 +1,27 @@
 //! Names that aren't declared, in words.
 
-use crate::declarations::finding::{Finding, found};
-use crate::declarations::sentence::Piece;
-use crate::declarations::words::Told;
+use crate::declarations::finding::{DeclarationFlaw, found};
+use crate::declarations::sentence::SentencePiece;
+use crate::declarations::words::ReportedOffence;
 use basic_types::{QType, Sig};
 use class_outlines::{End, Missing, Near, Sought};
 use std::alloc::AllocError;
 
 /// That the name isn't declared, of which this is looked for.
-pub fn undeclared(told: &Told, missing: &Missing) -> Result<Finding, AllocError> {
+pub fn undeclared(
+    told: &ReportedOffence,
+    missing: &Missing,
+) -> Result<DeclarationFlaw, AllocError> {
     match missing {
         Missing::Class => told.around("there is no class ", "", None),
         Missing::Parameter(is_property) => no_parameter(told, *is_property),
         Missing::Formal => told.around("", " is no formal source of the binding", None),
         Missing::Property(class) => {
             let pieces = [
-                Piece::Words("the class "),
+                SentencePiece::Words("the class "),
                 told.class(*class),
-                Piece::Words(" has no property "),
-                Piece::Name(told.name),
+                SentencePiece::Words(" has no property "),
+                SentencePiece::Name(told.name),
             ];
             found(told.alloc, &pieces, None)
         }
@@ -27,7 +30,7 @@ pub fn undeclared(told: &Told, missing: &Missing) -> Result<Finding, AllocError>
     }
 }
 
-fn no_parameter(told: &Told, is_property: bool) -> Result<Finding, AllocError> {
+fn no_parameter(told: &ReportedOffence, is_property: bool) -> Result<DeclarationFlaw, AllocError> {
     let name = told.name.bytes();
     let advice = if name == b"nullptr".as_slice() || name == b"NULL".as_slice() {
         Some("write `null`")
@@ -40,31 +43,34 @@ fn no_parameter(told: &Told, is_property: bool) -> Result<Finding, AllocError> {
 }
 
 /// That what has the name, and is of this type, is no object.
-fn no_object<'a>(told: &Told<'a>, kind: &'a QType) -> Result<Finding, AllocError> {
+fn no_object<'a>(
+    told: &ReportedOffence<'a>,
+    kind: &'a QType,
+) -> Result<DeclarationFlaw, AllocError> {
     if kind.pointer {
         let pieces = [
-            Piece::Name(told.name),
-            Piece::Words(" is a "),
-            Piece::Type(kind),
-            Piece::Words(", and there is no class of this name"),
+            SentencePiece::Name(told.name),
+            SentencePiece::Words(" is a "),
+            SentencePiece::Type(kind),
+            SentencePiece::Words(", and there is no class of this name"),
         ];
         return found(told.alloc, &pieces, None);
     }
     let pieces = [
-        Piece::Words("an object is wanted, and "),
-        Piece::Name(told.name),
-        Piece::Words(" is of the type "),
-        Piece::Type(kind),
+        SentencePiece::Words("an object is wanted, and "),
+        SentencePiece::Name(told.name),
+        SentencePiece::Words(" is of the type "),
+        SentencePiece::Type(kind),
     ];
     found(told.alloc, &pieces, None)
 }
 
 fn no_method(
-    told: &Told,
+    told: &ReportedOffence,
     class: usize,
     sought: &Sought,
     near: Near,
-) -> Result<Finding, AllocError> {
+) -> Result<DeclarationFlaw, AllocError> {
     match sought {
         Sought::Emitted(count) => {
             no_call(told, class, " has no signal ", *count, emit_advice(near))
@@ -75,19 +81,19 @@ fn no_method(
 }
 
 fn no_call(
-    told: &Told,
+    told: &ReportedOffence,
     class: usize,
     words: &'static str,
     count: usize,
     advice: Option<&'static str>,
-) -> Result<Finding, AllocError> {
+) -> Result<DeclarationFlaw, AllocError> {
     let pieces = [
-        Piece::Words("the class "),
+        SentencePiece::Words("the class "),
         told.class(class),
-        Piece::Words(words),
-        Piece::Name(told.name),
-        Piece::Words(" with "),
-        Piece::Parameters(count),
+        SentencePiece::Words(words),
+        SentencePiece::Name(told.name),
+        SentencePiece::Words(" with "),
+        SentencePiece::Parameters(count),
     ];
     found(told.alloc, &pieces, advice)
 }
@@ -117,12 +123,12 @@ fn call_advice(near: Near) -> Option<&'static str> {
 }
 
 fn no_signed<'a>(
-    told: &Told<'a>,
+    told: &ReportedOffence<'a>,
     class: usize,
     end: End,
     sig: &'a Sig,
     near: Near,
-) -> Result<Finding, AllocError> {
+) -> Result<DeclarationFlaw, AllocError> {
     let (words, behind) = match (end, near) {
         (End::Sender, Near::Slot) => return something_else(told, sig, " is a slot, and no signal"),
         (End::Receiver, Near::RuntimeSignal) => {
@@ -139,20 +145,24 @@ fn no_signed<'a>(
         Near::Signal | Near::Nothing => None,
     };
     let pieces = [
-        Piece::Words("the class "),
+        SentencePiece::Words("the class "),
         told.class(class),
-        Piece::Words(words),
-        Piece::Sig(sig),
-        Piece::Words(behind),
+        SentencePiece::Words(words),
+        SentencePiece::Sig(sig),
+        SentencePiece::Words(behind),
     ];
     found(told.alloc, &pieces, advice)
 }
 
 /// That the signature is something else's.
 fn something_else<'a>(
-    told: &Told<'a>,
+    told: &ReportedOffence<'a>,
     sig: &'a Sig,
     words: &'static str,
-) -> Result<Finding, AllocError> {
-    found(told.alloc, &[Piece::Sig(sig), Piece::Words(words)], None)
+) -> Result<DeclarationFlaw, AllocError> {
+    found(
+        told.alloc,
+        &[SentencePiece::Sig(sig), SentencePiece::Words(words)],
+        None,
+    )
 }

@@ -5,7 +5,7 @@ use texts::{PlacedToken, Token, Word};
 
 /// How many declarations were met in a text; members are those of the last class.
 #[derive(Clone, Copy)]
-struct Walk {
+struct DeclarationCounts {
     classes: usize,
     properties: usize,
     signals: usize,
@@ -15,10 +15,10 @@ struct Walk {
     sites: usize,
 }
 
-impl Walk {
+impl DeclarationCounts {
     /// None was met.
-    fn new() -> Walk {
-        Walk {
+    fn new() -> DeclarationCounts {
+        DeclarationCounts {
             classes: 0,
             properties: 0,
             signals: 0,
@@ -75,7 +75,7 @@ fn count(so_far: &mut usize) -> usize {
 
 /// Which of the tokens the declaration begins with.
 pub fn first_token(tokens: &[PlacedToken], declaration: Declaration) -> Option<usize> {
-    let mut walk = Walk::new();
+    let mut walk = DeclarationCounts::new();
     for (at, placed) in tokens.iter().enumerate() {
         if let Some(next) = walk.next(&placed.token)
             && next == declaration

@@ -1,8 +1,8 @@
 //! What breaks a rule of loading, in words.
 
-use crate::declarations::declarations::Declared;
-use crate::declarations::finding::{Finding, found};
-use crate::declarations::sentence::Piece;
+use crate::declarations::declarations::DeclarationRef;
+use crate::declarations::finding::{DeclarationFlaw, found};
+use crate::declarations::sentence::SentencePiece;
 use crate::declarations::types::unfit_type;
 use crate::declarations::undeclared::undeclared;
 use basic_types::{Name, Sig};
@@ -13,20 +13,20 @@ use syntax_trees::{Program, Property};
 
 /// An offence, as it is reported.
 #[derive(Clone, Copy)]
-pub struct Told<'a> {
+pub struct ReportedOffence<'a> {
     pub alloc: Global,
     pub program: &'a Program,
     /// The declaration.
-    pub declared: Declared<'a>,
+    pub declared: DeclarationRef<'a>,
     /// Where the name that is wrong is in the text, from 0.
     pub at: usize,
     /// The name.
     pub name: &'a Name,
 }
 
-impl<'a> Told<'a> {
+impl<'a> ReportedOffence<'a> {
     /// What is wrong, in words.
-    pub fn finding(&self, offence: &Offence) -> Result<Finding, AllocError> {
+    pub fn finding(&self, offence: &Offence) -> Result<DeclarationFlaw, AllocError> {
         match &offence.reason {
             Reason::DuplicateClass(clash) => self.class_clash(*clash),
             Reason::NoBase(place) => self.base(*place),
@@ -60,7 +60,7 @@ impl<'a> Told<'a> {
         text.push_str(sentence)
     }
 
-    fn class_clash(&self, clash: ClassClash) -> Result<Finding, AllocError> {
+    fn class_clash(&self, clash: ClassClash) -> Result<DeclarationFlaw, AllocError> {
         match clash {
             ClassClash::Taken => {
                 let advice = "`QObject`, `int`, `bool` and `QString` are there already";
@@ -70,7 +70,7 @@ impl<'a> Told<'a> {
         }
     }
 
-    fn base(&self, place: BasePlace) -> Result<Finding, AllocError> {
+    fn base(&self, place: BasePlace) -> Result<DeclarationFlaw, AllocError> {
         let (words, advice) = match place {
             BasePlace::Itself => (" is the class itself", None),
             BasePlace::Behind => (" stands behind it", Some("put the base before the class")),
@@ -79,7 +79,7 @@ impl<'a> Told<'a> {
         self.around("its base ", words, advice)
     }
 
-    fn repeated(&self, what: Repeated) -> Result<Finding, AllocError> {
+    fn repeated(&self, what: Repeated) -> Result<DeclarationFlaw, AllocError> {
         match what {
             Repeated::Property(false) => {
                 self.words("another property of the class has this name", None)
@@ -97,7 +97,7 @@ impl<'a> Told<'a> {
         }
     }
 
-    fn method(&self, inherited: bool) -> Result<Finding, AllocError> {
+    fn method(&self, inherited: bool) -> Result<DeclarationFlaw, AllocError> {
         let (words, advice) = if inherited {
             (
                 "a base of the class has a method named ",
@@ -110,17 +110,17 @@ impl<'a> Told<'a> {
             )
         };
         let pieces = [
-            Piece::Words(words),
-            Piece::Name(self.name),
-            Piece::Words(" with "),
-            Piece::Parameters(self.declared.parameters().len()),
+            SentencePiece::Words(words),
+            SentencePiece::Name(self.name),
+            SentencePiece::Words(" with "),
+            SentencePiece::Parameters(self.declared.parameters().len()),
         ];
         found(self.alloc, &pieces, Some(advice))
     }
 
-    fn notifier(&self, near: Near) -> Result<Finding, AllocError> {
+    fn notifier(&self, near: Near) -> Result<DeclarationFlaw, AllocError> {
         match self.declared {
-            Declared::Property(_, property) => match &property.notify {
+            DeclarationRef::Property(_, property) => match &property.notify {
                 Some(sig) => bad_notifier(self.alloc, property, sig, near),
                 None => self.words("it has no notify signal", None),
             },
@@ -133,8 +133,8 @@ impl<'a> Told<'a> {
         &self,
         words: &'static str,
         advice: Option<&'static str>,
-    ) -> Result<Finding, AllocError> {
-        found(self.alloc, &[Piece::Words(words)], advice)
+    ) -> Result<DeclarationFlaw, AllocError> {
+        found(self.alloc, &[SentencePiece::Words(words)], advice)
     }
 
     /// The name between these words.
@@ -143,25 +143,25 @@ impl<'a> Told<'a> {
         before: &'static str,
         behind: &'static str,
         advice: Option<&'static str>,
-    ) -> Result<Finding, AllocError> {
+    ) -> Result<DeclarationFlaw, AllocError> {
         let pieces = [
-            Piece::Words(before),
-            Piece::Name(self.name),
-            Piece::Words(behind),
+            SentencePiece::Words(before),
+            SentencePiece::Name(self.name),
+            SentencePiece::Words(behind),
         ];
         found(self.alloc, &pieces, advice)
     }
 
     /// The class of this number.
-    pub fn class(&self, number: usize) -> Piece<'a> {
+    pub fn class(&self, number: usize) -> SentencePiece<'a> {
         match self
             .program
             .classes
             .as_slice()
             .get(number.saturating_sub(1))
         {
-            Some(class) if number > 0 => Piece::Name(&class.name),
-            _ => Piece::Known(b"QObject"),
+            Some(class) if number > 0 => SentencePiece::Name(&class.name),
+            _ => SentencePiece::Known(b"QObject"),
         }
     }
 }
@@ -172,7 +172,7 @@ fn bad_notifier<'a>(
     property: &'a Property,
     sig: &'a Sig,
     near: Near,
-) -> Result<Finding, AllocError> {
+) -> Result<DeclarationFlaw, AllocError> {
     let (words, advice) = match near {
         Near::Signal => return other_value(alloc, property, sig),
         Near::Slot => (" is a slot, and no signal", None),
@@ -191,7 +191,11 @@ fn bad_notifier<'a>(
             Some("declare the signal in the class, or leave `notify` out"),
         ),
     };
-    found(alloc, &[Piece::Sig(sig), Piece::Words(words)], advice)
+    found(
+        alloc,
+        &[SentencePiece::Sig(sig), SentencePiece::Words(words)],
+        advice,
+    )
 }
 
 /// A notify signal that takes something else than its property's value.
@@ -199,13 +203,13 @@ fn other_value<'a>(
     alloc: Global,
     property: &'a Property,
     sig: &'a Sig,
-) -> Result<Finding, AllocError> {
+) -> Result<DeclarationFlaw, AllocError> {
     let pieces = [
-        Piece::Words("the property is of the type "),
-        Piece::Type(&property.kind),
-        Piece::Words(", and "),
-        Piece::Sig(sig),
-        Piece::Words(" takes something else"),
+        SentencePiece::Words("the property is of the type "),
+        SentencePiece::Type(&property.kind),
+        SentencePiece::Words(", and "),
+        SentencePiece::Sig(sig),
+        SentencePiece::Words(" takes something else"),
     ];
     let advice = "a notify signal has no parameter, or one of the property's type";
     found(alloc, &pieces, Some(advice))

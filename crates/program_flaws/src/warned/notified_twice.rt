@@ -28,7 +28,7 @@ pub fn add_notified_twice(
         if let Some(signal) = notifier(meta, slot.class, *property)
             && effects.emits.as_slice().binary_search(&signal).is_ok()
         {
-            let pair = Pair {
+            let pair = NotifyPair {
                 property: *property,
                 signal,
             };
@@ -118,7 +118,7 @@ fn is_this(path: &MetaPath) -> bool {
 
 /// A property and its notify signal.
 #[derive(Clone, Copy, Debug, PartialEq, Eq)]
-struct Pair {
+struct NotifyPair {
     property: usize,
     signal: usize,
 }
@@ -169,7 +169,7 @@ impl Ways {
 
 /// The ways through the statements; `passed` counts each `emit`.
 #[cycle(ways)]
-fn ways_through(pair: Pair, body: &[Statement], passed: &mut usize) -> Ways {
+fn ways_through(pair: NotifyPair, body: &[Statement], passed: &mut usize) -> Ways {
     let mut ways = Ways::NEITHER;
     for statement in body {
         ways = ways.then(ways_of(pair, statement, passed));
@@ -179,7 +179,7 @@ fn ways_through(pair: Pair, body: &[Statement], passed: &mut usize) -> Ways {
 
 /// The ways through the statement and those that are in it.
 #[cycle(ways)]
-fn ways_of(pair: Pair, statement: &Statement, passed: &mut usize) -> Ways {
+fn ways_of(pair: NotifyPair, statement: &Statement, passed: &mut usize) -> Ways {
     match statement {
         Statement::Set(path, property, _) => Ways {
             sets: is_this(path) && *property == pair.property,

@@ -7,7 +7,7 @@ use texts::{PlacedToken, Token, Word};
 
 /// A place in a program's text.
 #[derive(Clone, Copy, Debug, PartialEq, Eq)]
-pub enum Spot {
+pub enum TextAnchor {
     /// Its first byte.
     Begin,
     /// The word that is there for the time of this number, counted from 0. It begins whatever it is in.
@@ -16,14 +16,14 @@ pub enum Spot {
     Nowhere,
 }
 
-impl Spot {
+impl TextAnchor {
     /// Where the warning points: to the declaration of the wire or of the signal, or to the statement.
-    pub fn of(meta: &Meta, warning: &Warning) -> Spot {
+    pub fn of(meta: &Meta, warning: &Warning) -> TextAnchor {
         match warning {
-            Warning::Empty => Spot::Begin,
-            Warning::IdleWire { wire, .. } => Spot::Word(Word::Wire, *wire),
-            Warning::Unwired { connect, .. } => Spot::Word(Word::Connect, *connect),
-            Warning::NotifiedTwice { emit, .. } => Spot::Word(Word::Emit, *emit),
+            Warning::Empty => TextAnchor::Begin,
+            Warning::IdleWire { wire, .. } => TextAnchor::Word(Word::Wire, *wire),
+            Warning::Unwired { connect, .. } => TextAnchor::Word(Word::Connect, *connect),
+            Warning::NotifiedTwice { emit, .. } => TextAnchor::Word(Word::Emit, *emit),
             Warning::LostSender { class, signal } => signal_spot(meta, *class, *signal),
         }
     }
@@ -31,25 +31,25 @@ impl Spot {
     /// The byte, in a text of these tokens, at which the place is.
     pub fn find(self, tokens: &[PlacedToken]) -> Option<usize> {
         match self {
-            Spot::Begin => Some(0),
-            Spot::Word(word, number) => find_word(tokens, word, number),
-            Spot::Nowhere => None,
+            TextAnchor::Begin => Some(0),
+            TextAnchor::Word(word, number) => find_word(tokens, word, number),
+            TextAnchor::Nowhere => None,
         }
     }
 }
 
 /// The declaration of the signal, which the class has, in that class or in one above; those of `QObject` have none.
-fn signal_spot(meta: &Meta, class: usize, signal: usize) -> Spot {
+fn signal_spot(meta: &Meta, class: usize, signal: usize) -> TextAnchor {
     let declaring = declaring_class(meta, class, signal);
     if declaring == 0 {
-        return Spot::Nowhere;
+        return TextAnchor::Nowhere;
     }
     // A class's signals come before its slots, and the classes behind `QObject` are in the order of the text.
     let mut number = signal.saturating_sub(meta.method_offset(declaring));
     for before in 1..declaring {
         number = number.saturating_add(count_signals(meta, before));
     }
-    Spot::Word(Word::Signal, number)
+    TextAnchor::Word(Word::Signal, number)
 }
 
 /// How many signals the class declares.

@@ -5,14 +5,14 @@ use diagnostics::TextPlace;
 use edge_reasons::{Reason, reason_for};
 use effect_scan::{Member, Node};
 use findings::{ChainStep, Levels, Link};
-use program_flaws::{Source, node_text, push_edge};
+use program_flaws::{ProgramSource, node_text, push_edge};
 use std::alloc::AllocError;
 
 /// A program that loads, where its parts are in its text, and how grave the rules are.
 #[derive(Clone, Copy)]
 pub struct Located<'s> {
     /// The program.
-    pub source: Source<'s>,
+    pub source: ProgramSource<'s>,
     /// The places.
     pub places: &'s Places,
     /// How grave the rules are.
