@@ -28,7 +28,7 @@ use program_commands::load_program;
 use program_flaws::{ProgramSource, declarations_of};
 use std::alloc::Global;
 use text_places::TextPlaces;
-use verdicts::{Located, Places};
+use verdicts::{Located, ProgramPlaces};
 
 /// How a graph is written.
 #[derive(Clone, Copy, Debug, PartialEq, Eq)]
@@ -82,7 +82,7 @@ fn placed_text(
     let Some(tree) = declarations_of(alloc, program)? else {
         return drawn_text(alloc, meta, part, form, None);
     };
-    let found = Places::of(alloc, program)?;
+    let found = ProgramPlaces::of(alloc, program)?;
     told_text(alloc, &tree, &found, meta, part, form, places)
 }
 
@@ -90,7 +90,7 @@ fn placed_text(
 fn told_text<'x>(
     alloc: Global,
     program: &'x Program,
-    found: &'x Places,
+    found: &'x ProgramPlaces,
     meta: &'x Meta,
     part: Part<'_>,
     form: Form,

@@ -3,7 +3,7 @@
 use class_lang::Limits;
 use findings::{Edge, EdgeIndex, Levels, PlacedEdge, Verdict};
 use std::alloc::{AllocError, Global};
-use verdicts::{Listed, Texts, verdict};
+use verdicts::{AcceptedEdges, Texts, verdict};
 
 /// A list of more edges than this is first cut down to those that are there.
 const FEW: usize = 1000;
@@ -34,7 +34,7 @@ pub struct Asked<'a> {
 impl Asked<'_> {
     /// The verdict, where these edges are listed.
     fn verdict(&self, alloc: Global, edges: &[Edge]) -> Result<Verdict, AllocError> {
-        let listed = Listed {
+        let listed = AcceptedEdges {
             edges,
             is_baseline: self.is_baseline,
         };

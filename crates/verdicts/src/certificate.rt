@@ -1,6 +1,6 @@
 //! What is wrong with a certificate, beside its program.
 
-use crate::program::{Located, Told};
+use crate::program::{Located, MessageWithHelp};
 use crate::refusal::refusal_finding;
 use certificate_lang::{Certificate, read_certificate};
 use class_lang::Limits;
@@ -54,7 +54,7 @@ fn cause_finding(
 ) -> Result<Finding, AllocError> {
     let alloc = located.source.alloc;
     let reason = cause_text(located.source, text, certificate, cause)?;
-    let told = Told::of(alloc, reason.as_str())?;
+    let told = MessageWithHelp::of(alloc, reason.as_str())?;
     let mut chain = Vec::new(alloc);
     if let Some((from, to)) = edge_of(cause) {
         let numbering = Numbering::of(alloc, located.source.meta.classes())?;

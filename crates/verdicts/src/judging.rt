@@ -8,7 +8,7 @@ ghost use Rattle.verdicts.specs.Statuses.{HasStatus, IsRefusedAs};
 
 use crate::certificate::gather_certificate;
 use crate::judged::judged_finding;
-use crate::program::{Located, Places, gather_program, program_remarks};
+use crate::program::{Located, ProgramPlaces, gather_program, program_remarks};
 use crate::refusal::refusal_finding;
 use class_lang::{Limits, read_within};
 use effect_scan::Scan;
@@ -43,7 +43,7 @@ pub struct Texts<'t> {
 
 /// What is known, and how far that is told.
 #[derive(Clone, Copy, Debug)]
-pub struct Listed<'l> {
+pub struct AcceptedEdges<'l> {
     /// The edges that are accepted on cycles.
     pub edges: &'l [Edge],
     /// Whether warnings and notes that are about one of these edges are left out too.
@@ -62,7 +62,7 @@ pub fn verdict(
     limits: Limits,
     texts: Texts<'_>,
     levels: Levels<'_>,
-    listed: Listed<'_>,
+    listed: AcceptedEdges<'_>,
 ) -> Result<Verdict, AllocError>
     ensures status { IfOk result (λ verdict. levels.entry.changes.now ≡ [] → (verdict.accepted ≡ 0 ⊎ verdict.status ≢ 0) → HasStatus
         (λ outcome. MatchOption texts.entry.certificate
@@ -92,7 +92,7 @@ fn remark(
     alloc: Global,
     texts: Texts<'_>,
     levels: Levels<'_>,
-    listed: Listed<'_>,
+    listed: AcceptedEdges<'_>,
     judged: &Outcome,
 ) -> Result<Verdict, AllocError>
     ensures status { IfOk result (λ verdict. levels.entry.changes.now ≡ [] → verdict.status ≡ 0) }
@@ -151,7 +151,7 @@ fn remarks_by(
     let Some(program) = declarations_of(alloc, text)? else {
         return Ok(Vec::new(alloc));
     };
-    let places = Places::of(alloc, text)?;
+    let places = ProgramPlaces::of(alloc, text)?;
     let located = Located {
         source: ProgramSource {
             alloc,
@@ -167,7 +167,7 @@ fn remarks_by(
 /// Adds these findings, which are no errors but where that is asked for; those that the list has are left out where they are to.
 fn add_remarks(
     levels: Levels<'_>,
-    listed: Listed<'_>,
+    listed: AcceptedEdges<'_>,
     remarks: Vec<Finding>,
     found: &mut Verdict,
 ) -> Result<(), AllocError>
@@ -182,7 +182,7 @@ fn add_remarks(
 /// Adds the finding, which is no error but where that is asked for.
 fn add_remark(
     levels: Levels<'_>,
-    listed: Listed<'_>,
+    listed: AcceptedEdges<'_>,
     remark: Finding,
     found: &mut Verdict,
 ) -> Result<(), AllocError>
@@ -201,7 +201,7 @@ fn add_remark(
 /// Adds the edge that the finding is about, if it is about one, and answers whether it is left out for it.
 fn note_edge(
     remark: &Finding,
-    listed: Listed<'_>,
+    listed: AcceptedEdges<'_>,
     edges: &mut Vec<PlacedEdge>,
 ) -> Result<bool, AllocError> {
     let Some(step) = remark.edge() else {
@@ -224,7 +224,7 @@ fn search(
     limits: Limits,
     texts: Texts<'_>,
     levels: Levels<'_>,
-    listed: Listed<'_>,
+    listed: AcceptedEdges<'_>,
     judged: &Outcome,
 ) -> Result<Verdict, AllocError>
     requires { outcome_status judged.now ≢ 0 }
@@ -322,7 +322,7 @@ fn gather(
     limits: Limits,
     texts: Texts<'_>,
     levels: Levels<'_>,
-    listed: Listed<'_>,
+    listed: AcceptedEdges<'_>,
     found: &mut Verdict,
 ) -> Result<(), AllocError> {
     let (program, meta) = match load(alloc, limits, texts.program) {
@@ -332,7 +332,7 @@ fn gather(
             return found.push(FindingSeverity::Error, finding);
         }
     };
-    let places = Places::of(alloc, texts.program)?;
+    let places = ProgramPlaces::of(alloc, texts.program)?;
     let located = Located {
         source: ProgramSource {
             alloc,

@@ -7,5 +7,5 @@ mod judging;
 mod program;
 mod refusal;
 
-pub use judging::{Listed, Texts, verdict};
-pub use program::{Located, Places};
+pub use judging::{AcceptedEdges, Texts, verdict};
+pub use program::{Located, ProgramPlaces};

@@ -15,7 +15,7 @@ mod turns;
 mod typing_flaws;
 mod walks;
 
-pub use places::{Declared, Located, Places};
+pub use places::{DeclaredMember, Located, ProgramPlaces};
 pub use program::{gather_program, program_remarks};
-pub use sentences::Told;
-pub use walks::{Graph, Hop, Hops, is_marked, knots, knots_of_nodes, marks, set_mark};
+pub use sentences::MessageWithHelp;
+pub use walks::{DirectedGraph, Hop, Hops, is_marked, knots, knots_of_nodes, marks, set_mark};

@@ -1,7 +1,7 @@
 //! Chains of direct calls that are longer than any bound.
 
 use crate::program::places::Located;
-use crate::program::search::Search;
+use crate::program::search::ProgramSearch;
 use crate::program::walks::{marks, set_mark};
 use effect_scan::Node;
 use findings::{Finding, JudgedText, Rule, Verdict};
@@ -10,7 +10,7 @@ use rank_check::MOST_BOUND;
 use std::alloc::AllocError;
 
 /// Adds one chain that is longer than any bound, beside all cycles.
-pub fn gather_chain(search: Search<'_>, found: &mut Verdict) -> Result<(), AllocError> {
+pub fn gather_chain(search: ProgramSearch<'_>, found: &mut Verdict) -> Result<(), AllocError> {
     let graph = search.graph;
     let mut knotted = marks(graph.alloc, graph.len(), false)?;
     for knot in search.knots {

@@ -1,9 +1,9 @@
 //! Cycles: members that may lead to one another without end.
 
 use crate::program::places::Located;
-use crate::program::search::Search;
+use crate::program::search::ProgramSearch;
 use crate::program::sentences::push_names;
-use crate::program::walks::{Graph, knots, knots_of_nodes};
+use crate::program::walks::{DirectedGraph, knots, knots_of_nodes};
 use effect_scan::{Member, Node};
 use findings::{ChainStep, Edge, Finding, JudgedText, Link, PlacedEdge, Rule, TextPlace, Verdict};
 use program_flaws::{breaking, node_text};
@@ -15,18 +15,18 @@ const MOST_CYCLES: usize = 10;
 
 /// The edges of a program's bindings, and their knots.
 #[derive(Drop)]
-struct Bindings {
-    graph: Graph,
+struct BindingEdges {
+    graph: DirectedGraph,
     knots: Vec<Vec<usize>>,
     /// For each node the knot that it is in.
     places: Vec<Option<usize>>,
 }
 
-impl Bindings {
+impl BindingEdges {
     /// Those of the program.
-    fn of(search: Search<'_>) -> Result<Bindings, AllocError> {
+    fn of(search: ProgramSearch<'_>) -> Result<BindingEdges, AllocError> {
         let nodes = search.scan.nodes();
-        let mut graph = Graph::without_edges(search.graph.alloc, nodes.len())?;
+        let mut graph = DirectedGraph::without_edges(search.graph.alloc, nodes.len())?;
         for knot in search.knots {
             for from in knot.iter() {
                 for to in search.graph.after(*from) {
@@ -38,7 +38,7 @@ impl Bindings {
         }
         let knots = knots(&graph)?;
         let places = knots_of_nodes(&graph, knots.as_slice())?;
-        Ok(Bindings {
+        Ok(BindingEdges {
             graph,
             knots,
             places,
@@ -73,11 +73,11 @@ fn same_knot(places: &[Option<usize>], from: usize, to: usize) -> Option<usize> 
 /// Adds the edges of each knot, and of those that aren't accepted cycles that have them: each a shortest one by an edge that is on
 /// none before.
 pub fn gather_cycles(
-    search: Search<'_>,
+    search: ProgramSearch<'_>,
     accepted: &[Edge],
     found: &mut Verdict,
 ) -> Result<(), AllocError> {
-    let bindings = Bindings::of(search)?;
+    let bindings = BindingEdges::of(search)?;
     let places = knots_of_nodes(search.graph, search.knots)?;
     for (place, knot) in search.knots.iter().enumerate() {
         let mut left = Vec::new(search.graph.alloc);
@@ -92,7 +92,7 @@ pub fn gather_cycles(
                 }
             }
         }
-        let told = Told {
+        let told = ComponentCycles {
             search,
             bindings: &bindings,
             knot: knot.as_slice(),
@@ -105,8 +105,8 @@ pub fn gather_cycles(
 
 /// Adds the edge to those that there are, and answers whether it isn't accepted.
 fn add_edge(
-    search: Search<'_>,
-    bindings: &Bindings,
+    search: ProgramSearch<'_>,
+    bindings: &BindingEdges,
     accepted: &[Edge],
     edge: (usize, usize),
     found: &mut Verdict,
@@ -132,15 +132,15 @@ fn add_edge(
 
 /// A knot of which cycles are told.
 #[derive(Clone, Copy)]
-struct Told<'t> {
-    search: Search<'t>,
-    bindings: &'t Bindings,
+struct ComponentCycles<'t> {
+    search: ProgramSearch<'t>,
+    bindings: &'t BindingEdges,
     knot: &'t [usize],
     /// Whether some of its edges are accepted.
     has_accepted: bool,
 }
 
-impl Told<'_> {
+impl ComponentCycles<'_> {
     /// Adds cycles that have these edges, until each is on one.
     fn gather(&self, edges: &[(usize, usize)], found: &mut Verdict) -> Result<(), AllocError> {
         let mut passed: BTreeSet<(usize, usize)> = BTreeSet::new(self.search.graph.alloc);

@@ -1,8 +1,8 @@
 //! Slots and natives that may lead to the deletion of an object of their own class, and signals that may lead to that of their
 //! sender: told by what deletes.
 
-use crate::program::places::{Declared, Located};
-use crate::program::search::Search;
+use crate::program::places::{DeclaredMember, Located};
+use crate::program::search::ProgramSearch;
 use crate::program::walks::{Hops, marks};
 use edge_reasons::{Reason, reason_for};
 use effect_scan::{Member, Node, row_at};
@@ -19,21 +19,21 @@ pub struct Deletion {
     /// By what it does.
     reason: Option<Reason>,
     /// The slots and natives.
-    bodies: Members,
+    bodies: DeletingMembers,
     /// The signals.
-    signals: Members,
+    signals: DeletingMembers,
 }
 
 /// Members that lead to a deletion.
 #[derive(Drop)]
-struct Members {
+struct DeletingMembers {
     /// How many there are.
     count: usize,
     /// The nodes of a shortest way from one of them.
     way: Vec<Node>,
 }
 
-impl Members {
+impl DeletingMembers {
     /// Adds a member from which this way leads.
     fn add(&mut self, way: Vec<Node>) {
         self.count = self.count.saturating_add(1);
@@ -45,10 +45,10 @@ impl Members {
 
 /// What deletes objects of a class while a slot, a native or a signal of that class is active; an inherited member counts where
 /// that isn't so for a class above.
-pub fn deletions(search: Search<'_>) -> Result<Vec<Deletion>, AllocError> {
+pub fn deletions(search: ProgramSearch<'_>) -> Result<Vec<Deletion>, AllocError> {
     let meta = search.located.source.meta;
     let mut found = Vec::new(search.graph.alloc);
-    let mut told: Vec<Declared> = Vec::new(search.graph.alloc);
+    let mut told: Vec<DeclaredMember> = Vec::new(search.graph.alloc);
     let deleted = deleted_nodes(search)?;
     for class in 0..meta.classes().len() {
         let targets = deleted_with(search, deleted.as_slice(), class)?;
@@ -64,7 +64,7 @@ pub fn deletions(search: Search<'_>) -> Result<Vec<Deletion>, AllocError> {
 }
 
 /// The destructions to which something leads.
-fn deleted_nodes(search: Search<'_>) -> Result<Vec<usize>, AllocError> {
+fn deleted_nodes(search: ProgramSearch<'_>) -> Result<Vec<usize>, AllocError> {
     let mut deleted = Vec::new(search.graph.alloc);
     for (number, node) in search.scan.nodes().iter().enumerate() {
         if node.member == Member::Destruction && !search.graph.before(number).is_empty() {
@@ -76,7 +76,7 @@ fn deleted_nodes(search: Search<'_>) -> Result<Vec<usize>, AllocError> {
 
 /// Those of these destructions with which an object of the class may be deleted.
 fn deleted_with(
-    search: Search<'_>,
+    search: ProgramSearch<'_>,
     deleted: &[usize],
     class: usize,
 ) -> Result<Vec<usize>, AllocError> {
@@ -93,11 +93,11 @@ fn deleted_with(
 
 /// Adds the method of the class to what it leads to by these ways, if it leads to something and wasn't told of.
 fn add_member(
-    search: Search<'_>,
+    search: ProgramSearch<'_>,
     ways: &Hops,
     class: usize,
     method: usize,
-    told: &mut Vec<Declared>,
+    told: &mut Vec<DeclaredMember>,
     found: &mut Vec<Deletion>,
 ) -> Result<(), AllocError> {
     let node = Node {
@@ -131,7 +131,7 @@ fn is_signal(meta: &Meta, class: usize, method: usize) -> bool {
 
 /// Adds the way to that at its end.
 fn add_way(
-    search: Search<'_>,
+    search: ProgramSearch<'_>,
     numbers: &[usize],
     is_signal: bool,
     found: &mut Vec<Deletion>,
@@ -155,11 +155,11 @@ fn add_way(
         found.push(Deletion {
             from: *from,
             reason,
-            bodies: Members {
+            bodies: DeletingMembers {
                 count: 0,
                 way: Vec::new(alloc),
             },
-            signals: Members {
+            signals: DeletingMembers {
                 count: 0,
                 way: Vec::new(alloc),
             },
@@ -208,7 +208,7 @@ pub fn add_lost_senders(
 }
 
 /// That the first node of the way may lead to the last one.
-fn destroy_path(located: Located<'_>, members: &Members) -> Result<Finding, AllocError> {
+fn destroy_path(located: Located<'_>, members: &DeletingMembers) -> Result<Finding, AllocError> {
     let alloc = located.source.alloc;
     let meta = located.source.meta;
     let mut message = String::new(alloc);
@@ -251,7 +251,7 @@ fn destroy_path(located: Located<'_>, members: &Members) -> Result<Finding, Allo
 }
 
 /// That the signal which the way begins with may lead to the deletion of its sender.
-fn lost_sender(located: Located<'_>, members: &Members) -> Result<Finding, AllocError> {
+fn lost_sender(located: Located<'_>, members: &DeletingMembers) -> Result<Finding, AllocError> {
     let alloc = located.source.alloc;
     let mut message = String::new(alloc);
     if let Some(signal) = members.way.first() {

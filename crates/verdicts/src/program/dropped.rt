@@ -1,7 +1,7 @@
 //! Objects that may die while a call is posted to them.
 
-use crate::program::posts::{Post, Posts, families, step};
-use crate::program::search::Search;
+use crate::program::posts::{Post, PostGraph, families, step};
+use crate::program::search::ProgramSearch;
 use crate::program::turns::remark;
 use basic_types::Kind;
 use edge_reasons::{Reason, reason_for};
@@ -20,7 +20,7 @@ struct Receivers {
 
 impl Receivers {
     /// Those of the program.
-    fn of(search: Search<'_>) -> Result<Receivers, AllocError> {
+    fn of(search: ProgramSearch<'_>) -> Result<Receivers, AllocError> {
         let alloc = search.graph.alloc;
         let meta = search.located.source.meta;
         let below = families(alloc, meta)?;
@@ -45,7 +45,7 @@ impl Receivers {
     }
 
     /// The first wire to objects that may die with one of the class.
-    fn wire_to(&self, search: Search<'_>, class: usize) -> Option<usize> {
+    fn wire_to(&self, search: ProgramSearch<'_>, class: usize) -> Option<usize> {
         for other in row_at(search.scan.destroys(), class) {
             if let Some(wire) = self.wires.get(*other).copied().flatten() {
                 return Some(wire);
@@ -65,8 +65,8 @@ struct Deleting {
 
 /// Adds what deletes an object to which a call may be posted.
 pub fn add_dropped_calls(
-    search: Search<'_>,
-    posts: &Posts,
+    search: ProgramSearch<'_>,
+    posts: &PostGraph,
     remarks: &mut Vec<Finding>,
 ) -> Result<(), AllocError> {
     let receivers = Receivers::of(search)?;
@@ -90,7 +90,7 @@ pub fn add_dropped_calls(
 
 /// What tells the statement of the node from others: the class and the place of the slot that has it, where that is declared, and
 /// its number. `deleteLater` is each class's own.
-fn key(search: Search<'_>, from: Node, statement: usize) -> (usize, usize, usize) {
+fn key(search: ProgramSearch<'_>, from: Node, statement: usize) -> (usize, usize, usize) {
     let Member::Method(method) = from.member else {
         return (from.class, 0, statement);
     };
@@ -106,8 +106,8 @@ fn key(search: Search<'_>, from: Node, statement: usize) -> (usize, usize, usize
 /// What leads to the destruction of this number: each statement that deletes such objects, at once or later. What every object has
 /// to be deleted with counts where something leads to it.
 fn deleters(
-    search: Search<'_>,
-    posts: &Posts,
+    search: ProgramSearch<'_>,
+    posts: &PostGraph,
     number: usize,
     node: Node,
 ) -> Result<Vec<Deleting>, AllocError> {
@@ -147,7 +147,7 @@ fn deleters(
 }
 
 /// Whether the slot isn't `deleteLater`, or something leads to it.
-fn is_used(search: Search<'_>, posts: &Posts, slot: usize) -> bool {
+fn is_used(search: ProgramSearch<'_>, posts: &PostGraph, slot: usize) -> bool {
     match search.scan.nodes().get(slot) {
         Some(node) if node.member == Member::Method(DELETE_LATER) => {
             !posts.graph.before(slot).is_empty()
@@ -158,7 +158,7 @@ fn is_used(search: Search<'_>, posts: &Posts, slot: usize) -> bool {
 
 /// That the one node deletes an object of the other's class, to which this wire may have posted a call.
 fn dropped_call(
-    search: Search<'_>,
+    search: ProgramSearch<'_>,
     from: Node,
     to: Node,
     deleting: Deleting,

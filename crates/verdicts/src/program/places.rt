@@ -3,5 +3,5 @@
 mod located;
 mod places;
 
-pub use located::{Declared, Located};
-pub use places::Places;
+pub use located::{DeclaredMember, Located};
+pub use places::ProgramPlaces;

@@ -1,8 +1,8 @@
 //! What members lead to later: calls that queued wires post, and deletions that `later` schedules.
 
 use crate::program::places::Located;
-use crate::program::search::Search;
-use crate::program::walks::Graph;
+use crate::program::search::ProgramSearch;
+use crate::program::walks::DirectedGraph;
 use basic_types::Kind;
 use effect_scan::{Member, Node, Scan, named};
 use findings::{ChainStep, Link, TextPlace};
@@ -23,9 +23,9 @@ pub enum Post {
 /// The edges of a program with those by which something comes later: each of these leads through a node of its own behind the
 /// program's.
 #[derive(Drop)]
-pub struct Posts {
+pub struct PostGraph {
     /// The edges.
-    pub graph: Graph,
+    pub graph: DirectedGraph,
     /// What posts, in the order of its nodes.
     posts: Vec<Post>,
     /// The number of the first of its nodes.
@@ -40,17 +40,17 @@ struct Making<'m> {
     below: Vec<Vec<usize>>,
 }
 
-impl Posts {
+impl PostGraph {
     /// Those of the program.
-    pub fn of(search: Search<'_>) -> Result<Posts, AllocError> {
+    pub fn of(search: ProgramSearch<'_>) -> Result<PostGraph, AllocError> {
         let meta = search.located.source.meta;
         let alloc = search.graph.alloc;
         let making = Making {
             scan: search.scan,
             below: families(alloc, meta)?,
         };
-        let graph = Graph::of(alloc, search.scan)?;
-        let mut posts = Posts {
+        let graph = DirectedGraph::of(alloc, search.scan)?;
+        let mut posts = PostGraph {
             first: graph.len(),
             graph,
             posts: Vec::new(alloc),
@@ -167,7 +167,7 @@ impl Posts {
     /// The steps along these nodes, of which some may post.
     pub fn steps(
         &self,
-        search: Search<'_>,
+        search: ProgramSearch<'_>,
         numbers: &[usize],
     ) -> Result<Vec<ChainStep>, AllocError> {
         let mut steps = Vec::new(self.graph.alloc);

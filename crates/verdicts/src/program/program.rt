@@ -5,9 +5,9 @@ use crate::program::cycles::gather_cycles;
 use crate::program::deletions::{deletions, gather_deletions};
 use crate::program::places::Located;
 use crate::program::remarks::remarks;
-use crate::program::search::Search;
+use crate::program::search::ProgramSearch;
 use crate::program::typing_flaws::{gather_types, gather_wires};
-use crate::program::walks::{Graph, knots};
+use crate::program::walks::{DirectedGraph, knots};
 use effect_scan::Scan;
 use findings::{Edge, Finding, Verdict};
 use std::alloc::AllocError;
@@ -20,9 +20,9 @@ pub fn gather_program(
 ) -> Result<Vec<Finding>, AllocError> {
     let alloc = located.source.alloc;
     let scan = Scan::of(alloc, located.source.meta)?;
-    let graph = Graph::of(alloc, &scan)?;
+    let graph = DirectedGraph::of(alloc, &scan)?;
     let knots = knots(&graph)?;
-    let search = Search {
+    let search = ProgramSearch {
         located,
         scan: &scan,
         graph: &graph,
@@ -39,8 +39,8 @@ pub fn gather_program(
 
 /// What is worth a warning or a note in a program that has a certificate, whose nodes and edges these are.
 pub fn program_remarks(located: Located<'_>, scan: &Scan) -> Result<Vec<Finding>, AllocError> {
-    let graph = Graph::of(located.source.alloc, scan)?;
-    let search = Search {
+    let graph = DirectedGraph::of(located.source.alloc, scan)?;
+    let search = ProgramSearch {
         located,
         scan,
         graph: &graph,

@@ -3,8 +3,8 @@
 use crate::program::deletions::{Deletion, add_lost_senders};
 use crate::program::dropped::add_dropped_calls;
 use crate::program::places::Located;
-use crate::program::posts::Posts;
-use crate::program::search::Search;
+use crate::program::posts::PostGraph;
+use crate::program::search::ProgramSearch;
 use crate::program::turns::{add_queued_cycles, add_re_entries};
 use diagnostics::TextPlace;
 use findings::{Finding, JudgedText, Rule};
@@ -12,11 +12,14 @@ use program_flaws::{Warning, warning_text, warnings};
 use std::alloc::AllocError;
 
 /// What is worth it, in the order of the rules and of the text.
-pub fn remarks(search: Search<'_>, deletions: &[Deletion]) -> Result<Vec<Finding>, AllocError> {
+pub fn remarks(
+    search: ProgramSearch<'_>,
+    deletions: &[Deletion],
+) -> Result<Vec<Finding>, AllocError> {
     let located = search.located;
     let alloc = located.source.alloc;
     let mut remarks = Vec::new(alloc);
-    let posts = Posts::of(search)?;
+    let posts = PostGraph::of(search)?;
     add_re_entries(search, &posts, &mut remarks)?;
     add_queued_cycles(search, &posts, &mut remarks)?;
     add_lost_senders(located, deletions, &mut remarks)?;

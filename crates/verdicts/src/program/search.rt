@@ -1,24 +1,24 @@
 //! A program whose edges are searched.
 
 use crate::program::places::Located;
-use crate::program::walks::Graph;
+use crate::program::walks::DirectedGraph;
 use effect_scan::{Node, Scan};
 use std::alloc::AllocError;
 
 /// A program, its nodes and edges, and its knots.
 #[derive(Clone, Copy)]
-pub struct Search<'s> {
+pub struct ProgramSearch<'s> {
     /// The program.
     pub located: Located<'s>,
     /// Its nodes.
     pub scan: &'s Scan,
     /// The edges between them.
-    pub graph: &'s Graph,
+    pub graph: &'s DirectedGraph,
     /// The sets of nodes that all lead to one another.
     pub knots: &'s [Vec<usize>],
 }
 
-impl<'s> Search<'s> {
+impl<'s> ProgramSearch<'s> {
     /// The nodes of these numbers, as far as they are there.
     pub fn nodes_at(&self, numbers: &[usize]) -> Result<Vec<Node>, AllocError> {
         let mut nodes = Vec::new(self.located.source.alloc);

@@ -13,14 +13,14 @@ const HELP: &str = "help: ";
 
 /// A sentence, and what to do.
 #[derive(Drop)]
-pub struct Told {
+pub struct MessageWithHelp {
     pub message: String,
     pub help: Option<String>,
 }
 
-impl Told {
+impl MessageWithHelp {
     /// The first line of the text, and that of its lines which says what to do.
-    pub fn of(alloc: Global, text: &str) -> Result<Told, AllocError> {
+    pub fn of(alloc: Global, text: &str) -> Result<MessageWithHelp, AllocError> {
         let mut message = String::new(alloc);
         let mut help = None;
         for (place, line) in text.lines().enumerate() {
@@ -30,7 +30,7 @@ impl Told {
                 message.push_str(line)?;
             }
         }
-        Ok(Told { message, help })
+        Ok(MessageWithHelp { message, help })
     }
 }
 

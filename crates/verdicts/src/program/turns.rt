@@ -1,7 +1,7 @@
 //! Cycles that go through an event loop, and slots that run one.
 
-use crate::program::posts::Posts;
-use crate::program::search::Search;
+use crate::program::posts::PostGraph;
+use crate::program::search::ProgramSearch;
 use crate::program::walks::{knots, marks};
 use effect_scan::{Member, Node};
 use findings::{ChainStep, Finding, JudgedText, Rule, TextPlace};
@@ -17,8 +17,8 @@ const MOST_SHOWN: usize = 100;
 
 /// Adds cycles on which something is posted: for each that posts a shortest one by it, unless it is on one before.
 pub fn add_queued_cycles(
-    search: Search<'_>,
-    posts: &Posts,
+    search: ProgramSearch<'_>,
+    posts: &PostGraph,
     remarks: &mut Vec<Finding>,
 ) -> Result<(), AllocError> {
     let mut shown = 0usize;
@@ -46,7 +46,7 @@ pub fn add_queued_cycles(
 }
 
 /// A shortest cycle by the node that posts, from the node before it on.
-fn turned(posts: &Posts, post: usize, knot: &[usize]) -> Result<Vec<usize>, AllocError> {
+fn turned(posts: &PostGraph, post: usize, knot: &[usize]) -> Result<Vec<usize>, AllocError> {
     let cycle = posts.graph.cycle_through(post, knot)?;
     let mut numbers = Vec::new(posts.graph.alloc);
     if let [.., last, _] = cycle.as_slice() {
@@ -61,8 +61,8 @@ fn turned(posts: &Posts, post: usize, knot: &[usize]) -> Result<Vec<usize>, Allo
 
 /// That the nodes are a cycle on which something is posted first.
 fn queued_cycle(
-    search: Search<'_>,
-    posts: &Posts,
+    search: ProgramSearch<'_>,
+    posts: &PostGraph,
     numbers: &[usize],
 ) -> Result<Finding, AllocError> {
     let located = search.located;
@@ -82,7 +82,7 @@ fn queued_cycle(
 
 /// A finding with the help of its rule.
 pub fn remark(
-    search: Search<'_>,
+    search: ProgramSearch<'_>,
     rule: Rule,
     message: String,
     place: Option<TextPlace>,
@@ -100,8 +100,8 @@ pub fn remark(
 
 /// Adds the slots that run an event loop, in which a posted call leads back to them.
 pub fn add_re_entries(
-    search: Search<'_>,
-    posts: &Posts,
+    search: ProgramSearch<'_>,
+    posts: &PostGraph,
     remarks: &mut Vec<Finding>,
 ) -> Result<(), AllocError> {
     let meta = search.located.source.meta;
@@ -130,8 +130,8 @@ pub fn add_re_entries(
 
 /// A way from the slot at once to what posts, and from there back to it.
 fn way_back(
-    search: Search<'_>,
-    posts: &Posts,
+    search: ProgramSearch<'_>,
+    posts: &PostGraph,
     slot: usize,
 ) -> Result<Option<Vec<usize>>, AllocError> {
     let alloc = posts.graph.alloc;

@@ -1,7 +1,7 @@
 //! Wires that don't fit, and literals, bodies and bindings that aren't typed.
 
 use crate::program::places::Located;
-use crate::program::sentences::Told;
+use crate::program::sentences::MessageWithHelp;
 use basic_types::fits;
 use diagnostics::TextPlace;
 use effect_scan::Node;
@@ -85,7 +85,7 @@ fn finding(
     text: &str,
     place: Option<TextPlace>,
 ) -> Result<Finding, AllocError> {
-    let told = Told::of(located.source.alloc, text)?;
+    let told = MessageWithHelp::of(located.source.alloc, text)?;
     Ok(Finding {
         rule,
         message: told.message,

@@ -6,7 +6,7 @@ mod hops;
 mod knotting;
 mod marking;
 
-pub use graph::Graph;
+pub use graph::DirectedGraph;
 pub use hops::{Hop, Hops};
 pub use knotting::{knots, knots_of_nodes};
 pub use marking::{is_marked, marks, set_mark};

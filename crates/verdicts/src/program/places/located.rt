@@ -1,6 +1,6 @@
 //! A program together with the places of its parts.
 
-use crate::program::places::places::Places;
+use crate::program::places::places::ProgramPlaces;
 use diagnostics::TextPlace;
 use edge_reasons::{Reason, reason_for};
 use effect_scan::{Member, Node};
@@ -14,21 +14,21 @@ pub struct Located<'s> {
     /// The program.
     pub source: ProgramSource<'s>,
     /// The places.
-    pub places: &'s Places,
+    pub places: &'s ProgramPlaces,
     /// How grave the rules are.
     pub levels: Levels<'s>,
 }
 
 /// A member among those that its class declares.
 #[derive(Clone, Copy, Debug, PartialEq, Eq)]
-pub struct Declared {
+pub struct DeclaredMember {
     /// The number of the class.
     pub class: usize,
     /// The member's place among the class's own of its sort, from 0.
     pub own: usize,
 }
 
-impl Declared {
+impl DeclaredMember {
     /// The class's place among the classes of the program; `QObject` has none.
     fn class_place(self) -> Option<usize> {
         self.class.checked_sub(1)
@@ -37,17 +37,17 @@ impl Declared {
 
 impl<'s> Located<'s> {
     /// Where the method is declared that the class has.
-    pub fn declared_method(&self, class: usize, method: usize) -> Declared {
+    pub fn declared_method(&self, class: usize, method: usize) -> DeclaredMember {
         let declaring = self.source.declaring(class, method);
         let own = method.saturating_sub(self.source.meta.method_offset(declaring));
-        Declared {
+        DeclaredMember {
             class: declaring,
             own,
         }
     }
 
     /// Where the property is declared that the class has.
-    pub fn declared_property(&self, class: usize, property: usize) -> Declared {
+    pub fn declared_property(&self, class: usize, property: usize) -> DeclaredMember {
         let mut declaring = class;
         // A base stands before its class.
         for _ in 0..class {
@@ -60,7 +60,7 @@ impl<'s> Located<'s> {
             Some(base) => self.property_count(base),
             None => 0,
         };
-        Declared {
+        DeclaredMember {
             class: declaring,
             own: property.saturating_sub(inherited),
         }

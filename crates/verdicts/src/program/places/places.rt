@@ -15,7 +15,7 @@ struct SlotPlaces {
 
 /// Where a class stands, and its members of each sort, in their order.
 #[derive(Drop)]
-struct ClassPlaces {
+struct ClassTextPlaces {
     at: TextPlace,
     properties: Vec<TextPlace>,
     signals: Vec<TextPlace>,
@@ -24,8 +24,8 @@ struct ClassPlaces {
 
 /// Where the parts of a program stand, each by its first token.
 #[derive(Drop)]
-pub struct Places {
-    classes: Vec<ClassPlaces>,
+pub struct ProgramPlaces {
+    classes: Vec<ClassTextPlaces>,
     wires: Vec<TextPlace>,
     sites: Vec<TextPlace>,
     connects: Vec<TextPlace>,
@@ -61,15 +61,15 @@ fn without_blanks(line: &[u8]) -> &[u8] {
 }
 
 /// How far a text was gone through.
-struct Walk<'t> {
+struct TextCursor<'t> {
     text: &'t [u8],
     at: usize,
     place: TextPlace,
 }
 
-impl Drop for Walk<'_> {
+impl Drop for TextCursor<'_> {
     fn drop(self) {
-        let Walk {
+        let TextCursor {
             text: _,
             at: _,
             place: _,
@@ -77,10 +77,10 @@ impl Drop for Walk<'_> {
     }
 }
 
-impl<'t> Walk<'t> {
+impl<'t> TextCursor<'t> {
     /// From the text's beginning.
-    fn new(text: &'t [u8]) -> Walk<'t> {
-        Walk {
+    fn new(text: &'t [u8]) -> TextCursor<'t> {
+        TextCursor {
             text,
             at: 0,
             place: TextPlace { line: 1, column: 1 },
@@ -103,10 +103,10 @@ impl<'t> Walk<'t> {
     }
 }
 
-impl Places {
+impl ProgramPlaces {
     /// The places of the program that the text is; none where the text is no program.
-    pub fn of(alloc: Global, text: &[u8]) -> Result<Places, AllocError> {
-        let mut places = Places {
+    pub fn of(alloc: Global, text: &[u8]) -> Result<ProgramPlaces, AllocError> {
+        let mut places = ProgramPlaces {
             classes: Vec::new(alloc),
             wires: Vec::new(alloc),
             sites: Vec::new(alloc),
@@ -128,7 +128,7 @@ impl Places {
             Some(trail) if trail.is_whole() => trail,
             _ => return Err(AllocError),
         };
-        let mut walk = Walk::new(text);
+        let mut walk = TextCursor::new(text);
         for begun in trail.begun() {
             if let Some(token) = placed.as_slice().get(begun.at) {
                 let place = walk.to(token.at);
@@ -166,7 +166,7 @@ impl Places {
     ) -> Result<(), AllocError> {
         match word {
             Some(Word::Class) => {
-                self.classes.push(ClassPlaces {
+                self.classes.push(ClassTextPlaces {
                     at: place,
                     properties: Vec::new(alloc),
                     signals: Vec::new(alloc),

@@ -8,7 +8,7 @@ use std::alloc::{AllocError, Global};
 
 /// Edges between nodes that are numbers from 0.
 #[derive(Drop)]
-pub struct Graph {
+pub struct DirectedGraph {
     /// What memory is taken from.
     pub alloc: Global,
     /// For each node those that it leads to.
@@ -18,10 +18,10 @@ pub struct Graph {
     edges: usize,
 }
 
-impl Graph {
+impl DirectedGraph {
     /// So many nodes without edges.
-    pub fn without_edges(alloc: Global, count: usize) -> Result<Graph, AllocError> {
-        let mut graph = Graph {
+    pub fn without_edges(alloc: Global, count: usize) -> Result<DirectedGraph, AllocError> {
+        let mut graph = DirectedGraph {
             alloc,
             after: Vec::new(alloc),
             before: Vec::new(alloc),
@@ -34,9 +34,9 @@ impl Graph {
     }
 
     /// The edges of the scan, between the numbers of its nodes.
-    pub fn of(alloc: Global, scan: &Scan) -> Result<Graph, AllocError> {
+    pub fn of(alloc: Global, scan: &Scan) -> Result<DirectedGraph, AllocError> {
         let count = scan.nodes().len();
-        let mut graph = Graph::without_edges(alloc, count)?;
+        let mut graph = DirectedGraph::without_edges(alloc, count)?;
         for from in 0..count {
             for to in scan.targets(from) {
                 graph.join(from, *to)?;

@@ -1,12 +1,12 @@
 //! Knots: sets of nodes that all lead to one another. Each cycle lies within one of them.
 
-use crate::program::walks::graph::{Graph, push_at};
+use crate::program::walks::graph::{DirectedGraph, push_at};
 use crate::program::walks::marking::{marks, set_mark};
 use std::alloc::{AllocError, Global};
 
 /// A node on the way of a search, and how many of its edges were followed.
 #[derive(Clone, Copy, Debug, PartialEq, Eq)]
-struct Visit {
+struct SearchFrame {
     node: usize,
     next: usize,
 }
@@ -48,7 +48,7 @@ impl Roots {
 }
 
 /// The knots. The nodes of each are in their order, and the knots in that of their first nodes.
-pub fn knots(graph: &Graph) -> Result<Vec<Vec<usize>>, AllocError> {
+pub fn knots(graph: &DirectedGraph) -> Result<Vec<Vec<usize>>, AllocError> {
     let order = finished(graph)?;
     let mut roots = Roots::none(graph.alloc, graph.len())?;
     for root in order.iter().rev() {
@@ -66,7 +66,7 @@ pub fn knots(graph: &Graph) -> Result<Vec<Vec<usize>>, AllocError> {
 }
 
 /// All nodes, each behind those that it leads to, but where these lead back to it.
-pub fn finished(graph: &Graph) -> Result<Vec<usize>, AllocError> {
+pub fn finished(graph: &DirectedGraph) -> Result<Vec<usize>, AllocError> {
     let mut order = Vec::new(graph.alloc);
     let mut entered = marks(graph.alloc, graph.len(), false)?;
     for root in 0..graph.len() {
@@ -79,13 +79,13 @@ pub fn finished(graph: &Graph) -> Result<Vec<usize>, AllocError> {
 
 /// Adds the node, which was just entered, and those that it leads to, as far as they weren't entered.
 fn finish_from(
-    graph: &Graph,
+    graph: &DirectedGraph,
     root: usize,
     entered: &mut Vec<bool>,
     order: &mut Vec<usize>,
 ) -> Result<(), AllocError> {
     let mut path = Vec::new(graph.alloc);
-    path.push(Visit {
+    path.push(SearchFrame {
         node: root,
         next: 0,
     })?;
@@ -97,12 +97,12 @@ fn finish_from(
         };
         match graph.after(visit.node).get(visit.next) {
             Some(target) => {
-                path.push(Visit {
+                path.push(SearchFrame {
                     node: visit.node,
                     next: visit.next.saturating_add(1),
                 })?;
                 if set_mark(entered, *target, true) {
-                    path.push(Visit {
+                    path.push(SearchFrame {
                         node: *target,
                         next: 0,
                     })?;
@@ -115,7 +115,7 @@ fn finish_from(
 }
 
 /// Gives the root to each node that leads to it and has none yet.
-fn gather(graph: &Graph, root: usize, roots: &mut Roots) -> Result<(), AllocError> {
+fn gather(graph: &DirectedGraph, root: usize, roots: &mut Roots) -> Result<(), AllocError> {
     let mut waiting = Vec::new(graph.alloc);
     waiting.push(root)?;
     // Each node waits once at most.
@@ -133,7 +133,7 @@ fn gather(graph: &Graph, root: usize, roots: &mut Roots) -> Result<(), AllocErro
 }
 
 /// The sets of nodes that have one root, in the order of their first nodes.
-fn sets(graph: &Graph, roots: &Roots) -> Result<Vec<Vec<usize>>, AllocError> {
+fn sets(graph: &DirectedGraph, roots: &Roots) -> Result<Vec<Vec<usize>>, AllocError> {
     let mut sets: Vec<Vec<usize>> = Vec::new(graph.alloc);
     let mut places = Roots::none(graph.alloc, graph.len())?;
     for node in 0..graph.len() {
@@ -153,7 +153,7 @@ fn sets(graph: &Graph, roots: &Roots) -> Result<Vec<Vec<usize>>, AllocError> {
 }
 
 /// Whether nodes that all lead to one another, or one alone, are a knot.
-fn is_knot(graph: &Graph, nodes: &[usize]) -> bool {
+fn is_knot(graph: &DirectedGraph, nodes: &[usize]) -> bool {
     match nodes {
         [] => false,
         [only] => graph.after(*only).contains(only),
@@ -163,7 +163,7 @@ fn is_knot(graph: &Graph, nodes: &[usize]) -> bool {
 
 /// For each node the knot that it is in, by its place among them; `None` for one that is in none.
 pub fn knots_of_nodes(
-    graph: &Graph,
+    graph: &DirectedGraph,
     knots: &[Vec<usize>],
 ) -> Result<Vec<Option<usize>>, AllocError> {
     let mut places = Roots::none(graph.alloc, graph.len())?;
