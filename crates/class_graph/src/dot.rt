@@ -1,13 +1,13 @@
 //! A graph in the language of Graphviz.
 
-use crate::drawing::{Drawing, DrawnEdge, DrawnNode, Verdict};
+use crate::drawing::{CertificateVerdict, DrawnEdge, DrawnNode, GraphDrawing};
 use crate::label::{cause_text, class_text, kind_word, member_text};
 use crate::origin::push_tip;
 use std::alloc::{AllocError, Global};
 
 /// The graph, a box for each class: the way to the reason why there is no certificate is red, and queued wires are dashed.
 /// Names and types have no byte that a quoted text of the language has to escape.
-pub fn dot_text(alloc: Global, drawing: &Drawing<'_>) -> Result<String, AllocError> {
+pub fn dot_text(alloc: Global, drawing: &GraphDrawing<'_>) -> Result<String, AllocError> {
     let mut text = String::new(alloc);
     text.push_str("digraph classes {\n")?;
     push_verdict(&mut text, drawing.verdict)?;
@@ -24,15 +24,21 @@ pub fn dot_text(alloc: Global, drawing: &Drawing<'_>) -> Result<String, AllocErr
 }
 
 /// Adds a title that says whether there is a certificate.
-fn push_verdict(text: &mut String, verdict: Verdict) -> Result<(), AllocError> {
+fn push_verdict(text: &mut String, verdict: CertificateVerdict) -> Result<(), AllocError> {
     match verdict {
-        Verdict::Bound(bound) => { writeln!(text, "  label=\"a certificate with bound {bound}\";") }
-        Verdict::No(reason) => writeln!(text, "  label=\"no certificate: {reason}\";"),
+        CertificateVerdict::Bound(bound) => {
+            writeln!(text, "  label=\"a certificate with bound {bound}\";")
+        }
+        CertificateVerdict::No(reason) => writeln!(text, "  label=\"no certificate: {reason}\";"),
     }
 }
 
 /// Adds a box for each class, with the nodes of its objects.
-fn push_classes(text: &mut String, alloc: Global, drawing: &Drawing<'_>) -> Result<(), AllocError> {
+fn push_classes(
+    text: &mut String,
+    alloc: Global,
+    drawing: &GraphDrawing<'_>,
+) -> Result<(), AllocError> {
     let mut last: Option<usize> = None;
     for drawn in drawing.nodes.as_slice() {
         if last != Some(drawn.node.class) {
@@ -51,7 +57,7 @@ fn push_classes(text: &mut String, alloc: Global, drawing: &Drawing<'_>) -> Resu
 fn push_class(
     text: &mut String,
     alloc: Global,
-    drawing: &Drawing<'_>,
+    drawing: &GraphDrawing<'_>,
     class: usize,
     is_behind: bool,
 ) -> Result<(), AllocError> {
@@ -70,7 +76,7 @@ fn push_class(
 fn push_node(
     text: &mut String,
     alloc: Global,
-    drawing: &Drawing<'_>,
+    drawing: &GraphDrawing<'_>,
     drawn: &DrawnNode,
 ) -> Result<(), AllocError> {
     let number = drawn.number;
@@ -100,7 +106,7 @@ fn push_node(
 fn push_edge(
     text: &mut String,
     alloc: Global,
-    drawing: &Drawing<'_>,
+    drawing: &GraphDrawing<'_>,
     drawn: &DrawnEdge,
 ) -> Result<(), AllocError> {
     let edge = drawn.edge;

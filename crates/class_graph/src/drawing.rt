@@ -1,10 +1,10 @@
 //! What is drawn: nodes with their ranks, edges, and those on the way of the reason why there is no certificate.
 
-use crate::edge::{Cause, Edge, Edges, MOST_EDGES};
+use crate::edge::{EdgeCause, Edges, MOST_EDGES, NodeEdge};
 use crate::family::Family;
-use crate::fault::PartFault;
+use crate::fault::GraphPartFault;
 use crate::origin::Origins;
-use crate::part::{Part, drawn, is_marked};
+use crate::part::{GraphPart, drawn, is_marked};
 use effect_scan::{Member, Node, Scan};
 use meta_model::Meta;
 use rank_make::{Why, make};
@@ -13,7 +13,7 @@ use std::alloc::{AllocError, Global};
 
 /// Whether a program has a certificate.
 #[derive(Clone, Copy, Debug, PartialEq, Eq)]
-pub enum Verdict {
+pub enum CertificateVerdict {
     /// It has one, with this bound.
     Bound(u32),
     /// It has none, for this reason, as `certify` names it.
@@ -36,16 +36,16 @@ pub struct DrawnNode {
 /// An edge that is drawn.
 #[derive(Clone, Copy, Debug, PartialEq, Eq)]
 pub struct DrawnEdge {
-    pub edge: Edge,
+    pub edge: NodeEdge,
     /// Whether it is on the way that the reason names.
     pub is_marked: bool,
 }
 
 /// A graph, or a part of one.
 #[derive(Drop)]
-pub struct Drawing<'m> {
+pub struct GraphDrawing<'m> {
     pub meta: &'m Meta,
-    pub verdict: Verdict,
+    pub verdict: CertificateVerdict,
     /// In the order of nodes: class by class.
     pub nodes: Vec<DrawnNode>,
     /// Those between the nodes, in the order of the nodes that they lead from.
@@ -56,29 +56,29 @@ pub struct Drawing<'m> {
 
 /// What a maker of certificates finds of a program.
 #[derive(Drop)]
-struct Finding {
-    verdict: Verdict,
+struct MakerFindings {
+    verdict: CertificateVerdict,
     /// The ranks of all nodes, by number, where there is a certificate.
     ranks: Vec<u32>,
     /// The nodes that lead from one to the next, where these are why there is none.
     chain: Items<Node>,
 }
 
-impl<'m> Drawing<'m> {
+impl<'m> GraphDrawing<'m> {
     /// What is drawn of a program that loads.
     pub fn of(
         alloc: Global,
         meta: &'m Meta,
-        part: Part<'_>,
+        part: GraphPart<'_>,
         origins: Option<Origins<'m>>,
-    ) -> Result<Drawing<'m>, PartFault> {
+    ) -> Result<GraphDrawing<'m>, GraphPartFault> {
         let scan = Scan::of(alloc, meta)?;
         let Some(edges) = Edges::of(alloc, meta, &scan)? else {
-            return Err(PartFault::TooLarge);
+            return Err(GraphPartFault::TooLarge);
         };
         let is_drawn = drawn(alloc, meta, &scan, &edges, part)?;
-        let finding = Finding::of(alloc, meta)?;
-        let mut drawing = Drawing {
+        let finding = MakerFindings::of(alloc, meta)?;
+        let mut drawing = GraphDrawing {
             meta,
             verdict: finding.verdict,
             nodes: Vec::new(alloc),
@@ -87,7 +87,7 @@ impl<'m> Drawing<'m> {
         };
         drawing.push_nodes(&scan, &finding, is_drawn.as_slice())?;
         let Some(posted) = posted(alloc, meta, &scan, &edges, is_drawn.as_slice())? else {
-            return Err(PartFault::TooLarge);
+            return Err(GraphPartFault::TooLarge);
         };
         for (number, queued) in posted.iter().enumerate() {
             drawing.push_edges(&scan, edges.from(number), &finding, is_drawn.as_slice())?;
@@ -110,7 +110,7 @@ impl<'m> Drawing<'m> {
     fn push_nodes(
         &mut self,
         scan: &Scan,
-        finding: &Finding,
+        finding: &MakerFindings,
         is_drawn: &[bool],
     ) -> Result<(), AllocError> {
         for (number, node) in scan.nodes().iter().enumerate() {
@@ -130,8 +130,8 @@ impl<'m> Drawing<'m> {
     fn push_edges(
         &mut self,
         scan: &Scan,
-        edges: &[Edge],
-        finding: &Finding,
+        edges: &[NodeEdge],
+        finding: &MakerFindings,
         is_drawn: &[bool],
     ) -> Result<(), AllocError> {
         let nodes = scan.nodes();
@@ -158,8 +158,8 @@ fn posted(
     scan: &Scan,
     edges: &Edges,
     is_drawn: &[bool],
-) -> Result<Option<Vec<Vec<Edge>>>, AllocError> {
-    let mut posted: Vec<Vec<Edge>> = Vec::new(alloc);
+) -> Result<Option<Vec<Vec<NodeEdge>>>, AllocError> {
+    let mut posted: Vec<Vec<NodeEdge>> = Vec::new(alloc);
     for _ in scan.nodes() {
         posted.push(Vec::new(alloc))?;
     }
@@ -173,7 +173,7 @@ fn posted(
             first,
             count: wires,
         } = *family;
-        let cause = Cause::Queued(first, wires.saturating_sub(1));
+        let cause = EdgeCause::Queued(first, wires.saturating_sub(1));
         let receivers = uppermost(alloc, meta, scan, is_drawn, receiver, method)?;
         for from in uppermost(alloc, meta, scan, is_drawn, sender, signal)? {
             count = count.saturating_add(receivers.len());
@@ -188,14 +188,14 @@ fn posted(
 
 /// Adds edges for this reason from the one node to each of the others.
 fn push_all(
-    posted: &mut Vec<Vec<Edge>>,
+    posted: &mut Vec<Vec<NodeEdge>>,
     from: usize,
     targets: &[usize],
-    cause: Cause,
+    cause: EdgeCause,
 ) -> Result<(), AllocError> {
     if let Some(list) = posted.get_mut(from) {
         for to in targets {
-            list.push(Edge {
+            list.push(NodeEdge {
                 from,
                 to: *to,
                 cause,
@@ -238,27 +238,27 @@ fn uppermost(
     Ok(found)
 }
 
-impl Finding {
+impl MakerFindings {
     /// The least certificate's ranks, or the reason why there is no certificate.
-    fn of(alloc: Global, meta: &Meta) -> Result<Finding, AllocError> {
+    fn of(alloc: Global, meta: &Meta) -> Result<MakerFindings, AllocError> {
         match make(alloc, meta) {
             Ok(certificate) => {
                 let mut ranks = Vec::new(alloc);
                 for line in certificate.lines.as_slice() {
                     ranks.push(line.rank)?;
                 }
-                Ok(Finding {
-                    verdict: Verdict::Bound(certificate.bound),
+                Ok(MakerFindings {
+                    verdict: CertificateVerdict::Bound(certificate.bound),
                     ranks,
                     chain: Items::new(alloc),
                 })
             }
-            Err(why) => Finding::without(alloc, why),
+            Err(why) => MakerFindings::without(alloc, why),
         }
     }
 
     /// There is no certificate.
-    fn without(alloc: Global, why: Why) -> Result<Finding, AllocError> {
+    fn without(alloc: Global, why: Why) -> Result<MakerFindings, AllocError> {
         let (word, chain) = match why {
             Why::Wire(_) => ("wire", Items::new(alloc)),
             Why::BodyType(_) => ("type", Items::new(alloc)),
@@ -267,8 +267,8 @@ impl Finding {
             Why::TooHigh(nodes) => ("high", nodes),
             Why::Memory => return Err(AllocError),
         };
-        Ok(Finding {
-            verdict: Verdict::No(word),
+        Ok(MakerFindings {
+            verdict: CertificateVerdict::No(word),
             ranks: Vec::new(alloc),
             chain,
         })

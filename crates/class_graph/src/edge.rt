@@ -11,7 +11,7 @@ pub const MOST_EDGES: usize = 262_144;
 
 /// What draws an edge.
 #[derive(Clone, Copy, Debug, PartialEq, Eq)]
-pub enum Cause {
+pub enum EdgeCause {
     /// A statement of a slot's body sets the property.
     Set,
     /// A statement of a slot's body emits the signal.
@@ -37,16 +37,16 @@ pub enum Cause {
 
 /// An edge between the nodes of these numbers.
 #[derive(Clone, Copy, Debug, PartialEq, Eq)]
-pub struct Edge {
+pub struct NodeEdge {
     pub from: usize,
     pub to: usize,
-    pub cause: Cause,
+    pub cause: EdgeCause,
 }
 
 /// All edges of a program: those of the scan, from one node after another, and those of queued wires by families.
 #[derive(Drop)]
 pub struct Edges {
-    all: Vec<Edge>,
+    all: Vec<NodeEdge>,
     /// For each node, by number, how many edges lead from those before it.
     before: Vec<usize>,
     families: Vec<Family>,
@@ -70,7 +70,7 @@ impl Edges {
     }
 
     /// The edges from the node of this number, but for those of queued wires.
-    pub fn from(&self, node: usize) -> &[Edge] {
+    pub fn from(&self, node: usize) -> &[NodeEdge] {
         let Some(start) = self.before.get(node) else {
             return &[];
         };
@@ -82,7 +82,7 @@ impl Edges {
     }
 
     /// All edges but for those of queued wires.
-    pub fn all(&self) -> &[Edge] {
+    pub fn all(&self) -> &[NodeEdge] {
         self.all.as_slice()
     }
 
@@ -105,7 +105,7 @@ impl Edges {
                     return Ok(false);
                 }
                 let cause = cause_of(meta, node, *target);
-                self.all.push(Edge {
+                self.all.push(NodeEdge {
                     from,
                     to: *to,
                     cause,
@@ -117,32 +117,32 @@ impl Edges {
 }
 
 /// What draws the edge from the one node to the other.
-fn cause_of(meta: &Meta, from: Node, to: Node) -> Cause {
+fn cause_of(meta: &Meta, from: Node, to: Node) -> EdgeCause {
     match reason_for(meta, from, to) {
-        Some(Reason::Native) => Cause::Native,
-        Some(Reason::Wire(place)) => Cause::Wire(place),
-        Some(Reason::Notify) => Cause::Notify,
-        Some(Reason::Binding(place)) => Cause::Binding(place),
+        Some(Reason::Native) => EdgeCause::Native,
+        Some(Reason::Wire(place)) => EdgeCause::Wire(place),
+        Some(Reason::Notify) => EdgeCause::Notify,
+        Some(Reason::Binding(place)) => EdgeCause::Binding(place),
         Some(Reason::Statement(_)) => statement_on(meta, to),
-        Some(Reason::Deletion) | None => Cause::Deletion,
+        Some(Reason::Deletion) | None => EdgeCause::Deletion,
     }
 }
 
 /// What a statement does that leads to this node.
-fn statement_on(meta: &Meta, node: Node) -> Cause {
+fn statement_on(meta: &Meta, node: Node) -> EdgeCause {
     match node.member {
-        Member::Property(_) => Cause::Set,
-        Member::Destruction => Cause::Delete,
+        Member::Property(_) => EdgeCause::Set,
+        Member::Destruction => EdgeCause::Delete,
         Member::Method(method) => match meta.method_at(node.class, method) {
-            Some(found) if matches!(found.work, Work::Signal) => Cause::Emit,
-            _ => Cause::Call,
+            Some(found) if matches!(found.work, Work::Signal) => EdgeCause::Emit,
+            _ => EdgeCause::Call,
         },
     }
 }
 
-impl Edge {
+impl NodeEdge {
     /// Whether what it leads to comes later, when an event loop turns.
     pub fn is_queued(&self) -> bool {
-        matches!(self.cause, Cause::Queued(_, _))
+        matches!(self.cause, EdgeCause::Queued(_, _))
     }
 }

@@ -38,7 +38,7 @@ impl From<AllocError> for GraphFault {
 
 /// Why a part of a graph can't be drawn.
 #[derive(Clone, Copy, Debug, PartialEq, Eq, Error)]
-pub enum PartFault {
+pub enum GraphPartFault {
     /// It names a class, or a member of a class, that isn't there.
     #[error("the program has no such class or member")]
     Unknown,
@@ -50,9 +50,9 @@ pub enum PartFault {
     Memory,
 }
 
-impl From<AllocError> for PartFault {
-    fn from(_: AllocError) -> PartFault {
-        PartFault::Memory
+impl From<AllocError> for GraphPartFault {
+    fn from(_: AllocError) -> GraphPartFault {
+        GraphPartFault::Memory
     }
 }
 

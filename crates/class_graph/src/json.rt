@@ -1,17 +1,17 @@
 //! A graph as JSON.
 
-use crate::drawing::{Drawing, DrawnEdge, DrawnNode, Verdict};
+use crate::drawing::{CertificateVerdict, DrawnEdge, DrawnNode, GraphDrawing};
 use crate::label::{cause_text, class_text, kind_word, member_text};
 use crate::origin::push_members;
 use std::alloc::{AllocError, Global};
 
 /// One object with the verdict, the nodes and the edges, a line for each of them. Names and types have no byte that a text
 /// of JSON has to escape.
-pub fn json_text(alloc: Global, drawing: &Drawing<'_>) -> Result<String, AllocError> {
+pub fn json_text(alloc: Global, drawing: &GraphDrawing<'_>) -> Result<String, AllocError> {
     let mut text = String::new(alloc);
     match drawing.verdict {
-        Verdict::Bound(bound) => writeln!(text, "{{\"bound\": {bound},")?,
-        Verdict::No(reason) => writeln!(text, "{{\"no\": \"{reason}\",")?,
+        CertificateVerdict::Bound(bound) => writeln!(text, "{{\"bound\": {bound},")?,
+        CertificateVerdict::No(reason) => writeln!(text, "{{\"no\": \"{reason}\",")?,
     }
     text.push_str(" \"nodes\": [")?;
     for (place, drawn) in drawing.nodes.as_slice().iter().enumerate() {
@@ -34,7 +34,7 @@ fn push_comma(text: &mut String, is_first: bool) -> Result<(), AllocError> {
 fn push_node(
     text: &mut String,
     alloc: Global,
-    drawing: &Drawing<'_>,
+    drawing: &GraphDrawing<'_>,
     drawn: &DrawnNode,
     is_first: bool,
 ) -> Result<(), AllocError> {
@@ -65,7 +65,7 @@ fn push_node(
 fn push_edge(
     text: &mut String,
     alloc: Global,
-    drawing: &Drawing<'_>,
+    drawing: &GraphDrawing<'_>,
     drawn: &DrawnEdge,
     is_first: bool,
 ) -> Result<(), AllocError> {

@@ -1,6 +1,6 @@
 //! How nodes and edges are written.
 
-use crate::edge::Cause;
+use crate::edge::EdgeCause;
 use effect_scan::{Member, Node};
 use meta_model::{Meta, MetaObject, Work};
 use std::alloc::{AllocError, Global};
@@ -60,20 +60,20 @@ pub fn kind_word(meta: &Meta, node: Node) -> &'static str {
 }
 
 /// What draws an edge, in a word or two; wires are counted from 1.
-pub fn cause_text(alloc: Global, meta: &Meta, cause: Cause) -> Result<String, AllocError> {
+pub fn cause_text(alloc: Global, meta: &Meta, cause: EdgeCause) -> Result<String, AllocError> {
     match cause {
-        Cause::Set => format!(in alloc; "set"),
-        Cause::Emit => format!(in alloc; "emit"),
-        Cause::Call => format!(in alloc; "call"),
-        Cause::Delete => format!(in alloc; "delete"),
-        Cause::Native => format!(in alloc; "native"),
-        Cause::Notify => format!(in alloc; "notify"),
-        Cause::Deletion => format!(in alloc; "deletion"),
-        Cause::Wire(place) => {
+        EdgeCause::Set => format!(in alloc; "set"),
+        EdgeCause::Emit => format!(in alloc; "emit"),
+        EdgeCause::Call => format!(in alloc; "call"),
+        EdgeCause::Delete => format!(in alloc; "delete"),
+        EdgeCause::Native => format!(in alloc; "native"),
+        EdgeCause::Notify => format!(in alloc; "notify"),
+        EdgeCause::Deletion => format!(in alloc; "deletion"),
+        EdgeCause::Wire(place) => {
             let number = place.saturating_add(1);
             format!(in alloc; "wire {number}")
         }
-        Cause::Queued(place, more) => {
+        EdgeCause::Queued(place, more) => {
             let number = place.saturating_add(1);
             if more == 0 {
                 format!(in alloc; "queued wire {number}")
@@ -81,7 +81,7 @@ pub fn cause_text(alloc: Global, meta: &Meta, cause: Cause) -> Result<String, Al
                 format!(in alloc; "queued wire {number} and {more} more")
             }
         }
-        Cause::Binding(place) => binding_text(alloc, meta, place),
+        EdgeCause::Binding(place) => binding_text(alloc, meta, place),
     }
 }
 

@@ -15,15 +15,15 @@ mod origin;
 mod part;
 
 use crate::dot::dot_text;
-use crate::drawing::Drawing;
-use crate::fault::{PartFault, refused};
+use crate::drawing::GraphDrawing;
+use crate::fault::{GraphPartFault, refused};
 use crate::json::json_text;
 use crate::origin::Origins;
 use class_lang::{Limits, Program};
 pub use fault::GraphFault;
 use findings::Levels;
 use meta_model::Meta;
-pub use part::Part;
+pub use part::GraphPart;
 use program_commands::load_program;
 use program_flaws::{ProgramSource, declarations_of};
 use std::alloc::Global;
@@ -32,7 +32,7 @@ use verdicts::{Located, ProgramPlaces};
 
 /// How a graph is written.
 #[derive(Clone, Copy, Debug, PartialEq, Eq)]
-pub enum Form {
+pub enum GraphFormat {
     /// In the language of Graphviz, which `dot` draws.
     Dot,
     /// As one JSON object with its nodes and its edges.
@@ -47,8 +47,8 @@ pub fn class_graph(
     alloc: Global,
     limits: Limits,
     program: &[u8],
-    part: Part<'_>,
-    form: Form,
+    part: GraphPart<'_>,
+    form: GraphFormat,
     places: Option<&TextPlaces<'_>>,
 ) -> Result<String, GraphFault>
     ensures drawn { IfOk result (λ text. Loads limits program.now) }
@@ -64,9 +64,9 @@ pub fn class_graph(
     };
     match drawn {
         Ok(text) => Ok(text),
-        Err(PartFault::Unknown) => Err(GraphFault::Unknown),
-        Err(PartFault::TooLarge) => Err(GraphFault::TooLarge),
-        Err(PartFault::Memory) => Err(GraphFault::Memory),
+        Err(GraphPartFault::Unknown) => Err(GraphFault::Unknown),
+        Err(GraphPartFault::TooLarge) => Err(GraphFault::TooLarge),
+        Err(GraphPartFault::Memory) => Err(GraphFault::Memory),
     }
 }
 
@@ -75,10 +75,10 @@ fn placed_text(
     alloc: Global,
     program: &[u8],
     meta: &Meta,
-    part: Part<'_>,
-    form: Form,
+    part: GraphPart<'_>,
+    form: GraphFormat,
     places: &TextPlaces<'_>,
-) -> Result<String, PartFault> {
+) -> Result<String, GraphPartFault> {
     let Some(tree) = declarations_of(alloc, program)? else {
         return drawn_text(alloc, meta, part, form, None);
     };
@@ -92,10 +92,10 @@ fn told_text<'x>(
     program: &'x Program,
     found: &'x ProgramPlaces,
     meta: &'x Meta,
-    part: Part<'_>,
-    form: Form,
+    part: GraphPart<'_>,
+    form: GraphFormat,
     places: &'x TextPlaces<'x>,
-) -> Result<String, PartFault> {
+) -> Result<String, GraphPartFault> {
     let located = Located {
         source: ProgramSource {
             alloc,
@@ -112,14 +112,14 @@ fn told_text<'x>(
 fn drawn_text(
     alloc: Global,
     meta: &Meta,
-    part: Part<'_>,
-    form: Form,
+    part: GraphPart<'_>,
+    form: GraphFormat,
     origins: Option<Origins<'_>>,
-) -> Result<String, PartFault> {
-    let drawing = Drawing::of(alloc, meta, part, origins)?;
+) -> Result<String, GraphPartFault> {
+    let drawing = GraphDrawing::of(alloc, meta, part, origins)?;
     let text = match form {
-        Form::Dot => dot_text(alloc, &drawing)?,
-        Form::Json => json_text(alloc, &drawing)?,
+        GraphFormat::Dot => dot_text(alloc, &drawing)?,
+        GraphFormat::Json => json_text(alloc, &drawing)?,
     };
     Ok(text)
 }

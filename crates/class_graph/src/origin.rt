@@ -1,7 +1,7 @@
 //! Where members and edges stand in another text, from which a tool wrote the program.
 
-use crate::drawing::Drawing;
-use crate::edge::{Cause, Edge};
+use crate::drawing::GraphDrawing;
+use crate::edge::{EdgeCause, NodeEdge};
 use diagnostics::{Printed, TextPlace};
 use edge_reasons::reason_for;
 use effect_scan::Node;
@@ -23,8 +23,8 @@ impl<'g> Origins<'g> {
     }
 
     /// What that stands for which draws the edge.
-    pub fn edge(&self, drawing: &Drawing<'_>, edge: Edge) -> Option<&'g Place<'g>> {
-        if let Cause::Queued(wire, _) = edge.cause {
+    pub fn edge(&self, drawing: &GraphDrawing<'_>, edge: NodeEdge) -> Option<&'g Place<'g>> {
+        if let EdgeCause::Queued(wire, _) = edge.cause {
             return self.at(self.located.places.wire(wire));
         }
         let (from, to) = (drawing.node_of(edge.from)?, drawing.node_of(edge.to)?);

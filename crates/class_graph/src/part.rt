@@ -1,7 +1,7 @@
 //! The part of a graph that is drawn.
 
 use crate::edge::Edges;
-use crate::fault::PartFault;
+use crate::fault::GraphPartFault;
 use crate::label::member_text;
 use effect_scan::{Member, Node, Scan};
 use meta_model::{DELETE_LATER, Meta, MetaObject, OBJECT_NAME};
@@ -9,7 +9,7 @@ use std::alloc::{AllocError, Global};
 
 /// The part of a graph that is asked for.
 #[derive(Clone, Copy, Debug)]
-pub struct Part<'p> {
+pub struct GraphPart<'p> {
     /// The members of these classes alone; of all classes where none is named.
     pub classes: &'p [&'p str],
     /// What this member may lead to alone, at once or by queued wires: `C.m(T,..)`, `C.m`, `C.p` or `~C`.
@@ -23,11 +23,11 @@ pub fn drawn(
     meta: &Meta,
     scan: &Scan,
     edges: &Edges,
-    part: Part<'_>,
-) -> Result<Vec<bool>, PartFault> {
+    part: GraphPart<'_>,
+) -> Result<Vec<bool>, GraphPartFault> {
     for class in part.classes {
         if !names_one(meta, class) {
-            return Err(PartFault::Unknown);
+            return Err(GraphPartFault::Unknown);
         }
     }
     let reached = match part.from {
@@ -63,7 +63,7 @@ fn names_one(meta: &Meta, name: &str) -> bool {
 }
 
 /// Whether the node is one of the classes that are asked for.
-fn is_in(meta: &Meta, node: Node, part: Part<'_>) -> bool {
+fn is_in(meta: &Meta, node: Node, part: GraphPart<'_>) -> bool {
     let Some(class) = meta.object(node.class) else {
         return false;
     };
@@ -140,10 +140,10 @@ fn reached(
     scan: &Scan,
     edges: &Edges,
     name: &str,
-) -> Result<Vec<bool>, PartFault> {
+) -> Result<Vec<bool>, GraphPartFault> {
     let first = named(alloc, meta, scan, name)?;
     if first.is_empty() {
-        return Err(PartFault::Unknown);
+        return Err(GraphPartFault::Unknown);
     }
     Ok(reach(alloc, meta, scan, edges, first)?)
 }

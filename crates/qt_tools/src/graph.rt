@@ -4,15 +4,15 @@ use crate::fault::ToolFault;
 use crate::placed::places_first;
 use crate::streams::{input, program, write};
 use crate::verdict::{MOST_BYTES, MOST_READ};
-use class_graph::{Form, Part, class_graph};
+use class_graph::{GraphFormat, GraphPart, class_graph};
 use class_lang::Limits;
 use std::alloc::{AllocError, Global};
 use text_places::read_places;
 
 /// What the options of `graph` ask for.
 #[derive(Drop)]
-struct Options<'w> {
-    form: Form,
+struct GraphArguments<'w> {
+    form: GraphFormat,
     classes: Vec<&'w str>,
     from: Option<&'w str>,
     /// Whether the input's first text is the program's places in another text.
@@ -21,37 +21,37 @@ struct Options<'w> {
 
 /// The option whose value the next word is.
 #[derive(Clone, Copy, Debug, PartialEq, Eq)]
-enum Awaited {
+enum GraphOption {
     Classes,
     From,
 }
 
-impl<'w> Options<'w> {
+impl<'w> GraphArguments<'w> {
     /// The options that the words are; `None` where they are none.
-    fn of(alloc: Global, words: &[&'w str]) -> Result<Option<Options<'w>>, AllocError> {
-        let mut options = Options {
-            form: Form::Dot,
+    fn of(alloc: Global, words: &[&'w str]) -> Result<Option<GraphArguments<'w>>, AllocError> {
+        let mut options = GraphArguments {
+            form: GraphFormat::Dot,
             classes: Vec::new(alloc),
             from: None,
             has_places: false,
         };
-        let mut awaited: Option<Awaited> = None;
+        let mut awaited: Option<GraphOption> = None;
         for word in words {
             match awaited {
-                Some(Awaited::Classes) => {
+                Some(GraphOption::Classes) => {
                     for class in word.split(',') {
                         options.classes.push(class)?;
                     }
                     awaited = None;
                 }
-                Some(Awaited::From) => {
+                Some(GraphOption::From) => {
                     options.from = Some(*word);
                     awaited = None;
                 }
-                None if *word == "--json" => options.form = Form::Json,
+                None if *word == "--json" => options.form = GraphFormat::Json,
                 None if *word == "--places" => options.has_places = true,
-                None if *word == "--class" => awaited = Some(Awaited::Classes),
-                None if *word == "--from" => awaited = Some(Awaited::From),
+                None if *word == "--class" => awaited = Some(GraphOption::Classes),
+                None if *word == "--from" => awaited = Some(GraphOption::From),
                 None => return Ok(None),
             }
         }
@@ -67,7 +67,7 @@ impl<'w> Options<'w> {
 /// before it.
 pub fn graph(rt: &HostRuntime, limits: Limits, words: &[&str]) -> Result<(), ToolFault> {
     let alloc = rt.alloc();
-    let Some(options) = Options::of(alloc, words)? else {
+    let Some(options) = GraphArguments::of(alloc, words)? else {
         return Err(ToolFault::Usage);
     };
     let read = if options.has_places {
@@ -91,7 +91,7 @@ pub fn graph(rt: &HostRuntime, limits: Limits, words: &[&str]) -> Result<(), Too
     } else {
         None
     };
-    let part = Part {
+    let part = GraphPart {
         classes: options.classes.as_slice(),
         from: options.from,
     };
