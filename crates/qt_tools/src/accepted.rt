@@ -20,7 +20,7 @@ pub struct Judged {
 
 /// What is judged, and by what.
 #[derive(Clone, Copy)]
-pub struct Asked<'a> {
+pub struct JudgingInput<'a> {
     /// The limits by which the program is read.
     pub limits: Limits,
     /// The texts.
@@ -31,7 +31,7 @@ pub struct Asked<'a> {
     pub is_baseline: bool,
 }
 
-impl Asked<'_> {
+impl JudgingInput<'_> {
     /// The verdict, where these edges are listed.
     fn verdict(&self, alloc: Global, edges: &[Edge]) -> Result<Verdict, AllocError> {
         let listed = AcceptedEdges {
@@ -43,7 +43,11 @@ impl Asked<'_> {
 }
 
 /// The verdict on what is asked, where the edges of the list are accepted.
-pub fn judge(alloc: Global, asked: Asked<'_>, edges: Vec<Edge>) -> Result<Judged, AllocError> {
+pub fn judge(
+    alloc: Global,
+    asked: JudgingInput<'_>,
+    edges: Vec<Edge>,
+) -> Result<Judged, AllocError> {
     if edges.len() > FEW {
         return judge_by_many(alloc, asked, edges);
     }
@@ -59,7 +63,11 @@ pub fn judge(alloc: Global, asked: Asked<'_>, edges: Vec<Edge>) -> Result<Judged
 
 /// The same by a long list, of which only the edges that are there are looked at with the program: each edge of the program is
 /// held against each of these.
-fn judge_by_many(alloc: Global, asked: Asked<'_>, edges: Vec<Edge>) -> Result<Judged, AllocError> {
+fn judge_by_many(
+    alloc: Global,
+    asked: JudgingInput<'_>,
+    edges: Vec<Edge>,
+) -> Result<Judged, AllocError> {
     let mut edges = edges;
     let all = asked.verdict(alloc, &[])?;
     let mut absent = Vec::new(alloc);

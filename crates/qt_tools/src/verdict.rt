@@ -1,6 +1,6 @@
 //! The word `verdict`: all that is wrong with a program and its certificate.
 
-use crate::accepted::{Asked, Judged, judge};
+use crate::accepted::{Judged, JudgingInput, judge};
 use crate::fault::ToolFault;
 use crate::placed::places_first;
 use crate::streams::{input, write};
@@ -29,7 +29,7 @@ const BORDER: &[u8] = b"%%";
 
 /// How a verdict is reported.
 #[derive(Clone, Copy, Debug, PartialEq, Eq)]
-enum Form {
+enum VerdictFormat {
     /// As lines.
     Text,
     /// As JSON.
@@ -46,7 +46,7 @@ enum Form {
 
 /// The option whose value the next word is.
 #[derive(Clone, Copy, Debug, PartialEq, Eq)]
-enum Awaited {
+enum VerdictOption {
     Program,
     Certificate,
     /// Names of rules, which are as grave as this, or off.
@@ -56,7 +56,7 @@ enum Awaited {
 /// What the words say, with names by their places among the words.
 #[derive(Drop)]
 struct Said {
-    form: Form,
+    form: VerdictFormat,
     /// Whether the input's last text is a list of accepted edges.
     has_list: bool,
     /// Whether warnings and notes on its edges are left out too.
@@ -72,7 +72,7 @@ impl Said {
     /// What the words say.
     fn of(alloc: Global, words: &[&str]) -> Result<Said, ToolFault> {
         let mut said = Said {
-            form: Form::Text,
+            form: VerdictFormat::Text,
             has_list: false,
             is_baseline: false,
             has_places: false,
@@ -80,7 +80,7 @@ impl Said {
             certificate: None,
             changes: Vec::new(alloc),
         };
-        let mut awaited: Option<Awaited> = None;
+        let mut awaited: Option<VerdictOption> = None;
         for (place, word) in words.iter().enumerate() {
             awaited = match awaited {
                 Some(option) => {
@@ -97,35 +97,40 @@ impl Said {
     }
 
     /// Takes an option, and answers whether its value is the next word.
-    fn take_option(&mut self, word: &str) -> Result<Option<Awaited>, ToolFault> {
+    fn take_option(&mut self, word: &str) -> Result<Option<VerdictOption>, ToolFault> {
         match word {
-            "--json" => self.form = Form::Json,
-            "--sarif" => self.form = Form::Sarif,
-            "--junit" => self.form = Form::Junit,
-            "--rules" => self.form = Form::Rules,
-            "--accept-all" => self.form = Form::Edges,
+            "--json" => self.form = VerdictFormat::Json,
+            "--sarif" => self.form = VerdictFormat::Sarif,
+            "--junit" => self.form = VerdictFormat::Junit,
+            "--rules" => self.form = VerdictFormat::Rules,
+            "--accept-all" => self.form = VerdictFormat::Edges,
             "--places" => self.has_places = true,
             "--accept" => self.has_list = true,
             "--baseline" => {
                 self.has_list = true;
                 self.is_baseline = true;
             }
-            "--program" => return Ok(Some(Awaited::Program)),
-            "--certificate" => return Ok(Some(Awaited::Certificate)),
-            "--error" => return Ok(Some(Awaited::Rules(Some(FindingSeverity::Error)))),
-            "--warning" => return Ok(Some(Awaited::Rules(Some(FindingSeverity::Warning)))),
-            "--off" => return Ok(Some(Awaited::Rules(None))),
+            "--program" => return Ok(Some(VerdictOption::Program)),
+            "--certificate" => return Ok(Some(VerdictOption::Certificate)),
+            "--error" => return Ok(Some(VerdictOption::Rules(Some(FindingSeverity::Error)))),
+            "--warning" => return Ok(Some(VerdictOption::Rules(Some(FindingSeverity::Warning)))),
+            "--off" => return Ok(Some(VerdictOption::Rules(None))),
             _ => return Err(ToolFault::Usage),
         }
         Ok(None)
     }
 
     /// Takes the value of an option, which is the word at this place.
-    fn take_value(&mut self, option: Awaited, place: usize, word: &str) -> Result<(), ToolFault> {
+    fn take_value(
+        &mut self,
+        option: VerdictOption,
+        place: usize,
+        word: &str,
+    ) -> Result<(), ToolFault> {
         match option {
-            Awaited::Program => self.program = Some(place),
-            Awaited::Certificate => self.certificate = Some(place),
-            Awaited::Rules(severity) => change_levels(&mut self.changes, word, severity)?,
+            VerdictOption::Program => self.program = Some(place),
+            VerdictOption::Certificate => self.certificate = Some(place),
+            VerdictOption::Rules(severity) => change_levels(&mut self.changes, word, severity)?,
         }
         Ok(())
     }
@@ -150,7 +155,7 @@ pub fn tell_verdict(
 ) -> Result<(), ToolFault> {
     let alloc = rt.alloc();
     let said = Said::of(alloc, words)?;
-    if said.form == Form::Rules {
+    if said.form == VerdictFormat::Rules {
         let rules = rules_report(alloc)?;
         return written(rt, rules.as_str());
     }
@@ -200,7 +205,7 @@ fn tell_judged<'x>(
         certificate: name(given, said.certificate, b"certificate"),
         places: Some(places),
     };
-    if said.form == Form::Edges {
+    if said.form == VerdictFormat::Edges {
         return write_edges(rt, &judged.found, names);
     }
     tell_absent(rt, judged.absent.as_slice());
@@ -228,11 +233,11 @@ fn judge_texts(
     said: &Said,
     texts: &[u8],
 ) -> Result<Judged, ToolFault> {
-    let Some(given) = Given::of(texts, said.has_list) else {
+    let Some(given) = InputTexts::of(texts, said.has_list) else {
         return Err(ToolFault::Usage);
     };
     let edges = read_edges(alloc, given.list)?;
-    let asked = Asked {
+    let asked = JudgingInput {
         limits,
         texts: given.texts,
         levels: Levels {
@@ -254,14 +259,14 @@ fn written(rt: &HostRuntime, text: &str) -> Result<(), ToolFault> {
 
 /// The texts of an input.
 #[derive(Clone, Copy)]
-struct Given<'i> {
+struct InputTexts<'i> {
     texts: Texts<'i>,
     list: &'i [u8],
 }
 
-impl<'i> Given<'i> {
+impl<'i> InputTexts<'i> {
     /// The texts that lines `%%` part; `None` where there are too many or too few.
-    fn of(input: &'i [u8], has_list: bool) -> Option<Given<'i>> {
+    fn of(input: &'i [u8], has_list: bool) -> Option<InputTexts<'i>> {
         let (program, rest) = first_text(input);
         let (second, rest) = match rest {
             Some(rest) => {
@@ -282,7 +287,7 @@ impl<'i> Given<'i> {
             }
             _ => return None,
         };
-        Some(Given {
+        Some(InputTexts {
             texts: Texts {
                 program,
                 certificate,
@@ -304,14 +309,16 @@ fn first_text(input: &[u8]) -> (&[u8], Option<&[u8]>) {
 fn report(
     alloc: Global,
     found: &Verdict,
-    form: Form,
+    form: VerdictFormat,
     names: FileNames<'_>,
 ) -> Result<String, AllocError> {
     match form {
-        Form::Json => json_report(alloc, found, names),
-        Form::Sarif => sarif_report(alloc, found, names),
-        Form::Junit => junit_report(alloc, found, names),
-        Form::Text | Form::Edges | Form::Rules => text_report(alloc, found, names),
+        VerdictFormat::Json => json_report(alloc, found, names),
+        VerdictFormat::Sarif => sarif_report(alloc, found, names),
+        VerdictFormat::Junit => junit_report(alloc, found, names),
+        VerdictFormat::Text | VerdictFormat::Edges | VerdictFormat::Rules => text_report(
+            alloc, found, names,
+        ),
     }
 }
 

@@ -13,7 +13,7 @@ const BORDER: &[u8] = b"%%";
 
 /// What a trace is shown as.
 #[derive(Clone, Copy)]
-enum Form {
+enum ViewFormat {
     /// Lines for a terminal.
     Lines {
         /// Whether they are coloured.
@@ -41,31 +41,31 @@ pub fn view(rt: &HostRuntime, words: &[&str]) -> Result<(), ToolFault> {
 }
 
 /// What the words ask for; `None` for others.
-fn wanted_form(words: &[&str]) -> Option<Form> {
+fn wanted_form(words: &[&str]) -> Option<ViewFormat> {
     match words {
-        [word] if *word == "--plain" => Some(Form::Lines { colours: false }),
-        [word] if *word == "--color" => Some(Form::Lines { colours: true }),
-        [word] if *word == "--mermaid" => Some(Form::Diagram),
-        [word] if *word == "--html" => Some(Form::Page),
+        [word] if *word == "--plain" => Some(ViewFormat::Lines { colours: false }),
+        [word] if *word == "--color" => Some(ViewFormat::Lines { colours: true }),
+        [word] if *word == "--mermaid" => Some(ViewFormat::Diagram),
+        [word] if *word == "--html" => Some(ViewFormat::Page),
         _ => None,
     }
 }
 
 /// Writes the trace in this form. Its error is that memory was refused.
-fn show(rt: &HostRuntime, form: Form, input: &[u8]) -> Result<io::Result<()>, AllocError> {
+fn show(rt: &HostRuntime, form: ViewFormat, input: &[u8]) -> Result<io::Result<()>, AllocError> {
     let alloc: Global = rt.alloc();
     let (trace, script) = split_at_line(input, BORDER).unwrap_or((input, &[]));
     match form {
-        Form::Lines { colours } => {
+        ViewFormat::Lines { colours } => {
             let (trace, script) = (printed(alloc, trace)?, printed(alloc, script)?);
             let lines = laid_out_trace(alloc, trace.as_bytes(), script.as_bytes(), colours)?;
             Ok(write_bytes(rt, lines.as_slice()))
         }
-        Form::Diagram => {
+        ViewFormat::Diagram => {
             let diagram = sequence_diagram(alloc, input)?;
             Ok(write(rt, diagram.as_str()))
         }
-        Form::Page => {
+        ViewFormat::Page => {
             let (trace, script) = (printed(alloc, trace)?, printed(alloc, script)?);
             let page = trace_page(alloc, trace.as_bytes(), script.as_bytes())?;
             Ok(write(rt, page.as_str()))
