@@ -18,4 +18,6 @@ mod walks;
 pub use places::{DeclaredMember, Located, ProgramPlaces};
 pub use program::{gather_program, program_remarks};
 pub use sentences::MessageWithHelp;
-pub use walks::{DirectedGraph, Hop, Hops, is_marked, knots, knots_of_nodes, marks, set_mark};
+pub use walks::{
+    DirectedGraph, Hop, Hops, components, components_of_nodes, is_marked, marks, set_mark,
+};

@@ -12,13 +12,13 @@ use std::alloc::AllocError;
 /// Adds one chain that is longer than any bound, beside all cycles.
 pub fn gather_chain(search: ProgramSearch<'_>, found: &mut Verdict) -> Result<(), AllocError> {
     let graph = search.graph;
-    let mut knotted = marks(graph.alloc, graph.len(), false)?;
-    for knot in search.knots {
-        for node in knot.iter() {
-            set_mark(&mut knotted, *node, true);
+    let mut cyclic = marks(graph.alloc, graph.len(), false)?;
+    for component in search.components {
+        for node in component.iter() {
+            set_mark(&mut cyclic, *node, true);
         }
     }
-    if let Some(numbers) = graph.long_chain(knotted.as_slice(), MOST_BOUND as usize)? {
+    if let Some(numbers) = graph.long_chain(cyclic.as_slice(), MOST_BOUND as usize)? {
         if let Some(severity) = found.taken(search.located.levels.of(Rule::ChainTooLong)) {
             let nodes = search.nodes_at(numbers.as_slice())?;
             let finding = chain_finding(search.located, nodes.as_slice())?;

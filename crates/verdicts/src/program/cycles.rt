@@ -3,22 +3,22 @@
 use crate::program::places::Located;
 use crate::program::search::ProgramSearch;
 use crate::program::sentences::push_names;
-use crate::program::walks::{DirectedGraph, knots, knots_of_nodes};
+use crate::program::walks::{DirectedGraph, components, components_of_nodes};
 use effect_scan::{Member, Node};
 use findings::{ChainStep, Edge, Finding, JudgedText, Link, PlacedEdge, Rule, TextPlace, Verdict};
 use program_flaws::{breaking, node_text};
 use std::alloc::AllocError;
 use std::collections::BTreeSet;
 
-/// So many cycles of one knot are told.
+/// So many cycles of one strongly connected component are told.
 const MOST_CYCLES: usize = 10;
 
-/// The edges of a program's bindings, and their knots.
+/// The edges of a program's bindings, and their strongly connected components.
 #[derive(Drop)]
 struct BindingEdges {
     graph: DirectedGraph,
-    knots: Vec<Vec<usize>>,
-    /// For each node the knot that it is in.
+    components: Vec<Vec<usize>>,
+    /// For each node the component that it is in.
     places: Vec<Option<usize>>,
 }
 
@@ -27,8 +27,8 @@ impl BindingEdges {
     fn of(search: ProgramSearch<'_>) -> Result<BindingEdges, AllocError> {
         let nodes = search.scan.nodes();
         let mut graph = DirectedGraph::without_edges(search.graph.alloc, nodes.len())?;
-        for knot in search.knots {
-            for from in knot.iter() {
+        for component in search.components {
+            for from in component.iter() {
                 for to in search.graph.after(*from) {
                     if is_property(nodes, *from) && is_property(nodes, *to) {
                         graph.join(*from, *to)?;
@@ -36,19 +36,19 @@ impl BindingEdges {
                 }
             }
         }
-        let knots = knots(&graph)?;
-        let places = knots_of_nodes(&graph, knots.as_slice())?;
+        let components = components(&graph)?;
+        let places = components_of_nodes(&graph, components.as_slice())?;
         Ok(BindingEdges {
             graph,
-            knots,
+            components,
             places,
         })
     }
 
-    /// The knot of bindings that the edge is in, if both of its nodes are properties.
-    fn knot(&self, from: usize, to: usize) -> Option<&[usize]> {
-        let place = same_knot(self.places.as_slice(), from, to)?;
-        Some(self.knots.get(place)?.as_slice())
+    /// The component of bindings that the edge is in, if both of its nodes are properties.
+    fn component(&self, from: usize, to: usize) -> Option<&[usize]> {
+        let place = same_component(self.places.as_slice(), from, to)?;
+        Some(self.components.get(place)?.as_slice())
     }
 }
 
@@ -60,8 +60,8 @@ fn is_property(nodes: &[Node], number: usize) -> bool {
     }
 }
 
-/// The knot in which both nodes are.
-fn same_knot(places: &[Option<usize>], from: usize, to: usize) -> Option<usize> {
+/// The component in which both nodes are.
+fn same_component(places: &[Option<usize>], from: usize, to: usize) -> Option<usize> {
     let place = (*places.get(from)?)?;
     if (*places.get(to)?)? == place {
         Some(place)
@@ -70,21 +70,21 @@ fn same_knot(places: &[Option<usize>], from: usize, to: usize) -> Option<usize> 
     }
 }
 
-/// Adds the edges of each knot, and of those that aren't accepted cycles that have them: each a shortest one by an edge that is on
-/// none before.
+/// Adds the edges of each component, and of those that aren't accepted cycles that have them: each a shortest one by an edge that is
+/// on none before.
 pub fn gather_cycles(
     search: ProgramSearch<'_>,
     accepted: &[Edge],
     found: &mut Verdict,
 ) -> Result<(), AllocError> {
     let bindings = BindingEdges::of(search)?;
-    let places = knots_of_nodes(search.graph, search.knots)?;
-    for (place, knot) in search.knots.iter().enumerate() {
+    let places = components_of_nodes(search.graph, search.components)?;
+    for (place, component) in search.components.iter().enumerate() {
         let mut left = Vec::new(search.graph.alloc);
         let before = found.edges.len();
-        for from in knot.iter() {
+        for from in component.iter() {
             for to in search.graph.after(*from) {
-                if same_knot(places.as_slice(), *from, *to) == Some(place) {
+                if same_component(places.as_slice(), *from, *to) == Some(place) {
                     let is_left = add_edge(search, &bindings, accepted, (*from, *to), found)?;
                     if is_left {
                         left.push((*from, *to))?;
@@ -95,7 +95,7 @@ pub fn gather_cycles(
         let told = ComponentCycles {
             search,
             bindings: &bindings,
-            knot: knot.as_slice(),
+            component: component.as_slice(),
             has_accepted: found.edges.len().saturating_sub(before) > left.len(),
         };
         told.gather(left.as_slice(), found)?;
@@ -112,7 +112,7 @@ fn add_edge(
     found: &mut Verdict,
 ) -> Result<bool, AllocError> {
     let (from, to) = edge;
-    if bindings.knot(from, to).is_some() {
+    if bindings.component(from, to).is_some() {
         found.bound = found.bound.saturating_add(1);
         return Ok(true);
     }
@@ -130,12 +130,12 @@ fn add_edge(
     Ok(is_left)
 }
 
-/// A knot of which cycles are told.
+/// A component of which cycles are told.
 #[derive(Clone, Copy)]
 struct ComponentCycles<'t> {
     search: ProgramSearch<'t>,
     bindings: &'t BindingEdges,
-    knot: &'t [usize],
+    component: &'t [usize],
     /// Whether some of its edges are accepted.
     has_accepted: bool,
 }
@@ -167,9 +167,9 @@ impl ComponentCycles<'_> {
     /// A shortest cycle that begins with the edge: by bindings alone where there is one.
     fn cycle_by(&self, edge: (usize, usize)) -> Result<Vec<usize>, AllocError> {
         let (from, to) = edge;
-        match self.bindings.knot(from, to) {
-            Some(knot) => self.bindings.graph.cycle_by(from, to, knot),
-            None => self.search.graph.cycle_by(from, to, self.knot),
+        match self.bindings.component(from, to) {
+            Some(component) => self.bindings.graph.cycle_by(from, to, component),
+            None => self.search.graph.cycle_by(from, to, self.component),
         }
     }
 
@@ -191,7 +191,7 @@ impl ComponentCycles<'_> {
         };
         Ok(Finding {
             rule: Rule::Cycle,
-            message: cycle_text(located, cycle, self.knot.len())?,
+            message: cycle_text(located, cycle, self.component.len())?,
             help,
             text: JudgedText::Program,
             place,

@@ -7,7 +7,7 @@ use crate::program::places::Located;
 use crate::program::remarks::remarks;
 use crate::program::search::ProgramSearch;
 use crate::program::typing_flaws::{gather_types, gather_wires};
-use crate::program::walks::{DirectedGraph, knots};
+use crate::program::walks::{DirectedGraph, components};
 use effect_scan::Scan;
 use findings::{Edge, Finding, Verdict};
 use std::alloc::AllocError;
@@ -21,12 +21,12 @@ pub fn gather_program(
     let alloc = located.source.alloc;
     let scan = Scan::of(alloc, located.source.meta)?;
     let graph = DirectedGraph::of(alloc, &scan)?;
-    let knots = knots(&graph)?;
+    let components = components(&graph)?;
     let search = ProgramSearch {
         located,
         scan: &scan,
         graph: &graph,
-        knots: knots.as_slice(),
+        components: components.as_slice(),
     };
     gather_wires(located, found)?;
     gather_types(located, scan.nodes(), found)?;
@@ -44,7 +44,7 @@ pub fn program_remarks(located: Located<'_>, scan: &Scan) -> Result<Vec<Finding>
         located,
         scan,
         graph: &graph,
-        knots: &[],
+        components: &[],
     };
     let deletions = deletions(search)?;
     remarks(search, deletions.as_slice())

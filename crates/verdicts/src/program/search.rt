@@ -5,7 +5,7 @@ use crate::program::walks::DirectedGraph;
 use effect_scan::{Node, Scan};
 use std::alloc::AllocError;
 
-/// A program, its nodes and edges, and its knots.
+/// A program, its nodes and edges, and its strongly connected components.
 #[derive(Clone, Copy)]
 pub struct ProgramSearch<'s> {
     /// The program.
@@ -14,8 +14,8 @@ pub struct ProgramSearch<'s> {
     pub scan: &'s Scan,
     /// The edges between them.
     pub graph: &'s DirectedGraph,
-    /// The sets of nodes that all lead to one another.
-    pub knots: &'s [Vec<usize>],
+    /// The strongly connected components that have a cycle.
+    pub components: &'s [Vec<usize>],
 }
 
 impl<'s> ProgramSearch<'s> {

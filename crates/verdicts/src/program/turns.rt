@@ -2,14 +2,14 @@
 
 use crate::program::posts::PostGraph;
 use crate::program::search::ProgramSearch;
-use crate::program::walks::{knots, marks};
+use crate::program::walks::{components, marks};
 use effect_scan::{Member, Node};
 use findings::{ChainStep, Finding, JudgedText, Rule, TextPlace};
 use program_flaws::node_text;
 use std::alloc::AllocError;
 use std::collections::BTreeSet;
 
-/// So many cycles of one knot are told.
+/// So many cycles of one strongly connected component are told.
 const MOST_CYCLES: usize = 10;
 
 /// Of so many cycles the steps are looked for: no more findings of one severity are reported.
@@ -22,15 +22,15 @@ pub fn add_queued_cycles(
     remarks: &mut Vec<Finding>,
 ) -> Result<(), AllocError> {
     let mut shown = 0usize;
-    for knot in knots(&posts.graph)? {
+    for component in components(&posts.graph)? {
         let mut passed: BTreeSet<usize> = BTreeSet::new(posts.graph.alloc);
         let mut told = 0usize;
-        for number in knot.iter() {
+        for number in component.iter() {
             if posts.post(*number).is_some() && told < MOST_CYCLES && !passed.contains(number) {
                 told = told.saturating_add(1);
                 shown = shown.saturating_add(1);
                 let numbers = if shown <= MOST_SHOWN {
-                    turned(posts, *number, knot.as_slice())?
+                    turned(posts, *number, component.as_slice())?
                 } else {
                     Vec::new(posts.graph.alloc)
                 };
@@ -46,8 +46,8 @@ pub fn add_queued_cycles(
 }
 
 /// A shortest cycle by the node that posts, from the node before it on.
-fn turned(posts: &PostGraph, post: usize, knot: &[usize]) -> Result<Vec<usize>, AllocError> {
-    let cycle = posts.graph.cycle_through(post, knot)?;
+fn turned(posts: &PostGraph, post: usize, component: &[usize]) -> Result<Vec<usize>, AllocError> {
+    let cycle = posts.graph.cycle_through(post, component)?;
     let mut numbers = Vec::new(posts.graph.alloc);
     if let [.., last, _] = cycle.as_slice() {
         numbers.push(*last)?;

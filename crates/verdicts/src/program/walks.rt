@@ -1,12 +1,12 @@
-//! Walks along edges, as those of a program: knots of nodes that all lead to one another, shortest ways, and long chains. Unlike
-//! `rank_graph` it goes on where there are cycles.
+//! Walks along edges, as those of a program: strongly connected components, shortest ways, and long chains. Unlike `rank_graph` it
+//! goes on where there are cycles.
 
+mod connected;
 mod graph;
 mod hops;
-mod knotting;
 mod marking;
 
+pub use connected::{components, components_of_nodes};
 pub use graph::DirectedGraph;
 pub use hops::{Hop, Hops};
-pub use knotting::{knots, knots_of_nodes};
 pub use marking::{is_marked, marks, set_mark};

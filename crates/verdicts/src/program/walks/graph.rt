@@ -1,7 +1,7 @@
 //! Edges between numbered nodes, along them and against them, and ways along them.
 
+use crate::program::walks::connected::finished;
 use crate::program::walks::hops::{Hop, Hops};
-use crate::program::walks::knotting::finished;
 use crate::program::walks::marking::{is_marked, marks, set_mark};
 use effect_scan::Scan;
 use std::alloc::{AllocError, Global};
@@ -158,7 +158,8 @@ impl DirectedGraph {
         Ok(cycle)
     }
 
-    /// A chain of so many edges through nodes that aren't marked, where there is one; the marked ones are those of the knots.
+    /// A chain of so many edges through nodes that aren't marked, where there is one; the marked ones are those of components that have
+    /// cycles.
     pub fn long_chain(
         &self,
         marks: &[bool],

@@ -1,4 +1,4 @@
-//! Knots: sets of nodes that all lead to one another. Each cycle lies within one of them.
+//! Strongly connected components: sets of nodes that all lead to one another. Each cycle lies within one of them.
 
 use crate::program::walks::graph::{DirectedGraph, push_at};
 use crate::program::walks::marking::{marks, set_mark};
@@ -47,8 +47,9 @@ impl Roots {
     }
 }
 
-/// The knots. The nodes of each are in their order, and the knots in that of their first nodes.
-pub fn knots(graph: &DirectedGraph) -> Result<Vec<Vec<usize>>, AllocError> {
+/// The strongly connected components that have a cycle: a node alone is one where it leads to itself. The nodes of each are in their
+/// order, and the components in that of their first nodes.
+pub fn components(graph: &DirectedGraph) -> Result<Vec<Vec<usize>>, AllocError> {
     let order = finished(graph)?;
     let mut roots = Roots::none(graph.alloc, graph.len())?;
     for root in order.iter().rev() {
@@ -56,13 +57,13 @@ pub fn knots(graph: &DirectedGraph) -> Result<Vec<Vec<usize>>, AllocError> {
             gather(graph, *root, &mut roots)?;
         }
     }
-    let mut knots = Vec::new(graph.alloc);
+    let mut components = Vec::new(graph.alloc);
     for set in sets(graph, &roots)? {
-        if is_knot(graph, set.as_slice()) {
-            knots.push(set)?;
+        if is_cyclic(graph, set.as_slice()) {
+            components.push(set)?;
         }
     }
-    Ok(knots)
+    Ok(components)
 }
 
 /// All nodes, each behind those that it leads to, but where these lead back to it.
@@ -152,8 +153,8 @@ fn sets(graph: &DirectedGraph, roots: &Roots) -> Result<Vec<Vec<usize>>, AllocEr
     Ok(sets)
 }
 
-/// Whether nodes that all lead to one another, or one alone, are a knot.
-fn is_knot(graph: &DirectedGraph, nodes: &[usize]) -> bool {
+/// Whether nodes that all lead to one another, or one alone, have a cycle.
+fn is_cyclic(graph: &DirectedGraph, nodes: &[usize]) -> bool {
     match nodes {
         [] => false,
         [only] => graph.after(*only).contains(only),
@@ -161,14 +162,14 @@ fn is_knot(graph: &DirectedGraph, nodes: &[usize]) -> bool {
     }
 }
 
-/// For each node the knot that it is in, by its place among them; `None` for one that is in none.
-pub fn knots_of_nodes(
+/// For each node the component that it is in, by its place among them; `None` for one that is in none.
+pub fn components_of_nodes(
     graph: &DirectedGraph,
-    knots: &[Vec<usize>],
+    components: &[Vec<usize>],
 ) -> Result<Vec<Option<usize>>, AllocError> {
     let mut places = Roots::none(graph.alloc, graph.len())?;
-    for (place, knot) in knots.iter().enumerate() {
-        for node in knot.iter() {
+    for (place, component) in components.iter().enumerate() {
+        for node in component.iter() {
             places.give(*node, place);
         }
     }
