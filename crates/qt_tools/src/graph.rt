@@ -1,13 +1,13 @@
 //! The word `graph`: what the members of a program's classes may lead to, as a picture.
 
 use crate::fault::ToolFault;
-use crate::placed::places_first;
-use crate::streams::{input, program, write};
-use crate::verdict::{MOST_BYTES, MOST_READ};
+use crate::parted::places_first;
+use crate::streams::{MOST_READ, input, program, write};
 use class_graph::{GraphFormat, GraphPart, class_graph};
 use class_lang::Limits;
 use std::alloc::{AllocError, Global};
 use text_places::read_places;
+use trace_tool::LARGEST_INPUT;
 
 /// What the options of `graph` ask for.
 #[derive(Drop)]
@@ -70,16 +70,12 @@ pub fn graph(rt: &HostRuntime, limits: Limits, words: &[&str]) -> Result<(), Too
     let Some(options) = GraphArguments::of(alloc, words)? else {
         return Err(ToolFault::Usage);
     };
-    let read = if options.has_places {
-        input(rt, MOST_READ)
+    let texts = if options.has_places {
+        input(rt, MOST_READ)?
     } else {
-        program(rt, limits)
+        program(rt, limits)?
     };
-    let texts = match read {
-        Ok(texts) => texts,
-        Err(reason) => return Err(ToolFault::Unread(reason)),
-    };
-    if texts.len() > MOST_BYTES {
+    if texts.len() > LARGEST_INPUT {
         return Err(ToolFault::TooLong);
     }
     let Some((placed, program)) = places_first(texts.as_slice(), options.has_places) else {
@@ -96,8 +92,5 @@ pub fn graph(rt: &HostRuntime, limits: Limits, words: &[&str]) -> Result<(), Too
         from: options.from,
     };
     let text = class_graph(alloc, limits, program, part, options.form, told)?;
-    match write(rt, text.as_str()) {
-        Ok(()) => Ok(()),
-        Err(reason) => Err(ToolFault::Unwritten(reason)),
-    }
+    write(rt, text.as_str())
 }

@@ -1,15 +1,9 @@
 //! The word `import`: class declarations from what Qt's meta-object compiler writes of C++ headers.
 
 use crate::fault::ToolFault;
-use crate::streams::{input, write};
+use crate::streams::{short_input, write};
 use moc_import::{Imported, Mistake, Outcome, Summary, Wanted, import};
 use std::alloc::{AllocError, Global};
-
-/// What is read has at most so many bytes.
-const MOST_BYTES: usize = 67108864;
-
-/// So many bytes are read: one more than there may be, so that a longer input is refused.
-const MOST_READ: u64 = MOST_BYTES as u64 + 1;
 
 /// What the options of `import` ask for.
 #[derive(Drop)]
@@ -58,13 +52,7 @@ pub fn import_classes(rt: &HostRuntime, words: &[&str]) -> Result<(), ToolFault>
     let Some(options) = Options::of(alloc, words)? else {
         return Err(ToolFault::Usage);
     };
-    let bytes = match input(rt, MOST_READ) {
-        Ok(bytes) => bytes,
-        Err(reason) => return Err(ToolFault::Unread(reason)),
-    };
-    if bytes.len() > MOST_BYTES {
-        return Err(ToolFault::TooLong);
-    }
+    let bytes = short_input(rt)?;
     let Ok(text) = std::str::from_utf8(bytes.as_slice()) else {
         return Err(ToolFault::NoText);
     };
@@ -90,9 +78,7 @@ fn hand_over(
     options: &Options<'_>,
     imported: &Imported,
 ) -> Result<(), ToolFault> {
-    if let Err(reason) = write(rt, imported.program.as_str()) {
-        return Err(ToolFault::Unwritten(reason));
-    }
+    write(rt, imported.program.as_str())?;
     tell(rt, options, &imported.summary);
     if options.is_strict && !imported.summary.is_whole() {
         return Err(ToolFault::LeftOut);

@@ -6,7 +6,7 @@ mod accepted;
 mod fault;
 mod graph;
 mod import;
-mod placed;
+mod parted;
 mod session;
 mod streams;
 mod verdict;
@@ -21,7 +21,7 @@ use crate::session::session;
 use crate::verdict::tell_verdict;
 use crate::view::view;
 use crate::witness::witness;
-use crate::words::{shown, words};
+use crate::words::{WIDE, shown, words};
 use std::process::ExitCode;
 use trace_tool::limits_of;
 
@@ -44,7 +44,7 @@ fn start(rt: &HostRuntime) -> Result<(), ToolFault> {
         .map(String::as_str)
         .collect::<Vec<&str>>(rt.alloc())?;
     match words.as_slice() {
-        [wide, words @ ..] if *wide == "--wide" => {
+        [wide, words @ ..] if *wide == WIDE => {
             do_word(rt, true, words, given.get(1..).unwrap_or(&[]))
         }
         words => do_word(rt, false, words, given.as_slice()),

@@ -1,18 +1,14 @@
 //! The word `session`: runs a script as a test.
 
 use crate::fault::ToolFault;
-use crate::streams::{input, write, write_bytes};
+use crate::parted::split_text;
+use crate::streams::{MOST_READ, input, write, write_bytes};
+use crate::words::WIDE;
 use native_slots::Natives;
 use script_tests::{TestFormat, judge, record, report};
 use std::alloc::{AllocError, Global};
-use texts::{MOST_BYTES, number, split_at_line};
-use trace_tool::{LARGEST_INPUT, command};
-
-/// So many bytes are read: one more than the command takes, which takes none of a longer input.
-const MOST_READ: u64 = LARGEST_INPUT as u64 + 1;
-
-/// The line between two texts of an input.
-const BORDER: &[u8] = b"%%";
+use texts::{MOST_BYTES, number};
+use trace_tool::command;
 
 /// The option that needs no certificate.
 const UNCHECKED: &str = "--unchecked";
@@ -36,10 +32,8 @@ pub fn session(rt: &HostRuntime, is_wide: bool, words: &[&str]) -> Result<(), To
         [word, options @ ..] if *word == "--record" => (SessionTask::Record, options),
         _ => (SessionTask::Tell(TestFormat::Plain), words),
     };
-    let input = match input(rt, MOST_READ) {
-        Ok(input) => input,
-        Err(reason) => return Err(ToolFault::Unread(reason)),
-    };
+    // The command takes none of an input that is longer than it may be.
+    let input = input(rt, MOST_READ)?;
     let trace = trace_of(alloc, is_wide, options, input.as_slice())?;
     let script = script_of(options, input.as_slice()).unwrap_or(&[]);
     match task {
@@ -52,11 +46,8 @@ pub fn session(rt: &HostRuntime, is_wide: bool, words: &[&str]) -> Result<(), To
 fn tell(rt: &HostRuntime, script: &[u8], trace: &[u8], form: TestFormat) -> Result<(), ToolFault> {
     let tests = judge(rt.alloc(), script, trace)?;
     let (text, failed) = report(rt.alloc(), tests.as_slice(), form)?;
-    match write(rt, text.as_str()) {
-        Ok(()) if failed == 0 => Ok(()),
-        Ok(()) => Err(ToolFault::Otherwise),
-        Err(reason) => Err(ToolFault::Unwritten(reason)),
-    }
+    write(rt, text.as_str())?;
+    as_expected(failed)
 }
 
 /// Writes the script with comments that expect what happened, and says on standard error of how many events they changed,
@@ -70,12 +61,15 @@ fn record_run(rt: &HostRuntime, script: &[u8], trace: &[u8]) -> Result<(), ToolF
     }
     let tests = judge(alloc, recorded.script.as_slice(), trace)?;
     let (text, failed) = report(alloc, tests.as_slice(), TestFormat::Plain)?;
-    if let Err(reason) = write_bytes(rt, recorded.script.as_slice()) {
-        return Err(ToolFault::Unwritten(reason));
-    }
+    write_bytes(rt, recorded.script.as_slice())?;
     let changed = recorded.changed;
     eprintln!(rt; "the comments of {changed} events are recorded anew").ok();
     eprint!(rt; "{text}").ok();
+    as_expected(failed)
+}
+
+/// That so many events went otherwise than is expected.
+fn as_expected(failed: usize) -> Result<(), ToolFault> {
     match failed {
         0 => Ok(()),
         _ => Err(ToolFault::Otherwise),
@@ -110,7 +104,7 @@ fn run_words<'w>(
 ) -> Result<Vec<&'w str>, AllocError> {
     let mut words = Vec::new(alloc);
     if is_wide {
-        words.push("--wide")?;
+        words.push(WIDE)?;
     }
     words.push("run")?;
     for option in options {
@@ -132,7 +126,7 @@ fn script_of<'i>(options: &[&str], input: &'i [u8]) -> Option<&'i [u8]> {
     let borders = if options.contains(&UNCHECKED) { 1 } else { 2 };
     let mut script = input;
     for _ in 0..borders {
-        let (_, rest) = split_at_line(script, BORDER)?;
+        let (_, rest) = split_text(script)?;
         script = rest;
     }
     Some(script)

@@ -2,8 +2,8 @@
 
 use crate::accepted::{Judged, JudgingInput, judge};
 use crate::fault::ToolFault;
-use crate::placed::places_first;
-use crate::streams::{input, write};
+use crate::parted::{first_text, places_first};
+use crate::streams::{short_input, write};
 use class_lang::Limits;
 use diagnostics::Printed;
 use findings::{
@@ -12,20 +12,10 @@ use findings::{
 };
 use std::alloc::{AllocError, Global};
 use text_places::{TextPlaces, read_places};
-use texts::split_at_line;
 use verdicts::Texts;
-
-/// What is read has at most so many bytes.
-pub const MOST_BYTES: usize = 67108864;
-
-/// So many bytes are read: one more than there may be, so that a longer input is refused.
-pub const MOST_READ: u64 = MOST_BYTES as u64 + 1;
 
 /// The exit status where a text is refused.
 const REFUSED: u8 = 2;
-
-/// The line between two texts of an input.
-const BORDER: &[u8] = b"%%";
 
 /// How a verdict is reported.
 #[derive(Clone, Copy, Debug, PartialEq, Eq)]
@@ -157,9 +147,9 @@ pub fn tell_verdict(
     let said = Said::of(alloc, words)?;
     if said.form == VerdictFormat::Rules {
         let rules = rules_report(alloc)?;
-        return written(rt, rules.as_str());
+        return write(rt, rules.as_str());
     }
-    let input = read_input(rt)?;
+    let input = short_input(rt)?;
     tell_input(rt, limits, &said, given, input.as_slice())
 }
 
@@ -210,20 +200,8 @@ fn tell_judged<'x>(
     }
     tell_absent(rt, judged.absent.as_slice());
     let text = report(rt.alloc(), &judged.found, said.form, names)?;
-    written(rt, text.as_str())?;
+    write(rt, text.as_str())?;
     answer(judged.found.status)
-}
-
-/// What standard input has.
-fn read_input(rt: &HostRuntime) -> Result<Vec<u8>, ToolFault> {
-    let input = match input(rt, MOST_READ) {
-        Ok(input) => input,
-        Err(reason) => return Err(ToolFault::Unread(reason)),
-    };
-    if input.len() > MOST_BYTES {
-        return Err(ToolFault::TooLong);
-    }
-    Ok(input)
 }
 
 /// The verdict on these texts, of which the program is read by these limits.
@@ -247,14 +225,6 @@ fn judge_texts(
     };
     let judged = judge(alloc, asked, edges)?;
     Ok(judged)
-}
-
-/// Writes a text on standard output.
-fn written(rt: &HostRuntime, text: &str) -> Result<(), ToolFault> {
-    match write(rt, text) {
-        Ok(()) => Ok(()),
-        Err(reason) => Err(ToolFault::Unwritten(reason)),
-    }
 }
 
 /// The texts of an input.
@@ -297,14 +267,6 @@ impl<'i> InputTexts<'i> {
     }
 }
 
-/// The first text of an input, and what follows it, if something does.
-fn first_text(input: &[u8]) -> (&[u8], Option<&[u8]>) {
-    match split_at_line(input, BORDER) {
-        Some((first, rest)) => (first, Some(rest)),
-        None => (input, None),
-    }
-}
-
 /// The verdict in this form.
 fn report(
     alloc: Global,
@@ -329,7 +291,7 @@ fn write_edges(rt: &HostRuntime, found: &Verdict, names: FileNames<'_>) -> Resul
     }
     let lists = [found.edges.as_slice(), found.remarked.as_slice()];
     let text = edge_list(rt.alloc(), names.program, lists)?;
-    written(rt, text.as_str())
+    write(rt, text.as_str())
 }
 
 /// What a verdict with this exit status ends with.

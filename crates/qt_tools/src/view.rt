@@ -1,15 +1,11 @@
 //! The word `view`: a trace as lines for a terminal, as a sequence diagram, or as a page.
 
 use crate::fault::ToolFault;
+use crate::parted::split_text;
 use crate::streams::{input, write, write_bytes};
 use diagnostics::push_printed_lines;
 use std::alloc::{AllocError, Global};
-use std::io;
-use texts::split_at_line;
 use traces::{laid_out_trace, sequence_diagram, trace_page};
-
-/// The line between a trace and a script.
-const BORDER: &[u8] = b"%%";
 
 /// What a trace is shown as.
 #[derive(Clone, Copy)]
@@ -25,19 +21,13 @@ enum ViewFormat {
     Page,
 }
 
-/// Writes the trace on standard input as the words say. Of a page and of lines its script may follow.
+/// Writes the trace on standard input as the words say.
 pub fn view(rt: &HostRuntime, words: &[&str]) -> Result<(), ToolFault> {
     let Some(form) = wanted_form(words) else {
         return Err(ToolFault::Usage);
     };
-    let input = match input(rt, u64::MAX) {
-        Ok(input) => input,
-        Err(reason) => return Err(ToolFault::Unread(reason)),
-    };
-    match show(rt, form, input.as_slice())? {
-        Ok(()) => Ok(()),
-        Err(reason) => Err(ToolFault::Unwritten(reason)),
-    }
+    let input = input(rt, u64::MAX)?;
+    show(rt, form, input.as_slice())
 }
 
 /// What the words ask for; `None` for others.
@@ -51,24 +41,24 @@ fn wanted_form(words: &[&str]) -> Option<ViewFormat> {
     }
 }
 
-/// Writes the trace in this form. Its error is that memory was refused.
-fn show(rt: &HostRuntime, form: ViewFormat, input: &[u8]) -> Result<io::Result<()>, AllocError> {
+/// Writes the trace in this form. Of a page and of lines its script may follow.
+fn show(rt: &HostRuntime, form: ViewFormat, input: &[u8]) -> Result<(), ToolFault> {
     let alloc: Global = rt.alloc();
-    let (trace, script) = split_at_line(input, BORDER).unwrap_or((input, &[]));
+    let (trace, script) = split_text(input).unwrap_or((input, &[]));
     match form {
         ViewFormat::Lines { colours } => {
             let (trace, script) = (printed(alloc, trace)?, printed(alloc, script)?);
             let lines = laid_out_trace(alloc, trace.as_bytes(), script.as_bytes(), colours)?;
-            Ok(write_bytes(rt, lines.as_slice()))
+            write_bytes(rt, lines.as_slice())
         }
         ViewFormat::Diagram => {
             let diagram = sequence_diagram(alloc, input)?;
-            Ok(write(rt, diagram.as_str()))
+            write(rt, diagram.as_str())
         }
         ViewFormat::Page => {
             let (trace, script) = (printed(alloc, trace)?, printed(alloc, script)?);
             let page = trace_page(alloc, trace.as_bytes(), script.as_bytes())?;
-            Ok(write(rt, page.as_str()))
+            write(rt, page.as_str())
         }
     }
 }

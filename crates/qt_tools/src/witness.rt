@@ -11,18 +11,12 @@ pub fn witness(rt: &HostRuntime, limits: Limits, words: &[&str]) -> Result<(), T
     if !words.is_empty() {
         return Err(ToolFault::Usage);
     }
-    let program = match program(rt, limits) {
-        Ok(program) => program,
-        Err(reason) => return Err(ToolFault::Unread(reason)),
-    };
+    let program = program(rt, limits)?;
     let natives = Natives::of(Vec::new(rt.alloc()));
     let script = match find_witness(rt.alloc(), limits, program.as_slice(), &natives)? {
         SearchOutcome::Found(script) => script,
         SearchOutcome::NotFound => return Err(ToolFault::NoWitness),
         SearchOutcome::Certified => return Err(ToolFault::Certified),
     };
-    match write(rt, script.as_str()) {
-        Ok(()) => Ok(()),
-        Err(reason) => Err(ToolFault::Unwritten(reason)),
-    }
+    write(rt, script.as_str())
 }

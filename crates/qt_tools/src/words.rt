@@ -5,6 +5,9 @@ use std::alloc::{AllocError, Global};
 use std::env::{Env, FillError};
 use std::str;
 
+/// The option that lets a program be as large as one that a tool writes.
+pub const WIDE: &str = "--wide";
+
 /// So many bytes of a word are looked for at first.
 const ROOM: usize = 4096;
 
