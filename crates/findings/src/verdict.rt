@@ -128,6 +128,14 @@ impl Verdict {
         }
     }
 
+    /// How many findings are reported.
+    pub fn reported(&self) -> usize {
+        self.errors
+            .len()
+            .saturating_add(self.warnings.len())
+            .saturating_add(self.notes.len())
+    }
+
     /// How many errors there are.
     pub fn error_count(&self) -> usize {
         self.errors.len().saturating_add(self.more_errors)

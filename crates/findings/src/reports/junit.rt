@@ -19,12 +19,8 @@ pub fn junit_report(
             push_test(&mut tests, alloc, severity, finding, names)?;
         }
     }
-    let failures = verdict.findings_of(FindingSeverity::Error).len();
-    let others = verdict
-        .findings_of(FindingSeverity::Warning)
-        .len()
-        .saturating_add(verdict.findings_of(FindingSeverity::Note).len());
-    let mut count = failures.saturating_add(others);
+    let failures = verdict.errors.len();
+    let mut count = verdict.reported();
     if count == 0 {
         tests.push_str("  <testcase classname=\"gammonfig\" name=\"no findings\"/>\n")?;
         count = 1;

@@ -92,16 +92,13 @@ fn push_place(
 
 /// Adds how many findings there are, of which severities where not all are errors, and how many are accepted.
 fn push_count(text: &mut String, verdict: &Verdict) -> Result<(), AllocError> {
-    let errors = verdict.findings_of(FindingSeverity::Error).len();
-    let warnings = verdict.findings_of(FindingSeverity::Warning).len();
-    let notes = verdict.findings_of(FindingSeverity::Note).len();
-    let others = warnings.saturating_add(notes);
-    match errors.saturating_add(others) {
+    let reported = verdict.reported();
+    match reported {
         0 => text.push_str("no findings")?,
         1 => text.push_str("1 finding")?,
         many => write!(text, "{many} findings")?,
     }
-    if others > 0 {
+    if reported > verdict.errors.len() {
         let mut joint = ": ";
         for severity in FindingSeverity::ALL {
             let count = verdict.findings_of(severity).len();
