@@ -37,16 +37,13 @@ impl From<AllocError> for GraphFault {
 }
 
 /// Why a part of a graph can't be drawn.
-#[derive(Clone, Copy, Debug, PartialEq, Eq, Error)]
+#[derive(Clone, Copy, Debug, PartialEq, Eq)]
 pub enum GraphPartFault {
     /// It names a class, or a member of a class, that isn't there.
-    #[error("the program has no such class or member")]
     Unknown,
     /// There are more edges than are drawn.
-    #[error("the program has more than 262144 edges")]
     TooLarge,
     /// A growth of memory was refused.
-    #[error("out of memory")]
     Memory,
 }
 
