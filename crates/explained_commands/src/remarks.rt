@@ -9,7 +9,7 @@ use texts::split_at_line;
 use trace_tool::{Outcome, ProgramOutcome};
 
 /// The line that parts the texts of an input.
-const PARTING: &[u8] = b"%%";
+pub const PARTING: &[u8] = b"%%";
 
 /// Whether a command whose words these are judges a program where it succeeds: `meta` doesn't, and neither does
 /// `run --unchecked`.

@@ -1,5 +1,6 @@
 //! What is wrong with a command line, or with the number of its texts.
 
+use crate::remarks::PARTING;
 use command_lines::{LARGEST_INPUT, UsageFault};
 use diagnostics::text_spans;
 use std::alloc::{AllocError, Global};
@@ -102,7 +103,7 @@ fn spoilt_parting(input: &[u8]) -> Option<usize> {
     let mut number = 0usize;
     while let Some((line, rest)) = split_line(left) {
         number = number.saturating_add(1);
-        if line.len() > 2 && line.trim_ascii() == b"%%".as_slice() {
+        if line.len() > PARTING.len() && line.trim_ascii() == PARTING {
             return Some(number);
         }
         left = rest;
