@@ -22,6 +22,9 @@ const SCRIPT: &str =
 /// It is colder than is wanted, which is 0 at first.
 const FROST: &str = "new hall Thermostat\ncall hall.measured(-1)\n";
 
+/// What parts two texts of an input.
+const PARTING: &[u8] = b"\n%%\n";
+
 const RUNS: &[ThermostatRun] = &[
     ThermostatRun {
         title: "A thermostat",
@@ -84,10 +87,10 @@ fn tell_run<R: Print + AllocGlobal>(rt: &R, run: &ThermostatRun, certificate: &[
 fn input_of(alloc: Global, run: &ThermostatRun, certificate: &[u8]) -> Result<Vec<u8>, AllocError> {
     let mut input = Vec::from_slice(alloc, PROGRAM.as_bytes())?;
     if run.words.len() == 1 {
-        input.extend_from_slice(b"\n%%\n")?;
+        input.extend_from_slice(PARTING)?;
         input.extend_from_slice(certificate)?;
     }
-    input.extend_from_slice(b"\n%%\n")?;
+    input.extend_from_slice(PARTING)?;
     input.extend_from_slice(run.script.as_bytes())?;
     Ok(input)
 }
