@@ -102,11 +102,7 @@ fn no_call(
 fn emit_advice(near: Near) -> Option<&'static str> {
     match near {
         Near::Slot => Some("this is a slot: write `call this.f(..);`"),
-        Near::RuntimeSignal => Some("this is a signal that the runtime alone emits"),
-        Near::Namesake => Some(
-            "a method of this name is declared with another number of parameters",
-        ),
-        Near::Signal | Near::Nothing => None,
+        other => namesake_advice(other, OTHER_COUNT),
     }
 }
 
@@ -114,11 +110,19 @@ fn emit_advice(near: Near) -> Option<&'static str> {
 fn call_advice(near: Near) -> Option<&'static str> {
     match near {
         Near::Signal => Some("this is a signal: write `emit s(..);` in a slot of its class"),
+        other => namesake_advice(other, OTHER_COUNT),
+    }
+}
+
+/// What a method of the name is where it has other parameters than it is given.
+const OTHER_COUNT: &str = "a method of this name is declared with another number of parameters";
+
+/// What is there of the name that can't be meant: a signal of the runtime, or a method of which these words tell.
+fn namesake_advice(near: Near, namesake: &'static str) -> Option<&'static str> {
+    match near {
         Near::RuntimeSignal => Some("this is a signal that the runtime alone emits"),
-        Near::Namesake => Some(
-            "a method of this name is declared with another number of parameters",
-        ),
-        Near::Slot | Near::Nothing => None,
+        Near::Namesake => Some(namesake),
+        Near::Signal | Near::Slot | Near::Nothing => None,
     }
 }
 
@@ -140,9 +144,7 @@ fn no_signed<'a>(
     };
     let advice = match near {
         Near::Slot => Some("this is a slot"),
-        Near::RuntimeSignal => Some("this is a signal that the runtime alone emits"),
-        Near::Namesake => Some("a method of this name is declared with other types"),
-        Near::Signal | Near::Nothing => None,
+        other => namesake_advice(other, "a method of this name is declared with other types"),
     };
     let pieces = [
         SentencePiece::Words("the class "),
