@@ -5,7 +5,7 @@ ghost use Rattle.std.specs.Cmp.Rules.{hashing};
 ghost use Rattle.std.proofs.Common.{rules};
 ghost use Rattle.basic_types.specs.Name.{IsName, FindsName, is_letter, is_digit, is_name_byte};
 
-use shared_values::SharedBytes;
+use crate::shared_bytes::SharedBytes;
 use std::alloc::{AllocError, Global};
 use std::hash::{Hash, Hasher};
 use std::marker::Model;

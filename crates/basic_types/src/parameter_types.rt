@@ -5,7 +5,7 @@ ghost use Rattle.std.specs.Option.{option_copied};
 ghost use Rattle.basic_types.specs.code.Holding.{held_types};
 
 use crate::qtype::QType;
-use shared_values::Shared;
+use crate::shared::Shared;
 use sqlite_items::Items;
 use std::alloc::{AllocError, Global};
 use std::marker::Model;

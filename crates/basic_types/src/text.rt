@@ -1,7 +1,7 @@
 ghost use Rattle.std.specs.Prelude.{◌≡◌, ◌↔◌, [], IsTrue, IfOk};
 ghost use Rattle.basic_types.specs.Text.{IsText, IsTextByte, FindsText};
 
-use shared_values::SharedBytes;
+use crate::shared_bytes::SharedBytes;
 use std::alloc::{AllocError, Global};
 use std::marker::Model;
 

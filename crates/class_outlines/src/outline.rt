@@ -2,9 +2,8 @@ ghost use Rattle.std.specs.Prelude.{◌≡◌, ◌↔◌, length, IsTrue, IfOk};
 ghost use Rattle.class_outlines.specs.Outlines.{heading};
 ghost use Rattle.class_outlines.specs.declared.outline.Sort.TheVariants.{Signal};
 
-use basic_types::{Name, Sig};
+use basic_types::{Name, Shared, Sig};
 use name_indexes::Called;
-use shared_values::Shared;
 use sqlite_items::Items;
 use std::alloc::{AllocError, Global};
 use syntax_trees::Property;

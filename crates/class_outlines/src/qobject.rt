@@ -8,8 +8,7 @@ ghost use Rattle.meta_model.specs.QObject.{sig_of, name_changed};
 ghost use Rattle.class_outlines.specs.Outlines.{qobject, heading, object_name};
 
 use crate::outline::{Heading, Outline, Sort};
-use basic_types::{Name, QType, Sig};
-use shared_values::Shared;
+use basic_types::{Name, QType, Shared, Sig};
 use sqlite_items::Items;
 use std::alloc::{AllocError, Global};
 use syntax_trees::Property;

@@ -8,9 +8,8 @@ ghost use Rattle.command_lines.specs.MetaLines.{described, class_line, class_lin
 ghost use Rattle.command_lines.specs.Sent.{Puts};
 
 use crate::output::Output;
-use basic_types::{QType, Sig};
+use basic_types::{QType, Shared, Sig};
 use meta_model::{Meta, MetaMethod, MetaObject, MetaProperty, Work};
-use shared_values::Shared;
 use std::io::Write;
 
 impl<W: Write> Output<'_, W> {

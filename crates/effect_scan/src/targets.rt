@@ -6,7 +6,7 @@ ghost use Rattle.effect_scan.specs.code.Adding.{IsOrdered};
 ghost use Rattle.effect_scan.specs.code.Holding.{held_list};
 
 use crate::added::Added;
-use shared_values::Shared;
+use basic_types::Shared;
 use std::alloc::{AllocError, Global};
 use std::marker::Model;
 use std::mem;

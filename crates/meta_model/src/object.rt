@@ -3,8 +3,7 @@ ghost use Rattle.meta_model.specs.Values.{default};
 
 use crate::effects::MetaEffects;
 use crate::slot_body::SlotBody;
-use basic_types::{Kind, Name, QType, Sig, Text, Value};
-use shared_values::Shared;
+use basic_types::{Kind, Name, QType, Shared, Sig, Text, Value};
 use sqlite_items::Items;
 use std::alloc::{AllocError, Global};
 use syntax_trees::{ConnectionType, Expr};

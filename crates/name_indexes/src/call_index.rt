@@ -6,8 +6,7 @@ ghost use Rattle.name_indexes.specs.code.CallSteps.{AddsCall};
 
 use crate::called::Called;
 use crate::name_index::NameIndex;
-use basic_types::Name;
-use shared_values::{Shared, copy_all};
+use basic_types::{Name, Shared, copy_all};
 use sqlite_items::Items;
 use std::alloc::{AllocError, Global};
 use std::marker::Model;

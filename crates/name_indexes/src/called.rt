@@ -2,8 +2,7 @@
 
 ghost use Rattle.std.specs.Prelude.{◌≡◌, ℕ, List};
 
-use basic_types::Name;
-use shared_values::Shared;
+use basic_types::{Name, Shared};
 use syntax_trees::Property;
 
 /// What is found by its name and its number of parameters.

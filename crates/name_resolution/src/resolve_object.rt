@@ -9,12 +9,11 @@ ghost use Rattle.name_resolution.specs.code.Loading.{IsNotify, IsPropertyOf, Are
 ghost use Rattle.name_resolution.specs.code.Loading.{IsObject, AreObjects};
 
 use crate::body_resolution::ResolvedWork;
-use basic_types::Value;
+use basic_types::{Shared, Value};
 use class_outlines::{ClassTable, Heading, IndexedOutline, Sort, read_kind, read_kinds};
 use meta_model::{
     MetaMethod, MetaObject, MetaProperty, SlotBody, ValueType, Work, delete_later_body,
 };
-use shared_values::Shared;
 use sqlite_items::Items;
 use std::alloc::{AllocError, Global};
 use syntax_trees::{Literal, Property};

@@ -8,9 +8,8 @@ ghost use Rattle.object_tree.specs.Typed.{ReadsAs, ReadAs};
 
 use crate::objects::Objects;
 use crate::seen::seen_reference;
-use basic_types::Value;
+use basic_types::{Shared, Value};
 use meta_model::{Meta, MetaProperty, ValueType};
-use shared_values::Shared;
 
 /// Whether each property of a new object of the class `new` has at first a value of its type.
 pub fn begin_well(

@@ -2,9 +2,8 @@ ghost use Rattle.std.specs.Prelude.{◌≡◌, slice_get, slice_set, IfOk};
 ghost use Rattle.std.specs.Option.{option_copied};
 ghost use Rattle.object_tree.specs.Creating.{initials};
 
-use basic_types::Value;
+use basic_types::{Shared, Value};
 use meta_model::MetaProperty;
-use shared_values::Shared;
 use std::alloc::{AllocError, Global};
 use std::marker::Model;
 

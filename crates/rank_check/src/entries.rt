@@ -9,11 +9,11 @@ use crate::causes::{Cause, Extra};
 use crate::naming::line_numbers;
 use crate::places::{first_extra, line_places};
 use crate::sets::shared_set;
+use basic_types::Shared;
 use certificate_lang::{Certificate, Line};
 use class_sets::ClassSet;
 use effect_scan::Scan;
 use meta_model::Meta;
-use shared_values::Shared;
 use sqlite_items::Items;
 use std::alloc::{AllocError, Global};
 

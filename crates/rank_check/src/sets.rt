@@ -4,11 +4,11 @@ ghost use Rattle.std.specs.Prelude.{◌≡◌, [], length, IfOk};
 ghost use Rattle.effect_scan.specs.Scans.{IsScan};
 ghost use Rattle.rank_check.specs.Entries.{FindsSet, AddsItem};
 
+use basic_types::Shared;
 use certificate_lang::SetItem;
 use class_sets::ClassSet;
 use effect_scan::{Scan, row_at};
 use meta_model::Meta;
-use shared_values::Shared;
 use std::alloc::{AllocError, Global};
 
 /// The set of the classes that these items stand for, or the place of the first one whose class isn't there; without items it is

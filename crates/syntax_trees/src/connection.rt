@@ -3,8 +3,7 @@
 ghost use Rattle.std.specs.Prelude.{◌↔◌, IsTrue, All};
 ghost use Rattle.syntax_trees.specs.Connections.{HasFewTypes, signatures_at};
 
-use basic_types::{Kind, MOST_PARAMETERS, Sig};
-use shared_values::Shared;
+use basic_types::{Kind, MOST_PARAMETERS, Shared, Sig};
 
 /// The two ends of a connection: a signal of the sender and a method of the receiver. An O names an object: a path in a
 /// slot's body, a name in a script. Copies share the signatures.

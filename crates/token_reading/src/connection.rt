@@ -6,8 +6,7 @@ ghost use Rattle.token_reading.specs.code.Connections.{EndsAtSig, TakesSeparator
 use crate::cursor::Cursor;
 use crate::fault::ParseFault;
 use crate::lists::Part;
-use basic_types::{Sig, Word};
-use shared_values::Shared;
+use basic_types::{Shared, Sig, Word};
 use syntax_trees::{ConnectionType, Endpoints};
 use texts::Symbol;
 

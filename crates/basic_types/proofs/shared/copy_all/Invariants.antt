@@ -1,5 +1,5 @@
 use Rattle.std.proofs.Common.{◌≡◌, take}
-use Rattle.shared_values.proofs.shared.copy_all.Given as goal
+use Rattle.basic_types.proofs.shared.copy_all.Given as goal
 
 abbrev pub invariant-loop-value : goal.invariant-loop-value
 invariant-loop-value g l = l.copies.items ≡ take l.value-index l.values
