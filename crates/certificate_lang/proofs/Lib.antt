@@ -3,3 +3,7 @@ pub mod Nodes
 pub mod OneTree
 pub mod Rows
 pub mod Certificates
+pub mod Pieces
+pub mod Signatures
+pub mod Lines
+pub mod OneNode

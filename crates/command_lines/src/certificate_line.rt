@@ -3,7 +3,7 @@
 ghost use Rattle.std.specs.Prelude.{◌++◌, codes, decimal};
 ghost use Rattle.std.specs.List.{flat_map};
 ghost use Rattle.basic_types.specs.Spelling.{text_of_sig};
-ghost use Rattle.certificate_texts.specs.Texts.{node_text, item_text, listed_text, node_line};
+ghost use Rattle.certificate_lang.specs.Texts.{node_text, item_text, listed_text, node_line};
 ghost use Rattle.command_lines.specs.Lines.{member_text};
 ghost use Rattle.command_lines.specs.Sent.{Puts};
 

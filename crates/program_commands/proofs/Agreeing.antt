@@ -2,7 +2,7 @@
 use Rattle.std.proofs.Common.{◌≡◌, ◌≤◌, ℕ, List, Option, Some, None, Ok, refl, arith, sym, subst}
 use Rattle.certificate_lang.specs.declared.certificate.Certificate.{Certificate}
 use Rattle.program_commands.proofs.Writable.{made_is_read}
-use Rattle.certificate_texts.specs.Texts.{certificate_text}
+use Rattle.certificate_lang.specs.Texts.{certificate_text}
 use Rattle.class_lang.specs.declared.size.Limits.{Limits}
 use Rattle.meta_model.specs.Loaded.{Loaded}
 use Rattle.rank_make.specs.Makes.{Makes}

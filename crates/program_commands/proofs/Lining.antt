@@ -4,7 +4,7 @@ use Rattle.std.specs.List.{flat_map}
 use Rattle.std.proofs.lemmas.List.Concat.{flat_map-append}
 use Rattle.std.proofs.lemmas.Option.{none-some}
 use Rattle.certificate_lang.specs.declared.certificate.Line.{Line}
-use Rattle.certificate_texts.specs.Texts.{node_line}
+use Rattle.certificate_lang.specs.Texts.{node_line}
 use Rattle.command_lines.proofs.Sending.{sent, as_text, none_sent}
 use Rattle.command_lines.specs.Sent.{Puts}
 use Rattle.command_lines.specs.declared.output.Output.{Output}

@@ -34,7 +34,7 @@ use Rattle.program_commands.specs.declared.outcome.Outcome.{Outcome}
 use Rattle.program_commands.specs.declared.outcome.Outcome.TheVariants.{Refused, Uncertified, Certificate as Certified}
 use Rattle.program_commands.specs.declared.refusal.Refusal.{Refusal}
 use Rattle.program_commands.specs.declared.refusal.Refusal.TheVariants as refusal
-use Rattle.certificate_texts.specs.Texts.{certificate_text}
+use Rattle.certificate_lang.specs.Texts.{certificate_text}
 use Rattle.program_commands.specs.Loading.{LoadsProgram, LoadsCertified, LoadsValid}
 use Rattle.program_commands.specs.Texts.{with_text}
 use Rattle.program_commands.specs.Outcomes.{IsShort}

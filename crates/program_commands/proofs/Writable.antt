@@ -14,8 +14,8 @@ use Rattle.certificate_lang.specs.declared.certificate.SetItem.{SetItem}
 use Rattle.certificate_lang.specs.declared.certificate.SetItem.TheVariants.{Class, Closure}
 use Rattle.certificate_lang.specs.declared.certificate.Line.{Line}
 use Rattle.certificate_lang.specs.declared.certificate.Certificate.{Certificate}
-use Rattle.certificate_texts.specs.Written.{IsWritableMember, IsWritableItem, IsWritableLine, IsWritable}
-use Rattle.certificate_texts.proofs.Lines.{text_is_read}
+use Rattle.certificate_lang.specs.Written.{IsWritableMember, IsWritableItem, IsWritableLine, IsWritable}
+use Rattle.certificate_lang.proofs.Lines.{text_is_read}
 use Rattle.program_commands.specs.Names.{IsNamedObject, IsNamedLoaded}
 use Rattle.program_commands.proofs.NamesLoading.{all_at, at_all, loaded_is_named}
 use Rattle.program_commands.proofs.Reading.{read_is_named}

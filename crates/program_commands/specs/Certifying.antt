@@ -3,7 +3,7 @@ use Rattle.std.specs.Prelude.{◌≡◌, ℕ, List, Option, Result}
 use Rattle.std.specs.List.{flat_map}
 use Rattle.certificate_lang.specs.declared.certificate.Line.{Line}
 use Rattle.certificate_lang.specs.declared.certificate.Certificate.{Certificate}
-use Rattle.certificate_texts.specs.Texts.{certificate_text, node_line}
+use Rattle.certificate_lang.specs.Texts.{certificate_text, node_line}
 use Rattle.command_lines.specs.declared.output.Output.{Output}
 use Rattle.command_lines.specs.Sent.{Puts, TakesWith}
 use Rattle.meta_model.specs.Loaded.{Loaded}

@@ -2,7 +2,7 @@
 -- comes only where a growth of memory was refused is not stated here.
 use Rattle.std.specs.Prelude.{◌≡◌, ◌⊎◌, ℕ, List}
 use Rattle.program_commands.specs.Laws.{IsSameReason}
-use Rattle.certificate_texts.specs.Texts.{certificate_text}
+use Rattle.certificate_lang.specs.Texts.{certificate_text}
 use Rattle.class_lang.specs.declared.size.Limits.{Limits}
 use Rattle.meta_model.specs.Loaded.{Loaded}
 use Rattle.rank_check.specs.Checks.{Checking}

@@ -8,8 +8,8 @@ use Rattle.meta_model.specs.Sound.{IsSound}
 use Rattle.meta_objects.specs.Builds.{Builds}
 use Rattle.certificate_lang.specs.Reads.{ReadsCertificate}
 use Rattle.certificate_lang.specs.declared.certificate.Certificate.{Certificate}
-use Rattle.certificate_texts.specs.Texts.{certificate_text}
-use Rattle.certificate_texts.specs.Written.{IsWritable}
+use Rattle.certificate_lang.specs.Texts.{certificate_text}
+use Rattle.certificate_lang.specs.Written.{IsWritable}
 use Rattle.rank_check.specs.Checks.{Checking, Checks}
 use Rattle.rank_check.specs.Valid.{IsValid}
 use Rattle.rank_check.specs.declared.no.No.{No}

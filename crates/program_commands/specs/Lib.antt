@@ -13,10 +13,10 @@ pub use Rattle.native_slots.specs.Misfits
 pub use Rattle.certificate_lang.specs.Reads as CertificateLangReads
 pub use Rattle.rank_check.specs.Checks
 pub use Rattle.rank_make.specs.Ranked
-pub use Rattle.certificate_texts.specs.Texts as CertificateTexts
+pub use Rattle.certificate_lang.specs.Texts as CertificateTexts
 pub use Rattle.command_lines.specs.MetaLines
 pub use Rattle.command_lines.specs.Sent
 pub mod Laws
-pub use Rattle.certificate_texts.specs.Written
+pub use Rattle.certificate_lang.specs.Written
 pub mod Names
 pub use Rattle.meta_objects.specs.Builds

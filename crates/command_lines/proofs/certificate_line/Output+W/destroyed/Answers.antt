@@ -1,4 +1,4 @@
-use Rattle.certificate_texts.specs.Texts.{listed_text}
+use Rattle.certificate_lang.specs.Texts.{listed_text}
 use Rattle.command_lines.proofs.Sending.{sent, one_item}
 use Rattle.command_lines.proofs.certificate_line.Output+W.destroyed.Goals as goal
 

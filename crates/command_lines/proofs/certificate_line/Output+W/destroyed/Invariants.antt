@@ -1,6 +1,6 @@
 use Rattle.std.proofs.Common.{take}
 use Rattle.std.specs.List.{flat_map}
-use Rattle.certificate_texts.specs.Texts.{listed_text}
+use Rattle.certificate_lang.specs.Texts.{listed_text}
 use Rattle.command_lines.specs.Sent.{Puts}
 use Rattle.command_lines.proofs.certificate_line.Output+W.destroyed.Given as goal
 

@@ -14,7 +14,7 @@ use Rattle.certificate_lang.specs.declared.certificate.SetItem.{SetItem}
 use Rattle.certificate_lang.specs.declared.certificate.SetItem.TheVariants.{Class, Closure}
 use Rattle.certificate_lang.specs.declared.certificate.Line.{Line}
 use Rattle.certificate_lang.specs.declared.certificate.Certificate.{Certificate}
-use Rattle.certificate_texts.specs.Texts.{node_text, certificate_text}
+use Rattle.certificate_lang.specs.Texts.{node_text, certificate_text}
 
 -- a signature in normal form, or a name that isn't a reserved word
 abbrev pub IsWritableMember : MemberName → Type 0

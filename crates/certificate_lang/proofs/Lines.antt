@@ -27,10 +27,10 @@ use Rattle.certificate_lang.specs.declared.certificate.SetItem.TheVariants.{Clas
 use Rattle.certificate_lang.specs.declared.certificate.Line.{Line}
 use Rattle.certificate_lang.specs.declared.certificate.Certificate.{Certificate}
 use Rattle.certificate_lang.specs.declared.version.Version.TheVariants.{Two}
-use Rattle.certificate_texts.specs.Texts.{node_text_of, node_text, listed_text, node_line, certificate_text}
-use Rattle.certificate_texts.specs.Written.{IsWritableMember, IsWritableItem, IsWritableLine, IsWritable, NodesAreRead}
-use Rattle.certificate_texts.proofs.Pieces.{IsWritten, ampersand, nothing, blank_then, name_then, dot_then, tilde_then, digits_then, are_digits}
-use Rattle.certificate_texts.proofs.Signatures.{sig_reading, sig_tree, sig_then}
+use Rattle.certificate_lang.specs.Texts.{node_text_of, node_text, listed_text, node_line, certificate_text}
+use Rattle.certificate_lang.specs.Written.{IsWritableMember, IsWritableItem, IsWritableLine, IsWritable, NodesAreRead}
+use Rattle.certificate_lang.proofs.Pieces.{IsWritten, ampersand, nothing, blank_then, name_then, dot_then, tilde_then, digits_then, are_digits}
+use Rattle.certificate_lang.proofs.Signatures.{sig_reading, sig_tree, sig_then}
 
 -- ---- nodes
 abbrev reading_of_member : List ℕ → MemberName → NodeReading

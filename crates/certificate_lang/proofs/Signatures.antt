@@ -17,7 +17,7 @@ use Rattle.token_reading.specs.Signatures.{TypeReading, spelled_type, spell_type
 use Rattle.texts.specs.declared.symbol.Symbol.TheVariants as s
 use Rattle.texts.specs.declared.token.Token.{Token}
 use Rattle.texts.specs.declared.token.Token.TheVariants as token
-use Rattle.certificate_texts.proofs.Pieces.{IsWritten, name_then, const_then, open_then, close_then, comma_then, star_then}
+use Rattle.certificate_lang.proofs.Pieces.{IsWritten, name_then, const_then, open_then, close_then, comma_then, star_then}
 
 -- ---- types
 abbrev reading_by : List ℕ → Bool → Bool → TypeReading

@@ -1,6 +1,6 @@
 //! Laws on the text of certificates.
 
-ghost use Rattle.certificate_texts.specs.Written.{TextsAreRead, NodesAreRead, OneNode};
+ghost use Rattle.certificate_lang.specs.Written.{TextsAreRead, NodesAreRead, OneNode};
 
 /// The text of a certificate that can be written is a certificate, and is read as the one that it was written from.
 pub fn texts_are_read()

@@ -5,7 +5,7 @@ use Rattle.texts.specs.declared.symbol.Symbol.TheVariants.{Open}
 use Rattle.texts.proofs.Cut.{same_tokens}
 use Rattle.certificate_lang.proofs.OneTree.{one_tree_of_node}
 use Rattle.certificate_lang.specs.Grammar.{spell_node}
-use Rattle.certificate_texts.specs.Written.{OneNode}
+use Rattle.certificate_lang.specs.Written.{OneNode}
 
 none_next : NotAt Open []
 none_next rest e = cc

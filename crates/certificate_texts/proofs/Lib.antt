@@ -1,4 +1,0 @@
-pub mod Pieces
-pub mod Signatures
-pub mod Lines
-pub mod Nodes

@@ -1,5 +1,0 @@
-use Rattle.certificate_texts.proofs.Lines.{text_is_read}
-use Rattle.certificate_texts.proofs.laws.texts_are_read.Goals as goal
-
-pub returns : goal.returns
-returns c = text_is_read
