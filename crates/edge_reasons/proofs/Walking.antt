@@ -1,84 +1,91 @@
--- A search through the statements of a body, and what is in them, for the first that does something to a node.
-use Rattle.std.proofs.Common.{◌≡◌, inl, inr, ℕ, ◌+◌, ◌^◌, ◌<◌, ◌≤◌, List, [], ◌∷◌, length, get_or, take, subst, arith}
-use Rattle.std.specs.declared.ops.ControlFlow.{ControlFlow}
-use Rattle.std.specs.declared.ops.ControlFlow.TheVariants.{Continue, Break}
+-- A search through the statements of a body, and what is in them, for the first with P.
+use Rattle.std.proofs.Common.{◌≡◌, ℕ, ◌+◌, ◌^◌, ◌<◌, ◌≤◌, List, [], ◌∷◌, ◌++◌, length, get_or, take, drop, sym, ap, ◌∙◌, subst}
+use Rattle.std.proofs.lemmas.List.{take_more, take_all, take-append-drop, drop_more}
 use Rattle.syntax_trees.specs.declared.syntax.Expr.{Expr}
-use Rattle.meta_model.specs.declared.object.ValueType.{ValueType}
 use Rattle.meta_model.specs.declared.object.MetaPath.{MetaPath}
 use Rattle.meta_model.specs.declared.object.Statement.{Statement}
 use Rattle.meta_model.specs.declared.object.Statement.TheVariants as whole
-use Rattle.meta_model.specs.declared.object.MetaMethod.{MetaMethod}
-use Rattle.meta_model.specs.declared.object.Work.TheVariants.{Slot}
-use Rattle.meta_model.specs.Loaded.{Loaded}
-use Rattle.meta_model.specs.Members.{IsMethod}
-use Rattle.meta_model.specs.Places.{StandsFirst}
-use Rattle.effect_scan.specs.declared.node.Node.{Node}
-use Rattle.effect_scan.specs.declared.node.Member.TheVariants.{Method}
 use Rattle.effect_scan.proofs.Occurring.{IsPlain}
-use Rattle.statement_order.specs.Order.{in_order, capped}
-use Rattle.statement_order.specs.Searches.{FirstFrom}
-use Rattle.statement_order.proofs.Walking.{none_yet, first_here, none_here, none_in_all, first_itself, none_plain, first_in_group, none_in_group, first_in_chosen, first_in_other, none_in_if}
-use Rattle.edge_reasons.specs.Reasons.{DoesTo, StatementDraws}
-use Rattle.edge_reasons.specs.code.Seeks.{Seeks}
-use Rattle.edge_reasons.proofs.Drawing.{leads_at, leads_chosen, leads_otherwise, leads_grouped}
-use Rattle.edge_reasons.proofs.Undrawn.{does_leads, plain_does, if_leads, group_leads, no_leads, leads_no_more, leads_never}
+use Rattle.edge_reasons.specs.Order.{in_order, capped}
+use Rattle.edge_reasons.specs.Searches.{FirstFrom, NoneFrom}
+use Rattle.edge_reasons.proofs.Order.{parts_of, order_opened, order_if, order_group, order_plain, order_append, order_one}
+use Rattle.edge_reasons.proofs.Searching.{first_then, none_then_first, none_then_none, none_of_none, first_of_all, none_at_one}
 
-module _ (p : Loaded) (c : ℕ) (kinds : List ValueType) (y : Node) where
-  abbrev Does : Statement → Type 0
-  Does t = DoesTo p c kinds t y
+-- ---- a body by one of its statements
+module _ (body : List Statement) (i : ℕ) (t : Statement) (inside : i < length body) (is : t ≡ get_or body i t) where
+  pub order_parted : in_order body ≡ in_order (take i body) ++ (in_order (t ∷ []) ++ in_order (drop (i + 1) body))
+  order_parted =
+      let rest : drop i body ≡ (t ∷ []) ++ drop (i + 1) body = drop_more body i t inside ∙ ap (λ (z : Statement). z ∷ drop (i + 1) body) (sym is) in
+      ap in_order (sym (take-append-drop i body) ∙ ap (λ (ts : List Statement). take i body ++ ts) rest)
+      ∙ order_append (take i body) ((t ∷ []) ++ drop (i + 1) body)
+      ∙ ap (λ (ts : List Statement). in_order (take i body) ++ ts) (order_append (t ∷ []) (drop (i + 1) body))
 
+  order_more : in_order (take (i + 1) body) ≡ in_order (take i body) ++ in_order (t ∷ [])
+  order_more =
+      ap in_order (take_more body i t inside ∙ ap (λ (z : Statement). take i body ++ z ∷ []) (sym is)) ∙ order_append (take i body) (t ∷ [])
+
+module _ (P : Statement → Type 0) where
   -- ---- one statement after another
-  pub seeks_none : (start : ℕ) → start < 2 ^ 64 → Seeks p c kinds [] y start (Continue start)
-  seeks_none start fits = (no_leads p c kinds y, none_yet Does start fits)
+  pub none_yet : (start : ℕ) → start < 2 ^ 64 → NoneFrom P (in_order []) start start
+  none_yet start fits = none_of_none P start fits
 
-  module _ (body : List Statement) (i : ℕ) (t : Statement) (inside : i < length body) (is : t ≡ get_or body i t) (start next n : ℕ) (before : Seeks p c kinds (take i body) y start (Continue next)) where
-    pub seeks_here : Seeks p c kinds (t ∷ []) y next (Break n) → Seeks p c kinds body y start (Break n)
-    seeks_here h = (leads_at p c kinds y body i t inside is h.0, first_here Does body i t inside is start next n before.1 h.1)
+  module _ (body : List Statement) (i : ℕ) (t : Statement) (inside : i < length body) (is : t ≡ get_or body i t) (start next n : ℕ) (before : NoneFrom P (in_order (take i body)) start next) where
+    pub first_here : FirstFrom P (in_order (t ∷ [])) next n → FirstFrom P (in_order body) start n
+    first_here h =
+        subst (λ (ts : List Statement). FirstFrom P ts start n) (sym (order_parted body i t inside is))
+        (none_then_first P (in_order (take i body)) (in_order (t ∷ []) ++ in_order (drop (i + 1) body)) start next n before (first_then P (in_order (t ∷ [])) (in_order (drop (i + 1) body)) next n h))
 
-    pub seeks_more : Seeks p c kinds (t ∷ []) y next (Continue n) → Seeks p c kinds (take (i + 1) body) y start (Continue n)
-    seeks_more h = (leads_no_more p c kinds y body i t inside is before.0 h.0, none_here Does body i t inside is start next n before.1 h.1)
+    pub none_here : NoneFrom P (in_order (t ∷ [])) next n → NoneFrom P (in_order (take (i + 1) body)) start n
+    none_here h =
+        subst (λ (ts : List Statement). NoneFrom P ts start n) (sym (order_more body i t inside is))
+        (none_then_none P (in_order (take i body)) (in_order (t ∷ [])) start next n before h)
 
-  pub seeks_past : (body : List Statement) (i start next : ℕ) → length body ≤ i → Seeks p c kinds (take i body) y start (Continue next) → Seeks p c kinds body y start (Continue next)
-  seeks_past body i start next past before = (leads_never p c kinds y body i past before.0, none_in_all Does body i start next past before.1)
+  pub none_in_all : (body : List Statement) (i start next : ℕ) → length body ≤ i → NoneFrom P (in_order (take i body)) start next → NoneFrom P (in_order body) start next
+  none_in_all body i start next past before = subst (λ (ts : List Statement). NoneFrom P (in_order ts) start next) (take_all i body past) before
 
   -- ---- one statement, with what is in it
-  pub seeks_itself : (t : Statement) (start : ℕ) → start < 2 ^ 64 → DoesTo p c kinds t y → Seeks p c kinds (t ∷ []) y start (Break start)
-  seeks_itself t start fits does = (does_leads p c kinds y t does, first_itself Does t start fits does)
+  pub first_itself : (t : Statement) (start : ℕ) → start < 2 ^ 64 → P t → FirstFrom P (in_order (t ∷ [])) start start
+  first_itself t start fits has =
+      subst (λ (ts : List Statement). FirstFrom P ts start start) (sym (order_one t ∙ order_opened t)) (first_of_all P t (parts_of t) start fits has)
 
-  module _ (t : Statement) (start next : ℕ) (not : ¬ DoesTo p c kinds t y) (more : next ≡ capped (start + 1)) where
-    pub seeks_plain : IsPlain t → Seeks p c kinds (t ∷ []) y start (Continue next)
-    seeks_plain bare = (λ h. not (plain_does p c kinds y t bare h), none_plain Does t start next not more bare)
+  module _ (t : Statement) (start next : ℕ) (not : ¬ P t) (more : next ≡ capped (start + 1)) where
+    ahead : NoneFrom P (t ∷ []) start next
+    ahead = none_at_one P t start next not more
 
-    module _ (sets given : List Statement) (is : t ≡ whole.Group sets) (at : given ≡ sets) where
-      pub seeks_group : (r : ControlFlow ℕ ℕ) → Seeks p c kinds given y next r → Seeks p c kinds (t ∷ []) y start r
-      seeks_group (Break n) h = (leads_grouped p c kinds y t sets given is at h.0, first_in_group Does t start next not more sets given is at n h.1)
-      seeks_group (Continue n) h = (λ leads. h.0 (group_leads p c kinds y t sets given is at leads), none_in_group Does t start next not more sets given is at n h.1)
+    pub none_plain : IsPlain t → NoneFrom P (in_order (t ∷ [])) start next
+    none_plain bare = subst (λ (ts : List Statement). NoneFrom P ts start next) (sym (order_one t ∙ order_plain t bare)) ahead
+
+    module _ (sets given : List Statement) (is : t ≡ whole.Group sets) (at : given ≡ sets) (n : ℕ) where
+      in_group : in_order (t ∷ []) ≡ (t ∷ []) ++ in_order given
+      in_group = order_one t ∙ order_group t sets is ∙ ap (λ (b : List Statement). t ∷ in_order b) (sym at)
+
+      pub first_in_group : FirstFrom P (in_order given) next n → FirstFrom P (in_order (t ∷ [])) start n
+      first_in_group h =
+          subst (λ (ts : List Statement). FirstFrom P ts start n) (sym in_group) (none_then_first P (t ∷ []) (in_order given) start next n ahead h)
+
+      pub none_in_group : NoneFrom P (in_order given) next n → NoneFrom P (in_order (t ∷ [])) start n
+      none_in_group h =
+          subst (λ (ts : List Statement). NoneFrom P ts start n) (sym in_group) (none_then_none P (t ∷ []) (in_order given) start next n ahead h)
 
     module _ (x : Expr MetaPath) (block other left right : List Statement) (is : t ≡ whole.If x block other) (l : left ≡ block) (r : right ≡ other) where
-      pub seeks_chosen : (n : ℕ) → Seeks p c kinds left y next (Break n) → Seeks p c kinds (t ∷ []) y start (Break n)
-      seeks_chosen n h = (leads_chosen p c kinds y t x block other left is l h.0, first_in_chosen Does t start next not more x block other left right is l r n h.1)
+      in_if : in_order (t ∷ []) ≡ (t ∷ []) ++ (in_order left ++ in_order right)
+      in_if =
+          order_one t ∙ order_if t x block other is
+          ∙ ap (λ (b : List Statement). t ∷ (in_order b ++ in_order other)) (sym l)
+          ∙ ap (λ (b : List Statement). t ∷ (in_order left ++ in_order b)) (sym r)
 
-      pub seeks_otherwise : (then : ℕ) (q : ControlFlow ℕ ℕ) → Seeks p c kinds left y next (Continue then) → Seeks p c kinds right y then q → Seeks p c kinds (t ∷ []) y start q
-      seeks_otherwise then (Break n) chosen h = (leads_otherwise p c kinds y t x block other right is r h.0, first_in_other Does t start next not more x block other left right is l r then n chosen.1 h.1)
-      seeks_otherwise then (Continue n) chosen h = (
-        λ leads. elim (if_leads p c kinds y t x block other left right is l r leads) [ inl one ↦ chosen.0 one | inr two ↦ h.0 two ],
-        none_in_if Does t start next not more x block other left right is l r then n chosen.1 h.1,
-      )
+      pub first_in_chosen : (n : ℕ) → FirstFrom P (in_order left) next n → FirstFrom P (in_order (t ∷ [])) start n
+      first_in_chosen n h =
+          subst (λ (ts : List Statement). FirstFrom P ts start n) (sym in_if)
+          (none_then_first P (t ∷ []) (in_order left ++ in_order right) start next n ahead (first_then P (in_order left) (in_order right) next n h))
 
--- ---- the body of a slot
-module _ (p : Loaded) (x y : Node) (m : ℕ) (method : MetaMethod) (is : IsMethod p x.class m method) (from : x.member ≡ Method m) where
-  pub statement_draws : (body given : List Statement) (kinds : List ValueType) → method.work ≡ Slot body → given ≡ body → kinds ≡ method.kinds → (number : ℕ)
-      → FirstFrom (λ t. DoesTo p x.class kinds t y) (in_order given) 0 number → StatementDraws p x y number
-  statement_draws body given kinds slots at typed number h = record {
-    method_number = m;
-    method = method;
-    is = is;
-    from = from;
-    body = body;
-    slot = slots;
-    place = h.place;
-    first =
-        subst (λ (ks : List ValueType). StandsFirst (λ t. DoesTo p x.class ks t y) (in_order body) h.place) typed
-        (subst (λ (b : List Statement). StandsFirst (λ t. DoesTo p x.class kinds t y) (in_order b) h.place) at h.first);
-    counted = omega (arith, h.is);
-  }
+      module _ (then n : ℕ) (chosen : NoneFrom P (in_order left) next then) where
+        pub first_in_other : FirstFrom P (in_order right) then n → FirstFrom P (in_order (t ∷ [])) start n
+        first_in_other h =
+            subst (λ (ts : List Statement). FirstFrom P ts start n) (sym in_if)
+            (none_then_first P (t ∷ []) (in_order left ++ in_order right) start next n ahead (none_then_first P (in_order left) (in_order right) next then n chosen h))
+
+        pub none_in_if : NoneFrom P (in_order right) then n → NoneFrom P (in_order (t ∷ [])) start n
+        none_in_if h =
+            subst (λ (ts : List Statement). NoneFrom P ts start n) (sym in_if)
+            (none_then_none P (t ∷ []) (in_order left ++ in_order right) start next n ahead (none_then_none P (in_order left) (in_order right) next then n chosen h))

@@ -28,7 +28,7 @@ use Rattle.effect_scan.specs.Nodes.{node, named}
 use Rattle.effect_scan.specs.Effects.{effect_of, Occurs, NativeHas}
 use Rattle.effect_scan.specs.Edges.{AtOrBelow, Reaches, ByWork, ByNotify, MayLead}
 use Rattle.effect_scan.specs.Destroying.{Closure}
-use Rattle.statement_order.specs.Order.{in_order, capped}
+use Rattle.edge_reasons.specs.Order.{in_order, capped}
 
 -- a statement of the body of a slot of class c does something to the node at once
 pub record BodyLeads (p : Loaded) (c : ℕ) (kinds : List ValueType) (body : List Statement) (y : Node) : Type 0 where

@@ -1,2 +1,3 @@
 -- What the contracts of this crate's functions need besides.
+pub mod Finds
 pub mod Seeks

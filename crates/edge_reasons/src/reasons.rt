@@ -19,7 +19,7 @@ use syntax_trees::Expr;
 /// What draws an edge.
 #[derive(Clone, Copy, Debug, PartialEq, Eq)]
 pub enum Reason {
-    /// The statement of this number in the body of the slot, as `statement_order::statement_at` counts.
+    /// The statement of this number in the body of the slot, as `statement_at` counts.
     Statement(usize),
     /// The effects that the native is declared with.
     Native,

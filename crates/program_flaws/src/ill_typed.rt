@@ -3,9 +3,9 @@
 use crate::names::{class_text, node_text, property_text, text_of, type_text};
 use crate::source::ProgramSource;
 use crate::statement::{BodyContext, statement_of};
+use edge_reasons::Numbered;
 use effect_scan::{Member, Node};
 use meta_model::Statement;
-use statement_order::Numbered;
 use std::alloc::AllocError;
 use type_check::{Flaw, Spot, flaw_at};
 

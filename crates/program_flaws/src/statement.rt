@@ -2,9 +2,9 @@
 
 use crate::names::{method_text, property_text, text_of};
 use crate::source::ProgramSource;
+use edge_reasons::{Numbered, statement_at};
 use effect_scan::{Member, Node};
 use meta_model::{MetaMethod, MetaPath, MetaRoot, Statement, ValueType, Work};
-use statement_order::{Numbered, statement_at};
 use std::alloc::AllocError;
 use syntax_trees::Slot;
 

@@ -14,9 +14,9 @@ use Rattle.meta_model.specs.Loaded.{Loaded}
 use Rattle.meta_model.specs.Members.{IsMethod}
 use Rattle.meta_model.specs.Places.{StandsFirst}
 use Rattle.effect_scan.proofs.Occurring.{IsPlain}
-use Rattle.statement_order.specs.Order.{in_order, capped}
-use Rattle.statement_order.specs.Searches.{FirstFrom}
-use Rattle.statement_order.proofs.Walking.{first_here, none_here, none_in_all, first_itself, none_plain, first_in_group, none_in_group, first_in_chosen, first_in_other, none_in_if}
+use Rattle.edge_reasons.specs.Order.{in_order, capped}
+use Rattle.edge_reasons.specs.Searches.{FirstFrom}
+use Rattle.edge_reasons.proofs.Walking.{first_here, none_here, none_in_all, first_itself, none_plain, first_in_group, none_in_group, first_in_chosen, first_in_other, none_in_if}
 use Rattle.type_check.specs.declared.flaws.Flaw.{Flaw}
 use Rattle.type_check.specs.Bodies.{IsTypedStatement, IsUntyped, IsTypedBody}
 use Rattle.type_check.specs.Typed.{IsUntypedStatement}

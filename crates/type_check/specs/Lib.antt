@@ -13,4 +13,4 @@ pub use Rattle.expressions.specs.Typing
 pub use Rattle.meta_model.specs.LookUps
 pub use Rattle.meta_model.specs.Members
 pub use Rattle.meta_model.specs.Sound
-pub use Rattle.statement_order.specs.Order
+pub use Rattle.edge_reasons.specs.Order

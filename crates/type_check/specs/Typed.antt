@@ -17,7 +17,7 @@ use Rattle.effect_scan.specs.declared.node.Node.{Node}
 use Rattle.effect_scan.specs.declared.node.Member.{Member}
 use Rattle.effect_scan.specs.declared.node.Member.TheVariants.{Method, Property, Destruction}
 use Rattle.effect_scan.specs.Nodes.{nodes_of}
-use Rattle.statement_order.specs.Order.{in_order, capped}
+use Rattle.edge_reasons.specs.Order.{in_order, capped}
 use Rattle.type_check.specs.declared.spot.Spot.{Spot}
 use Rattle.type_check.specs.declared.spot.Spot.TheVariants as spot
 use Rattle.type_check.specs.Firsts.{AllHave, LacksFirst, IsFirstWithout}

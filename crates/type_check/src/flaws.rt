@@ -34,7 +34,7 @@ pub enum Fault {
 /// What isn't typed in a part of a program, and why.
 #[derive(Clone, Copy, Debug, PartialEq, Eq)]
 pub struct Flaw {
-    /// The first statement of a slot's body that isn't typed, as `statement_order::statement_at` counts; `None` for a literal
+    /// The first statement of a slot's body that isn't typed, as `edge_reasons::statement_at` counts; `None` for a literal
     /// and a binding.
     pub statement: Option<usize>,
     /// Why.

@@ -6,8 +6,8 @@ use Rattle.meta_model.specs.declared.object.ValueType.{ValueType}
 use Rattle.meta_model.specs.declared.object.Statement.{Statement}
 use Rattle.meta_model.specs.Loaded.{Loaded}
 use Rattle.effect_scan.specs.declared.node.Node.{Node}
-use Rattle.statement_order.specs.Order.{in_order}
-use Rattle.statement_order.specs.Searches.{FirstFrom, NoneFrom}
+use Rattle.edge_reasons.specs.Order.{in_order}
+use Rattle.edge_reasons.specs.Searches.{FirstFrom, NoneFrom}
 use Rattle.edge_reasons.specs.Reasons.{BodyLeads, DoesTo}
 
 -- the number of the first statement that does something to the node, or where none does the number behind them all

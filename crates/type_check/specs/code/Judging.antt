@@ -5,8 +5,8 @@ use Rattle.std.specs.declared.ops.ControlFlow.TheVariants.{Continue, Break}
 use Rattle.meta_model.specs.declared.object.ValueType.{ValueType}
 use Rattle.meta_model.specs.declared.object.Statement.{Statement}
 use Rattle.meta_model.specs.Loaded.{Loaded}
-use Rattle.statement_order.specs.Order.{in_order}
-use Rattle.statement_order.specs.Searches.{FirstFrom, NoneFrom}
+use Rattle.edge_reasons.specs.Order.{in_order}
+use Rattle.edge_reasons.specs.Searches.{FirstFrom, NoneFrom}
 use Rattle.type_check.specs.declared.flaws.Flaw.{Flaw}
 use Rattle.type_check.specs.Bodies.{IsUntyped, IsTypedBody}
 

@@ -1,6 +1,6 @@
 use Rattle.edge_reasons.proofs.Drawing.{by_body, by_native}
 use Rattle.edge_reasons.proofs.Undrawn.{no_method, no_signal, no_body, no_native}
-use Rattle.edge_reasons.proofs.Walking.{statement_draws}
+use Rattle.edge_reasons.proofs.Seeking.{statement_draws}
 use Rattle.edge_reasons.proofs.reasons.work_reason.Goals as goal
 
 pub returns-in_default-clause-none : goal.returns-in_default-clause-none

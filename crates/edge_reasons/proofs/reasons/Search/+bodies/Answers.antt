@@ -1,6 +1,6 @@
 use Rattle.std.proofs.Common.{[], ◌∷◌, refl, sym, subst}
 use Rattle.edge_reasons.specs.code.Seeks.{Seeks}
-use Rattle.edge_reasons.proofs.Walking.{seeks_here, seeks_more, seeks_past, seeks_itself, seeks_plain, seeks_group, seeks_chosen, seeks_otherwise}
+use Rattle.edge_reasons.proofs.Seeking.{seeks_here, seeks_more, seeks_past, seeks_itself, seeks_plain, seeks_group, seeks_chosen, seeks_otherwise}
 use Rattle.edge_reasons.proofs.reasons.Search.+bodies.Goals as goal
 
 pub first_among-returns-in_err-next : goal.first_among-returns-in_err-next

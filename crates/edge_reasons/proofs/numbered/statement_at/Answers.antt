@@ -1,10 +1,10 @@
 use Rattle.std.proofs.Common.{length, refl}
 use Rattle.std.proofs.lemmas.Option.{slice_get_read}
-use Rattle.statement_order.specs.Order.{with_parts}
-use Rattle.statement_order.specs.code.Finds.{Finds}
-use Rattle.statement_order.proofs.Finding.{finds_here}
-use Rattle.statement_order.proofs.Numbering.{have_numbers}
-use Rattle.statement_order.proofs.numbered.statement_at.Goals as goal
+use Rattle.edge_reasons.specs.Order.{with_parts}
+use Rattle.edge_reasons.specs.code.Finds.{Finds}
+use Rattle.edge_reasons.proofs.Finding.{finds_here}
+use Rattle.edge_reasons.proofs.Numbering.{have_numbers}
+use Rattle.edge_reasons.proofs.numbered.statement_at.Goals as goal
 
 pub returns-in-Break-clause-numbered : goal.returns-in-Break-clause-numbered
 returns-in-Break-clause-numbered c =

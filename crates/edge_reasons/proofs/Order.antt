@@ -8,7 +8,7 @@ use Rattle.meta_model.specs.declared.object.Statement.TheViews.{out-Statement, r
 use Rattle.meta_model.specs.declared.object.Statement.TheVariants as whole
 use Rattle.meta_model.specs.declared.object.Statement.TheFolds.{fold-Statement, fold-roll-Statement, ind-Statement, map-Statement}
 use Rattle.effect_scan.proofs.Occurring.{IsPlain, HasNoBlocks, no_blocks}
-use Rattle.statement_order.specs.Order.{WithParts, inside, order_step, with_parts, in_order}
+use Rattle.edge_reasons.specs.Order.{WithParts, inside, order_step, with_parts, in_order}
 
 -- ---- a statement stands before what is in it
 abbrev IsItself : Statement → Type 0

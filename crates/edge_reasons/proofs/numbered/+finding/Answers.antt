@@ -1,8 +1,8 @@
 use Rattle.std.proofs.Common.{refl, sym, subst, arith}
-use Rattle.statement_order.specs.Order.{with_parts, in_order}
-use Rattle.statement_order.specs.code.Finds.{Finds}
-use Rattle.statement_order.proofs.Finding.{finds_itself, finds_group, finds_chosen, finds_otherwise, finds_here}
-use Rattle.statement_order.proofs.numbered.+finding.Goals as goal
+use Rattle.edge_reasons.specs.Order.{with_parts, in_order}
+use Rattle.edge_reasons.specs.code.Finds.{Finds}
+use Rattle.edge_reasons.proofs.Finding.{finds_itself, finds_group, finds_chosen, finds_otherwise, finds_here}
+use Rattle.edge_reasons.proofs.numbered.+finding.Goals as goal
 
 pub found_among-returns-in_err-left : goal.found_among-returns-in_err-left
 found_among-returns-in_err-left t c =

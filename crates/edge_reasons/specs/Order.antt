@@ -6,7 +6,7 @@ use Rattle.meta_model.specs.declared.object.Statement.TheOpen as layer
 use Rattle.meta_model.specs.declared.object.Statement.TheViews.{roll-Statement}
 use Rattle.meta_model.specs.declared.object.Statement.TheFolds.{fold-Statement, map-Statement}
 use Rattle.effect_scan.specs.Effects.{Occurs}
-use Rattle.statement_order.specs.declared.numbered.Numbered.{Numbered}
+use Rattle.edge_reasons.specs.declared.numbered.Numbered.{Numbered}
 
 -- a statement, and with it what is in it
 abbrev pub WithParts : Type 0

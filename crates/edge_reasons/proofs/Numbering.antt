@@ -8,8 +8,8 @@ use Rattle.meta_model.specs.declared.object.Statement.TheFolds.{ind-Statement, m
 use Rattle.effect_scan.specs.Effects.{Occurs, here, after, chosen, otherwise, grouped}
 use Rattle.effect_scan.proofs.Numbered.{get_left, get_right, get_either}
 use Rattle.effect_scan.proofs.Occurring.{occurs_left}
-use Rattle.statement_order.specs.Order.{with_parts, in_order, HasNumber, OccurringHaveNumbers}
-use Rattle.statement_order.proofs.Order.{parts_of, order_opened, order_blocks, order_sets, opened_plain}
+use Rattle.edge_reasons.specs.Order.{with_parts, in_order, HasNumber, OccurringHaveNumbers}
+use Rattle.edge_reasons.proofs.Order.{parts_of, order_opened, order_blocks, order_sets, opened_plain}
 
 -- ---- a place in one of two lists
 in_left : (s : Statement) (xs ys : List Statement) (n : ℕ) → slice_get xs n ≡ Some s → slice_get (xs ++ ys) n ≡ Some s

@@ -1,7 +1,7 @@
 -- What a search through a list comes to whose first element has a number in a longer one.
 use Rattle.std.specs.Prelude.{◌≡◌, ℕ, ◌+◌, List, length}
 use Rattle.meta_model.specs.Places.{StandsFirst, NoneStands}
-use Rattle.statement_order.specs.Order.{capped}
+use Rattle.edge_reasons.specs.Order.{capped}
 
 -- the first element with P has this number, where the first of the list has the number `start`
 pub record FirstFrom {X : Type 0} (P : X → Type 0) (xs : List X) (start number : ℕ) : Type 0 where

@@ -2,8 +2,8 @@
 //! it.
 
 ghost use Rattle.std.specs.Prelude.{MatchOption, ◌≤◌, length};
-ghost use Rattle.statement_order.specs.Order.{in_order, with_parts, IsNumbered, OccurringHaveNumbers};
-ghost use Rattle.statement_order.specs.code.Finds.{Finds};
+ghost use Rattle.edge_reasons.specs.Order.{in_order, with_parts, IsNumbered, OccurringHaveNumbers};
+ghost use Rattle.edge_reasons.specs.code.Finds.{Finds};
 
 use meta_model::Statement;
 use std::ops::ControlFlow;

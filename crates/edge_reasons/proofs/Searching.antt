@@ -4,8 +4,8 @@ use Rattle.std.proofs.lemmas.List.{length-append}
 use Rattle.std.proofs.lemmas.Option.{slice_get_within, same_Some, none-some}
 use Rattle.meta_model.specs.Places.{StandsFirst, NoneStands}
 use Rattle.effect_scan.proofs.Numbered.{get_left, get_right, get_either}
-use Rattle.statement_order.specs.Order.{capped}
-use Rattle.statement_order.specs.Searches.{FirstFrom, NoneFrom}
+use Rattle.edge_reasons.specs.Order.{capped}
+use Rattle.edge_reasons.specs.Searches.{FirstFrom, NoneFrom}
 
 -- what is counted on from a number that is written down is counted on from the number
 pub capped_on : (a b c m n : ℕ) → m ≡ capped (a + b) → n ≡ capped (m + c) → n ≡ capped (a + (b + c))

@@ -10,10 +10,10 @@ use Rattle.meta_model.specs.declared.object.MetaPath.{MetaPath}
 use Rattle.meta_model.specs.declared.object.Statement.{Statement}
 use Rattle.meta_model.specs.declared.object.Statement.TheVariants as whole
 use Rattle.effect_scan.proofs.Numbered.{get_left, get_right}
-use Rattle.statement_order.specs.Order.{with_parts, in_order}
-use Rattle.statement_order.specs.code.Finds.{Finds}
-use Rattle.statement_order.proofs.Order.{order_opened, order_if, order_group, order_one}
-use Rattle.statement_order.proofs.Walking.{order_parted}
+use Rattle.edge_reasons.specs.Order.{with_parts, in_order}
+use Rattle.edge_reasons.specs.code.Finds.{Finds}
+use Rattle.edge_reasons.proofs.Order.{order_opened, order_if, order_group, order_one}
+use Rattle.edge_reasons.proofs.Walking.{order_parted}
 
 -- ---- one list behind another
 finds_in_left : (xs ys : List Statement) (n : ℕ) (found : Bor Statement) → Finds xs n (Break found) → Finds (xs ++ ys) n (Break found)

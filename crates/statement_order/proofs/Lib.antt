@@ -1,5 +1,0 @@
-mod Finding
-mod Numbering
-mod Order
-mod Searching
-pub mod Walking

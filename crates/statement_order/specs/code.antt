@@ -1,2 +1,0 @@
--- What the contracts of this crate's functions need besides.
-pub mod Finds
