@@ -20,7 +20,7 @@ use Rattle.object_tree.proofs.Moving.{same_tests, home-in_loop, in_loop-alike, l
 use Rattle.event_loops.specs.declared.fault.PostFault.{PostFault}
 use Rattle.event_loops.specs.declared.fault.PostFault.TheVariants as post
 use Rattle.event_loops.specs.Queues.{Loop, Queues, name_at, rehomed}
-use Rattle.event_loops.specs.Rings.{gathered}
+use Rattle.event_loops.specs.code.Rings.{gathered}
 use Rattle.event_loops.proofs.Names.{none_where}
 use Rattle.event_loops.proofs.Rehoming.{gathered-rehomed}
 use Rattle.binding_graph.specs.declared.binding.Binding.{Binding}

@@ -9,7 +9,7 @@ use Rattle.event_loops.specs.declared.item.Posted.{Posted}
 use Rattle.event_loops.specs.declared.marks.Mark.{Mark}
 use Rattle.event_loops.specs.declared.marks.Marks.{Marks}
 use Rattle.event_loops.specs.Queues.{Loop, receiver_of, items_at, is_before, none_for, change, with_items, with_item, without_first, without_first_before, without_object}
-use Rattle.event_loops.specs.Rings.{goes, gathered}
+use Rattle.event_loops.specs.code.Rings.{goes, gathered}
 use Rattle.event_loops.specs.code.Counts.{count_where, awaits, waiting_in, waiting_of, AreCounted, CountsMore, CountsFewer, CountsLess, CountsNone, CountAlike}
 use Rattle.event_loops.specs.code.Sure.{AllAt}
 use Rattle.event_loops.proofs.Numbers.{count_where-cons, count_where-change, count_where-map, count-posted, thins-without_first, thins-none_for}

@@ -6,7 +6,7 @@ use Rattle.std.proofs.lemmas.Option.{same_Some}
 use Rattle.indexmap.specs.IndexMap.{set_value_at}
 use Rattle.event_loops.specs.declared.item.Posted.{Posted}
 use Rattle.event_loops.specs.Queues.{Loop, items_at, change, with_items}
-use Rattle.event_loops.specs.Rings.{loop_of, loops_of}
+use Rattle.event_loops.specs.code.Rings.{loop_of, loops_of}
 
 module _ {A : Type 0} where
   pub change-ring : (f : List Posted → List Posted) (es : List (List ℕ × VecDeque Posted A)) (home : ℕ) (old new : VecDeque Posted A) → slice_get (values_of es) home ≡ Some old → new.items ≡ f old.items → loops_of (set_value_at es home new) ≡ change home (with_items f) (loops_of es)

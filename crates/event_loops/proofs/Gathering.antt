@@ -4,7 +4,7 @@ use Rattle.std.proofs.lemmas.List.{length-append, append_assoc, take-append-drop
 use Rattle.std.proofs.lemmas.List.Elements.{filter-append}
 use Rattle.event_loops.specs.declared.item.Posted.{Posted}
 use Rattle.event_loops.specs.Queues.{Loop, items_at, all_items, change}
-use Rattle.event_loops.specs.Rings.{goes, those_going, those_staying}
+use Rattle.event_loops.specs.code.Rings.{goes, those_going, those_staying}
 
 -- ---- loop by loop
 

@@ -11,7 +11,7 @@ use Rattle.indexmap.specs.IndexMap.{IndexMap, insert_entry}
 use Rattle.indexmap.proofs.CallerLemmas.{insert_entry-new}
 use Rattle.event_loops.specs.declared.item.Posted.{Posted}
 use Rattle.event_loops.specs.Queues.{Loop, name_at, IsTaken}
-use Rattle.event_loops.specs.Rings.{loops_of, loops_in}
+use Rattle.event_loops.specs.code.Rings.{loops_of, loops_in}
 use Rattle.event_loops.proofs.Entries.{loops_of-append}
 
 within : (names : List (List ℕ)) (home : ℕ) (d : List ℕ) → home < length names → slice_get names home ≡ Some (get_or names home d)

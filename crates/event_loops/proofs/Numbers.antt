@@ -6,7 +6,7 @@ use Rattle.std.proofs.lemmas.List.Filters.{sum_by-filter_both}
 use Rattle.event_loops.specs.declared.item.Posted.{Posted}
 use Rattle.event_loops.specs.declared.item.Item.{Item}
 use Rattle.event_loops.specs.Queues.{Loop, Queues, change, is_before, is_for, without_first, none_for, with_items, with_item, posted_to, taken_before, dropped, with_loop}
-use Rattle.event_loops.specs.Rings.{place_of_first}
+use Rattle.event_loops.specs.code.Rings.{place_of_first}
 use Rattle.event_loops.specs.Numbers.{has_number, count_under, IsNumbered}
 use Rattle.event_loops.specs.code.Counts.{count_where}
 use Rattle.event_loops.proofs.Places.{without_first-nowhere, without_first-place, place_of-within}

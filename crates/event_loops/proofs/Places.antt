@@ -3,7 +3,7 @@ use Rattle.std.proofs.Common.{◌≡◌, ℕ, zero, suc, ◌<◌, Bool, true, Li
 use Rattle.std.specs.List.{find, remove}
 use Rattle.event_loops.specs.declared.item.Posted.{Posted}
 use Rattle.event_loops.specs.Queues.{without_first}
-use Rattle.event_loops.specs.Rings.{place_of_first}
+use Rattle.event_loops.specs.code.Rings.{place_of_first}
 
 pub find-nowhere : (test : Posted → Bool) (xs : List Posted) → place_of_first test xs ≡ None → find test xs ≡ None
 find-nowhere test [] e = refl

@@ -10,8 +10,8 @@ use Rattle.std.proofs.lemmas.List.Filters.{sum_by-filter_both}
 use Rattle.event_loops.specs.declared.item.Posted.{Posted}
 use Rattle.event_loops.specs.Queues.{Loop, Queues, receiver_of, items_at, all_items, items_elsewhere, with_items, change, rehomed}
 use Rattle.event_loops.specs.code.Sure.{AllAt}
-use Rattle.event_loops.specs.Rings.{goes, those_going, those_staying, without_going, gathered}
-use Rattle.event_loops.specs.Marks.{waits, is_above, waiting, visible}
+use Rattle.event_loops.specs.code.Rings.{goes, those_going, those_staying, without_going, gathered}
+use Rattle.event_loops.specs.code.Marks.{waits, is_above, waiting, visible}
 use Rattle.event_loops.specs.Numbers.{has_number, IsNumbered}
 use Rattle.event_loops.specs.code.Counts.{count_where}
 use Rattle.event_loops.proofs.Entries.{put-same}

@@ -5,7 +5,7 @@ use Rattle.std.proofs.lemmas.Bool.{and_from, and_parts, cases_eq, eq-eqb, ne_eqb
 use Rattle.std.proofs.lemmas.List.Folds.{list_all-append}
 use Rattle.event_loops.specs.declared.item.Posted.{Posted}
 use Rattle.event_loops.specs.Queues.{Loop, receiver_of, items_at, with_item, change}
-use Rattle.event_loops.specs.Marks.{waits, is_above, Notes, Forgets, is_upto}
+use Rattle.event_loops.specs.code.Marks.{waits, is_above, Notes, Forgets, is_upto}
 use Rattle.event_loops.specs.code.Sure.{AllAt, is_sure}
 use Rattle.event_loops.proofs.Waiting.{all-change}
 

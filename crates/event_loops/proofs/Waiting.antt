@@ -7,7 +7,7 @@ use Rattle.std.proofs.lemmas.Option.{same_Some}
 use Rattle.std.proofs.lemmas.List.Folds.{list_all-append}
 use Rattle.event_loops.specs.declared.item.Posted.{Posted}
 use Rattle.event_loops.specs.Queues.{Loop, receiver_of, is_for, is_before, none_for, name_at, items_at, with_items, with_item, without_first, without_first_before, without_object, change}
-use Rattle.event_loops.specs.Marks.{waits, is_above, is_due, waiting, visible, trimmed, taken_due, Notes, Forgets, is_upto, AreUpto, MarkedUpto}
+use Rattle.event_loops.specs.code.Marks.{waits, is_above, is_due, waiting, visible, trimmed, taken_due, Notes, Forgets, is_upto, AreUpto, MarkedUpto}
 use Rattle.event_loops.specs.code.Sure.{AllAt}
 
 pub same_cons : {A : Type 0} (xs ys : List A) {x y : A} → x ≡ y → xs ≡ ys → x ∷ xs ≡ y ∷ ys

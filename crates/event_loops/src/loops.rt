@@ -45,7 +45,7 @@ impl Model for Loops {
 
     ghost Value = { Queues };
 
-    ghost use Rattle.event_loops.specs.Kept.{seen};
+    ghost use Rattle.event_loops.specs.code.Kept.{seen};
     ghost use Rattle.event_loops.specs.code.Sure.{Held};
 
     ghost view = { λ l. record { loops = seen l.queues l.marks; posted = l.posted } };

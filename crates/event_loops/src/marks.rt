@@ -1,7 +1,7 @@
 //! For which objects items wait, so that they all go at once.
 
 ghost use Rattle.std.specs.Prelude.{◌≡◌, ◌↔◌, ◌+◌, ◌-◌, [], None, true, length, nat_lt, IsTrue, OnOk, OnErr};
-ghost use Rattle.event_loops.specs.Marks.{mark_of, since_of, waits, WaitAlike, KeepsWaiting, Notes, Forgets};
+ghost use Rattle.event_loops.specs.code.Marks.{mark_of, since_of, waits, WaitAlike, KeepsWaiting, Notes, Forgets};
 ghost use Rattle.event_loops.specs.code.Sure.{is_told};
 ghost use Rattle.event_loops.specs.code.Counts.{waiting_of, CountAlike, CountsFewer, CountsLess, CountsMore, CountsNone, KeepsCount};
 

@@ -5,7 +5,7 @@ ghost use Rattle.std.specs.List.{list_any};
 ghost use Rattle.std.specs.VecDeque.{deque_len, deque_capacity};
 ghost use Rattle.indexmap.specs.IndexSet.{contains};
 ghost use Rattle.event_loops.specs.Queues.{all_items, items_at, change, with_items};
-ghost use Rattle.event_loops.specs.Rings.{loops_in, goes, those_going, those_staying, without_going, gathered};
+ghost use Rattle.event_loops.specs.code.Rings.{loops_in, goes, those_going, those_staying, without_going, gathered};
 ghost use Rattle.event_loops.specs.code.Counts.{waiting_of};
 
 use crate::item::Posted;

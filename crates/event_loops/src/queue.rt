@@ -4,8 +4,8 @@ ghost use Rattle.std.specs.Prelude.{◌≡◌, true, [], ◌∷◌, ◌++◌, On
 ghost use Rattle.std.specs.List.{find};
 ghost use Rattle.std.specs.Option.{option_copied};
 ghost use Rattle.event_loops.specs.Queues.{without_first};
-ghost use Rattle.event_loops.specs.Rings.{place_of_first};
-ghost use Rattle.event_loops.specs.Marks.{since_of, is_due, taken_due, trimmed};
+ghost use Rattle.event_loops.specs.code.Rings.{place_of_first};
+ghost use Rattle.event_loops.specs.code.Marks.{since_of, is_due, taken_due, trimmed};
 ghost use Rattle.event_loops.specs.code.Sure.{AreTold, is_told};
 
 use crate::item::Posted;

@@ -4,8 +4,8 @@ ghost use Rattle.std.specs.Prelude.{◌≡◌, ◌↔◌, ◌+◌, ◌^◌, ◌<
 ghost use Rattle.std.specs.List.{find};
 ghost use Rattle.std.specs.Option.{option_copied};
 ghost use Rattle.event_loops.specs.Queues.{items_at, change, is_before, next_item, with_item, without_first_before, without_object};
-ghost use Rattle.event_loops.specs.Rings.{loops_in};
-ghost use Rattle.event_loops.specs.Kept.{seen, Within, StayWithin};
+ghost use Rattle.event_loops.specs.code.Rings.{loops_in};
+ghost use Rattle.event_loops.specs.code.Kept.{seen, Within, StayWithin};
 ghost use Rattle.event_loops.specs.code.Counts.{Counted};
 ghost use Rattle.event_loops.specs.code.Sure.{AllTold};
 ghost use Rattle.event_loops.specs.declared.fault.PostFault.TheVariants.{NoLoop};

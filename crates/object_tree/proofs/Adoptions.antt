@@ -4,7 +4,7 @@ use Rattle.std.specs.Prelude.{slice_get}
 use Rattle.std.specs.List.{remove, position, position_or_len}
 use Rattle.std.specs.Bool.{◌==◌}
 use Rattle.object_tree.specs.declared.children.Adoption.{Adoption}
-use Rattle.object_tree.specs.Adoptions.{adopted}
+use Rattle.object_tree.specs.code.Adoptions.{adopted}
 
 pub remove-adopted : (xs : List Adoption) (i : ℕ) → adopted (remove xs i) ≡ remove (adopted xs) i
 remove-adopted [] zero = refl

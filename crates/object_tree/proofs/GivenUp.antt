@@ -9,7 +9,7 @@ use Rattle.object_tree.specs.declared.slot.Slot.{Slot}
 use Rattle.object_tree.specs.declared.slot.Entry.{Entry}
 use Rattle.object_tree.specs.Held.{is_held}
 use Rattle.object_tree.specs.Objects.{change}
-use Rattle.object_tree.specs.Slots.{gone, object_in, or_gone, object_at, shown_from, key_at, name_at, is_idle, as_number, changed_in, Changes, GivesUp, AreHoused}
+use Rattle.object_tree.specs.code.Slots.{gone, object_in, or_gone, object_at, shown_from, key_at, name_at, is_idle, as_number, changed_in, Changes, GivesUp, AreHoused}
 use Rattle.object_tree.proofs.Slots.{not_held, get-some, shown-same, count-change, entry-of, Outcome, own-total, shown-written, named-written}
 
 not-true : (b : Bool) → not b ≡ true → b ≡ false

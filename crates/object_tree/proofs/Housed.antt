@@ -17,7 +17,7 @@ use Rattle.object_tree.specs.Objects.{with_life, life_of, class_of, change}
 use Rattle.object_tree.specs.Family.{children_in, children_of, parent_of, joined_by}
 use Rattle.object_tree.specs.Children.{are_distinct}
 use Rattle.object_tree.specs.Forest.{Forest, HasDistinct}
-use Rattle.object_tree.specs.Slots.{object_in, or_gone, object_at, shown_from, new_slot, key_at, name_at, as_number, KeepsSlots, AreDistinctIn, AreHoused}
+use Rattle.object_tree.specs.code.Slots.{object_in, or_gone, object_at, shown_from, new_slot, key_at, name_at, as_number, KeepsSlots, AreDistinctIn, AreHoused}
 use Rattle.object_tree.proofs.Changing.{get-change_other}
 use Rattle.object_tree.proofs.Slots.{get-none, get-some, shown-same, entry-of, no_entry}
 

@@ -11,7 +11,7 @@ use Rattle.meta_model.specs.Among.{is_among}
 use Rattle.object_tree.specs.Objects.{Lives, IsNamed, IsFree, change_life, with_life, name_of, home_of}
 use Rattle.object_tree.specs.Family.{leaves, moved, dead, without_life, parent_of, children_of, IsChild, IsChildless}
 use Rattle.object_tree.specs.Forest.{Forest, is_the}
-use Rattle.object_tree.specs.Kept.{Kept}
+use Rattle.object_tree.specs.code.Kept.{Kept}
 use Rattle.meta_model.specs.Loaded.{Loaded}
 use Rattle.object_tree.specs.Adopting.{MayAdopt, IsAdopted}
 use Rattle.object_tree.proofs.Above.{parent_in, child-is, parent-is}

@@ -12,7 +12,7 @@ use Rattle.object_tree.specs.Children.{are_distinct}
 use Rattle.object_tree.specs.Objects.{change_life, with_life, life_of, name_of, home_of}
 use Rattle.object_tree.specs.Family.{parent_of, children_in, children_of, IsChild, Above, itself, over_parent}
 use Rattle.object_tree.specs.Forest.{Forest, is_the}
-use Rattle.object_tree.specs.Kept.{Kept}
+use Rattle.object_tree.specs.code.Kept.{Kept}
 use Rattle.object_tree.specs.Moving.{in_loop, all_in_loop, AreWhole, AreBelow}
 use Rattle.object_tree.specs.Typed.{AreTyped}
 use Rattle.object_tree.proofs.Above.{parent_in, child-is, parent-is}

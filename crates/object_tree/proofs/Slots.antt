@@ -11,7 +11,7 @@ use Rattle.object_tree.specs.declared.slot.Slot.{Slot}
 use Rattle.object_tree.specs.declared.slot.Entry.{Entry}
 use Rattle.object_tree.specs.Held.{are_any, is_held, held_in}
 use Rattle.object_tree.specs.Objects.{change}
-use Rattle.object_tree.specs.Slots.{gone, object_in, or_gone, object_at, shown_from, key_at, name_at, as_number, changed_in, Changes, AreHoused}
+use Rattle.object_tree.specs.code.Slots.{gone, object_in, or_gone, object_at, shown_from, key_at, name_at, as_number, changed_in, Changes, AreHoused}
 
 -- ---- one slot
 

@@ -1,5 +1,4 @@
 pub mod Children
-pub mod Adoptions
 pub mod Objects
 pub mod Held
 pub mod Seen
@@ -9,7 +8,6 @@ pub mod Creating
 pub mod Adopting
 pub mod Forest
 pub mod Moving
-pub mod Kept
-pub mod Slots
+pub mod code
 pub use Rattle.meta_model.specs.NamePlaces
 pub use Rattle.meta_model.specs.Typed as MetaObjectsTyped

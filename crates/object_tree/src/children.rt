@@ -1,6 +1,6 @@
 ghost use Rattle.std.specs.Prelude.{◌≡◌, ◌<◌, [], ◌∷◌, ◌++◌, OnOk, OnErr, MatchOption, slice_get, true, not, length, ◌==◌, position};
 ghost use Rattle.std.specs.List.{remove};
-ghost use Rattle.object_tree.specs.Adoptions.{adopted};
+ghost use Rattle.object_tree.specs.code.Adoptions.{adopted};
 ghost use Rattle.object_tree.specs.Children.{without, is_child, are_distinct};
 ghost use Rattle.object_tree.specs.Held.{are_any};
 
@@ -27,7 +27,7 @@ impl Model for Children {
 
     ghost Value = { List ℕ };
 
-    ghost use Rattle.object_tree.specs.Adoptions.{adopted};
+    ghost use Rattle.object_tree.specs.code.Adoptions.{adopted};
 
     ghost view = { λ children. adopted children.items.items };
 }

@@ -2,7 +2,7 @@
 
 ghost use Rattle.std.specs.Prelude.{◌≡◌, IfOk, IfErr};
 ghost use Rattle.object_tree.specs.Creating.{MayCreate, IsNotCreated, fresh, initial_values};
-ghost use Rattle.object_tree.specs.Kept.{Kept};
+ghost use Rattle.object_tree.specs.code.Kept.{Kept};
 
 use crate::children::Children;
 use crate::fault::CreateFault;

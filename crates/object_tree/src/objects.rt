@@ -35,7 +35,7 @@ impl Model for Objects {
 
     ghost Value = { List Object };
 
-    ghost use Rattle.object_tree.specs.Slots.{shown_from, AreHoused};
+    ghost use Rattle.object_tree.specs.code.Slots.{shown_from, AreHoused};
 
     ghost view = { λ objects. shown_from objects.slots 0 objects.entries.items };
 

@@ -7,7 +7,7 @@ ghost use Rattle.slab.specs.Slab.{get, slab_len, Updates, HasRoomFor};
 ghost use Rattle.object_tree.specs.Objects.{with_life, blocked, scheduled, written};
 ghost use Rattle.object_tree.specs.Family.{joined_by, left_by, put_under, dead};
 ghost use Rattle.object_tree.specs.Moving.{in_loop};
-ghost use Rattle.object_tree.specs.Slots.{new_slot, key_at, name_at, object_in, adoption_in, is_idle, AreDistinctIn, Changes, Writes, KeepsSlots, GivesUp};
+ghost use Rattle.object_tree.specs.code.Slots.{new_slot, key_at, name_at, object_in, adoption_in, is_idle, AreDistinctIn, Changes, Writes, KeepsSlots, GivesUp};
 
 use crate::object::Object;
 use basic_types::{LoopId, Name, ObjectId, Value};

@@ -45,7 +45,7 @@ impl Drop for Tree {
 impl Model for Tree {
     ghost use Rattle.std.specs.Prelude.{List};
     ghost use Rattle.object_tree.specs.declared.object.Object.{Object};
-    ghost use Rattle.object_tree.specs.Kept.{Kept};
+    ghost use Rattle.object_tree.specs.code.Kept.{Kept};
 
     ghost Value = { List Object };
 

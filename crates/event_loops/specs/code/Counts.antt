@@ -7,8 +7,8 @@ use Rattle.event_loops.specs.declared.item.Posted.{Posted}
 use Rattle.event_loops.specs.declared.marks.Mark.{Mark}
 use Rattle.event_loops.specs.declared.marks.Marks.{Marks}
 use Rattle.event_loops.specs.Queues.{Loop, receiver_of, is_for}
-use Rattle.event_loops.specs.Marks.{mark_of}
-use Rattle.event_loops.specs.Kept.{seen}
+use Rattle.event_loops.specs.code.Marks.{mark_of}
+use Rattle.event_loops.specs.code.Kept.{seen}
 
 -- how many items of all loops together pass the test
 abbrev pub count_where : (Posted → Bool) → List Loop → ℕ

@@ -6,9 +6,9 @@ use Rattle.indexmap.specs.IndexMap.{IndexMap}
 use Rattle.event_loops.specs.declared.item.Posted.{Posted}
 use Rattle.event_loops.specs.declared.marks.Marks.{Marks}
 use Rattle.event_loops.specs.Queues.{Loop, items_at}
-use Rattle.event_loops.specs.Rings.{loops_in}
-use Rattle.event_loops.specs.Marks.{since_of, waits, is_upto}
-use Rattle.event_loops.specs.Kept.{Kept}
+use Rattle.event_loops.specs.code.Rings.{loops_in}
+use Rattle.event_loops.specs.code.Marks.{since_of, waits, is_upto}
+use Rattle.event_loops.specs.code.Kept.{Kept}
 use Rattle.event_loops.specs.code.Counts.{Counted}
 
 -- each item in a ring passes the test

@@ -1,7 +1,7 @@
 use Rattle.std.proofs.Common.{List, length, eqb, sym, ap, ◌∙◌}
 use Rattle.indexmap.specs.IndexSet.{contains}
 use Rattle.event_loops.specs.declared.item.Posted.{Posted}
-use Rattle.event_loops.specs.Rings.{those_going}
+use Rattle.event_loops.specs.code.Rings.{those_going}
 use Rattle.event_loops.proofs.Entries.{items_at-entry, items_at-none}
 use Rattle.event_loops.proofs.moving.count_at.Goals as goal
 

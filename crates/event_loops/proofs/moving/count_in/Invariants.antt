@@ -1,6 +1,6 @@
 use Rattle.std.proofs.Common.{◌≡◌, ◌≤◌, ◌+◌, eqb, length, drop}
 use Rattle.indexmap.specs.IndexSet.{contains}
-use Rattle.event_loops.specs.Rings.{those_going}
+use Rattle.event_loops.specs.code.Rings.{those_going}
 use Rattle.event_loops.proofs.moving.count_in.Given as goal
 
 -- with those of the rest, all are counted

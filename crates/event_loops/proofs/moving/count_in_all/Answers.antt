@@ -3,7 +3,7 @@ use Rattle.std.proofs.lemmas.List.{length-append}
 use Rattle.indexmap.specs.IndexSet.{contains}
 use Rattle.event_loops.specs.declared.item.Posted.{Posted}
 use Rattle.event_loops.specs.Queues.{items_at}
-use Rattle.event_loops.specs.Rings.{loops_in, those_going}
+use Rattle.event_loops.specs.code.Rings.{loops_in, those_going}
 use Rattle.event_loops.proofs.Gathering.{going_from, going-step}
 use Rattle.event_loops.proofs.moving.count_in_all.Goals as goal
 

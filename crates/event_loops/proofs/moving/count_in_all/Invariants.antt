@@ -1,7 +1,7 @@
 use Rattle.std.proofs.Common.{◌≡◌, ◌+◌, eqb, length}
 use Rattle.indexmap.specs.IndexSet.{contains}
 use Rattle.event_loops.specs.Queues.{all_items}
-use Rattle.event_loops.specs.Rings.{loops_in, those_going}
+use Rattle.event_loops.specs.code.Rings.{loops_in, those_going}
 use Rattle.event_loops.proofs.Gathering.{going_from}
 use Rattle.event_loops.proofs.moving.count_in_all.Given as goal
 

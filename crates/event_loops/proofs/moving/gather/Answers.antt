@@ -4,7 +4,7 @@ use Rattle.std.proofs.lemmas.List.{length-append, append_assoc, length-map}
 use Rattle.indexmap.specs.IndexSet.{contains}
 use Rattle.event_loops.specs.declared.item.Posted.{Posted}
 use Rattle.event_loops.specs.Queues.{Loop, all_items, items_at}
-use Rattle.event_loops.specs.Rings.{loop_of, loops_in, those_going, without_going}
+use Rattle.event_loops.specs.code.Rings.{loop_of, loops_in, those_going, without_going}
 use Rattle.event_loops.proofs.Gathering.{map_from, map_from-start, map_from-step, map_from-end, length-change, going_from, going-step, going-changed}
 use Rattle.event_loops.proofs.moving.gather.Goals as goal
 

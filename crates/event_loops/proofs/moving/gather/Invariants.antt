@@ -2,7 +2,7 @@ use Rattle.std.proofs.Common.{◌≡◌, ◌≤◌, ◌+◌, ◌++◌, eqb, leng
 use Rattle.std.specs.VecDeque.{deque_len, deque_capacity}
 use Rattle.indexmap.specs.IndexSet.{contains}
 use Rattle.event_loops.specs.Queues.{all_items}
-use Rattle.event_loops.specs.Rings.{loops_in, those_going, without_going}
+use Rattle.event_loops.specs.code.Rings.{loops_in, those_going, without_going}
 use Rattle.event_loops.proofs.Gathering.{map_from, going_from}
 use Rattle.event_loops.proofs.moving.gather.Given as goal
 

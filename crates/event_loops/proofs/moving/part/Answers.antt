@@ -2,7 +2,7 @@ use Rattle.std.proofs.Common.{◌+◌, ◌<◌, ◌++◌, List, length, eqb, tak
 use Rattle.std.proofs.lemmas.List.{length-append, append_assoc}
 use Rattle.indexmap.specs.IndexSet.{contains}
 use Rattle.event_loops.specs.declared.item.Posted.{Posted}
-use Rattle.event_loops.specs.Rings.{those_going, those_staying}
+use Rattle.event_loops.specs.code.Rings.{those_going, those_staying}
 use Rattle.event_loops.proofs.Gathering.{turned, going-next, turned-next, going-within}
 use Rattle.event_loops.proofs.moving.part.Goals as goal
 

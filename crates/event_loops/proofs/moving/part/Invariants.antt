@@ -1,7 +1,7 @@
 use Rattle.std.proofs.Common.{◌≡◌, ◌+◌, ◌++◌, eqb, length, take}
 use Rattle.std.specs.VecDeque.{deque_len, deque_capacity}
 use Rattle.indexmap.specs.IndexSet.{contains}
-use Rattle.event_loops.specs.Rings.{those_going}
+use Rattle.event_loops.specs.code.Rings.{those_going}
 use Rattle.event_loops.proofs.Gathering.{turned}
 use Rattle.event_loops.proofs.moving.part.Given as goal
 

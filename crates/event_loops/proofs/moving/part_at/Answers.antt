@@ -3,7 +3,7 @@ use Rattle.std.specs.VecDeque.{deque_len, deque_capacity}
 use Rattle.indexmap.specs.IndexSet.{contains}
 use Rattle.event_loops.specs.declared.item.Posted.{Posted}
 use Rattle.event_loops.specs.Queues.{items_at}
-use Rattle.event_loops.specs.Rings.{loops_in, those_going, those_staying}
+use Rattle.event_loops.specs.code.Rings.{loops_in, those_going, those_staying}
 use Rattle.event_loops.proofs.Entries.{change-ring, change-nowhere, items_at-ring, items_at-nowhere}
 use Rattle.event_loops.proofs.moving.part_at.Goals as goal
 

@@ -2,7 +2,7 @@ use Rattle.std.proofs.Common.{List, ap, ◌∙◌}
 use Rattle.std.proofs.lemmas.Result.{on_err_weaker}
 use Rattle.event_loops.specs.declared.item.Posted.{Posted}
 use Rattle.event_loops.specs.Queues.{Loop, change, with_items}
-use Rattle.event_loops.specs.Rings.{loops_in}
+use Rattle.event_loops.specs.code.Rings.{loops_in}
 use Rattle.event_loops.proofs.Entries.{put-twice, put-same}
 use Rattle.event_loops.proofs.moving.rehome_at.Goals as goal
 

@@ -1,6 +1,6 @@
 use Rattle.std.proofs.Common.{◌≡◌, ◌+◌, drop, option_map}
-use Rattle.event_loops.specs.Rings.{place_of_first}
-use Rattle.event_loops.specs.Marks.{since_of, is_due}
+use Rattle.event_loops.specs.code.Rings.{place_of_first}
+use Rattle.event_loops.specs.code.Marks.{since_of, is_due}
 use Rattle.event_loops.proofs.queue.first_before.Given as goal
 
 -- the first in the rest is the first of all, so many places later

@@ -1,5 +1,5 @@
 use Rattle.std.proofs.Common.{sym, subst}
-use Rattle.event_loops.specs.Marks.{since_of, is_due}
+use Rattle.event_loops.specs.code.Marks.{since_of, is_due}
 use Rattle.event_loops.specs.code.Sure.{AreTold, is_told}
 use Rattle.event_loops.proofs.Waiting.{all-without_first}
 use Rattle.event_loops.proofs.queue.take_before.Goals as goal

@@ -2,7 +2,7 @@ use Rattle.std.proofs.Common.{◌≡◌, List}
 use Rattle.std.specs.VecDeque.{deque_len}
 use Rattle.event_loops.specs.declared.item.Posted.{Posted}
 use Rattle.event_loops.specs.declared.marks.Marks.{Marks}
-use Rattle.event_loops.specs.Marks.{since_of, trimmed}
+use Rattle.event_loops.specs.code.Marks.{since_of, trimmed}
 use Rattle.event_loops.specs.code.Sure.{AreTold}
 use Rattle.event_loops.proofs.queue.trim.Given as goal
 

@@ -1,6 +1,6 @@
 use Rattle.std.proofs.Common.{ℕ, List, sym, subst, ◌∙◌}
-use Rattle.event_loops.specs.Rings.{loops_in}
-use Rattle.event_loops.specs.Marks.{since_of, visible, is_upto}
+use Rattle.event_loops.specs.code.Rings.{loops_in}
+use Rattle.event_loops.specs.code.Marks.{since_of, visible, is_upto}
 use Rattle.event_loops.specs.Queues.{Loop}
 use Rattle.event_loops.specs.code.Counts.{AreCounted}
 use Rattle.event_loops.specs.code.Sure.{AllAt, is_sure}

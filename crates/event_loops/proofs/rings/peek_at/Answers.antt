@@ -1,8 +1,8 @@
 use Rattle.std.proofs.Common.{sym, subst, ◌∙◌, ap}
 use Rattle.std.specs.List.{find}
 use Rattle.event_loops.specs.Queues.{is_before}
-use Rattle.event_loops.specs.Rings.{loops_in}
-use Rattle.event_loops.specs.Marks.{since_of, waiting}
+use Rattle.event_loops.specs.code.Rings.{loops_in}
+use Rattle.event_loops.specs.code.Marks.{since_of, waiting}
 use Rattle.event_loops.specs.code.Sure.{AreTold}
 use Rattle.event_loops.proofs.Entries.{items_at-entry, items_at-none}
 use Rattle.event_loops.proofs.Waiting.{find-waiting, items_at-visible}

@@ -1,8 +1,8 @@
 use Rattle.std.proofs.Common.{◌≡◌, ◌+◌, true, List, ℕ, refl, sym, subst, ◌∙◌, ap}
 use Rattle.event_loops.specs.declared.item.Posted.{Posted}
 use Rattle.event_loops.specs.Queues.{Loop, next_item, with_item, change}
-use Rattle.event_loops.specs.Rings.{loops_in}
-use Rattle.event_loops.specs.Marks.{since_of, waits, visible, AreUpto}
+use Rattle.event_loops.specs.code.Rings.{loops_in}
+use Rattle.event_loops.specs.code.Marks.{since_of, waits, visible, AreUpto}
 use Rattle.event_loops.specs.code.Counts.{AreCounted, CountsMore}
 use Rattle.event_loops.specs.code.Sure.{AllAt, is_sure}
 use Rattle.event_loops.proofs.Entries.{OnErr-always}

@@ -1,8 +1,8 @@
 use Rattle.std.proofs.Common.{List, sym, subst, ◌∙◌, ap}
 use Rattle.std.specs.List.{find}
 use Rattle.event_loops.specs.Queues.{Loop, is_before}
-use Rattle.event_loops.specs.Rings.{loops_in}
-use Rattle.event_loops.specs.Marks.{since_of, waiting, visible, taken_due, is_upto, AreUpto}
+use Rattle.event_loops.specs.code.Rings.{loops_in}
+use Rattle.event_loops.specs.code.Marks.{since_of, waiting, visible, taken_due, is_upto, AreUpto}
 use Rattle.event_loops.specs.code.Sure.{AllAt, AreTold, is_told}
 use Rattle.event_loops.proofs.Entries.{change-ring, change-nowhere, items_at-ring, items_at-nowhere}
 use Rattle.event_loops.proofs.Waiting.{find-waiting, items_at-visible, visible-taken, all-taken}

@@ -1,7 +1,7 @@
 use Rattle.std.proofs.Common.{List, sym, subst, ◌∙◌, ap}
 use Rattle.event_loops.specs.Queues.{Loop}
-use Rattle.event_loops.specs.Rings.{loops_in}
-use Rattle.event_loops.specs.Marks.{since_of, visible, trimmed, is_upto, AreUpto}
+use Rattle.event_loops.specs.code.Rings.{loops_in}
+use Rattle.event_loops.specs.code.Marks.{since_of, visible, trimmed, is_upto, AreUpto}
 use Rattle.event_loops.specs.code.Sure.{AllAt, AreTold, is_told}
 use Rattle.event_loops.proofs.Entries.{change-ring, items_at-ring}
 use Rattle.event_loops.proofs.Waiting.{visible-trimmed, all-trimmed_at}

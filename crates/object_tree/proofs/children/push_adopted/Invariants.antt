@@ -1,5 +1,5 @@
 use Rattle.std.proofs.Common.{◌≡◌, ◌++◌, drop}
-use Rattle.object_tree.specs.Adoptions.{adopted}
+use Rattle.object_tree.specs.code.Adoptions.{adopted}
 use Rattle.object_tree.proofs.children.push_adopted.Given as goal
 
 -- with the rest, all are appended

@@ -1,10 +1,10 @@
 use Rattle.std.proofs.Common.{◌≡◌, ◌∷◌, [], ◌++◌, sym, ◌∙◌, ap, subst, List}
 use Rattle.event_loops.specs.Queues.{Queues, Loop, IsTaken, with_loop}
-use Rattle.event_loops.specs.Rings.{loops_in, loops_of}
-use Rattle.event_loops.specs.Marks.{since_of, visible, is_upto, AreUpto}
+use Rattle.event_loops.specs.code.Rings.{loops_in, loops_of}
+use Rattle.event_loops.specs.code.Marks.{since_of, visible, is_upto, AreUpto}
 use Rattle.event_loops.specs.code.Counts.{AreCounted}
 use Rattle.event_loops.specs.code.Sure.{AllAt, is_told}
-use Rattle.event_loops.specs.Kept.{seen}
+use Rattle.event_loops.specs.code.Kept.{seen}
 use Rattle.event_loops.specs.Numbers.{IsNumbered}
 use Rattle.event_loops.proofs.Names.{shown-insert}
 use Rattle.event_loops.proofs.Numbers.{IsNumbered-with_loop}

@@ -1,8 +1,8 @@
 use Rattle.std.proofs.Common.{ℕ, sym, ◌∙◌, ap, subst}
 use Rattle.event_loops.specs.Queues.{Queues, IsNamed, name_at}
-use Rattle.event_loops.specs.Rings.{loops_in}
-use Rattle.event_loops.specs.Marks.{since_of}
-use Rattle.event_loops.specs.Kept.{seen}
+use Rattle.event_loops.specs.code.Rings.{loops_in}
+use Rattle.event_loops.specs.code.Marks.{since_of}
+use Rattle.event_loops.specs.code.Kept.{seen}
 use Rattle.event_loops.proofs.Names.{name_at-found, name_at-first, taken-lookup, none_where}
 use Rattle.event_loops.proofs.Waiting.{name_at-visible}
 use Rattle.event_loops.proofs.loops.Loops.find.Goals as goal

@@ -1,7 +1,7 @@
 use Rattle.std.proofs.Common.{sym, ◌∙◌, ap, option_map}
 use Rattle.event_loops.specs.Queues.{Queues, name_at}
-use Rattle.event_loops.specs.Rings.{loops_in}
-use Rattle.event_loops.specs.Marks.{since_of}
+use Rattle.event_loops.specs.code.Rings.{loops_in}
+use Rattle.event_loops.specs.code.Marks.{since_of}
 use Rattle.event_loops.proofs.Names.{name_at-entry}
 use Rattle.event_loops.proofs.Waiting.{name_at-visible}
 use Rattle.event_loops.proofs.loops.Loops.name.Goals as goal

@@ -1,6 +1,6 @@
 use Rattle.std.proofs.Common.{◌+◌, ◌-◌, ◌<◌, ◌^◌, sym, subst, List}
 use Rattle.event_loops.specs.Queues.{Queues, Loop}
-use Rattle.event_loops.specs.Kept.{seen}
+use Rattle.event_loops.specs.code.Kept.{seen}
 use Rattle.event_loops.specs.Numbers.{IsNumbered}
 use Rattle.event_loops.proofs.Numbers.{IsNumbered-posted}
 use Rattle.event_loops.proofs.loops.Loops.post.Goals as goal

@@ -3,11 +3,11 @@ use Rattle.std.specs.List.{list_any}
 use Rattle.std.proofs.Math.Path.{fun_ext}
 use Rattle.indexmap.specs.IndexSet.{contains}
 use Rattle.event_loops.specs.Queues.{Queues, Loop, rehomed}
-use Rattle.event_loops.specs.Rings.{loops_in, gathered}
-use Rattle.event_loops.specs.Marks.{since_of, visible, is_upto, AreUpto, MarkedUpto}
+use Rattle.event_loops.specs.code.Rings.{loops_in, gathered}
+use Rattle.event_loops.specs.code.Marks.{since_of, visible, is_upto, AreUpto, MarkedUpto}
 use Rattle.event_loops.specs.code.Counts.{AreCounted}
 use Rattle.event_loops.specs.code.Sure.{AllAt, is_sure}
-use Rattle.event_loops.specs.Kept.{seen}
+use Rattle.event_loops.specs.code.Kept.{seen}
 use Rattle.event_loops.specs.Numbers.{IsNumbered}
 use Rattle.event_loops.proofs.Rehoming.{visible-gathered, gathered-alike, gathered-rehomed, nothing-gathered, all-gathered, IsNumbered-gathered}
 use Rattle.event_loops.proofs.Counted.{counted-alike, counted-gathered, all-noted, goes-noted, goes-unmarked, is_noted}

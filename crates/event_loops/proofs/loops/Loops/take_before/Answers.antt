@@ -1,9 +1,9 @@
 use Rattle.std.proofs.Common.{◌≡◌, ℕ, sym, subst, ap, ◌∙◌, List, Option}
 use Rattle.std.proofs.Math.Path.{fun_ext}
 use Rattle.event_loops.specs.Queues.{Queues, Loop, taken_before}
-use Rattle.event_loops.specs.Rings.{loops_in}
-use Rattle.event_loops.specs.Marks.{since_of, visible, MarkedUpto}
-use Rattle.event_loops.specs.Kept.{seen}
+use Rattle.event_loops.specs.code.Rings.{loops_in}
+use Rattle.event_loops.specs.code.Marks.{since_of, visible, MarkedUpto}
+use Rattle.event_loops.specs.code.Kept.{seen}
 use Rattle.event_loops.specs.Numbers.{IsNumbered}
 use Rattle.event_loops.specs.code.Counts.{AreCounted}
 use Rattle.event_loops.specs.code.Sure.{AllAt, is_sure}

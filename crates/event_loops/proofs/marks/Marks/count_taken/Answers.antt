@@ -1,6 +1,6 @@
 use Rattle.std.proofs.Common.{◌≡◌, ◌∙◌, ℕ, Option, Some, sym, subst}
 use Rattle.event_loops.specs.declared.item.Posted.{Posted}
-use Rattle.event_loops.specs.Marks.{since_of}
+use Rattle.event_loops.specs.code.Marks.{since_of}
 use Rattle.event_loops.specs.code.Counts.{CountsFewer, CountsLess}
 use Rattle.event_loops.proofs.Counted.{at_number}
 use Rattle.event_loops.proofs.marks.Marks.count_taken.Goals as goal

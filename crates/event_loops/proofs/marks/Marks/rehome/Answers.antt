@@ -1,5 +1,5 @@
 use Rattle.std.proofs.Common.{◌∙◌}
-use Rattle.event_loops.specs.Marks.{since_of}
+use Rattle.event_loops.specs.code.Marks.{since_of}
 use Rattle.event_loops.specs.code.Counts.{waiting_of}
 use Rattle.event_loops.proofs.Counted.{at_number}
 use Rattle.event_loops.proofs.marks.Marks.rehome.Goals as goal

@@ -1,5 +1,5 @@
 use Rattle.std.proofs.Common.{◌≡◌}
-use Rattle.event_loops.specs.Marks.{since_of, WaitAlike}
+use Rattle.event_loops.specs.code.Marks.{since_of, WaitAlike}
 use Rattle.event_loops.specs.code.Counts.{CountAlike}
 use Rattle.event_loops.proofs.marks.Marks.rehome.Given as goal
 

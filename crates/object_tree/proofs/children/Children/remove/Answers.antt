@@ -3,7 +3,7 @@ use Rattle.std.specs.List.{remove}
 use Rattle.std.specs.VecDeque.{deque_len}
 use Rattle.object_tree.specs.declared.children.Adoption.{Adoption}
 use Rattle.object_tree.specs.Children.{without}
-use Rattle.object_tree.specs.Adoptions.{adopted}
+use Rattle.object_tree.specs.code.Adoptions.{adopted}
 use Rattle.object_tree.proofs.Lists.{on_some}
 use Rattle.object_tree.proofs.Adoptions.{remove-adopted, length-adopted}
 use Rattle.object_tree.proofs.children.Children.remove.Goals as goal

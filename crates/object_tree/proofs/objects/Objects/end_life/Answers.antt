@@ -2,7 +2,7 @@ use Rattle.std.proofs.Common.{List, refl, sym, ap, ◌∙◌}
 use Rattle.object_tree.specs.declared.object.Object.{Object}
 use Rattle.object_tree.specs.Objects.{change}
 use Rattle.object_tree.specs.Family.{dead}
-use Rattle.object_tree.specs.Slots.{as_it_was}
+use Rattle.object_tree.specs.code.Slots.{as_it_was}
 use Rattle.object_tree.proofs.Slots.{change-none, get-none, no_entry, key-found}
 use Rattle.object_tree.proofs.GivenUp.{outcome-given}
 use Rattle.object_tree.proofs.objects.Objects.end_life.Goals as goal

@@ -3,7 +3,7 @@ use Rattle.std.specs.Prelude.{IsSome}
 use Rattle.object_tree.specs.declared.object.Object.{Object}
 use Rattle.object_tree.specs.Objects.{change, life_of}
 use Rattle.object_tree.specs.Family.{joined_by}
-use Rattle.object_tree.specs.Slots.{as_it_was}
+use Rattle.object_tree.specs.code.Slots.{as_it_was}
 use Rattle.object_tree.proofs.Slots.{outcome-living, key-found}
 use Rattle.object_tree.proofs.Housed.{living-there, living-entry, held-joined}
 use Rattle.object_tree.proofs.objects.Objects.join.Goals as goal

@@ -2,7 +2,7 @@ use Rattle.std.proofs.Common.{List, ap, ◌∙◌}
 use Rattle.object_tree.specs.declared.object.Object.{Object}
 use Rattle.object_tree.specs.declared.slot.Entry.{Entry}
 use Rattle.object_tree.specs.Objects.{name_of}
-use Rattle.object_tree.specs.Slots.{name_at}
+use Rattle.object_tree.specs.code.Slots.{name_at}
 use Rattle.object_tree.proofs.Slots.{names-shown}
 use Rattle.object_tree.proofs.objects.Objects.name.Goals as goal
 

@@ -1,7 +1,7 @@
 use Rattle.std.proofs.Common.{List, refl, sym, ap, ◌∙◌}
 use Rattle.object_tree.specs.declared.object.Object.{Object}
 use Rattle.object_tree.specs.Objects.{change, with_life, scheduled}
-use Rattle.object_tree.specs.Slots.{as_it_was}
+use Rattle.object_tree.specs.code.Slots.{as_it_was}
 use Rattle.object_tree.proofs.Slots.{outcome-kept, change-none, get-none, no_entry, key-found}
 use Rattle.object_tree.proofs.Housed.{held-with_life}
 use Rattle.object_tree.proofs.objects.Objects.schedule.Goals as goal

@@ -6,7 +6,7 @@ use Rattle.object_tree.specs.declared.object.Object.{Object}
 use Rattle.object_tree.specs.Adopting.{MayAdopt}
 use Rattle.object_tree.specs.Objects.{Lives}
 use Rattle.object_tree.specs.Family.{moved}
-use Rattle.object_tree.specs.Kept.{Kept}
+use Rattle.object_tree.specs.code.Kept.{Kept}
 use Rattle.object_tree.specs.Typed.{AreTyped}
 use Rattle.object_tree.proofs.Above.{false-not}
 use Rattle.object_tree.proofs.Errors.{adopts-short}

@@ -1,7 +1,7 @@
 use Rattle.std.proofs.Common.{List, sym, refl, subst}
 use Rattle.object_tree.specs.declared.object.Object.{Object}
 use Rattle.object_tree.specs.Objects.{blocked}
-use Rattle.object_tree.specs.Kept.{Kept}
+use Rattle.object_tree.specs.code.Kept.{Kept}
 use Rattle.object_tree.specs.Typed.{AreTyped}
 use Rattle.object_tree.proofs.Keeping.{kept-change}
 use Rattle.object_tree.proofs.TypedObjects.{typed-change}

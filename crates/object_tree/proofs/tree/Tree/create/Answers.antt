@@ -3,7 +3,7 @@ use Rattle.meta_model.specs.NamePlaces.{Adds}
 use Rattle.object_tree.specs.declared.object.Object.{Object}
 use Rattle.object_tree.specs.Creating.{MayCreate, fresh, initial_values}
 use Rattle.object_tree.specs.Held.{is_held}
-use Rattle.object_tree.specs.Kept.{Kept}
+use Rattle.object_tree.specs.code.Kept.{Kept}
 use Rattle.object_tree.specs.Typed.{AreTyped}
 use Rattle.object_tree.proofs.Errors.{creates-short}
 use Rattle.object_tree.proofs.Keeping.{kept-created}

@@ -1,6 +1,6 @@
 use Rattle.std.proofs.Common.{List, sym, subst}
 use Rattle.object_tree.specs.declared.object.Object.{Object}
-use Rattle.object_tree.specs.Kept.{Kept}
+use Rattle.object_tree.specs.code.Kept.{Kept}
 use Rattle.object_tree.specs.Typed.{AreTyped}
 use Rattle.object_tree.proofs.Keeping.{kept-died}
 use Rattle.object_tree.proofs.TypedObjects.{typed-died}

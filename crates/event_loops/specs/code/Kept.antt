@@ -5,8 +5,8 @@ use Rattle.indexmap.specs.IndexMap.{IndexMap}
 use Rattle.event_loops.specs.declared.item.Posted.{Posted}
 use Rattle.event_loops.specs.declared.marks.Marks.{Marks}
 use Rattle.event_loops.specs.Queues.{Loop}
-use Rattle.event_loops.specs.Rings.{loops_in}
-use Rattle.event_loops.specs.Marks.{since_of, visible, AreUpto, MarkedUpto}
+use Rattle.event_loops.specs.code.Rings.{loops_in}
+use Rattle.event_loops.specs.code.Marks.{since_of, visible, AreUpto, MarkedUpto}
 use Rattle.event_loops.specs.Numbers.{IsNumbered}
 
 abbrev pub seen : {A S : Type 0} → IndexMap (List ℕ) (VecDeque Posted A) S → Marks → List Loop
