@@ -7,7 +7,6 @@ pub mod Promises
 pub mod Fitting
 pub mod Misfits
 pub mod FaultNumbers
-pub mod code
 pub mod Doubling
+pub mod code
 pub use Rattle.basic_types.specs.Types
-pub use Rattle.native_slots.specs.Effects

@@ -1,10 +1,5 @@
-pub use Rattle.object_machine.specs.Claims
-pub use Rattle.object_machine.specs.CheckedLaws
-pub use Rattle.object_machine.specs.FaultLaws
-pub use Rattle.object_machine.specs.Laws
 pub mod Events
 pub mod Takes
-pub mod code
 pub mod Runs
 pub mod Causes
 pub mod Laws
@@ -13,6 +8,7 @@ pub mod Seen
 pub mod Claims
 pub mod Checked
 pub mod CheckedLaws
+pub mod code
 pub use Rattle.native_slots.specs.Promises
 pub use Rattle.machine_rules.specs.Good
 pub use Rattle.machine_rules.specs.Natives

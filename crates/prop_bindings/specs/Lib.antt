@@ -1,25 +1,12 @@
 pub mod Counts
 pub mod Laws
-pub mod code
-pub use Rattle.binding_graph.specs.Places
-pub use Rattle.binding_graph.specs.Bindings
-pub use Rattle.binding_graph.specs.Laws as BindingGraphLaws
-pub use Rattle.prop_bindings.specs.Values
-pub use Rattle.prop_bindings.specs.Changes
-pub use Rattle.prop_bindings.specs.Fits
-pub use Rattle.prop_bindings.specs.Calls
-pub use Rattle.prop_bindings.specs.Plans
-pub use Rattle.prop_bindings.specs.FaultNumbers
-pub use Rattle.prop_bindings.specs.declared.plans.assignment.Assignment
-pub use Rattle.prop_bindings.specs.declared.plans.planned.Planned
-pub use Rattle.prop_bindings.specs.declared.plans.planned.PlannedBind
-pub use Rattle.prop_bindings.specs.declared.plans.planned.PlannedGroup
-pub use Rattle.prop_bindings.specs.declared.plans.planned.PlannedWrite
-pub use Rattle.prop_bindings.specs.declared.plans.fault.BindFault
-pub use Rattle.prop_bindings.specs.declared.plans.fault.WriteFault
 pub mod Values
 pub mod Changes
 pub mod Fits
 pub mod Calls
 pub mod Plans
 pub mod FaultNumbers
+pub mod code
+pub use Rattle.binding_graph.specs.Places
+pub use Rattle.binding_graph.specs.Bindings
+pub use Rattle.binding_graph.specs.Laws as BindingGraphLaws

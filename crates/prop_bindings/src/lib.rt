@@ -20,7 +20,8 @@ pub use laws::{
     unbound_agree, written_once,
 };
 pub use plans::{
-    Assignment, BindFault, ChangedPlaces, Planned, PlannedGroup, PlannedWrite, WriteFault,
+    Assignment, BindFault, ChangedPlaces, Planned, PlannedBind, PlannedGroup, PlannedWrite,
+    WriteFault,
 };
 pub use preparing::fits;
 pub use uncounted::UncountedBindings;
