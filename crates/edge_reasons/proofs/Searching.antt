@@ -2,7 +2,7 @@
 use Rattle.std.proofs.Common.{◌≡◌, inl, inr, ℕ, zero, suc, ◌+◌, ◌^◌, ◌<◌, List, [], ◌∷◌, ◌++◌, length, refl, sym, ap, ◌∙◌, subst, arith}
 use Rattle.std.proofs.lemmas.List.{length-append}
 use Rattle.std.proofs.lemmas.Option.{slice_get_within, same_Some, none-some}
-use Rattle.meta_model.specs.Places.{StandsFirst, NoneStands}
+use Rattle.name_indexes.specs.Places.{StandsFirst, NoneStands}
 use Rattle.effect_scan.proofs.Numbered.{get_left, get_right, get_either}
 use Rattle.edge_reasons.specs.Order.{capped}
 use Rattle.edge_reasons.specs.Searches.{FirstFrom, NoneFrom}

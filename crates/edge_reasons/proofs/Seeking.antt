@@ -11,7 +11,7 @@ use Rattle.meta_model.specs.declared.object.MetaMethod.{MetaMethod}
 use Rattle.meta_model.specs.declared.object.Work.TheVariants.{Slot}
 use Rattle.meta_model.specs.Loaded.{Loaded}
 use Rattle.meta_model.specs.Members.{IsMethod}
-use Rattle.meta_model.specs.Places.{StandsFirst}
+use Rattle.name_indexes.specs.Places.{StandsFirst}
 use Rattle.effect_scan.specs.declared.node.Node.{Node}
 use Rattle.effect_scan.specs.declared.node.Member.TheVariants.{Method}
 use Rattle.effect_scan.proofs.Occurring.{IsPlain}

@@ -1,6 +1,6 @@
 -- What a search through a list comes to whose first element has a number in a longer one.
 use Rattle.std.specs.Prelude.{◌≡◌, ℕ, ◌+◌, List, length}
-use Rattle.meta_model.specs.Places.{StandsFirst, NoneStands}
+use Rattle.name_indexes.specs.Places.{StandsFirst, NoneStands}
 use Rattle.edge_reasons.specs.Order.{capped}
 
 -- the first element with P has this number, where the first of the list has the number `start`

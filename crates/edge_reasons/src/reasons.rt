@@ -6,7 +6,7 @@ ghost use Rattle.effect_scan.specs.Edges.{AtOrBelow, Reaches, ByWork, ByWire, By
 ghost use Rattle.effect_scan.specs.declared.node.Member.TheVariants.{Method, Property};
 ghost use Rattle.edge_reasons.specs.Reasons.{DoesTo, NativeLeads, WireJoins, IsSource, Reads, SiteBinds, Draws};
 ghost use Rattle.edge_reasons.specs.code.Seeks.{Seeks};
-ghost use Rattle.meta_model.specs.Places.{IsPlace};
+ghost use Rattle.name_indexes.specs.Places.{IsPlace};
 
 use basic_types::Kind;
 use effect_scan::{Effect, Member, Node, Reach, effect_of, named};

@@ -26,7 +26,8 @@ use Rattle.meta_model.specs.declared.qobject.TheConstants.{DESTROYED, DESTROYED_
 use Rattle.meta_model.specs.Loaded.{Loaded}
 use Rattle.meta_model.specs.Members.{IsClass, IsMethod, IsProperty, Below, same, under}
 use Rattle.meta_model.specs.Root.{root_methods}
-use Rattle.meta_model.specs.Sound.{IsSound, HasRoot, this_has, parameter_has, Leads, here, on, LeadsToClass, IsSoundStatement, set_sound, emit_sound, call_sound, if_sound, delete_sound, group_sound, AreSound, next_sound, IsSoundWork, IsPlainProperty, IsPlainSignal, AreSoundEffects, IsSoundMethod, IsSoundSource, IsKind}
+use Rattle.meta_model.specs.Sound.{IsSound, HasRoot, this_has, parameter_has, Leads, here, on, LeadsToClass, IsSoundStatement, set_sound, emit_sound, call_sound, if_sound, delete_sound, group_sound, AreSound, next_sound, IsSoundWork, IsPlainProperty, IsPlainSignal, AreSoundEffects, IsSoundMethod, IsSoundSource}
+use Rattle.meta_model.specs.Kinds.{IsKind}
 use Rattle.meta_model.proofs.InLists.{place_in}
 use Rattle.meta_model.specs.Sites.{paths_in}
 use Rattle.meta_model.proofs.Zips.{get_front, zip_right}

@@ -8,6 +8,6 @@ pub mod Edges
 pub mod Scans
 pub mod Laws
 pub mod code
-pub use Rattle.meta_model.specs.LookUps
+pub use Rattle.name_indexes.specs.LookUps
 pub use Rattle.meta_model.specs.Members
 pub use Rattle.meta_model.specs.Sites

@@ -1,7 +1,7 @@
 //! The nodes of a program in their order, and the numbers that this gives them.
 
 ghost use Rattle.std.specs.Prelude.{◌≡◌, ◌+◌, ◌-◌, ◌<◌, ◌^◌, ◌++◌, map, IfOk, OnOk};
-ghost use Rattle.meta_model.specs.LookUps.{LooksUp, FindsOnly};
+ghost use Rattle.name_indexes.specs.LookUps.{LooksUp, FindsOnly};
 ghost use Rattle.effect_scan.specs.Nodes.{IsAt, class_nodes, nodes_from, shape_of};
 ghost use Rattle.effect_scan.specs.Numbering.{IsPlaceIn, Numbers};
 

@@ -1,7 +1,7 @@
 //! What the members of a program's classes may do at once.
 
 ghost use Rattle.std.specs.Prelude.{◌≡◌, length, IfOk};
-ghost use Rattle.meta_model.specs.LookUps.{LooksUp, FindsOnly};
+ghost use Rattle.name_indexes.specs.LookUps.{LooksUp, FindsOnly};
 ghost use Rattle.effect_scan.specs.Nodes.{IsAt};
 ghost use Rattle.effect_scan.specs.Rows.{row, pairs_from, AreAlike};
 ghost use Rattle.effect_scan.specs.code.Places.{ArePlaces};

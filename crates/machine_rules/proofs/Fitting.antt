@@ -10,7 +10,8 @@ use Rattle.meta_model.specs.declared.object.ValueType.TheVariants as kind
 use Rattle.meta_model.specs.declared.qobject.TheConstants.{DESTROYED, DESTROYED_ALONE}
 use Rattle.meta_model.specs.Loaded.{Loaded}
 use Rattle.meta_model.specs.Members.{IsMethod}
-use Rattle.meta_model.specs.Sound.{IsKind, IsSound, AreDistinctClasses}
+use Rattle.meta_model.specs.Kinds.{IsKind}
+use Rattle.meta_model.specs.Sound.{IsSound, AreDistinctClasses}
 use Rattle.machine_rules.specs.Connecting.{named_signal}
 use Rattle.meta_model.proofs.Roots.{destroyed_alone_types}
 

@@ -18,7 +18,8 @@ use Rattle.meta_model.specs.declared.object.Work.TheVariants.{Native}
 use Rattle.meta_model.specs.Loaded.{Loaded}
 use Rattle.meta_model.specs.Members.{IsClass, IsMethod, IsProperty, Declares, Below, same, under, base_of, method_count, methods_before, methods_in}
 use Rattle.meta_model.specs.Sound.{IsSound, IsPlain, IsPlainProperty, IsSoundNative, IsSoundWork}
-use Rattle.meta_model.specs.Values.{Has, HaveTypes, number_has, truth_has, text_has, null_has, object_has}
+use Rattle.meta_model.specs.Values.{Has, HaveTypes}
+use Rattle.basic_types.specs.Values.{number_has, truth_has, text_has, null_has, object_has}
 use Rattle.native_slots.specs.declared.action.Action.{Action}
 use Rattle.native_slots.specs.declared.action.Action.TheVariants as action
 use Rattle.native_slots.specs.Plain.{is_of, are_of}

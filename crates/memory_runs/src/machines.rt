@@ -1,7 +1,7 @@
 //! The calls of machines.
 
 ghost use Rattle.std.specs.Prelude.{IfOk};
-ghost use Rattle.qt_runtime.specs.Seen.{AreKept};
+ghost use Rattle.object_machine.specs.Seen.{AreKept};
 
 use crate::commanding::COUNTER;
 use crate::trials::{ReportBuffer, SCRIPT, SOURCE, TrialAnswer, certificate, loaded};

@@ -5,7 +5,8 @@ use Rattle.basic_types.specs.declared.value.Value.TheVariants as value
 use Rattle.meta_model.specs.declared.object.ValueType.TheVariants as type
 use Rattle.meta_model.specs.Loaded.{Loaded}
 use Rattle.meta_model.specs.Members.{Below}
-use Rattle.meta_model.specs.Values.{Has, null_has, object_has}
+use Rattle.meta_model.specs.Values.{Has}
+use Rattle.basic_types.specs.Values.{null_has, object_has}
 
 module _ (p : Loaded) (classes : ℕ → Option ℕ) where
   pub null_typed : (c : ℕ) (constant : Bool) → IsTrue true ↔ Has p classes (value.Ref None) (type.Reference c constant)

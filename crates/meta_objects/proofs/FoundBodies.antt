@@ -33,14 +33,15 @@ use Rattle.meta_model.specs.Loaded.{Loaded}
 use Rattle.meta_model.specs.Members.{IsClassNamed, IsMethod, IsProperty, HasSig}
 use Rattle.meta_model.specs.Kinds.{IsKind}
 use Rattle.class_outlines.specs.Outlines.{IsOutlineNamed, kinds_of}
-use Rattle.class_outlines.specs.Places.{StandsFirst}
+use Rattle.name_indexes.specs.Places.{StandsFirst}
 use Rattle.class_outlines.specs.code.ReadTypes.{IsReadAs}
 use Rattle.class_outlines.specs.Clashes.{AreOneCall, HasTwoMembers}
 use Rattle.class_outlines.specs.Notifiers.{IsSignalOf}
 use Rattle.class_outlines.specs.Ends.{IsSigned}
 use Rattle.name_resolution.specs.declared.body_resolution.work.ResolvedWork.{ResolvedWork}
 use Rattle.name_resolution.specs.declared.body_resolution.work.ResolvedWork.TheVariants as resolved
-use Rattle.name_resolution.specs.code.Bodies.{Scope, IsRoot, this_root, parameter_root, PointsTo, AreSteps, IsPath, IsExpr, literal_is, path_is, unary_is, binary_is, AreExprs, IsObjectPath, IsReferencePath, IsCallOf, IsSet, IsEmit, IsCall, AreEnds, IsStatement, set_is, emit_is, call_is, if_is, connect_is, disconnect_is, delete_is, later_is, group_is, AreStatements, none_are, next_is}
+use Rattle.name_resolution.specs.code.Bodies.{Scope, IsRoot, this_root, parameter_root, PointsTo, AreSteps, IsPath, IsExpr, literal_is, path_is, unary_is, binary_is, AreExprs, IsObjectPath, IsReferencePath, IsSet, IsEmit, IsCall, AreEnds, IsStatement, set_is, emit_is, call_is, if_is, connect_is, disconnect_is, delete_is, later_is, group_is, AreStatements, none_are, next_is}
+use Rattle.class_outlines.specs.Indexed.{IsCallOf}
 use Rattle.meta_objects.specs.LoadedBodies.{Site, site, IsLoadedRoot, this_loaded, parameter_loaded, AreLoadedSteps, no_steps, step_on, IsLoadedPath, IsLoadedObject, IsLoadedExpr, literal_loaded, path_loaded, unary_loaded, binary_loaded, AreLoadedExprs, IsLoadedSet, IsLoadedEmit, IsLoadedCall, AreLoadedEnds, IsLoadedStatement, set_loaded, emit_loaded, call_loaded, if_loaded, connect_loaded, disconnect_loaded, delete_loaded, later_loaded, group_loaded, AreLoadedStatements, none_loaded, next_loaded}
 use Rattle.name_resolution.specs.code.Loading.{work_at, found_work, work_of, IsMethodOf, IsPropertyOf, IsObject}
 use Rattle.class_outlines.proofs.Once.{once}

@@ -24,9 +24,10 @@ use Rattle.meta_model.specs.declared.object.MetaObject.{MetaObject}
 use Rattle.class_outlines.specs.declared.outline.Heading.{Heading}
 use Rattle.class_outlines.specs.declared.outline.Outline.{Outline}
 use Rattle.meta_model.specs.Loaded.{Loaded}
-use Rattle.class_outlines.specs.Places.{StandsFirst}
+use Rattle.name_indexes.specs.Places.{StandsFirst}
 use Rattle.meta_model.specs.Members.{IsClass, IsClassNamed}
-use Rattle.meta_model.specs.Sound.{IsKind, IsSound}
+use Rattle.meta_model.specs.Kinds.{IsKind}
+use Rattle.meta_model.specs.Sound.{IsSound}
 use Rattle.meta_model.specs.Root.{root_class}
 use Rattle.class_outlines.specs.Outlines.{IsOutlineNamed, kinds_of, signal_heading, slot_headings, own_methods, qobject}
 use Rattle.class_outlines.specs.code.ReadTypes.{IsReadAs}

@@ -8,9 +8,9 @@ use Rattle.meta_model.specs.declared.object.MetaProperty.{MetaProperty}
 use Rattle.meta_model.specs.declared.object.MetaObject.{MetaObject}
 use Rattle.class_outlines.specs.declared.outline.Heading.{Heading}
 use Rattle.class_outlines.specs.declared.outline.Outline.{Outline}
-use Rattle.class_outlines.specs.CallPlaces.{Layers, place_by}
+use Rattle.name_indexes.specs.CallPlaces.{Layers, place_by}
 use Rattle.class_outlines.specs.Indexed.{IndexesHeadings, IndexesDeclared}
-use Rattle.class_outlines.specs.Places.{StandsAt, IsPlace}
+use Rattle.name_indexes.specs.Places.{StandsAt, IsPlace}
 use Rattle.class_outlines.proofs.Zips.{zip_left, zip_right}
 use Rattle.name_resolution.specs.declared.body_resolution.work.ResolvedWork.{ResolvedWork}
 use Rattle.name_resolution.specs.code.Loading.{IsMethodOf, IsPropertyOf, IsObject}

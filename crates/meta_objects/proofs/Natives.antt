@@ -20,7 +20,7 @@ use Rattle.class_outlines.specs.Natives.{RepeatsEffect, IsPointer, TakesReferenc
 use Rattle.class_outlines.specs.Outlines.{IsOutlineNamed, kinds_of}
 use Rattle.class_outlines.specs.DeclaredSites.{IsReferenceIn}
 use Rattle.meta_model.specs.Sound.{IsPlain, IsPlainProperty, IsPlainSignal, AreOnce, AreSoundEffects}
-use Rattle.class_outlines.specs.Twice.{StandsTwice}
+use Rattle.name_indexes.specs.Twice.{StandsTwice}
 use Rattle.name_resolution.specs.declared.body_resolution.work.ResolvedWork.{ResolvedWork}
 use Rattle.name_resolution.specs.code.Loading.{work_of, IsObject}
 use Rattle.name_resolution.specs.code.Natives.{HasPropertyIn, HasSignalIn, AreEffects}

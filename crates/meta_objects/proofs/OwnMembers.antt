@@ -13,7 +13,7 @@ use Rattle.meta_model.specs.declared.object.ValueType.TheVariants.{Text, Referen
 use Rattle.class_outlines.specs.declared.outline.Heading.{Heading}
 use Rattle.class_outlines.specs.declared.outline.Outline.{Outline}
 use Rattle.class_outlines.specs.declared.outline.Sort.TheVariants as sort
-use Rattle.class_outlines.specs.Places.{StandsAt, StandsFirst}
+use Rattle.name_indexes.specs.Places.{StandsAt, StandsFirst}
 use Rattle.class_outlines.specs.DeclaredKinds.{LacksType}
 use Rattle.class_outlines.specs.Notifiers.{IsSignalOf, IsNotifiedBy, LacksNotifier, NotifiesBadly, BadNotify}
 use Rattle.class_outlines.specs.Conditions.{LacksPropertyType, LacksParameterType, LacksTypes, LacksAnyType}

@@ -31,7 +31,7 @@ use Rattle.meta_model.specs.declared.object.Statement.TheViews.{out-Statement}
 use Rattle.meta_model.specs.declared.object.Work.TheVariants.{Signal}
 use Rattle.meta_model.specs.declared.qobject.TheConstants.{OBJECT_NAME_CHANGED}
 use Rattle.meta_model.specs.Loaded.{Loaded}
-use Rattle.class_outlines.specs.Places.{StandsFirst}
+use Rattle.name_indexes.specs.Places.{StandsFirst}
 use Rattle.meta_model.specs.Members.{IsProperty, IsMethodNamed}
 use Rattle.meta_model.specs.Literals.{literal}
 use Rattle.meta_model.specs.Sound.{AreSets}

@@ -16,7 +16,7 @@ use Rattle.meta_model.specs.declared.site.MetaSite.{MetaSite}
 use Rattle.meta_model.specs.Literals.{literal}
 use Rattle.meta_model.specs.Loaded.{Loaded}
 use Rattle.meta_model.specs.Members.{IsClassNamed, IsPropertyNamed}
-use Rattle.class_outlines.specs.Places.{StandsFirst}
+use Rattle.name_indexes.specs.Places.{StandsFirst}
 
 pub record IsLoadedSource (p : Loaded) (site : Site) (formals : List ℕ) (path : Path) (s : SourceProperty) : Type 0 where
   pub formal_name : List ℕ

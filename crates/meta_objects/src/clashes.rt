@@ -1,11 +1,10 @@
 //! Names that appear twice.
 
 ghost use Rattle.std.specs.Prelude.{◌≡◌, ◌↔◌, IsTrue, Any};
-ghost use Rattle.class_outlines.specs.Twice.{FindsRepeated};
+ghost use Rattle.name_indexes.specs.Twice.{FindsRepeated};
 ghost use Rattle.class_outlines.specs.Clashes.{IsTaken, DuplicateClass};
-ghost use Rattle.class_outlines.specs.Conditions.{RepeatsInMethod, RepeatsInSlot, RepeatsName, AreOneParameter};
-ghost use Rattle.class_outlines.specs.Conditions.{RepeatsDeclared};
-ghost use Rattle.class_outlines.specs.LookUps.{FindsOne};
+ghost use Rattle.class_outlines.specs.Conditions.{RepeatsInMethod, RepeatsInSlot, RepeatsName, AreOneParameter, RepeatsDeclared};
+ghost use Rattle.name_indexes.specs.LookUps.{FindsOne};
 ghost use Rattle.class_outlines.specs.Natives.{RepeatsAction, RepeatsEffect, RepeatsEffectIn};
 ghost use Rattle.class_outlines.specs.Offences.{TellsBreach, TellsOffence, TellsOffenceIn};
 ghost use Rattle.class_outlines.specs.DeclaredSites.{RepeatsSite, RepeatsFormal};

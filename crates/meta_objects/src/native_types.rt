@@ -1,9 +1,8 @@
 //! The types of what natives take, read, emit and set.
 
 ghost use Rattle.std.specs.Prelude.{◌≡◌, IfOk, Any};
-ghost use Rattle.class_outlines.specs.LookUps.{Tells};
-ghost use Rattle.class_outlines.specs.Natives.{IsPointer, TakesReference, ActsOnReference, AffectsReference};
-ghost use Rattle.class_outlines.specs.Natives.{TouchesReference, HasReferenceNative};
+ghost use Rattle.name_indexes.specs.LookUps.{Tells};
+ghost use Rattle.class_outlines.specs.Natives.{IsPointer, TakesReference, ActsOnReference, AffectsReference, TouchesReference, HasReferenceNative};
 ghost use Rattle.class_outlines.specs.Offences.{TellsBreach, TellsOffence, TellsOffenceIn};
 ghost use Rattle.class_outlines.specs.DeclaredSites.{IsReferenceIn};
 ghost use Rattle.class_outlines.specs.declared.fault.MetaFault.TheVariants as fault;

@@ -1,7 +1,7 @@
 //! References that binding sites take.
 
 ghost use Rattle.std.specs.Prelude.{◌≡◌, IfOk, Any};
-ghost use Rattle.class_outlines.specs.LookUps.{Tells};
+ghost use Rattle.name_indexes.specs.LookUps.{Tells};
 ghost use Rattle.class_outlines.specs.Offences.{fault_of, TellsBreach, TellsOffence};
 ghost use Rattle.meta_model.specs.Sites.{paths_in};
 ghost use Rattle.class_outlines.specs.DeclaredSites.{IsReferenceIn, ReadsReference, UsesReference};

@@ -28,7 +28,8 @@ use Rattle.class_outlines.specs.code.ReadTypes.{IsReadAs}
 use Rattle.class_outlines.specs.Notifiers.{IsSignalOf}
 use Rattle.class_outlines.specs.Ends.{IsSigned}
 use Rattle.meta_model.specs.Literals.{literal}
-use Rattle.name_resolution.specs.code.Bodies.{Scope, IsRoot, this_root, parameter_root, PointsTo, HasMember, IsStep, AreSteps, IsPath, IsExpr, literal_is, path_is, unary_is, binary_is, AreExprs, IsObjectPath, IsReferencePath, IsPropertyOfName, IsCallOf, IsSet, IsEmit, IsCall, AreEnds, IsStatement, set_is, emit_is, call_is, if_is, connect_is, disconnect_is, delete_is, later_is, group_is, AreStatements, none_are, next_is, IsStatementOf}
+use Rattle.name_resolution.specs.code.Bodies.{Scope, IsRoot, this_root, parameter_root, PointsTo, HasMember, IsStep, AreSteps, IsPath, IsExpr, literal_is, path_is, unary_is, binary_is, AreExprs, IsObjectPath, IsReferencePath, IsSet, IsEmit, IsCall, AreEnds, IsStatement, set_is, emit_is, call_is, if_is, connect_is, disconnect_is, delete_is, later_is, group_is, AreStatements, none_are, next_is, IsStatementOf}
+use Rattle.class_outlines.specs.Indexed.{IsPropertyOfName, IsCallOf}
 use Rattle.class_outlines.proofs.Searches.{same_first}
 use Rattle.class_outlines.proofs.Firsts.{first_item, same_in}
 use Rattle.class_outlines.proofs.ReadTypes.{same_read}

@@ -12,8 +12,9 @@ use Rattle.meta_model.specs.declared.object.Statement.TheViews.{out-Statement}
 use Rattle.class_outlines.specs.declared.outline.Heading.{Heading}
 use Rattle.class_outlines.specs.declared.outline.Outline.{Outline}
 use Rattle.class_outlines.specs.declared.outline.Sort.TheVariants as sort
-use Rattle.class_outlines.specs.Places.{StandsAt, StandsFirst, Found}
-use Rattle.name_resolution.specs.code.Bodies.{Scope, AreExprs, IsObjectPath, IsCallOf, IsEmit, IsCall, IsStatement, emit_is, call_is, IsStatementOf}
+use Rattle.name_indexes.specs.Places.{StandsAt, StandsFirst, Found}
+use Rattle.name_resolution.specs.code.Bodies.{Scope, AreExprs, IsObjectPath, IsEmit, IsCall, IsStatement, emit_is, call_is, IsStatementOf}
+use Rattle.class_outlines.specs.Indexed.{IsCallOf}
 use Rattle.class_outlines.proofs.Firsts.{found_item, same_in}
 use Rattle.name_resolution.proofs.Bodies.{same_object}
 use Rattle.name_resolution.proofs.BodyPieces.{by_parts, parts_of}

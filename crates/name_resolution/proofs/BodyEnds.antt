@@ -13,7 +13,7 @@ use Rattle.meta_model.specs.declared.object.Statement.TheOpen as statement
 use Rattle.meta_model.specs.declared.object.Statement.TheViews.{out-Statement}
 use Rattle.class_outlines.specs.declared.outline.Outline.{Outline}
 use Rattle.meta_model.specs.declared.qobject.TheConstants.{OBJECT_NAME_CHANGED}
-use Rattle.class_outlines.specs.Places.{StandsFirst, NoneStands, StandsAt}
+use Rattle.name_indexes.specs.Places.{StandsFirst, NoneStands, StandsAt}
 use Rattle.class_outlines.specs.Notifiers.{IsSignalOf}
 use Rattle.class_outlines.specs.Ends.{IsSigned}
 use Rattle.name_resolution.specs.code.Bodies.{Scope, IsObjectPath, AreEnds, IsStatement, connect_is, disconnect_is, IsStatementOf}

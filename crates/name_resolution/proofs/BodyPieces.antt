@@ -32,11 +32,12 @@ use Rattle.meta_model.specs.declared.object.Statement.TheVariants as statement_b
 use Rattle.meta_model.specs.declared.object.Statement.TheOpen as statement
 use Rattle.meta_model.specs.declared.object.Statement.TheViews.{out-Statement}
 use Rattle.class_outlines.specs.declared.outline.Outline.{Outline}
-use Rattle.class_outlines.specs.Places.{StandsAt, StandsFirst, Found}
+use Rattle.name_indexes.specs.Places.{StandsAt, StandsFirst, Found}
 use Rattle.class_outlines.specs.code.ReadTypes.{IsReadAs}
 use Rattle.meta_model.specs.Literals.{literal}
 use Rattle.meta_model.specs.Sound.{AreSets}
-use Rattle.name_resolution.specs.code.Bodies.{Scope, IsRoot, this_root, parameter_root, PointsTo, PointsToThis, HasMember, AreSteps, IsPath, IsExpr, literal_is, path_is, unary_is, binary_is, AreExprs, IsObjectPath, IsPropertyOfName, IsSet, IsStatement, set_is, if_is, group_is, AreStatements, none_are, next_is, IsStatementOf, LacksInBody}
+use Rattle.name_resolution.specs.code.Bodies.{Scope, IsRoot, this_root, parameter_root, PointsTo, PointsToThis, HasMember, AreSteps, IsPath, IsExpr, literal_is, path_is, unary_is, binary_is, AreExprs, IsObjectPath, IsSet, IsStatement, set_is, if_is, group_is, AreStatements, none_are, next_is, IsStatementOf, LacksInBody}
+use Rattle.class_outlines.specs.Indexed.{IsPropertyOfName}
 use Rattle.class_outlines.proofs.OutlineSteps.{drop_at, drop_end}
 use Rattle.class_outlines.proofs.Firsts.{first_item, same_in}
 use Rattle.name_resolution.proofs.Bodies.{part, same_member, same_root, same_path, same_object, same_statements}

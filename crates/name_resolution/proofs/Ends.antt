@@ -2,7 +2,7 @@
 use Rattle.std.proofs.Common.{◌≡◌, ℕ, List, sym, subst}
 use Rattle.class_outlines.specs.declared.outline.Heading.{Heading}
 use Rattle.class_outlines.specs.declared.outline.Outline.{Outline}
-use Rattle.class_outlines.specs.Places.{StandsAt, StandsFirst, Found}
+use Rattle.name_indexes.specs.Places.{StandsAt, StandsFirst, Found}
 use Rattle.class_outlines.specs.Ends.{IsEnd}
 use Rattle.class_outlines.proofs.Searches.{same_first}
 use Rattle.class_outlines.proofs.Firsts.{first_item, found_item}

@@ -13,7 +13,7 @@ use Rattle.class_outlines.specs.declared.outline.Heading.{Heading}
 use Rattle.class_outlines.specs.declared.outline.Outline.{Outline}
 use Rattle.class_outlines.specs.Outlines.{own_methods}
 use Rattle.class_outlines.specs.Notifiers.{IsSignalOf, LacksNotifier, NotifiesBadly, BadNotify}
-use Rattle.class_outlines.specs.Places.{StandsFirst}
+use Rattle.name_indexes.specs.Places.{StandsFirst}
 use Rattle.class_outlines.proofs.Firsts.{first_in_front}
 use Rattle.class_outlines.proofs.Fronts.{get_take}
 use Rattle.class_outlines.proofs.Once.{none_at}

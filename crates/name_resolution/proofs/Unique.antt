@@ -27,7 +27,7 @@ use Rattle.meta_model.specs.declared.site.MetaSite.{MetaSite}
 use Rattle.class_outlines.specs.declared.outline.Heading.{Heading}
 use Rattle.class_outlines.specs.declared.outline.Outline.{Outline}
 use Rattle.meta_model.specs.Loaded.{Loaded}
-use Rattle.class_outlines.specs.Places.{IsPlace}
+use Rattle.name_indexes.specs.Places.{IsPlace}
 use Rattle.class_outlines.specs.Outlines.{IsOutline, Outlines, base_name, own_methods, qobject}
 use Rattle.class_outlines.specs.code.ReadTypes.{IsReadAs}
 use Rattle.class_outlines.specs.Notifiers.{IsSignalOf}

@@ -4,4 +4,4 @@ pub mod code
 pub use Rattle.class_outlines.specs.Notifiers
 pub use Rattle.class_outlines.specs.Ends
 pub use Rattle.meta_model.specs.Literals
-pub use Rattle.class_outlines.specs.LookUps
+pub use Rattle.name_indexes.specs.LookUps

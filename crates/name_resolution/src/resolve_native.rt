@@ -1,7 +1,7 @@
 //! The effects of natives, whose names are replaced by numbers.
 
 ghost use Rattle.std.specs.Prelude.{◌≡◌};
-ghost use Rattle.class_outlines.specs.LookUps.{LooksUp};
+ghost use Rattle.name_indexes.specs.LookUps.{LooksUp};
 ghost use Rattle.name_resolution.specs.code.Natives.{AreEffects, HasPropertyIn, HasSignalIn};
 ghost use Rattle.name_resolution.specs.code.Resolving.{Resolves, ResolvesEach};
 

@@ -5,7 +5,8 @@ use Rattle.basic_types.specs.declared.value.Value.TheVariants as value
 use Rattle.meta_model.specs.declared.object.ValueType.{ValueType}
 use Rattle.meta_model.specs.declared.object.ValueType.TheVariants as type
 use Rattle.meta_model.specs.Loaded.{Loaded}
-use Rattle.meta_model.specs.Values.{Has, number_has, truth_has, text_has}
+use Rattle.meta_model.specs.Values.{Has}
+use Rattle.basic_types.specs.Values.{number_has, truth_has, text_has}
 use Rattle.native_slots.specs.declared.plain_type.PlainType.{PlainType}
 use Rattle.native_slots.specs.declared.plain_type.PlainType.TheVariants as plain
 use Rattle.native_slots.specs.Plain.{kind_of, is_of}

@@ -12,14 +12,14 @@ use Rattle.meta_model.specs.declared.object.ValueType.TheVariants as type
 use Rattle.meta_model.specs.Loaded.{Loaded}
 use Rattle.meta_model.specs.Members.{IsProperty, Below}
 use Rattle.meta_model.specs.Sound.{IsSound, HasRoot, this_has, parameter_has, Leads, here, on, LeadsTo, LeadsToClass}
-use Rattle.meta_model.specs.Values.{default, Has, number_has, truth_has, text_has, null_has, object_has}
+use Rattle.meta_model.specs.Values.{default, Has}
+use Rattle.basic_types.specs.Values.{number_has, truth_has, text_has, null_has, object_has}
 use Rattle.object_tree.specs.declared.life.Life.{Life}
 use Rattle.object_tree.specs.declared.object.Object.{Object}
-use Rattle.object_tree.specs.Objects.{Lives, class_of}
+use Rattle.object_tree.specs.Objects.{Lives, class_of, stored}
 use Rattle.object_tree.specs.Seen.{seen}
 use Rattle.object_tree.specs.Typed.{AreTyped, ReadAs}
 use Rattle.object_tree.proofs.TypedObjects.{has-reads}
-use Rattle.object_tree.specs.Objects.{stored}
 use Rattle.machine_rules.specs.Paths.{root_value, step_value, steps_value, path_value}
 use Rattle.machine_rules.specs.There.{IsField}
 use Rattle.machine_rules.proofs.Fields.{old-there, stored-reads, read-get, read-there}

@@ -6,7 +6,7 @@ use Rattle.std.proofs.lemmas.Bool.{cases_eq, eq-eqb, ne_eqb, false≢true}
 use Rattle.std.proofs.lemmas.Option.{same_Some}
 use Rattle.std.proofs.lemmas.List.Sums.{sum_by_push}
 use Rattle.slab.specs.Slab.{Slab, get, slab_len, Updates}
-use Rattle.meta_model.specs.NamePlaces.{Adds}
+use Rattle.name_indexes.specs.NamePlaces.{Adds}
 use Rattle.object_tree.specs.declared.life.Life.{Life}
 use Rattle.object_tree.specs.declared.object.Object.{Object}
 use Rattle.object_tree.specs.declared.slot.Slot.{Slot}

@@ -4,7 +4,7 @@ use Rattle.std.specs.Prelude.{slice_get, is_some, MatchOption}
 use Rattle.std.specs.Option.{option_map, option_and_then, unwrap_or}
 use Rattle.std.proofs.lemmas.Bool.{cases_eq, eq-eqb, eqb-true}
 use Rattle.std.proofs.lemmas.Option.{same_Some}
-use Rattle.meta_model.specs.NamePlaces.{place_in, Adds}
+use Rattle.name_indexes.specs.NamePlaces.{place_in, Adds}
 use Rattle.object_tree.specs.declared.life.Life.{Life}
 use Rattle.object_tree.specs.declared.object.Object.{Object}
 use Rattle.meta_model.specs.Among.{is_among}

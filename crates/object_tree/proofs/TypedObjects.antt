@@ -13,7 +13,8 @@ use Rattle.meta_model.specs.declared.object.MetaProperty.{MetaProperty}
 use Rattle.meta_model.specs.declared.object.ValueType.{ValueType}
 use Rattle.meta_model.specs.Loaded.{Loaded}
 use Rattle.meta_model.specs.Members.{IsClass}
-use Rattle.meta_model.specs.Values.{Has, number_has, truth_has, text_has, null_has, object_has}
+use Rattle.meta_model.specs.Values.{Has}
+use Rattle.basic_types.specs.Values.{number_has, truth_has, text_has, null_has, object_has}
 use Rattle.object_tree.specs.declared.life.Life.{Life}
 use Rattle.object_tree.specs.declared.object.Object.{Object}
 use Rattle.object_tree.specs.Objects.{Lives, change_life, with_life, written, class_of, class_with}

@@ -9,5 +9,5 @@ pub mod Adopting
 pub mod Forest
 pub mod Moving
 pub mod code
-pub use Rattle.meta_model.specs.NamePlaces
+pub use Rattle.name_indexes.specs.NamePlaces
 pub use Rattle.meta_model.specs.Typed as MetaObjectsTyped

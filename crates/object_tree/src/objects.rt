@@ -2,7 +2,7 @@
 
 ghost use Rattle.std.specs.Prelude.{◌≡◌, [], ◌∷◌, ◌++◌, ◌<◌, length, slice_get, count_by, true, OnOk, OnErr, IsSome, IfSome, Some, ◌≢◌};
 ghost use Rattle.std.specs.Option.{option_copied};
-ghost use Rattle.meta_model.specs.NamePlaces.{Adds};
+ghost use Rattle.name_indexes.specs.NamePlaces.{Adds};
 ghost use Rattle.object_tree.specs.Objects.{name_of, life_of, class_of, class_with, change, change_life, blocked, scheduled, written};
 ghost use Rattle.object_tree.specs.Held.{is_held, held_in, is_dead};
 ghost use Rattle.object_tree.specs.Forest.{Forest, HasDistinct};

@@ -9,7 +9,8 @@ use Rattle.std.proofs.Math.Seq.{get_or-append_seam}
 use Rattle.meta_model.specs.Members.{Below}
 use Rattle.meta_model.specs.Loaded.{Loaded}
 use Rattle.effect_scan.proofs.Relating.{marks_inside, below_first, below_last}
-use Rattle.effect_scan.specs.code.Relations.{IsMarked, marks_of, Holds}
+use Rattle.class_sets.specs.Marks.{IsMarked}
+use Rattle.effect_scan.specs.code.Relations.{marks_of, Holds}
 
 -- the row has the first numbers, and those with P are marked
 pub record Tells (P : ℕ → Type 0) (end : ℕ) (row : List Bool) : Type 0 where

@@ -18,7 +18,8 @@ use Rattle.expressions.specs.Evaluation.{value as value_in, value_step}
 use Rattle.meta_model.specs.declared.object.ValueType.{ValueType}
 use Rattle.meta_model.specs.declared.object.ValueType.TheVariants as type
 use Rattle.meta_model.specs.Loaded.{Loaded}
-use Rattle.meta_model.specs.Values.{Has, number_has, truth_has, text_has, null_has, object_has}
+use Rattle.meta_model.specs.Values.{Has}
+use Rattle.basic_types.specs.Values.{number_has, truth_has, text_has, null_has, object_has}
 use Rattle.object_tree.specs.declared.object.Object.{Object}
 use Rattle.object_tree.specs.Seen.{seen}
 use Rattle.object_tree.specs.Typed.{ReadsAs, ReadAs}

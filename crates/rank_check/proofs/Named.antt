@@ -2,7 +2,7 @@
 use Rattle.std.proofs.Common.{◌≡◌, ℕ, length, Option, Some, None, sym, ap, ◌∙◌, subst}
 use Rattle.basic_types.specs.declared.sig.Sig.{Sig}
 use Rattle.meta_model.specs.Loaded.{Loaded}
-use Rattle.meta_model.specs.LookUps.{LooksUp, FindsOnly}
+use Rattle.name_indexes.specs.LookUps.{LooksUp, FindsOnly}
 use Rattle.meta_model.specs.Members.{IsClassNamed, HasSig, IsMethodNamed}
 use Rattle.meta_model.specs.Sound.{IsSound}
 use Rattle.meta_model.proofs.OneAnswer.{one_class, one_named, one_property}

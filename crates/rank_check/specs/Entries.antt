@@ -2,7 +2,7 @@
 use Rattle.std.specs.Prelude.{◌≡◌, ◌≢◌, ◌↔◌, ◌<◌, ℕ, Bool, true, false, List, length, Option, Some, None, Result, Ok, Err, MatchResult, slice_get, slice_index_or}
 use Rattle.std.specs.List.{AllZip}
 use Rattle.meta_model.specs.Loaded.{Loaded}
-use Rattle.meta_model.specs.LookUps.{LooksUp, FindsOnly}
+use Rattle.name_indexes.specs.LookUps.{LooksUp, FindsOnly}
 use Rattle.effect_scan.specs.declared.node.Node.{Node}
 use Rattle.effect_scan.specs.Nodes.{nodes_of, IsAt}
 use Rattle.class_sets.specs.Marks.{IsMarked, Marks}

@@ -5,7 +5,7 @@ pub mod Checks
 pub mod Entries
 pub mod ByNumbers
 pub use Rattle.class_sets.specs.Marks
-pub use Rattle.meta_model.specs.LookUps
+pub use Rattle.name_indexes.specs.LookUps
 pub use Rattle.effect_scan.specs.Destroying
 pub use Rattle.effect_scan.specs.Nodes
 pub use Rattle.effect_scan.specs.Rows

@@ -1,7 +1,7 @@
 //! The nodes that lines are for.
 
 ghost use Rattle.std.specs.Prelude.{IfOk, IfSome, IsTrue};
-ghost use Rattle.meta_model.specs.LookUps.{LooksUp, FindsOnly};
+ghost use Rattle.name_indexes.specs.LookUps.{LooksUp, FindsOnly};
 ghost use Rattle.meta_model.specs.Members.{IsClassNamed, HasSig, IsPropertyNamed};
 ghost use Rattle.effect_scan.specs.Scans.{IsScan};
 ghost use Rattle.rank_check.specs.Names.{IsMemberNamed, IsMemberOf};

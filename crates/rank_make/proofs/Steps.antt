@@ -10,7 +10,7 @@ use Rattle.meta_model.proofs.Zips.{zip_append, zip_push}
 use Rattle.effect_scan.specs.declared.node.Node.{Node}
 use Rattle.effect_scan.specs.Nodes.{nodes_of, IsAt}
 use Rattle.effect_scan.specs.Destroying.{Closure}
-use Rattle.effect_scan.specs.code.Relations.{IsMarked, Marks}
+use Rattle.class_sets.specs.Marks.{IsMarked, Marks}
 use Rattle.effect_scan.proofs.Adding.{no_members}
 use Rattle.effect_scan.proofs.Listing.{increasing_none, increasing_more}
 use Rattle.effect_scan.proofs.Numbered.{get_either}

@@ -8,12 +8,12 @@ use Rattle.std.proofs.lemmas.List.{reverse-append}
 use Rattle.basic_types.specs.declared.value.Value.TheVariants as value
 use Rattle.meta_model.specs.declared.qobject.TheConstants.{DESTROYED}
 use Rattle.meta_model.specs.Loaded.{Loaded}
-use Rattle.meta_model.specs.Values.{null_has}
+use Rattle.basic_types.specs.Values.{null_has}
 use Rattle.object_tree.specs.declared.life.Life.{Life}
 use Rattle.object_tree.specs.declared.object.Object.{Object}
 use Rattle.object_tree.specs.Family.{children_of, IsChild, without_life}
 use Rattle.object_tree.specs.Objects.{life_of, name_of}
-use Rattle.machine_rules.specs.code.Sound.{AgreeIn}
+use Rattle.machine_rules.specs.code.Sound.{AgreeIn, SendsThese}
 use Rattle.object_tree.proofs.Changing.{life-of-lives}
 use Rattle.prop_bindings.proofs.Leaving.{left_agree}
 use Rattle.delete_later.specs.Ending.{last_of, next_in, first_child_of, IsNext, NoneIsNext}
@@ -39,7 +39,6 @@ use Rattle.machine_rules.proofs.Dying.{dead-no-life, died-dead, other-seen}
 use Rattle.rule_interpreter.proofs.Beginning.{one-more}
 use Rattle.machine_rules.proofs.Delivered.{has-life}
 use Rattle.machine_rules.proofs.Declared.{emission-sends}
-use Rattle.machine_rules.specs.code.Sound.{SendsThese}
 use Rattle.meta_model.specs.Sound.{IsSound}
 use Rattle.machine_rules.proofs.Stacks.{high}
 use Rattle.machine_rules.proofs.ReachedStates.{none-spared, reaches-low, reaches-pushed, stops-as, stops-memory, stops-steps, stops-deep, stops-fatal, no-update-fits, ends-after, ends-lifted, not-idle}

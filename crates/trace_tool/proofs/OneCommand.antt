@@ -1,7 +1,7 @@
 -- For natives with one answer a command line comes to one thing.
 use Rattle.std.proofs.Common.{◌≡◌, ◌⊎◌, inl, inr, ℕ, Bool, true, false, List, [], ◌∷◌, Result, Ok, Err, codes, refl, sym, ap, ◌∙◌, subst, arith}
 use Rattle.native_slots.specs.declared.head.NativeHead.{NativeHead}
-use Rattle.qt_runtime.specs.Natives.{NativeAnswers, AnswersOnce}
+use Rattle.machine_rules.specs.Natives.{NativeAnswers, AnswersOnce}
 use Rattle.rank_make.specs.declared.why.Why.TheVariants as why
 use Rattle.program_commands.specs.Commands.{IsSameOutcome as IsSameOfProgram}
 use Rattle.program_commands.specs.Outcomes.{IsShort as IsShortOfProgram}

@@ -9,15 +9,15 @@ use Rattle.script_lang.specs.declared.event.Event.{Event}
 use Rattle.trace_entries.specs.declared.fault.Answer.{Answer}
 use Rattle.trace_entries.specs.declared.fault.Fault.{Fault}
 use Rattle.trace_entries.specs.declared.fault.Fault.TheVariants.{Steps}
-use Rattle.qt_runtime.specs.State.{State, Activation, IsIdle}
-use Rattle.qt_runtime.specs.Worlds.{at, untouched}
-use Rattle.qt_runtime.specs.Natives.{NativeAnswers, AnswersOnce}
-use Rattle.qt_runtime.specs.Keeps.{Grows}
-use Rattle.qt_runtime.specs.Causes.{Brings, StopsFor, spent, short as of_memory, brings, lacks_value, writes_ill, binds_ill, goes_ill, goes_fatal, binds_loop, writes_deep, goes_deep}
-use Rattle.qt_runtime.specs.Runs.{Run, done, goes, takes, RunsWhole, RunsFront, IsDue, goes_on as is_under_way, is_next}
+use Rattle.machine_state.specs.State.{State, Activation, IsIdle}
+use Rattle.machine_state.specs.Worlds.{at, untouched}
+use Rattle.machine_rules.specs.Natives.{NativeAnswers, AnswersOnce}
+use Rattle.machine_rules.specs.code.Keeps.{Grows}
+use Rattle.object_machine.specs.Causes.{Brings, StopsFor, spent, short as of_memory, brings, lacks_value, writes_ill, binds_ill, goes_ill, goes_fatal, binds_loop, writes_deep, goes_deep}
+use Rattle.object_machine.specs.Runs.{Run, done, goes, takes, RunsWhole, RunsFront, IsDue, goes_on as is_under_way, is_next}
 use Rattle.object_machine.proofs.OneRun.{no-rule, one_run, one_front, one_front_of_answers}
 use Rattle.object_machine.proofs.CheckedRuns.Kept.{start-invariant}
-use Rattle.qt_runtime.specs.Seen.{Seen, RunsAll, Halts, begun}
+use Rattle.object_machine.specs.Seen.{Seen, RunsAll, Halts, begun}
 use Rattle.class_lang.specs.declared.size.Limits.{Limits}
 use Rattle.program_commands.specs.Loading.{LoadsCertified}
 use Rattle.program_commands.specs.Steps.{First, fails, goes_on}

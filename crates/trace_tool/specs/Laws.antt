@@ -8,13 +8,13 @@ use Rattle.script_lang.specs.declared.event.Event.{Event}
 use Rattle.trace_entries.specs.declared.fault.Answer.{Answer}
 use Rattle.trace_entries.specs.declared.fault.Fault.{Fault}
 use Rattle.trace_entries.specs.declared.fault.Fault.TheVariants.{Steps}
-use Rattle.qt_runtime.specs.State.{State}
-use Rattle.qt_runtime.specs.Worlds.{at, untouched}
-use Rattle.qt_runtime.specs.Natives.{NativeAnswers, AnswersOnce}
-use Rattle.qt_runtime.specs.Keeps.{Grows}
-use Rattle.qt_runtime.specs.Laws.{AnswersAre}
-use Rattle.qt_runtime.specs.Runs.{RunsWhole}
-use Rattle.qt_runtime.specs.Seen.{Seen, Halts, begun}
+use Rattle.machine_state.specs.State.{State}
+use Rattle.machine_state.specs.Worlds.{at, untouched}
+use Rattle.machine_rules.specs.Natives.{NativeAnswers, AnswersOnce}
+use Rattle.machine_rules.specs.code.Keeps.{Grows}
+use Rattle.object_machine.specs.Laws.{AnswersAre}
+use Rattle.object_machine.specs.Runs.{RunsWhole}
+use Rattle.object_machine.specs.Seen.{Seen, Halts, begun}
 use Rattle.program_commands.specs.Commands.{IsSameOutcome as IsSameOfProgram}
 use Rattle.program_commands.specs.Refusals.{usage_line, memory_line}
 use Rattle.command_lines.specs.declared.input.InputFault.{InputFault}

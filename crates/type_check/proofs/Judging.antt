@@ -12,7 +12,7 @@ use Rattle.meta_model.specs.declared.object.Statement.TheVariants as whole
 use Rattle.meta_model.specs.declared.object.Work.TheVariants.{Slot}
 use Rattle.meta_model.specs.Loaded.{Loaded}
 use Rattle.meta_model.specs.Members.{IsMethod}
-use Rattle.meta_model.specs.Places.{StandsFirst}
+use Rattle.name_indexes.specs.Places.{StandsFirst}
 use Rattle.effect_scan.proofs.Occurring.{IsPlain}
 use Rattle.edge_reasons.specs.Order.{in_order, capped}
 use Rattle.edge_reasons.specs.Searches.{FirstFrom}

@@ -10,7 +10,7 @@ pub mod code
 pub use Rattle.basic_types.specs.Name
 pub use Rattle.basic_types.specs.Types
 pub use Rattle.expressions.specs.Typing
-pub use Rattle.meta_model.specs.LookUps
+pub use Rattle.name_indexes.specs.LookUps
 pub use Rattle.meta_model.specs.Members
 pub use Rattle.meta_model.specs.Sound
 pub use Rattle.edge_reasons.specs.Order

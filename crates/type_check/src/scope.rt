@@ -2,10 +2,9 @@
 
 ghost use Rattle.std.specs.Prelude.{◌≡◌, ◌↔◌, IsTrue, IfOk};
 ghost use Rattle.std.specs.List.{AllZip};
-ghost use Rattle.meta_model.specs.LookUps.{LooksUp, FindsOnly};
+ghost use Rattle.name_indexes.specs.LookUps.{LooksUp, FindsOnly};
 ghost use Rattle.meta_model.specs.declared.object.Statement.TheViews.{out-Statement};
-ghost use Rattle.type_check.specs.Bodies.{kind_of_root, kind_of_path, LeadsToMutable, IsGivenIn, AcceptsArguments};
-ghost use Rattle.type_check.specs.Bodies.{IsTypedSet, IsTypedCall, IsTypedDeletion, IsTypedStatement};
+ghost use Rattle.type_check.specs.Bodies.{kind_of_root, kind_of_path, LeadsToMutable, IsGivenIn, AcceptsArguments, IsTypedSet, IsTypedCall, IsTypedDeletion, IsTypedStatement};
 
 use crate::accepting::is_given;
 use crate::flaws::{Fault, fault_in};

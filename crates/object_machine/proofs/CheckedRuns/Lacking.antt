@@ -16,7 +16,8 @@ use Rattle.meta_model.specs.declared.object.ValueType.TheVariants as type
 use Rattle.meta_model.specs.Loaded.{Loaded}
 use Rattle.meta_model.specs.Members.{IsMethod, Below, Declares, methods_in, method_count}
 use Rattle.meta_model.specs.Sound.{IsSound, LeadsToClass, IsSoundExpr, AreSoundExprs, IsSet, IsSoundSet, AreSound, next_sound, IsSoundStatement, set_sound, emit_sound, call_sound, if_sound, connect_sound, disconnect_sound, delete_sound, later_sound, group_sound}
-use Rattle.meta_model.specs.Values.{Has, truth_has}
+use Rattle.meta_model.specs.Values.{Has}
+use Rattle.basic_types.specs.Values.{truth_has}
 use Rattle.object_tree.specs.declared.life.Life.{Life}
 use Rattle.object_tree.specs.declared.object.Object.{Object}
 use Rattle.object_tree.specs.Objects.{Lives, class_of}
@@ -49,8 +50,7 @@ use Rattle.prop_bindings.specs.Fits.{FitsAt}
 use Rattle.binding_graph.specs.Places.{property_of}
 use Rattle.prop_bindings.proofs.Alive.{LivesOn, lives-on}
 use Rattle.object_tree.proofs.Changing.{life-of-lives}
-use Rattle.effect_scan.specs.Effects.{Occurs, after}
-use Rattle.effect_scan.specs.Effects.{here as at_first}
+use Rattle.effect_scan.specs.Effects.{Occurs, after, here as at_first}
 use Rattle.object_machine.proofs.CheckedRuns.PathClasses.{same-class}
 
 -- ---- statements

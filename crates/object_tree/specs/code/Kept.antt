@@ -1,6 +1,6 @@
 -- What every tree keeps, with its index of names (docs/machine.md, "What every run keeps").
 use Rattle.std.specs.Prelude.{◌≡◌, ◌↔◌, ℕ, List, Some}
-use Rattle.meta_model.specs.NamePlaces.{place_in}
+use Rattle.name_indexes.specs.NamePlaces.{place_in}
 use Rattle.object_tree.specs.declared.object.Object.{Object}
 use Rattle.object_tree.specs.Objects.{name_of}
 use Rattle.object_tree.specs.Forest.{Forest}

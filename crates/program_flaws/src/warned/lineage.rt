@@ -1,7 +1,7 @@
 //! Which classes are below which, told without going up from one to the other.
 
 ghost use Rattle.std.specs.Prelude.{◌↔◌, ◌⊎◌, ℕ, IsTrue, IfOk};
-ghost use Rattle.effect_scan.specs.code.Relations.{IsMarked};
+ghost use Rattle.class_sets.specs.Marks.{IsMarked};
 ghost use Rattle.meta_model.specs.Loaded.{Loaded};
 ghost use Rattle.meta_model.specs.Members.{Below};
 ghost use Rattle.program_flaws.specs.Wires.{IsLineageOf};

@@ -1,7 +1,7 @@
 //! Machines of one's own, to which events are applied one by one.
 
 ghost use Rattle.std.specs.Prelude.{IfOk};
-ghost use Rattle.qt_runtime.specs.Seen.{AreKept};
+ghost use Rattle.object_machine.specs.Seen.{AreKept};
 
 use crate::calls::loading::loaded;
 use crate::calls::task::{NativesTask, Reply, with_thermostat};

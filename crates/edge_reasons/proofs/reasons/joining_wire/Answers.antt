@@ -1,6 +1,6 @@
 use Rattle.std.proofs.Common.{List, subst}
 use Rattle.meta_model.specs.declared.object.MetaWire.{MetaWire}
-use Rattle.meta_model.specs.Places.{StandsFirst, NoneStands}
+use Rattle.name_indexes.specs.Places.{StandsFirst, NoneStands}
 use Rattle.meta_model.proofs.Searches.{met_first, none_more, none_at_all, read_at}
 use Rattle.edge_reasons.specs.Reasons.{WireJoins}
 use Rattle.edge_reasons.proofs.reasons.joining_wire.Goals as goal

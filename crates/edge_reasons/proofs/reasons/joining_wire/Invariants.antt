@@ -1,5 +1,5 @@
 use Rattle.std.proofs.Common.{◌<◌, ℕ}
-use Rattle.meta_model.specs.Places.{StandsAt}
+use Rattle.name_indexes.specs.Places.{StandsAt}
 use Rattle.edge_reasons.specs.Reasons.{WireJoins}
 use Rattle.edge_reasons.proofs.reasons.joining_wire.Given as goal
 

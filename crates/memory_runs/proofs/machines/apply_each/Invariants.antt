@@ -1,4 +1,4 @@
-use Rattle.qt_runtime.specs.Seen.{AreKept}
+use Rattle.object_machine.specs.Seen.{AreKept}
 use Rattle.memory_runs.proofs.machines.apply_each.Given as goal
 
 -- the natives are kept

@@ -1,6 +1,6 @@
 use Rattle.std.proofs.Common.{ℕ, ◌<◌}
 use Rattle.class_outlines.specs.Conditions.{RepeatsInMethod}
-use Rattle.class_outlines.specs.Places.{StandsAt}
+use Rattle.name_indexes.specs.Places.{StandsAt}
 use Rattle.meta_objects.proofs.clashes.repeated_in_classes.Given as goal
 
 abbrev pub invariant-loop-number : goal.invariant-loop-number

@@ -1,7 +1,7 @@
 use Rattle.std.proofs.Common.{ℕ, ◌<◌}
 use Rattle.syntax_trees.specs.declared.program.Signal.{Signal}
 use Rattle.class_outlines.specs.Conditions.{RepeatsName}
-use Rattle.class_outlines.specs.Places.{StandsAt}
+use Rattle.name_indexes.specs.Places.{StandsAt}
 use Rattle.meta_objects.proofs.clashes.repeated_in_signals.Given as goal
 
 abbrev pub invariant-loop-place : goal.invariant-loop-place

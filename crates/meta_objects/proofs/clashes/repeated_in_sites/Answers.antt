@@ -1,7 +1,7 @@
 use Rattle.std.specs.Prelude.{◌≡◌, Any}
 use Rattle.syntax_trees.specs.declared.program.Site.{Site}
 use Rattle.class_outlines.specs.DeclaredSites.{RepeatsFormal}
-use Rattle.class_outlines.specs.Twice.{StandsTwice}
+use Rattle.name_indexes.specs.Twice.{StandsTwice}
 use Rattle.std.proofs.Common.{inl, refl}
 use Rattle.class_outlines.specs.declared.fault.MetaFault.TheVariants as fault
 use Rattle.class_outlines.specs.declared.offence.Declaration.TheVariants as declaration

@@ -2,7 +2,7 @@ use Rattle.std.proofs.Common.{ℕ, ◌<◌}
 use Rattle.std.specs.Prelude.{Any}
 use Rattle.basic_types.specs.declared.sig.Sig.{Sig}
 use Rattle.class_outlines.specs.Natives.{IsPointer}
-use Rattle.class_outlines.specs.Places.{StandsAt}
+use Rattle.name_indexes.specs.Places.{StandsAt}
 use Rattle.meta_objects.proofs.native_types.emitted_reference.Given as goal
 
 abbrev pub invariant-loop-sig : goal.invariant-loop-sig

@@ -1,7 +1,7 @@
 use Rattle.std.proofs.Common.{ℕ, ◌<◌}
 use Rattle.syntax_trees.specs.declared.program.Slot.{Slot}
 use Rattle.class_outlines.specs.Natives.{TouchesReference}
-use Rattle.class_outlines.specs.Places.{StandsAt}
+use Rattle.name_indexes.specs.Places.{StandsAt}
 use Rattle.meta_objects.proofs.native_types.touched_in_class.Given as goal
 
 abbrev pub invariant-loop-place : goal.invariant-loop-place

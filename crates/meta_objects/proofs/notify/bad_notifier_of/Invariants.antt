@@ -1,7 +1,7 @@
 use Rattle.std.proofs.Common.{ℕ, ◌<◌}
 use Rattle.syntax_trees.specs.declared.program.Property.{Property}
 use Rattle.class_outlines.specs.Notifiers.{LacksNotifier}
-use Rattle.class_outlines.specs.Places.{StandsAt}
+use Rattle.name_indexes.specs.Places.{StandsAt}
 use Rattle.meta_objects.proofs.notify.bad_notifier_of.Given as goal
 
 abbrev pub invariant-loop-place : goal.invariant-loop-place

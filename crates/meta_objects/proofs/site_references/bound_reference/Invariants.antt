@@ -1,5 +1,5 @@
 use Rattle.std.proofs.Common.{ℕ, ◌<◌}
-use Rattle.class_outlines.specs.Places.{StandsAt}
+use Rattle.name_indexes.specs.Places.{StandsAt}
 use Rattle.class_outlines.specs.DeclaredSites.{UsesReference}
 use Rattle.meta_objects.proofs.site_references.bound_reference.Given as goal
 

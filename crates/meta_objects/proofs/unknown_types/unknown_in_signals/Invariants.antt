@@ -3,7 +3,7 @@ use Rattle.std.specs.Prelude.{Any}
 use Rattle.syntax_trees.specs.declared.program.Signal.{Signal}
 use Rattle.class_outlines.specs.DeclaredKinds.{LacksType}
 use Rattle.class_outlines.specs.Outlines.{kinds_of}
-use Rattle.class_outlines.specs.Places.{StandsAt}
+use Rattle.name_indexes.specs.Places.{StandsAt}
 use Rattle.meta_objects.proofs.unknown_types.unknown_in_signals.Given as goal
 
 abbrev pub invariant-loop-place : goal.invariant-loop-place

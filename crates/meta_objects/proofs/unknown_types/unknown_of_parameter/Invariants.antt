@@ -1,7 +1,7 @@
 use Rattle.std.proofs.Common.{ℕ, ◌<◌}
 use Rattle.syntax_trees.specs.declared.program.Parameter.{Parameter}
 use Rattle.class_outlines.specs.DeclaredKinds.{LacksType}
-use Rattle.class_outlines.specs.Places.{StandsAt}
+use Rattle.name_indexes.specs.Places.{StandsAt}
 use Rattle.meta_objects.proofs.unknown_types.unknown_of_parameter.Given as goal
 
 abbrev pub invariant-loop-place : goal.invariant-loop-place

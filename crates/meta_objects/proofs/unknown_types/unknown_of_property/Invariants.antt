@@ -1,6 +1,6 @@
 use Rattle.std.proofs.Common.{ℕ, ◌<◌}
 use Rattle.class_outlines.specs.Conditions.{LacksPropertyType}
-use Rattle.class_outlines.specs.Places.{StandsAt}
+use Rattle.name_indexes.specs.Places.{StandsAt}
 use Rattle.meta_objects.proofs.unknown_types.unknown_of_property.Given as goal
 
 abbrev pub invariant-loop-place : goal.invariant-loop-place

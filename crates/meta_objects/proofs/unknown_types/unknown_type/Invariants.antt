@@ -1,5 +1,5 @@
 use Rattle.std.proofs.Common.{ℕ, ◌<◌}
-use Rattle.class_outlines.specs.Places.{StandsAt}
+use Rattle.name_indexes.specs.Places.{StandsAt}
 use Rattle.meta_objects.specs.code.OwnTypes.{DeclaresUnknown}
 use Rattle.meta_objects.proofs.unknown_types.unknown_type.Given as goal
 

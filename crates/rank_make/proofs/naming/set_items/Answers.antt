@@ -1,6 +1,6 @@
 use Rattle.std.proofs.Common.{◌≡◌, ◌+◌, ℕ, Bool, true, false, List, length, slice_get, Some, sym, ap, ◌∙◌, subst, arith}
 use Rattle.meta_model.specs.declared.object.MetaObject.{MetaObject}
-use Rattle.effect_scan.specs.code.Relations.{IsMarked}
+use Rattle.class_sets.specs.Marks.{IsMarked}
 use Rattle.certificate_lang.specs.declared.certificate.SetItem.TheVariants as item
 use Rattle.rank_check.proofs.Elements.{at_index}
 use Rattle.rank_check.proofs.Listing.{row_low}

@@ -1,5 +1,5 @@
 use Rattle.std.proofs.Common.{refl}
-use Rattle.meta_model.specs.Values.{number_has, truth_has, text_has}
+use Rattle.basic_types.specs.Values.{number_has, truth_has, text_has}
 use Rattle.meta_model.proofs.meta.Meta.has_type.Goals as goal
 
 pub returns-in-Int-Int : goal.returns-in-Int-Int

@@ -1,5 +1,5 @@
 use Rattle.std.proofs.Common.{◌≡◌, List, [], ◌∷◌, ◌++◌, length, refl, sym, ◌∙◌, ap, subst}
-use Rattle.meta_model.specs.NamePlaces.{Adds}
+use Rattle.name_indexes.specs.NamePlaces.{Adds}
 use Rattle.object_tree.specs.declared.object.Object.{Object}
 use Rattle.object_tree.specs.Creating.{MayCreate, fresh, initial_values}
 use Rattle.object_tree.specs.Held.{is_held}

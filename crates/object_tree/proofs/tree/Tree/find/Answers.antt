@@ -1,5 +1,5 @@
 use Rattle.std.proofs.Common.{◌≡◌, Some, sym, subst, ap, ◌∙◌}
-use Rattle.meta_model.specs.NamePlaces.{place_in}
+use Rattle.name_indexes.specs.NamePlaces.{place_in}
 use Rattle.object_tree.specs.code.Kept.{Kept}
 use Rattle.object_tree.proofs.Keeping.{found-named, not_found-free}
 use Rattle.object_tree.proofs.tree.Tree.find.Goals as goal

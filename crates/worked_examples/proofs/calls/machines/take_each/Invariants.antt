@@ -1,4 +1,4 @@
-use Rattle.qt_runtime.specs.Seen.{AreKept}
+use Rattle.object_machine.specs.Seen.{AreKept}
 use Rattle.worked_examples.proofs.calls.machines.take_each.Given as goal
 
 -- the natives are kept

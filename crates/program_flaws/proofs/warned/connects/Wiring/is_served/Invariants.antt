@@ -1,5 +1,5 @@
 use Rattle.std.proofs.Common.{ℕ, ◌<◌}
-use Rattle.meta_model.specs.Places.{StandsAt}
+use Rattle.name_indexes.specs.Places.{StandsAt}
 use Rattle.meta_model.specs.declared.object.MetaWire.{MetaWire}
 use Rattle.program_flaws.specs.Wires.{MayServe}
 use Rattle.program_flaws.proofs.warned.connects.Wiring.is_served.Given as goal
