@@ -1,26 +1,12 @@
 -- What expressions name, and that their values depend on that alone.
-use Rattle.std.proofs.Common.{◌≡◌, ◌≤◌, ℕ, zero, suc, length, arith, append_assoc, Bool, true, false, ◌||◌, List, [], ◌∷◌, ◌++◌, inl, inr, filter_map, Option, Some, None, refl, ap, sym, ◌∙◌, subst}
-use Rattle.std.specs.List.{list_any}
-use Rattle.std.specs.Prelude.{slice_get}
-use Rattle.std.specs.Option.{option_and_then, option_map}
-use Rattle.std.proofs.lemmas.List.{append-nil}
-use Rattle.std.proofs.lemmas.Bool.{false≢true, cases_Bool, or_parts}
+use Rattle.std.{proofs.Common.{◌≡◌, ◌≤◌, ℕ, zero, suc, length, arith, append_assoc, Bool, true, false, ◌||◌, List, [], ◌∷◌, ◌++◌, inl, inr, filter_map, Option, Some, None, refl, ap, sym, ◌∙◌, subst}, specs.List.{list_any}, specs.Prelude.{slice_get}, specs.Option.{option_and_then, option_map}, proofs.lemmas.List.{append-nil}, proofs.lemmas.Bool.{false≢true, cases_Bool, or_parts}}
 use Rattle.basic_types.specs.declared.value.Value.{Value}
-use Rattle.syntax_trees.specs.declared.syntax.Unary.{Unary}
-use Rattle.syntax_trees.specs.declared.syntax.Binary.{Binary}
-use Rattle.syntax_trees.specs.declared.syntax.Expr.{Expr}
+use Rattle.syntax_trees.specs.{declared.syntax.Unary.{Unary}, declared.syntax.Binary.{Binary}, declared.syntax.Expr.{Expr}, declared.syntax.Expr.TheViews.{roll-Expr}, declared.syntax.Expr.TheFolds.{fold-roll-Expr, ind-Expr, map-Expr}}
 use Rattle.syntax_trees.specs.declared.syntax.Expr.TheVariants as e
 use Rattle.syntax_trees.specs.declared.syntax.Expr.TheOpen as layer
-use Rattle.syntax_trees.specs.declared.syntax.Expr.TheViews.{roll-Expr}
-use Rattle.syntax_trees.specs.declared.syntax.Expr.TheFolds.{fold-roll-Expr, ind-Expr, map-Expr}
-use Rattle.expressions.specs.Operators.{unary, binary}
-use Rattle.expressions.specs.Evaluation.{value, value_step}
+use Rattle.expressions.specs.{Operators.{unary, binary}, Evaluation.{value, value_step}}
 use Rattle.meta_model.specs.declared.site.SourceProperty.{SourceProperty}
-use Rattle.binding_graph.specs.declared.place.Place.{Place}
-use Rattle.binding_graph.specs.declared.binding.Binding.{Binding}
-use Rattle.binding_graph.specs.Places.{is_in, In, property_of}
-use Rattle.binding_graph.specs.Bindings.{named_in, named_step, source_place, read_by, Reads, reads_any, value_of}
-use Rattle.binding_graph.proofs.Places.{is_in-true, is_in-false}
+use Rattle.binding_graph.{specs.declared.place.Place.{Place}, specs.declared.binding.Binding.{Binding}, specs.Places.{is_in, In, property_of}, specs.Bindings.{named_in, named_step, source_place, read_by, Reads, reads_any, value_of}, proofs.Places.{is_in-true, is_in-false}}
 
 -- ---- the names in an expression, from those in its parts
 pub named-Literal : (v : Value) → named_in (e.Literal v) ≡ []

@@ -1,28 +1,6 @@
 -- What follows from some properties is found through the readers of each property, turn by turn.
-use Rattle.std.proofs.Common.{◌≡◌, ℕ, suc, ◌+◌, ◌-◌, ◌*◌, ◌^◌, ◌<◌, ◌≤◌, ◌⊎◌, eqb, true, false, List, [], ◌∷◌, ◌++◌, All, length, inl, inr, Option, Some, None, refl, ap, sym, ◌∙◌, subst, arith}
-use Rattle.std.specs.BinaryHeap.{IsHeap, IsUpperBound}
-use Rattle.std.specs.List.{Contains}
-use Rattle.std.specs.List.Sorted.{IsPermutation}
-use Rattle.std.specs.Ordering.{is_lt, nat_cmp, ordering_then}
-use Rattle.std.specs.declared.cmp.Ordering.{Ordering}
-use Rattle.std.specs.declared.cmp.Ordering.TheVariants.{Less, Equal, Greater}
-use Rattle.std.proofs.lemmas.Bool.{eqb-true, false≢true}
-use Rattle.std.proofs.lemmas.Bool.Decides.{nat_tests}
-use Rattle.std.proofs.lemmas.List.{append_assoc}
-use Rattle.std.proofs.lemmas.List.Elements.{All-cons, All-contains, All-contains_itself, All-from_recursion, All-head, All-nil, All-tail, All-weaker, Contains-append_cases, Contains-append_right}
-use Rattle.std.proofs.lemmas.List.Sorted.{All-permutation, Contains-permutation}
-use Rattle.std.proofs.lemmas.Map.Keys.{ge_from_not_lt}
-use Rattle.std.proofs.lemmas.Option.{same_Some}
-use Rattle.binding_graph.specs.declared.place.Place.{Place}
-use Rattle.binding_graph.specs.declared.binding.Binding.{Binding}
-use Rattle.binding_graph.specs.Places.{In, Distinct}
-use Rattle.binding_graph.specs.Bindings.{binding_at, without_all, Reads, ChainFrom, direct, further}
-use Rattle.binding_graph.specs.code.Orders.{Free, IsAffected}
-use Rattle.binding_graph.specs.code.Turns.{Turn, number_of, reader_of, by_turn, Waits, IsReader, AddsReaders, is_turn, IsFrom, IsUpTo, IsDue, IsFollowed}
-use Rattle.binding_graph.proofs.Numbers.{IsOneToOne}
-use Rattle.binding_graph.proofs.Places.{decide_in, In-cases, In-left, In-right}
-use Rattle.binding_graph.proofs.Several.{bound-out, without_all-fewer, without_all-other}
-use Rattle.binding_graph.proofs.Walks.{ordered-append}
+use Rattle.std.{proofs.Common.{◌≡◌, ℕ, suc, ◌+◌, ◌-◌, ◌*◌, ◌^◌, ◌<◌, ◌≤◌, ◌⊎◌, eqb, true, false, List, [], ◌∷◌, ◌++◌, All, length, inl, inr, Option, Some, None, refl, ap, sym, ◌∙◌, subst, arith}, specs.BinaryHeap.{IsHeap, IsUpperBound}, specs.List.{Contains}, specs.List.Sorted.{IsPermutation}, specs.Ordering.{is_lt, nat_cmp, ordering_then}, specs.declared.cmp.Ordering.{Ordering}, specs.declared.cmp.Ordering.TheVariants.{Less, Equal, Greater}, proofs.lemmas.Bool.{eqb-true, false≢true}, proofs.lemmas.Bool.Decides.{nat_tests}, proofs.lemmas.List.{append_assoc}, proofs.lemmas.List.Elements.{All-cons, All-contains, All-contains_itself, All-from_recursion, All-head, All-nil, All-tail, All-weaker, Contains-append_cases, Contains-append_right}, proofs.lemmas.List.Sorted.{All-permutation, Contains-permutation}, proofs.lemmas.Map.Keys.{ge_from_not_lt}, proofs.lemmas.Option.{same_Some}}
+use Rattle.binding_graph.{specs.declared.place.Place.{Place}, specs.declared.binding.Binding.{Binding}, specs.Places.{In, Distinct}, specs.Bindings.{binding_at, without_all, Reads, ChainFrom, direct, further}, specs.code.Orders.{Free, IsAffected}, specs.code.Turns.{Turn, number_of, reader_of, by_turn, Waits, IsReader, AddsReaders, is_turn, IsFrom, IsUpTo, IsDue, IsFollowed}, proofs.Numbers.{IsOneToOne}, proofs.Places.{decide_in, In-cases, In-left, In-right}, proofs.Several.{bound-out, without_all-fewer, without_all-other}, proofs.Walks.{ordered-append}}
 
 -- ---- one turn more or less
 first-there : (t : Turn) (ts : List Turn) → Contains (t ∷ ts) t

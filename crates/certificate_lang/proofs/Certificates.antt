@@ -1,26 +1,10 @@
 -- The lines of nodes, and whole certificates.
-use Rattle.std.proofs.Common.{◌≡◌, ℕ, List, [], ◌∷◌, ◌++◌, Err, refl, sym, ◌∙◌, ap, append_assoc, true, false, Bool, IsTrue, ◌↔◌}
-use Rattle.std.proofs.lemmas.List.{append-nil}
-use Rattle.std.specs.Prelude.{codes}
-use Rattle.std.specs.List.{AllZip}
+use Rattle.std.{proofs.Common.{◌≡◌, ℕ, List, [], ◌∷◌, ◌++◌, Err, refl, sym, ◌∙◌, ap, append_assoc, true, false, Bool, IsTrue, ◌↔◌}, proofs.lemmas.List.{append-nil}, specs.Prelude.{codes}, specs.List.{AllZip}}
 use Rattle.token_reading.specs.declared.fault.ParseFault.{ParseFault}
 use Rattle.token_reading.specs.declared.fault.ParseFault.TheVariants as parse
-use Rattle.texts.specs.declared.lexer.LexFault.{LexFault}
+use Rattle.texts.specs.{declared.lexer.LexFault.{LexFault}, declared.token.Token.{Token}, Lines.{IsFrontLine}, Pieces.{IsUncut}}
 use Rattle.texts.specs.declared.lexer.LexFault.TheVariants as lex
-use Rattle.texts.specs.declared.token.Token.{Token}
-use Rattle.texts.specs.Lines.{IsFrontLine}
-use Rattle.texts.specs.Pieces.{IsUncut}
-use Rattle.certificate_lang.specs.declared.certificate.Line.{Line}
-use Rattle.certificate_lang.specs.declared.certificate.Certificate.{Certificate}
-use Rattle.certificate_lang.specs.declared.fault.CertificateFault.{CertificateFault}
-use Rattle.certificate_lang.specs.declared.fault.CertificateFault.TheVariants.{Format, Memory}
-use Rattle.certificate_lang.specs.declared.version.Version.{Version}
-use Rattle.certificate_lang.specs.declared.version.Version.TheVariants.{One, Two}
-use Rattle.certificate_lang.specs.Grammar.{IsSetting, IsNodeLine}
-use Rattle.certificate_lang.specs.Reads.{HasRows, version_number, IsCertificate, ReadsCertificate}
-use Rattle.certificate_lang.specs.code.Reads.{fault_of_cutting, fault_of_parsing, TakesRow, SplitsRow, TakesSetting, SplitsSetting, AreNodeLines, ReadsNodeLines, ReadsWholeSetting, ReadsLine}
-use Rattle.certificate_lang.proofs.OneTree.{one_line, one_setting}
-use Rattle.certificate_lang.proofs.Rows.{SameRows, one_rows, rows_uncut}
+use Rattle.certificate_lang.{specs.declared.certificate.Line.{Line}, specs.declared.certificate.Certificate.{Certificate}, specs.declared.fault.CertificateFault.{CertificateFault}, specs.declared.fault.CertificateFault.TheVariants.{Format, Memory}, specs.declared.version.Version.{Version}, specs.declared.version.Version.TheVariants.{One, Two}, specs.Grammar.{IsSetting, IsNodeLine}, specs.Reads.{HasRows, version_number, IsCertificate, ReadsCertificate}, specs.code.Reads.{fault_of_cutting, fault_of_parsing, TakesRow, SplitsRow, TakesSetting, SplitsSetting, AreNodeLines, ReadsNodeLines, ReadsWholeSetting, ReadsLine}, proofs.OneTree.{one_line, one_setting}, proofs.Rows.{SameRows, one_rows, rows_uncut}}
 
 pub is_so : {P : Type 0} (b : Bool) → b ≡ true → (IsTrue b ↔ P) → P
 is_so b f h = h.0 f

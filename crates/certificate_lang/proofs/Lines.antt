@@ -1,36 +1,12 @@
 -- The lines of a certificate's text.
-use Rattle.std.proofs.Common.{◌≡◌, ◌≢◌, ◌∙◌, ℕ, ◌^◌, ◌<◌, ◌≤◌, Bool, true, false, ◌&&◌, nat_eq, List, [], ◌∷◌, ◌++◌, map, codes, decimal, inl, refl, sym, ap, subst, append_assoc, arith}
-use Rattle.std.specs.List.{AllByRecursion, AllZip, flat_map}
-use Rattle.std.proofs.lemmas.Bool.{eq-eqb, false≢true}
-use Rattle.std.proofs.lemmas.List.{append-nil}
-use Rattle.std.proofs.lemmas.List.Elements.{All-from_recursion}
-use Rattle.basic_types.specs.Name.{is_digit, is_name_byte}
-use Rattle.basic_types.specs.Signatures.{IsFreeName}
-use Rattle.basic_types.specs.Spelling.{text_of_sig}
-use Rattle.basic_types.specs.Tokens.{StopsBy}
-use Rattle.basic_types.specs.Words.{IsFree, word_spelling}
+use Rattle.std.{proofs.Common.{◌≡◌, ◌≢◌, ◌∙◌, ℕ, ◌^◌, ◌<◌, ◌≤◌, Bool, true, false, ◌&&◌, nat_eq, List, [], ◌∷◌, ◌++◌, map, codes, decimal, inl, refl, sym, ap, subst, append_assoc, arith}, specs.List.{AllByRecursion, AllZip, flat_map}, proofs.lemmas.Bool.{eq-eqb, false≢true}, proofs.lemmas.List.{append-nil}, proofs.lemmas.List.Elements.{All-from_recursion}}
+use Rattle.basic_types.specs.{Name.{is_digit, is_name_byte}, Signatures.{IsFreeName}, Spelling.{text_of_sig}, Tokens.{StopsBy}, Words.{IsFree, word_spelling}}
 use Rattle.basic_types.specs.declared.word.Word.TheVariants as word
-use Rattle.texts.specs.Lines.{AreFrontLines}
-use Rattle.token_reading.specs.Lists.{spell_each}
-use Rattle.token_reading.specs.Literals.{greatest}
-use Rattle.texts.specs.Numerals.{value_of}
-use Rattle.texts.specs.Pieces.{AreTokens}
-use Rattle.texts.specs.declared.token.Token.{Token}
+use Rattle.texts.specs.{Lines.{AreFrontLines}, Numerals.{value_of}, Pieces.{AreTokens}, declared.token.Token.{Token}}
+use Rattle.token_reading.specs.{Lists.{spell_each}, Literals.{greatest}}
 use Rattle.texts.specs.declared.token.Token.TheVariants as token
-use Rattle.certificate_lang.specs.Grammar.{NodeReading, method, property, destruction, of_class, spell_node, tree_of_node, ItemReading, class as item_class, closure as item_closure, spell_item, tree_of_item, HasFewParameters, IsNodeLine}
-use Rattle.certificate_lang.specs.Reads.{before, AreRows, IsCertificate}
-use Rattle.certificate_lang.specs.declared.certificate.MemberName.{MemberName}
+use Rattle.certificate_lang.{specs.Grammar.{NodeReading, method, property, destruction, of_class, spell_node, tree_of_node, ItemReading, class as item_class, closure as item_closure, spell_item, tree_of_item, HasFewParameters, IsNodeLine}, specs.Reads.{before, AreRows, IsCertificate}, specs.declared.certificate.MemberName.{MemberName}, specs.declared.certificate.NodeName.{NodeName}, specs.declared.certificate.SetItem.{SetItem}, specs.declared.certificate.SetItem.TheVariants.{Class, Closure}, specs.declared.certificate.Line.{Line}, specs.declared.certificate.Certificate.{Certificate}, specs.declared.version.Version.TheVariants.{Two}, specs.Texts.{node_text_of, node_text, listed_text, node_line, certificate_text}, specs.Written.{IsWritableMember, IsWritableItem, IsWritableLine, IsWritable, NodesAreRead}, proofs.Pieces.{IsWritten, ampersand, nothing, blank_then, name_then, dot_then, tilde_then, digits_then, are_digits}, proofs.Signatures.{sig_reading, sig_tree, sig_then}}
 use Rattle.certificate_lang.specs.declared.certificate.MemberName.TheVariants as member
-use Rattle.certificate_lang.specs.declared.certificate.NodeName.{NodeName}
-use Rattle.certificate_lang.specs.declared.certificate.SetItem.{SetItem}
-use Rattle.certificate_lang.specs.declared.certificate.SetItem.TheVariants.{Class, Closure}
-use Rattle.certificate_lang.specs.declared.certificate.Line.{Line}
-use Rattle.certificate_lang.specs.declared.certificate.Certificate.{Certificate}
-use Rattle.certificate_lang.specs.declared.version.Version.TheVariants.{Two}
-use Rattle.certificate_lang.specs.Texts.{node_text_of, node_text, listed_text, node_line, certificate_text}
-use Rattle.certificate_lang.specs.Written.{IsWritableMember, IsWritableItem, IsWritableLine, IsWritable, NodesAreRead}
-use Rattle.certificate_lang.proofs.Pieces.{IsWritten, ampersand, nothing, blank_then, name_then, dot_then, tilde_then, digits_then, are_digits}
-use Rattle.certificate_lang.proofs.Signatures.{sig_reading, sig_tree, sig_then}
 
 -- ---- nodes
 abbrev reading_of_member : List ℕ → MemberName → NodeReading

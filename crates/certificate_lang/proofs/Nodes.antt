@@ -1,27 +1,11 @@
 -- Reading nodes and lines from their parts.
 use Rattle.std.proofs.Common.{ℕ, ◌≡◌, Result, Ok, Err, List, [], ◌∷◌, map, refl, sym, ◌∙◌, ap}
 use Rattle.basic_types.specs.declared.qtype.QType.{QType}
-use Rattle.token_reading.specs.code.Cursor.{NotAt}
-use Rattle.token_reading.specs.Lists.{spell_each, spell_listed}
-use Rattle.token_reading.specs.Literals.{greatest}
-use Rattle.texts.specs.Numerals.{spell_numeral, value_of}
-use Rattle.token_reading.specs.code.Numerals.{ReadsNumeral}
-use Rattle.token_reading.specs.code.Reading.{Found, EndsAnywhere, IsAtEnd}
-use Rattle.token_reading.specs.Reading.{spell_name}
-use Rattle.token_reading.specs.Signatures.{TypeReading, spell_type, tree_of_type, sig}
-use Rattle.token_reading.specs.declared.fault.ParseFault.{ParseFault}
-use Rattle.texts.specs.declared.symbol.Symbol.TheVariants.{Open, Dot, Tilde}
-use Rattle.texts.specs.declared.token.Token.{Token}
+use Rattle.token_reading.{specs.code.Cursor.{NotAt}, specs.Lists.{spell_each, spell_listed}, specs.Literals.{greatest}, specs.code.Numerals.{ReadsNumeral}, specs.code.Reading.{Found, EndsAnywhere, IsAtEnd}, specs.Reading.{spell_name}, specs.Signatures.{TypeReading, spell_type, tree_of_type, sig}, specs.declared.fault.ParseFault.{ParseFault}, proofs.Signatures.{sig_found}, proofs.Underway.{None}}
+use Rattle.texts.specs.{Numerals.{spell_numeral, value_of}, declared.symbol.Symbol.TheVariants.{Open, Dot, Tilde}, declared.token.Token.{Token}}
 use Rattle.texts.specs.declared.token.Token.TheVariants as token
-use Rattle.token_reading.proofs.Signatures.{sig_found}
-use Rattle.token_reading.proofs.Underway.{None}
-use Rattle.certificate_lang.specs.declared.certificate.MemberName.{MemberName}
+use Rattle.certificate_lang.specs.{declared.certificate.MemberName.{MemberName}, declared.certificate.NodeName.{NodeName}, declared.certificate.SetItem.{SetItem}, declared.version.Version.{Version}, Grammar.{spell_setting, IsSetting, MemberReading, method, property, spell_member, tree_of_member, NodeReading, destruction, of_class, spell_node, tree_of_node, spell_item, tree_of_item, LineReading, spell_line, tree_of_line}, code.Grammar.{EndsNode, ReadsSetting}}
 use Rattle.certificate_lang.specs.declared.certificate.MemberName.TheVariants as member
-use Rattle.certificate_lang.specs.declared.certificate.NodeName.{NodeName}
-use Rattle.certificate_lang.specs.declared.certificate.SetItem.{SetItem}
-use Rattle.certificate_lang.specs.declared.version.Version.{Version}
-use Rattle.certificate_lang.specs.Grammar.{spell_setting, IsSetting, MemberReading, method, property, spell_member, tree_of_member, NodeReading, destruction, of_class, spell_node, tree_of_node, spell_item, tree_of_item, LineReading, spell_line, tree_of_line}
-use Rattle.certificate_lang.specs.code.Grammar.{EndsNode, ReadsSetting}
 
 -- a list in parentheses begins with one
 pub listed_opens : (ts : List TypeReading) (rest : List Token) → (after : List Token) × (spell_listed spell_type ts rest ≡ token.Symbol Open ∷ after)

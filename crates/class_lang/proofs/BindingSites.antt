@@ -1,24 +1,13 @@
 -- Bindings from their parts.
 use Rattle.std.proofs.Common.{◌≡◌, ◌∙◌, sym, ap, ℕ, List, ◌∷◌, map, Bool, true, false, ◌&&◌}
 use Rattle.basic_types.specs.declared.value.Value.{Value}
-use Rattle.slot_lang.specs.Expressions.{Expression, tree_of_expression}
-use Rattle.slot_lang.specs.Grammar.{spell_value}
-use Rattle.slot_lang.proofs.Unique.{one_value}
-use Rattle.token_reading.specs.Lists.{spell_listed}
-use Rattle.token_reading.specs.code.Reading.{Found, EndsAnywhere}
-use Rattle.token_reading.specs.Reading.{spell_name}
-use Rattle.syntax_trees.specs.declared.program.Formal.{Formal}
-use Rattle.texts.specs.declared.symbol.Symbol.TheVariants.{Dot}
-use Rattle.syntax_trees.specs.declared.syntax.Binary.{Binary}
-use Rattle.syntax_trees.specs.declared.syntax.Expr.{Expr}
+use Rattle.slot_lang.{specs.Expressions.{Expression, tree_of_expression}, specs.Grammar.{spell_value}, proofs.Unique.{one_value}}
+use Rattle.token_reading.{specs.Lists.{spell_listed}, specs.code.Reading.{Found, EndsAnywhere}, specs.Reading.{spell_name}, proofs.Underway.{None}}
+use Rattle.syntax_trees.specs.{declared.program.Formal.{Formal}, declared.syntax.Binary.{Binary}, declared.syntax.Expr.{Expr}, declared.syntax.Expr.TheFolds.{fold-roll-Expr}, declared.syntax.Path.{Path}, declared.syntax.Unary.{Unary}}
+use Rattle.texts.specs.{declared.symbol.Symbol.TheVariants.{Dot}, declared.token.Token.{Token}}
 use Rattle.syntax_trees.specs.declared.syntax.Expr.TheVariants as e
 use Rattle.syntax_trees.specs.declared.syntax.Expr.TheOpen as layer
-use Rattle.syntax_trees.specs.declared.syntax.Expr.TheFolds.{fold-roll-Expr}
-use Rattle.syntax_trees.specs.declared.syntax.Path.{Path}
-use Rattle.syntax_trees.specs.declared.syntax.Unary.{Unary}
-use Rattle.texts.specs.declared.token.Token.{Token}
 use Rattle.texts.specs.declared.token.Token.TheVariants as token
-use Rattle.token_reading.proofs.Underway.{None}
 use Rattle.class_lang.specs.Sites.{is_no_null, is_of_formal, bexpr_step, is_bexpr, FormalReading, formal, spell_formal, tree_of_formal, SiteReading, site, spell_site, tree_of_site}
 
 -- ---- whether an expression may be in a binding, from its parts

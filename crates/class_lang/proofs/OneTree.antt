@@ -1,32 +1,12 @@
 -- No two readings with the same tokens stand for different trees.
-use Rattle.std.proofs.Common.{◌≡◌, ◌∙◌, ℕ, List, [], ◌∷◌, refl, sym, ap, map, Option, Some, None, option_map}
-use Rattle.std.proofs.lemmas.List.{map-id}
+use Rattle.std.proofs.{Common.{◌≡◌, ◌∙◌, ℕ, List, [], ◌∷◌, refl, sym, ap, map, Option, Some, None, option_map}, lemmas.List.{map-id}}
 use Rattle.basic_types.specs.declared.word.Word.TheVariants as word
-use Rattle.slot_lang.specs.Grammar.{spell_block, spell_value}
-use Rattle.token_reading.specs.Lists.{spell_each}
-use Rattle.token_reading.specs.Literals.{spell_literal, tree_of_literal}
-use Rattle.token_reading.specs.code.Reading.{EndsAnywhere}
-use Rattle.token_reading.specs.Reading.{spell_name}
-use Rattle.token_reading.specs.Signatures.{spell_sig, tree_of_sig, spell_kind}
-use Rattle.texts.specs.declared.symbol.Symbol.TheVariants.{Semicolon, Arrow, Assign, Colon, OpenBrace}
-use Rattle.texts.specs.declared.token.Token.{Token}
+use Rattle.slot_lang.{specs.Grammar.{spell_block, spell_value}, proofs.Unique.{unique_block, one_value}}
+use Rattle.token_reading.{specs.Lists.{spell_each}, specs.Literals.{spell_literal, tree_of_literal}, specs.code.Reading.{EndsAnywhere}, specs.Reading.{spell_name}, specs.Signatures.{spell_sig, tree_of_sig, spell_kind}, proofs.OneTree.{one_tree_of_optional_name, HasOneTree, one_tree_of_listed, one_tree_of_list_after, one_tree_of_type, one_tree_of_sig, one_tree_of_kind, one_tree_of_literal}, specs.Optional.{spell_optional, spell_optional_name}, specs.code.Optional.{EndsWithout}}
+use Rattle.texts.specs.{declared.symbol.Symbol.TheVariants.{Semicolon, Arrow, Assign, Colon, OpenBrace}, declared.token.Token.{Token}}
 use Rattle.texts.specs.declared.token.Token.TheVariants as token
-use Rattle.token_reading.proofs.OneTree.{one_tree_of_optional_name, HasOneTree, one_tree_of_listed, one_tree_of_list_after, one_tree_of_type, one_tree_of_sig, one_tree_of_kind, one_tree_of_literal}
-use Rattle.slot_lang.proofs.Unique.{unique_block, one_value}
-use Rattle.token_reading.specs.Optional.{spell_optional, spell_optional_name}
-use Rattle.token_reading.specs.code.Optional.{EndsWithout}
-use Rattle.class_lang.specs.Parameters.{signal_parameter, spell_signal_parameter, tree_of_signal_parameter, slot_parameter, spell_slot_parameter, tree_of_slot_parameter}
-use Rattle.class_lang.specs.code.Members.{EndsSignalParameter}
-use Rattle.class_lang.specs.Members.{spell_notify, spell_initial, property, spell_property, tree_of_property, signal, spell_signal, tree_of_signal, slot, spell_slot, tree_of_slot, MemberReading, a_property, a_signal, a_slot, a_native, spell_member, tree_of_member}
-use Rattle.class_lang.specs.Natives.{spell_emits, spell_sets, effects, spell_effects, tree_of_effects, native, spell_native, tree_of_native}
-use Rattle.class_lang.specs.Sites.{formal, spell_formal, tree_of_formal, site, spell_site, tree_of_site}
-use Rattle.class_lang.specs.Declarations.{Ending, bare, semicolon, spell_ending, spell_members, class, spell_class, tree_of_class, class_of, end, spell_end, tree_of_end, wire, spell_wire, tree_of_wire, owns, spell_owns, tree_of_owns, DeclarationReading, a_class, a_wire, an_owns, a_site, spell_declaration, tree_of_declaration, tree_of_program, IsProgram}
-use Rattle.class_lang.specs.code.Declarations.{EndsDeclaration}
+use Rattle.class_lang.{specs.Parameters.{signal_parameter, spell_signal_parameter, tree_of_signal_parameter, slot_parameter, spell_slot_parameter, tree_of_slot_parameter}, specs.code.Members.{EndsSignalParameter}, specs.Members.{spell_notify, spell_initial, property, spell_property, tree_of_property, signal, spell_signal, tree_of_signal, slot, spell_slot, tree_of_slot, MemberReading, a_property, a_signal, a_slot, a_native, spell_member, tree_of_member}, specs.Natives.{spell_emits, spell_sets, effects, spell_effects, tree_of_effects, native, spell_native, tree_of_native}, specs.Sites.{formal, spell_formal, tree_of_formal, site, spell_site, tree_of_site}, specs.Declarations.{Ending, bare, semicolon, spell_ending, spell_members, class, spell_class, tree_of_class, class_of, end, spell_end, tree_of_end, wire, spell_wire, tree_of_wire, owns, spell_owns, tree_of_owns, DeclarationReading, a_class, a_wire, an_owns, a_site, spell_declaration, tree_of_declaration, tree_of_program, IsProgram}, specs.code.Declarations.{EndsDeclaration}, proofs.DeclarationLists.{ends_next}, proofs.Parts.{type_ends_at_name, type_ends_at_optional_name, signal_parameters_are_parts, slot_parameters_are_parts, formals_are_parts}, proofs.NativeParts.{reads_end, emits_end, sets_end}, proofs.Sequences.{initial_ends_at_notify}}
 use Rattle.syntax_trees.specs.declared.program.Program.{Program}
-use Rattle.class_lang.proofs.DeclarationLists.{ends_next}
-use Rattle.class_lang.proofs.Parts.{type_ends_at_name, type_ends_at_optional_name, signal_parameters_are_parts, slot_parameters_are_parts, formals_are_parts}
-use Rattle.class_lang.proofs.NativeParts.{reads_end, emits_end, sets_end}
-use Rattle.class_lang.proofs.Sequences.{initial_ends_at_notify}
 
 -- ---- optional parts
 

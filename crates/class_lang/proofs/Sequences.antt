@@ -1,43 +1,16 @@
 -- Rules that are a sequence of others.
 use Rattle.std.proofs.Common.{◌≡◌, List, ◌∷◌, ℕ, sym, ◌∙◌, ap, Option, Some, None, option_map, map, Bool, true, false}
-use Rattle.basic_types.specs.declared.kind.Kind.{Kind}
-use Rattle.basic_types.specs.declared.qtype.QType.{QType}
-use Rattle.basic_types.specs.declared.sig.Sig.{Sig}
-use Rattle.syntax_trees.specs.declared.syntax.Literal.{Literal}
+use Rattle.basic_types.specs.{declared.kind.Kind.{Kind}, declared.qtype.QType.{QType}, declared.sig.Sig.{Sig}}
+use Rattle.syntax_trees.specs.{declared.syntax.Literal.{Literal}, declared.syntax.Stmt.{Stmt}, declared.program.Class.{Class}, declared.program.Owns.{Owns}, declared.program.Parameter.{Parameter}, declared.program.Property.{Property}, declared.program.Signal.{Signal}, declared.program.Site.{Site}, declared.program.Slot.{Slot}, declared.program.Wire.{Wire}}
 use Rattle.basic_types.specs.declared.word.Word.TheVariants as word
-use Rattle.token_reading.specs.code.Cursor.{Eats, NotAt, NotAtWord}
+use Rattle.token_reading.specs.{code.Cursor.{Eats, NotAt, NotAtWord}, Lists.{spell_listed}, Literals.{tree_of_literal}, code.Reading.{EndsAnywhere, Found}, Reading.{spell_name}, Signatures.{spell_type, tree_of_type, SigReading, spell_sig, tree_of_sig, spell_kind}, code.Signatures.{EndsType}, Optional.{spell_optional, spell_optional_name}, code.Optional.{EndsWithout, EndsWithoutName}}
 use Rattle.slot_lang.specs.Grammar.{spell_block, tree_of_block}
-use Rattle.token_reading.specs.Lists.{spell_listed}
-use Rattle.token_reading.specs.Literals.{tree_of_literal}
-use Rattle.token_reading.specs.code.Reading.{EndsAnywhere, Found}
-use Rattle.token_reading.specs.Reading.{spell_name}
-use Rattle.token_reading.specs.Signatures.{spell_type, tree_of_type, SigReading, spell_sig, tree_of_sig, spell_kind}
-use Rattle.token_reading.specs.code.Signatures.{EndsType}
-use Rattle.texts.specs.declared.symbol.Symbol.TheVariants.{Semicolon, Colon, Assign, OpenBrace, Arrow}
-use Rattle.syntax_trees.specs.declared.syntax.Stmt.{Stmt}
-use Rattle.texts.specs.declared.token.Token.{Token}
+use Rattle.texts.specs.{declared.symbol.Symbol.TheVariants.{Semicolon, Colon, Assign, OpenBrace, Arrow}, declared.token.Token.{Token}}
 use Rattle.texts.specs.declared.token.Token.TheVariants as token
-use Rattle.token_reading.specs.Optional.{spell_optional, spell_optional_name}
-use Rattle.token_reading.specs.code.Optional.{EndsWithout, EndsWithoutName}
-use Rattle.class_lang.specs.Parameters.{SignalParameter, signal_parameter, spell_signal_parameter, tree_of_signal_parameter, SlotParameter, slot_parameter, spell_slot_parameter, tree_of_slot_parameter}
-use Rattle.class_lang.specs.code.Members.{EndsSignalParameter}
-use Rattle.class_lang.specs.Natives.{NativeReading, spell_native, tree_of_native}
-use Rattle.class_lang.specs.Members.{spell_initial, spell_notify, PropertyReading, property, spell_property, tree_of_property, SignalReading, signal, spell_signal, tree_of_signal, SlotReading, slot, spell_slot, tree_of_slot, MemberReading, a_property, a_signal, a_slot, a_native, spell_member, tree_of_member}
-use Rattle.class_lang.specs.Declarations.{Ending, bare, semicolon, spell_ending, spell_members, spell_base, ClassReading, class, spell_class, tree_of_class, class_of, EndReading, end, spell_end, tree_of_end, WireReading, wire, spell_wire, tree_of_wire, OwnsReading, owns, spell_owns, tree_of_owns, DeclarationReading, a_class, a_wire, an_owns, a_site, spell_declaration, tree_of_declaration}
-use Rattle.class_lang.specs.code.Declarations.{EndsDeclaration}
-use Rattle.class_lang.specs.Sites.{SiteReading, spell_site, tree_of_site}
+use Rattle.class_lang.{specs.Parameters.{SignalParameter, signal_parameter, spell_signal_parameter, tree_of_signal_parameter, SlotParameter, slot_parameter, spell_slot_parameter, tree_of_slot_parameter}, specs.code.Members.{EndsSignalParameter}, specs.Natives.{NativeReading, spell_native, tree_of_native}, specs.Members.{spell_initial, spell_notify, PropertyReading, property, spell_property, tree_of_property, SignalReading, signal, spell_signal, tree_of_signal, SlotReading, slot, spell_slot, tree_of_slot, MemberReading, a_property, a_signal, a_slot, a_native, spell_member, tree_of_member}, specs.Declarations.{Ending, bare, semicolon, spell_ending, spell_members, spell_base, ClassReading, class, spell_class, tree_of_class, class_of, EndReading, end, spell_end, tree_of_end, WireReading, wire, spell_wire, tree_of_wire, OwnsReading, owns, spell_owns, tree_of_owns, DeclarationReading, a_class, a_wire, an_owns, a_site, spell_declaration, tree_of_declaration}, specs.code.Declarations.{EndsDeclaration}, specs.Sites.{SiteReading, spell_site, tree_of_site}, proofs.Parts.{type_ends_at_name, type_ends_at_optional_name}}
 use Rattle.class_lang.specs.declared.declarations.Declaration.TheVariants as declaration
 use Rattle.class_lang.specs.declared.members.Member.TheVariants as member
-use Rattle.syntax_trees.specs.declared.program.Class.{Class}
-use Rattle.syntax_trees.specs.declared.program.Owns.{Owns}
-use Rattle.syntax_trees.specs.declared.program.Parameter.{Parameter}
-use Rattle.syntax_trees.specs.declared.program.Property.{Property}
-use Rattle.syntax_trees.specs.declared.program.Signal.{Signal}
-use Rattle.syntax_trees.specs.declared.program.Site.{Site}
-use Rattle.syntax_trees.specs.declared.program.Slot.{Slot}
 use Rattle.syntax_trees.specs.declared.program.SlotWork.TheVariants as work
-use Rattle.syntax_trees.specs.declared.program.Wire.{Wire}
-use Rattle.class_lang.proofs.Parts.{type_ends_at_name, type_ends_at_optional_name}
 
 -- ---- optional parts
 

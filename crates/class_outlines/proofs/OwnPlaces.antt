@@ -1,31 +1,11 @@
 -- The second of two members of a class that are one is declared by the class itself, where each of its base's appears
 -- once.
-use Rattle.std.proofs.Common.{◌≡◌, ℕ, zero, suc, ◌+◌, ◌-◌, ◌<◌, ◌≤◌, List, [], ◌∷◌, ◌++◌, map, length, take, slice_get, Some, inl, inr, refl, sym, ap, ◌∙◌, subst, arith, length-append}
-use Rattle.std.specs.Option.{option_and_then}
-use Rattle.std.proofs.lemmas.List.{take_all, take-append-le}
-use Rattle.std.proofs.lemmas.Option.{none-some, same_Some, slice_get_within}
-use Rattle.syntax_trees.specs.declared.program.Property.{Property}
-use Rattle.syntax_trees.specs.declared.program.Signal.{Signal}
-use Rattle.syntax_trees.specs.declared.program.Slot.{Slot}
-use Rattle.syntax_trees.specs.declared.program.Class.{Class}
-use Rattle.syntax_trees.specs.declared.program.Program.{Program}
-use Rattle.name_indexes.specs.declared.twins.Twins.{Twins}
-use Rattle.class_outlines.specs.declared.outline.Heading.{Heading}
-use Rattle.class_outlines.specs.declared.outline.Outline.{Outline}
-use Rattle.class_outlines.specs.declared.offence.Member.{Member}
+use Rattle.std.{proofs.Common.{◌≡◌, ℕ, zero, suc, ◌+◌, ◌-◌, ◌<◌, ◌≤◌, List, [], ◌∷◌, ◌++◌, map, length, take, slice_get, Some, inl, inr, refl, sym, ap, ◌∙◌, subst, arith, length-append}, specs.Option.{option_and_then}, proofs.lemmas.List.{take_all, take-append-le}, proofs.lemmas.Option.{none-some, same_Some, slice_get_within}}
+use Rattle.syntax_trees.specs.{declared.program.Property.{Property}, declared.program.Signal.{Signal}, declared.program.Slot.{Slot}, declared.program.Class.{Class}, declared.program.Program.{Program}}
+use Rattle.name_indexes.{specs.declared.twins.Twins.{Twins}, specs.Twice.{StandsTwice}, specs.code.Twins.{AreTwins}, proofs.Indexing.{twice_at}, proofs.Once.{get_split_at}, proofs.Fronts.{take_get}, proofs.Zips.{any_of}}
+use Rattle.class_outlines.{specs.declared.outline.Heading.{Heading}, specs.declared.outline.Outline.{Outline}, specs.declared.offence.Member.{Member}, specs.Clashes.{AreOneCall, HasTwoMembers}, specs.Offences.{IsMember, IsDeclared}, specs.Outlines.{signal_heading, slot_headings, own_methods, qobject}, specs.code.OwnMembers.{IsNext, IsOverBase, AreOneProperty, methods_of, properties_of, base_methods, base_properties, methods_above, properties_above}, proofs.Outlined.{Declared, outline_of}}
 use Rattle.class_outlines.specs.declared.offence.Member.TheVariants as member
 use Rattle.class_outlines.specs.declared.offence.Declaration.TheVariants as declaration
-use Rattle.class_outlines.specs.Clashes.{AreOneCall, HasTwoMembers}
-use Rattle.class_outlines.specs.Offences.{IsMember, IsDeclared}
-use Rattle.class_outlines.specs.Outlines.{signal_heading, slot_headings, own_methods, qobject}
-use Rattle.name_indexes.specs.Twice.{StandsTwice}
-use Rattle.class_outlines.specs.code.OwnMembers.{IsNext, IsOverBase, AreOneProperty, methods_of, properties_of, base_methods, base_properties, methods_above, properties_above}
-use Rattle.name_indexes.specs.code.Twins.{AreTwins}
-use Rattle.name_indexes.proofs.Indexing.{twice_at}
-use Rattle.name_indexes.proofs.Once.{get_split_at}
-use Rattle.class_outlines.proofs.Outlined.{Declared, outline_of}
-use Rattle.name_indexes.proofs.Fronts.{take_get}
-use Rattle.name_indexes.proofs.Zips.{any_of}
 
 -- ---- two that are alike appear twice
 pub twins_twice : {X : Type 0} (alike : X → X → Type 0) (xs : List X) (t : Twins) → AreTwins alike xs t → StandsTwice alike xs

@@ -1,37 +1,14 @@
 -- Objects that move to another loop with all that is below one of them: what agrees goes on to, and the order in which they
 -- were found is of no account.
-use Rattle.std.proofs.Common.{◌≡◌, ◌≢◌, ℕ, zero, suc, ◌<◌, arith, is_some, eqb, Bool, true, false, not, ◌||◌, ◌&&◌, cond, List, [], ◌∷◌, All, length, get_or, Option, None, Some, refl, ap, sym, ◌∙◌, ◌⊎◌, ⊎_elim, inl, inr, ◌≤◌, ◌↔◌, IsTrue, subst, Result, Ok, Err}
-use Rattle.std.specs.Result.{IsErrAnd}
-use Rattle.std.specs.List.{list_any}
-use Rattle.std.specs.Option.{option_map}
-use Rattle.std.proofs.Math.Path.{fun_ext}
-use Rattle.std.proofs.lemmas.Bool.{cases_Bool, cases_eq, cases_lt, eq-eqb, eqb-true, false≢true}
-use Rattle.std.proofs.lemmas.List.Folds.{list_any_at}
-use Rattle.std.proofs.lemmas.Option.{same_Some}
-use Rattle.meta_model.specs.Loaded.{Loaded}
-use Rattle.object_tree.specs.declared.life.Life.{Life}
-use Rattle.object_tree.specs.declared.object.Object.{Object}
-use Rattle.meta_model.specs.Among.{is_among}
-use Rattle.object_tree.specs.Family.{parent_of}
-use Rattle.object_tree.specs.Moving.{AreBelow, all_in_loop, in_loop}
-use Rattle.object_tree.specs.Objects.{life_of, home_of}
-use Rattle.object_tree.specs.Typed.{AreTyped}
-use Rattle.object_tree.proofs.Moving.{same_tests, home-in_loop, in_loop-alike, life-in_loop, typed-in_loop}
-use Rattle.event_loops.specs.declared.fault.PostFault.{PostFault}
+use Rattle.std.{proofs.Common.{◌≡◌, ◌≢◌, ℕ, zero, suc, ◌<◌, arith, is_some, eqb, Bool, true, false, not, ◌||◌, ◌&&◌, cond, List, [], ◌∷◌, All, length, get_or, Option, None, Some, refl, ap, sym, ◌∙◌, ◌⊎◌, ⊎_elim, inl, inr, ◌≤◌, ◌↔◌, IsTrue, subst, Result, Ok, Err}, specs.Result.{IsErrAnd}, specs.List.{list_any}, specs.Option.{option_map}, proofs.Math.Path.{fun_ext}, proofs.lemmas.Bool.{cases_Bool, cases_eq, cases_lt, eq-eqb, eqb-true, false≢true}, proofs.lemmas.List.Folds.{list_any_at}, proofs.lemmas.Option.{same_Some}}
+use Rattle.meta_model.specs.{Loaded.{Loaded}, Among.{is_among}}
+use Rattle.object_tree.{specs.declared.life.Life.{Life}, specs.declared.object.Object.{Object}, specs.Family.{parent_of}, specs.Moving.{AreBelow, all_in_loop, in_loop}, specs.Objects.{life_of, home_of}, specs.Typed.{AreTyped}, proofs.Moving.{same_tests, home-in_loop, in_loop-alike, life-in_loop, typed-in_loop}}
+use Rattle.event_loops.{specs.declared.fault.PostFault.{PostFault}, specs.Queues.{Loop, Queues, name_at, rehomed}, specs.code.Rings.{gathered}, proofs.Names.{none_where}, proofs.Rehoming.{gathered-rehomed}}
 use Rattle.event_loops.specs.declared.fault.PostFault.TheVariants as post
-use Rattle.event_loops.specs.Queues.{Loop, Queues, name_at, rehomed}
-use Rattle.event_loops.specs.code.Rings.{gathered}
-use Rattle.event_loops.proofs.Names.{none_where}
-use Rattle.event_loops.proofs.Rehoming.{gathered-rehomed}
-use Rattle.binding_graph.specs.declared.binding.Binding.{Binding}
-use Rattle.binding_graph.specs.Bindings.{joined_by, leads_out, lead_out}
-use Rattle.prop_bindings.specs.Fits.{IsInOneLoop, Agree}
-use Rattle.prop_bindings.proofs.Leaving.{LivesOn, agree-still}
-use Rattle.delete_later.specs.declared.store.Store.{Store}
-use Rattle.delete_later.specs.declared.fault.MoveFault.{MoveFault}
+use Rattle.binding_graph.specs.{declared.binding.Binding.{Binding}, Bindings.{joined_by, leads_out, lead_out}}
+use Rattle.prop_bindings.{specs.Fits.{IsInOneLoop, Agree}, proofs.Leaving.{LivesOn, agree-still}}
+use Rattle.delete_later.specs.{declared.store.Store.{Store}, declared.fault.MoveFault.{MoveFault}, FaultNumbers.{fault_of}, Moving.{moved_to, IsMoved, IsNotMoved, no_loop, no_memory, MovesOrNot}}
 use Rattle.delete_later.specs.declared.fault.MoveFault.TheVariants as fault
-use Rattle.delete_later.specs.FaultNumbers.{fault_of}
-use Rattle.delete_later.specs.Moving.{moved_to, IsMoved, IsNotMoved, no_loop, no_memory, MovesOrNot}
 
 -- ---- bindings that lead to no other object
 

@@ -1,31 +1,11 @@
 -- What draws an edge from a method: a statement of its body, or what its native is declared to do.
-use Rattle.std.proofs.Common.{◌≡◌, inl, inr, ℕ, ◌<◌, true, List, [], ◌∷◌, length, get_or, Some, refl, sym, ap, ◌∙◌, subst, eqb}
-use Rattle.std.specs.List.{Contains, list_any}
-use Rattle.std.proofs.lemmas.Option.{slice_get_read}
+use Rattle.std.{proofs.Common.{◌≡◌, inl, inr, ℕ, ◌<◌, true, List, [], ◌∷◌, length, get_or, Some, refl, sym, ap, ◌∙◌, subst, eqb}, specs.List.{Contains, list_any}, proofs.lemmas.Option.{slice_get_read}}
 use Rattle.syntax_trees.specs.declared.syntax.Expr.{Expr}
-use Rattle.meta_model.specs.declared.object.ValueType.{ValueType}
-use Rattle.meta_model.specs.declared.object.MetaPath.{MetaPath}
-use Rattle.meta_model.specs.declared.object.MetaMethod.{MetaMethod}
-use Rattle.meta_model.specs.declared.object.Work.{Work}
-use Rattle.meta_model.specs.declared.object.Work.TheVariants.{Slot, Native}
-use Rattle.meta_model.specs.declared.effects.MetaEffects.{MetaEffects}
-use Rattle.meta_model.specs.declared.object.Statement.{Statement}
+use Rattle.meta_model.specs.{declared.object.ValueType.{ValueType}, declared.object.MetaPath.{MetaPath}, declared.object.MetaMethod.{MetaMethod}, declared.object.Work.{Work}, declared.object.Work.TheVariants.{Slot, Native}, declared.effects.MetaEffects.{MetaEffects}, declared.object.Statement.{Statement}, declared.object.Statement.TheViews.{out-Statement}, Loaded.{Loaded}, Members.{IsMethod}}
 use Rattle.meta_model.specs.declared.object.Statement.TheOpen as layer
-use Rattle.meta_model.specs.declared.object.Statement.TheViews.{out-Statement}
 use Rattle.meta_model.specs.declared.object.Statement.TheVariants as whole
-use Rattle.meta_model.specs.Loaded.{Loaded}
-use Rattle.meta_model.specs.Members.{IsMethod}
-use Rattle.effect_scan.specs.declared.node.Node.{Node}
-use Rattle.effect_scan.specs.declared.node.Member.{Member}
-use Rattle.effect_scan.specs.declared.node.Member.TheVariants.{Method, Property}
-use Rattle.effect_scan.specs.Nodes.{node}
-use Rattle.effect_scan.specs.declared.effect.Reach.TheVariants.{Own}
-use Rattle.effect_scan.specs.declared.effect.Effect.{Effect}
-use Rattle.effect_scan.specs.Effects.{effect_of, Occurs, here, chosen, otherwise, grouped, BodyHas, WorkHas}
-use Rattle.effect_scan.specs.Edges.{Reaches, ByWork}
+use Rattle.effect_scan.{specs.declared.node.Node.{Node}, specs.declared.node.Member.{Member}, specs.declared.node.Member.TheVariants.{Method, Property}, specs.Nodes.{node}, specs.declared.effect.Reach.TheVariants.{Own}, specs.declared.effect.Effect.{Effect}, specs.Effects.{effect_of, Occurs, here, chosen, otherwise, grouped, BodyHas, WorkHas}, specs.Edges.{Reaches, ByWork}, proofs.Occurring.{occurs_at}, proofs.Containing.{has_any}}
 use Rattle.edge_reasons.specs.Reasons.{BodyLeads, NativeLeads}
-use Rattle.effect_scan.proofs.Occurring.{occurs_at}
-use Rattle.effect_scan.proofs.Containing.{has_any}
 
 module _ (p : Loaded) (c : ℕ) (kinds : List ValueType) (y : Node) where
   pub leads_alone : (t : Statement) (e : Effect) → effect_of kinds (out-Statement t) ≡ Some e → Reaches p c e y → BodyLeads p c kinds (t ∷ []) y

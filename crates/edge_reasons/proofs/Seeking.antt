@@ -1,27 +1,11 @@
 -- A search through the statements of a body, and what is in them, for the first that does something to a node.
-use Rattle.std.proofs.Common.{◌≡◌, inl, inr, ℕ, ◌+◌, ◌^◌, ◌<◌, ◌≤◌, List, [], ◌∷◌, length, get_or, take, subst, arith}
-use Rattle.std.specs.declared.ops.ControlFlow.{ControlFlow}
-use Rattle.std.specs.declared.ops.ControlFlow.TheVariants.{Continue, Break}
+use Rattle.std.{proofs.Common.{◌≡◌, inl, inr, ℕ, ◌+◌, ◌^◌, ◌<◌, ◌≤◌, List, [], ◌∷◌, length, get_or, take, subst, arith}, specs.declared.ops.ControlFlow.{ControlFlow}, specs.declared.ops.ControlFlow.TheVariants.{Continue, Break}}
 use Rattle.syntax_trees.specs.declared.syntax.Expr.{Expr}
-use Rattle.meta_model.specs.declared.object.ValueType.{ValueType}
-use Rattle.meta_model.specs.declared.object.MetaPath.{MetaPath}
-use Rattle.meta_model.specs.declared.object.Statement.{Statement}
+use Rattle.meta_model.specs.{declared.object.ValueType.{ValueType}, declared.object.MetaPath.{MetaPath}, declared.object.Statement.{Statement}, declared.object.MetaMethod.{MetaMethod}, declared.object.Work.TheVariants.{Slot}, Loaded.{Loaded}, Members.{IsMethod}}
 use Rattle.meta_model.specs.declared.object.Statement.TheVariants as whole
-use Rattle.meta_model.specs.declared.object.MetaMethod.{MetaMethod}
-use Rattle.meta_model.specs.declared.object.Work.TheVariants.{Slot}
-use Rattle.meta_model.specs.Loaded.{Loaded}
-use Rattle.meta_model.specs.Members.{IsMethod}
 use Rattle.name_indexes.specs.Places.{StandsFirst}
-use Rattle.effect_scan.specs.declared.node.Node.{Node}
-use Rattle.effect_scan.specs.declared.node.Member.TheVariants.{Method}
-use Rattle.effect_scan.proofs.Occurring.{IsPlain}
-use Rattle.edge_reasons.specs.Order.{in_order, capped}
-use Rattle.edge_reasons.specs.Searches.{FirstFrom}
-use Rattle.edge_reasons.proofs.Walking.{none_yet, first_here, none_here, none_in_all, first_itself, none_plain, first_in_group, none_in_group, first_in_chosen, first_in_other, none_in_if}
-use Rattle.edge_reasons.specs.Reasons.{DoesTo, StatementDraws}
-use Rattle.edge_reasons.specs.code.Seeks.{Seeks}
-use Rattle.edge_reasons.proofs.Drawing.{leads_at, leads_chosen, leads_otherwise, leads_grouped}
-use Rattle.edge_reasons.proofs.Undrawn.{does_leads, plain_does, if_leads, group_leads, no_leads, leads_no_more, leads_never}
+use Rattle.effect_scan.{specs.declared.node.Node.{Node}, specs.declared.node.Member.TheVariants.{Method}, proofs.Occurring.{IsPlain}}
+use Rattle.edge_reasons.{specs.Order.{in_order, capped}, specs.Searches.{FirstFrom}, proofs.Walking.{none_yet, first_here, none_here, none_in_all, first_itself, none_plain, first_in_group, none_in_group, first_in_chosen, first_in_other, none_in_if}, specs.Reasons.{DoesTo, StatementDraws}, specs.code.Seeks.{Seeks}, proofs.Drawing.{leads_at, leads_chosen, leads_otherwise, leads_grouped}, proofs.Undrawn.{does_leads, plain_does, if_leads, group_leads, no_leads, leads_no_more, leads_never}}
 
 module _ (p : Loaded) (c : ℕ) (kinds : List ValueType) (y : Node) where
   abbrev Does : Statement → Type 0

@@ -1,41 +1,13 @@
 -- What draws no edge.
-use Rattle.std.proofs.Common.{◌≡◌, ◌≢◌, ◌↔◌, ◌⊎◌, inl, inr, ℕ, ◌+◌, ◌<◌, ◌≤◌, true, false, true≢false, IsTrue, IfNone, IsSome, List, [], ◌∷◌, ◌++◌, length, get_or, take, slice_get, Option, Some, None, refl, sym, ap, ◌∙◌, subst, eqb, arith}
-use Rattle.std.specs.List.{Contains, list_any}
-use Rattle.std.proofs.lemmas.List.{take_more, take_all}
-use Rattle.std.proofs.lemmas.Option.{same_Some, none-some}
+use Rattle.std.{proofs.Common.{◌≡◌, ◌≢◌, ◌↔◌, ◌⊎◌, inl, inr, ℕ, ◌+◌, ◌<◌, ◌≤◌, true, false, true≢false, IsTrue, IfNone, IsSome, List, [], ◌∷◌, ◌++◌, length, get_or, take, slice_get, Option, Some, None, refl, sym, ap, ◌∙◌, subst, eqb, arith}, specs.List.{Contains, list_any}, proofs.lemmas.List.{take_more, take_all}, proofs.lemmas.Option.{same_Some, none-some}}
 use Rattle.syntax_trees.specs.declared.syntax.Expr.{Expr}
-use Rattle.meta_model.specs.declared.qobject.TheConstants.{DESTROYED}
+use Rattle.meta_model.{specs.declared.qobject.TheConstants.{DESTROYED}, specs.declared.object.ValueType.{ValueType}, specs.declared.object.MetaObject.{MetaObject}, specs.declared.object.MetaPath.{MetaPath}, specs.declared.object.MetaMethod.{MetaMethod}, specs.declared.object.MetaProperty.{MetaProperty}, specs.declared.object.Work.{Work}, specs.declared.object.Work.TheVariants.{Signal, Slot, Native}, specs.declared.effects.MetaEffects.{MetaEffects}, specs.declared.object.Statement.{Statement}, specs.declared.object.Statement.TheViews.{out-Statement}, specs.Loaded.{Loaded}, specs.Members.{IsMethod, IsProperty}, proofs.InLists.{place_in}}
 use Rattle.name_indexes.specs.Places.{NoneStands}
-use Rattle.meta_model.specs.declared.object.ValueType.{ValueType}
-use Rattle.meta_model.specs.declared.object.MetaObject.{MetaObject}
-use Rattle.meta_model.specs.declared.object.MetaPath.{MetaPath}
-use Rattle.meta_model.specs.declared.object.MetaMethod.{MetaMethod}
-use Rattle.meta_model.specs.declared.object.MetaProperty.{MetaProperty}
-use Rattle.meta_model.specs.declared.object.Work.{Work}
-use Rattle.meta_model.specs.declared.object.Work.TheVariants.{Signal, Slot, Native}
-use Rattle.meta_model.specs.declared.effects.MetaEffects.{MetaEffects}
-use Rattle.meta_model.specs.declared.object.Statement.{Statement}
 use Rattle.meta_model.specs.declared.object.Statement.TheOpen as layer
-use Rattle.meta_model.specs.declared.object.Statement.TheViews.{out-Statement}
 use Rattle.meta_model.specs.declared.object.Statement.TheVariants as whole
-use Rattle.meta_model.specs.Loaded.{Loaded}
-use Rattle.meta_model.specs.Members.{IsMethod, IsProperty}
-use Rattle.meta_model.proofs.InLists.{place_in}
-use Rattle.effect_scan.specs.declared.node.Node.{Node}
-use Rattle.effect_scan.specs.declared.node.Member.{Member}
-use Rattle.effect_scan.specs.declared.node.Member.TheVariants.{Method, Property, Destruction}
-use Rattle.effect_scan.specs.declared.effect.Reach.{Reach}
+use Rattle.effect_scan.{specs.declared.node.Node.{Node}, specs.declared.node.Member.{Member}, specs.declared.node.Member.TheVariants.{Method, Property, Destruction}, specs.declared.effect.Reach.{Reach}, specs.declared.effect.Effect.{Effect}, specs.Nodes.{node, named}, specs.Effects.{effect_of, Occurs, BodyHas, StatementHas, NativeHas, WorkHas}, specs.Edges.{ReachedAs, Reaches, ByWork, ByWire, ByNotify, BySite, MayLead, by_work, by_wire, by_notify, by_site, by_destruction}, specs.Destroying.{Closure}, proofs.Occurring.{IsPlain, no_blocks, plain_only, alone, body_none, occurs_either}, proofs.Containing.{any_has}, proofs.Whole.{made}}
 use Rattle.effect_scan.specs.declared.effect.Reach.TheVariants as reach
-use Rattle.effect_scan.specs.declared.effect.Effect.{Effect}
-use Rattle.effect_scan.specs.Nodes.{node, named}
-use Rattle.effect_scan.specs.Effects.{effect_of, Occurs, BodyHas, StatementHas, NativeHas, WorkHas}
-use Rattle.effect_scan.specs.Edges.{ReachedAs, Reaches, ByWork, ByWire, ByNotify, BySite, MayLead, by_work, by_wire, by_notify, by_site, by_destruction}
-use Rattle.effect_scan.specs.Destroying.{Closure}
-use Rattle.edge_reasons.specs.Reasons.{BodyLeads, DoesTo, NativeLeads, WireJoins, SiteBinds}
-use Rattle.effect_scan.proofs.Occurring.{IsPlain, no_blocks, plain_only, alone, body_none, occurs_either}
-use Rattle.effect_scan.proofs.Containing.{any_has}
-use Rattle.edge_reasons.proofs.Drawing.{leads_alone}
-use Rattle.effect_scan.proofs.Whole.{made}
+use Rattle.edge_reasons.{specs.Reasons.{BodyLeads, DoesTo, NativeLeads, WireJoins, SiteBinds}, proofs.Drawing.{leads_alone}}
 
 -- ---- answers
 pub yes : {A : Type 0} → A → IsTrue true ↔ A

@@ -1,34 +1,12 @@
 -- What draws an edge (docs/certificate.md, "Edges").
-use Rattle.std.specs.Prelude.{◌≡◌, ◌≢◌, ℕ, List, Some, slice_get}
-use Rattle.std.specs.List.{Contains}
+use Rattle.std.specs.{Prelude.{◌≡◌, ◌≢◌, ℕ, List, Some, slice_get}, List.{Contains}}
 use Rattle.syntax_trees.specs.declared.syntax.Expr.{Expr}
 use Rattle.basic_types.specs.declared.kind.Kind.TheVariants.{Queued}
-use Rattle.meta_model.specs.declared.qobject.TheConstants.{DESTROYED}
-use Rattle.meta_model.specs.declared.object.ValueType.{ValueType}
-use Rattle.meta_model.specs.declared.object.Statement.{Statement}
-use Rattle.meta_model.specs.declared.object.Statement.TheViews.{out-Statement}
-use Rattle.meta_model.specs.declared.object.MetaWire.{MetaWire}
-use Rattle.meta_model.specs.declared.object.MetaMethod.{MetaMethod}
-use Rattle.meta_model.specs.declared.object.Work.TheVariants.{Slot, Native}
-use Rattle.meta_model.specs.declared.effects.MetaEffects.{MetaEffects}
-use Rattle.meta_model.specs.declared.site.MetaSite.{MetaSite}
-use Rattle.meta_model.specs.declared.site.SourceProperty.{SourceProperty}
-use Rattle.meta_model.specs.Loaded.{Loaded}
-use Rattle.meta_model.specs.Members.{IsMethod}
-use Rattle.meta_model.specs.Sites.{paths_in}
+use Rattle.meta_model.specs.{declared.qobject.TheConstants.{DESTROYED}, declared.object.ValueType.{ValueType}, declared.object.Statement.{Statement}, declared.object.Statement.TheViews.{out-Statement}, declared.object.MetaWire.{MetaWire}, declared.object.MetaMethod.{MetaMethod}, declared.object.Work.TheVariants.{Slot, Native}, declared.effects.MetaEffects.{MetaEffects}, declared.site.MetaSite.{MetaSite}, declared.site.SourceProperty.{SourceProperty}, Loaded.{Loaded}, Members.{IsMethod}, Sites.{paths_in}}
 use Rattle.name_indexes.specs.Places.{StandsFirst}
-use Rattle.effect_scan.specs.declared.node.Node.{Node}
-use Rattle.effect_scan.specs.declared.node.Member.{Member}
-use Rattle.effect_scan.specs.declared.node.Member.TheVariants.{Method, Property, Destruction}
-use Rattle.effect_scan.specs.declared.effect.Reach.TheVariants.{Own}
-use Rattle.effect_scan.specs.declared.effect.Effect.{Effect}
-use Rattle.edge_reasons.specs.declared.reasons.Reason.{Reason}
+use Rattle.effect_scan.specs.{declared.node.Node.{Node}, declared.node.Member.{Member}, declared.node.Member.TheVariants.{Method, Property, Destruction}, declared.effect.Reach.TheVariants.{Own}, declared.effect.Effect.{Effect}, Nodes.{node, named}, Effects.{effect_of, Occurs, NativeHas}, Edges.{AtOrBelow, Reaches, ByWork, ByNotify, MayLead}, Destroying.{Closure}}
+use Rattle.edge_reasons.specs.{declared.reasons.Reason.{Reason}, Order.{in_order, capped}}
 use Rattle.edge_reasons.specs.declared.reasons.Reason.TheVariants as reason
-use Rattle.effect_scan.specs.Nodes.{node, named}
-use Rattle.effect_scan.specs.Effects.{effect_of, Occurs, NativeHas}
-use Rattle.effect_scan.specs.Edges.{AtOrBelow, Reaches, ByWork, ByNotify, MayLead}
-use Rattle.effect_scan.specs.Destroying.{Closure}
-use Rattle.edge_reasons.specs.Order.{in_order, capped}
 
 -- a statement of the body of a slot of class c does something to the node at once
 pub record BodyLeads (p : Loaded) (c : ℕ) (kinds : List ValueType) (body : List Statement) (y : Node) : Type 0 where

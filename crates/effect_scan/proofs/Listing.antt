@@ -1,26 +1,7 @@
 -- Lists of numbers, one number after another.
-use Rattle.std.proofs.Common.{◌≡◌, ◌↔◌, inl, inr, ℕ, ◌+◌, ◌-◌, ◌<◌, ◌≤◌, List, [], ◌∷◌, ◌++◌, length, get_or, take, slice_get, Some, eqb, IsPermutation, refl, sym, ap, ◌∙◌, subst, arith}
-use Rattle.std.specs.List.{Contains, dedup}
-use Rattle.std.specs.List.Sorted.{IsStrictlyIncreasing, IsSorted}
-use Rattle.std.specs.Ordering.{nat_cmp}
-use Rattle.std.proofs.lemmas.Bool.{cases_eq, cases_lt}
-use Rattle.std.proofs.lemmas.List.{length-append, get_or_append_left, take_all}
-use Rattle.std.proofs.Math.Seq.{get_or-append_seam}
-use Rattle.std.proofs.lemmas.List.Elements.{Contains-get_or, Contains-append_left, Contains-append_right, Contains-append_cases, Contains-push, Contains-push_cases}
-use Rattle.std.proofs.lemmas.List.Sorted.{Contains-permutation, IsPermutation-sym}
-use Rattle.std.proofs.lemmas.List.Kept.{Contains-dedup_nat, Contains-from_dedup}
-use Rattle.std.proofs.lemmas.Map.Keys.{IsStrictlyIncreasing-dedup}
-use Rattle.std.proofs.lemmas.Option.{slice_get_within, same_Some}
-use Rattle.effect_scan.specs.Rows.{row}
-use Rattle.effect_scan.specs.code.Adding.{IsOrdered}
-use Rattle.effect_scan.specs.declared.node.Node.{Node}
-use Rattle.effect_scan.specs.declared.node.Member.{Member}
+use Rattle.std.{proofs.Common.{◌≡◌, ◌↔◌, inl, inr, ℕ, ◌+◌, ◌-◌, ◌<◌, ◌≤◌, List, [], ◌∷◌, ◌++◌, length, get_or, take, slice_get, Some, eqb, IsPermutation, refl, sym, ap, ◌∙◌, subst, arith}, specs.List.{Contains, dedup}, specs.List.Sorted.{IsStrictlyIncreasing, IsSorted}, specs.Ordering.{nat_cmp}, proofs.lemmas.Bool.{cases_eq, cases_lt}, proofs.lemmas.List.{length-append, get_or_append_left, take_all}, proofs.Math.Seq.{get_or-append_seam}, proofs.lemmas.List.Elements.{Contains-get_or, Contains-append_left, Contains-append_right, Contains-append_cases, Contains-push, Contains-push_cases}, proofs.lemmas.List.Sorted.{Contains-permutation, IsPermutation-sym}, proofs.lemmas.List.Kept.{Contains-dedup_nat, Contains-from_dedup}, proofs.lemmas.Map.Keys.{IsStrictlyIncreasing-dedup}, proofs.lemmas.Option.{slice_get_within, same_Some}}
+use Rattle.effect_scan.{specs.Rows.{row}, specs.code.Adding.{IsOrdered}, specs.declared.node.Node.{Node}, specs.declared.node.Member.{Member}, specs.declared.node.Member.TheVariants.{Property}, specs.declared.places.Places.{Places}, specs.Nodes.{node, IsAt}, specs.code.Places.{Lists, AreJust, InEach, InBelow, IsRead, OfSome}, proofs.Adding.{no_members, first_more}}
 use Rattle.meta_model.specs.declared.site.SourceProperty.{SourceProperty}
-use Rattle.effect_scan.specs.declared.node.Member.TheVariants.{Property}
-use Rattle.effect_scan.specs.declared.places.Places.{Places}
-use Rattle.effect_scan.specs.Nodes.{node, IsAt}
-use Rattle.effect_scan.specs.code.Places.{Lists, AreJust, InEach, InBelow, IsRead, OfSome}
-use Rattle.effect_scan.proofs.Adding.{no_members, first_more}
 
 pub increasing_none : IsStrictlyIncreasing []
 increasing_none k inside = absurd (omega (arith, inside))

@@ -1,51 +1,13 @@
 -- In a program that loads, what may lead somewhere is a node, and so is what it leads to.
-use Rattle.std.proofs.Common.{◌≡◌, ◌≢◌, ◌⊎◌, inl, inr, ℕ, zero, suc, ◌+◌, ◌-◌, ◌<◌, ◌≤◌, false, Bool, cond, List, [], ◌∷◌, ◌++◌, length, map, take, slice_get, Option, Some, None, refl, sym, ap, ◌∙◌, subst, arith}
-use Rattle.std.specs.Option.{option_and_then, option_map}
-use Rattle.std.specs.List.{AllZip}
+use Rattle.std.{proofs.Common.{◌≡◌, ◌≢◌, ◌⊎◌, inl, inr, ℕ, zero, suc, ◌+◌, ◌-◌, ◌<◌, ◌≤◌, false, Bool, cond, List, [], ◌∷◌, ◌++◌, length, map, take, slice_get, Option, Some, None, refl, sym, ap, ◌∙◌, subst, arith}, specs.Option.{option_and_then, option_map}, specs.List.{AllZip}, proofs.lemmas.Bool.{cases_eq, cases_lt, ne_eqb}, proofs.lemmas.List.Elements.{All-contains}, proofs.lemmas.Option.{slice_get_within, slice_get-map, same_Some, none-some}}
 use Rattle.basic_types.specs.declared.qtype.QType.{QType}
-use Rattle.std.proofs.lemmas.Bool.{cases_eq, cases_lt, ne_eqb}
-use Rattle.std.proofs.lemmas.List.Elements.{All-contains}
-use Rattle.std.proofs.lemmas.Option.{slice_get_within, slice_get-map, same_Some, none-some}
 use Rattle.syntax_trees.specs.declared.syntax.Expr.{Expr}
-use Rattle.meta_model.specs.declared.object.ValueType.{ValueType}
+use Rattle.meta_model.{specs.declared.object.ValueType.{ValueType}, specs.declared.object.MetaRoot.{MetaRoot}, specs.declared.object.MetaRoot.TheVariants.{This, Parameter}, specs.declared.object.Step.{Step}, specs.declared.object.MetaPath.{MetaPath}, specs.declared.object.Statement.{Statement}, specs.declared.object.Statement.TheViews.{out-Statement}, specs.declared.object.Work.{Work}, specs.declared.object.Work.TheVariants.{Signal, Slot, Native}, specs.declared.effects.MetaEffects.{MetaEffects}, specs.declared.object.MetaMethod.{MetaMethod}, specs.declared.object.MetaObject.{MetaObject}, specs.declared.object.MetaProperty.{MetaProperty}, specs.declared.qobject.TheConstants.{DESTROYED, DESTROYED_ALONE, OBJECT_NAME_CHANGED}, specs.Loaded.{Loaded}, specs.Members.{IsClass, IsMethod, IsProperty, Below, same, under}, specs.Root.{root_methods}, specs.Sound.{IsSound, HasRoot, this_has, parameter_has, Leads, here, on, LeadsToClass, IsSoundStatement, set_sound, emit_sound, call_sound, if_sound, delete_sound, group_sound, AreSound, next_sound, IsSoundWork, IsPlainProperty, IsPlainSignal, AreSoundEffects, IsSoundMethod, IsSoundSource}, specs.Kinds.{IsKind}, proofs.InLists.{place_in}, specs.Sites.{paths_in}, proofs.Zips.{get_front, zip_right}}
 use Rattle.meta_model.specs.declared.object.ValueType.TheVariants as type
-use Rattle.meta_model.specs.declared.object.MetaRoot.{MetaRoot}
-use Rattle.meta_model.specs.declared.object.MetaRoot.TheVariants.{This, Parameter}
-use Rattle.meta_model.specs.declared.object.Step.{Step}
-use Rattle.meta_model.specs.declared.object.MetaPath.{MetaPath}
-use Rattle.meta_model.specs.declared.object.Statement.{Statement}
 use Rattle.meta_model.specs.declared.object.Statement.TheOpen as layer
-use Rattle.meta_model.specs.declared.object.Statement.TheViews.{out-Statement}
-use Rattle.meta_model.specs.declared.object.Work.{Work}
-use Rattle.meta_model.specs.declared.object.Work.TheVariants.{Signal, Slot, Native}
-use Rattle.meta_model.specs.declared.effects.MetaEffects.{MetaEffects}
-use Rattle.meta_model.specs.declared.object.MetaMethod.{MetaMethod}
-use Rattle.meta_model.specs.declared.object.MetaObject.{MetaObject}
-use Rattle.meta_model.specs.declared.object.MetaProperty.{MetaProperty}
-use Rattle.meta_model.specs.declared.qobject.TheConstants.{DESTROYED, DESTROYED_ALONE, OBJECT_NAME_CHANGED}
-use Rattle.meta_model.specs.Loaded.{Loaded}
-use Rattle.meta_model.specs.Members.{IsClass, IsMethod, IsProperty, Below, same, under}
-use Rattle.meta_model.specs.Root.{root_methods}
-use Rattle.meta_model.specs.Sound.{IsSound, HasRoot, this_has, parameter_has, Leads, here, on, LeadsToClass, IsSoundStatement, set_sound, emit_sound, call_sound, if_sound, delete_sound, group_sound, AreSound, next_sound, IsSoundWork, IsPlainProperty, IsPlainSignal, AreSoundEffects, IsSoundMethod, IsSoundSource}
-use Rattle.meta_model.specs.Kinds.{IsKind}
-use Rattle.meta_model.proofs.InLists.{place_in}
-use Rattle.meta_model.specs.Sites.{paths_in}
-use Rattle.meta_model.proofs.Zips.{get_front, zip_right}
-use Rattle.effect_scan.specs.declared.node.Node.{Node}
-use Rattle.effect_scan.specs.declared.node.Member.{Member}
+use Rattle.effect_scan.{specs.declared.node.Node.{Node}, specs.declared.node.Member.{Member}, specs.declared.effect.Reach.{Reach}, specs.declared.effect.Effect.{Effect}, specs.Nodes.{node, named, shape_of, class_nodes, nodes_from}, specs.Numbering.{IsPlaceIn}, specs.Effects.{reach_of_type, reach_of_root, reach_after, reach_of, effect_on, effect_of, Occurs, here as first, after, chosen, otherwise, grouped, NativeHas, WorkHas}, specs.Destroying.{Closure, itself, child}, specs.Edges.{AtOrBelow, ReachedAs, by_work, by_wire, by_notify, by_site, by_destruction}, specs.Laws.{IsNode, EdgesJoinNodes}, proofs.Numbered.{stands, stands_after, place_low}, proofs.Relating.{below_first, below_last, is_class}, proofs.Whole.{made}}
 use Rattle.effect_scan.specs.declared.node.Member.TheVariants as member
-use Rattle.effect_scan.specs.declared.effect.Reach.{Reach}
 use Rattle.effect_scan.specs.declared.effect.Reach.TheVariants as reach
-use Rattle.effect_scan.specs.declared.effect.Effect.{Effect}
-use Rattle.effect_scan.specs.Nodes.{node, named, shape_of, class_nodes, nodes_from}
-use Rattle.effect_scan.specs.Numbering.{IsPlaceIn}
-use Rattle.effect_scan.specs.Effects.{reach_of_type, reach_of_root, reach_after, reach_of, effect_on, effect_of, Occurs, here as first, after, chosen, otherwise, grouped, NativeHas, WorkHas}
-use Rattle.effect_scan.specs.Destroying.{Closure, itself, child}
-use Rattle.effect_scan.specs.Edges.{AtOrBelow, ReachedAs, by_work, by_wire, by_notify, by_site, by_destruction}
-use Rattle.effect_scan.specs.Laws.{IsNode, EdgesJoinNodes}
-use Rattle.effect_scan.proofs.Numbered.{stands, stands_after, place_low}
-use Rattle.effect_scan.proofs.Relating.{below_first, below_last, is_class}
-use Rattle.effect_scan.proofs.Whole.{made}
 
 -- ---- signals by their numbers
 pub named_cases : (m : ℕ) → ((m ≡ DESTROYED_ALONE) × (named m ≡ DESTROYED)) ⊎ ((m ≢ DESTROYED_ALONE) × (named m ≡ m))

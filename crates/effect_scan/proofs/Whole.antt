@@ -1,26 +1,8 @@
 -- The edges between nodes, by their numbers.
-use Rattle.std.proofs.Common.{◌≡◌, ◌⊎◌, inl, inr, ℕ, List, [], length, replicate, refl, sym, ap, ◌∙◌, subst}
-use Rattle.std.specs.List.{Contains}
-use Rattle.std.proofs.lemmas.List.{length-replicate}
-use Rattle.std.proofs.lemmas.Option.{slice_get-get_or, get_or_from_slice_get}
-use Rattle.meta_model.specs.declared.qobject.TheConstants.{DESTROYED}
-use Rattle.meta_model.specs.Loaded.{Loaded}
-use Rattle.meta_model.proofs.InLists.{in_list, place_in}
-use Rattle.effect_scan.specs.declared.node.Node.{Node}
-use Rattle.effect_scan.specs.declared.node.Member.{Member}
-use Rattle.effect_scan.specs.declared.node.Member.TheVariants.{Method, Property, Destruction}
-use Rattle.effect_scan.specs.declared.effect.Reach.{Reach}
+use Rattle.std.{proofs.Common.{◌≡◌, ◌⊎◌, inl, inr, ℕ, List, [], length, replicate, refl, sym, ap, ◌∙◌, subst}, specs.List.{Contains}, proofs.lemmas.List.{length-replicate}, proofs.lemmas.Option.{slice_get-get_or, get_or_from_slice_get}}
+use Rattle.meta_model.{specs.declared.qobject.TheConstants.{DESTROYED}, specs.Loaded.{Loaded}, proofs.InLists.{in_list, place_in}}
+use Rattle.effect_scan.{specs.declared.node.Node.{Node}, specs.declared.node.Member.{Member}, specs.declared.node.Member.TheVariants.{Method, Property, Destruction}, specs.declared.effect.Reach.{Reach}, specs.declared.places.Places.{Places}, specs.Nodes.{node, named, nodes_of, IsAt}, specs.Rows.{row, Edge}, specs.code.Adding.{Adds, AreOrdered}, specs.code.Places.{InBelow, ReachedBy, ArePlaces}, specs.Destroying.{AreClosures}, specs.Edges.{AtOrBelow, ReachedAs, ByWork, ByWire, ByNotify, BySite, ByDestruction, MayLead, by_work, by_wire, by_notify, by_site, by_destruction, LeadsAt}, specs.code.Leading.{WiresLead, WorksLead, NotifiersLead, SitesLead, ClosuresLead}, specs.Scans.{AreEdges}, proofs.Adding.{edge_inside, empty_edge}}
 use Rattle.effect_scan.specs.declared.effect.Reach.TheVariants as reach
-use Rattle.effect_scan.specs.declared.places.Places.{Places}
-use Rattle.effect_scan.specs.Nodes.{node, named, nodes_of, IsAt}
-use Rattle.effect_scan.specs.Rows.{row, Edge}
-use Rattle.effect_scan.specs.code.Adding.{Adds, AreOrdered}
-use Rattle.effect_scan.specs.code.Places.{InBelow, ReachedBy, ArePlaces}
-use Rattle.effect_scan.specs.Destroying.{AreClosures}
-use Rattle.effect_scan.specs.Edges.{AtOrBelow, ReachedAs, ByWork, ByWire, ByNotify, BySite, ByDestruction, MayLead, by_work, by_wire, by_notify, by_site, by_destruction, LeadsAt}
-use Rattle.effect_scan.specs.code.Leading.{WiresLead, WorksLead, NotifiersLead, SitesLead, ClosuresLead}
-use Rattle.effect_scan.specs.Scans.{AreEdges}
-use Rattle.effect_scan.proofs.Adding.{edge_inside, empty_edge}
 
 -- a member of class c is that node
 pub made : (x : Node) (c : ℕ) (member : Member) → x.class ≡ c → x.member ≡ member → node c member ≡ x

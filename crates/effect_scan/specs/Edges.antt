@@ -1,25 +1,9 @@
 -- What may be done at once by what (docs/certificate.md, "Edges").
-use Rattle.std.specs.Prelude.{◌≡◌, ◌≢◌, ℕ, Some, slice_get}
-use Rattle.std.specs.List.{Contains}
+use Rattle.std.specs.{Prelude.{◌≡◌, ◌≢◌, ℕ, Some, slice_get}, List.{Contains}}
 use Rattle.basic_types.specs.declared.kind.Kind.TheVariants.{Queued}
-use Rattle.meta_model.specs.declared.qobject.TheConstants.{DESTROYED}
-use Rattle.meta_model.specs.declared.object.MetaMethod.{MetaMethod}
-use Rattle.meta_model.specs.declared.object.MetaProperty.{MetaProperty}
-use Rattle.meta_model.specs.declared.object.MetaWire.{MetaWire}
-use Rattle.meta_model.specs.declared.site.SourceProperty.{SourceProperty}
-use Rattle.meta_model.specs.declared.site.MetaSite.{MetaSite}
-use Rattle.meta_model.specs.Loaded.{Loaded}
-use Rattle.meta_model.specs.Members.{IsMethod, IsProperty, Below, IsIn}
-use Rattle.meta_model.specs.Sites.{paths_in}
-use Rattle.effect_scan.specs.declared.node.Node.{Node}
-use Rattle.effect_scan.specs.declared.node.Member.{Member}
-use Rattle.effect_scan.specs.declared.node.Member.TheVariants.{Method, Property, Destruction}
-use Rattle.effect_scan.specs.declared.effect.Reach.{Reach}
+use Rattle.meta_model.specs.{declared.qobject.TheConstants.{DESTROYED}, declared.object.MetaMethod.{MetaMethod}, declared.object.MetaProperty.{MetaProperty}, declared.object.MetaWire.{MetaWire}, declared.site.SourceProperty.{SourceProperty}, declared.site.MetaSite.{MetaSite}, Loaded.{Loaded}, Members.{IsMethod, IsProperty, Below, IsIn}, Sites.{paths_in}}
+use Rattle.effect_scan.specs.{declared.node.Node.{Node}, declared.node.Member.{Member}, declared.node.Member.TheVariants.{Method, Property, Destruction}, declared.effect.Reach.{Reach}, declared.effect.Effect.{Effect}, Nodes.{node, named, nodes_of, IsAt}, Effects.{WorkHas}, Destroying.{Closure}}
 use Rattle.effect_scan.specs.declared.effect.Reach.TheVariants as reach
-use Rattle.effect_scan.specs.declared.effect.Effect.{Effect}
-use Rattle.effect_scan.specs.Nodes.{node, named, nodes_of, IsAt}
-use Rattle.effect_scan.specs.Effects.{WorkHas}
-use Rattle.effect_scan.specs.Destroying.{Closure}
 
 -- this member, in the class or in one below it
 pub record AtOrBelow (p : Loaded) (c : ℕ) (member : Member) (x : Node) : Type 0 where

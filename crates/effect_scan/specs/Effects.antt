@@ -1,25 +1,10 @@
 -- What the statements of a body and the actions of a native do at once, and to which objects (docs/certificate.md, "Edges").
-use Rattle.std.specs.Prelude.{◌≡◌, ◌↔◌, ◌⊎◌, ℕ, List, ◌∷◌, Option, None, Some}
-use Rattle.std.specs.Option.{option_and_then, option_map}
-use Rattle.std.specs.List.{Contains}
+use Rattle.std.specs.{Prelude.{◌≡◌, ◌↔◌, ◌⊎◌, ℕ, List, ◌∷◌, Option, None, Some}, Option.{option_and_then, option_map}, List.{Contains}}
 use Rattle.syntax_trees.specs.declared.syntax.Expr.{Expr}
-use Rattle.meta_model.specs.declared.object.ValueType.{ValueType}
+use Rattle.meta_model.specs.{declared.object.ValueType.{ValueType}, declared.object.MetaRoot.{MetaRoot}, declared.object.Step.{Step}, declared.object.MetaPath.{MetaPath}, declared.object.Statement.{Statement}, declared.object.Statement.TheViews.{out-Statement}, declared.object.Work.{Work}, declared.effects.MetaEffects.{MetaEffects}, declared.object.Work.TheVariants.{Signal, Slot, Native}}
 use Rattle.meta_model.specs.declared.object.ValueType.TheVariants as type
-use Rattle.meta_model.specs.declared.object.MetaRoot.{MetaRoot}
-use Rattle.meta_model.specs.declared.object.Step.{Step}
-use Rattle.meta_model.specs.declared.object.MetaPath.{MetaPath}
-use Rattle.meta_model.specs.declared.object.Statement.{Statement}
 use Rattle.meta_model.specs.declared.object.Statement.TheOpen as layer
-use Rattle.meta_model.specs.declared.object.Statement.TheViews.{out-Statement}
-use Rattle.meta_model.specs.declared.object.Work.{Work}
-use Rattle.meta_model.specs.declared.effects.MetaEffects.{MetaEffects}
-use Rattle.meta_model.specs.declared.object.Work.TheVariants.{Signal, Slot, Native}
-use Rattle.effect_scan.specs.declared.node.Member.{Member}
-use Rattle.effect_scan.specs.declared.node.Member.TheVariants.{Method, Property, Destruction}
-use Rattle.effect_scan.specs.declared.effect.Reach.{Reach}
-use Rattle.effect_scan.specs.declared.effect.Reach.TheVariants.{Own, Below}
-use Rattle.effect_scan.specs.declared.effect.Effect.{Effect}
-use Rattle.effect_scan.specs.Paths.{of_root, of_last, of_path}
+use Rattle.effect_scan.specs.{declared.node.Member.{Member}, declared.node.Member.TheVariants.{Method, Property, Destruction}, declared.effect.Reach.{Reach}, declared.effect.Reach.TheVariants.{Own, Below}, declared.effect.Effect.{Effect}, Paths.{of_root, of_last, of_path}}
 
 -- ---- the objects that a path may lead to
 -- objects of the type's class or below it

@@ -1,31 +1,12 @@
 -- The type of an expression from those of its parts, and its value.
-use Rattle.std.proofs.Common.{◌≡◌, ℕ, not, true, List, inl, inr, Option, Some, None, ap, sym, ◌∙◌, subst, refl}
-use Rattle.std.specs.Option.{option_and_then, option_map}
-use Rattle.std.specs.Prelude.{neg_ℤ}
-use Rattle.std.specs.Int.{saturate_signed, w32}
-use Rattle.std.proofs.lemmas.Option.{same_Some}
-use Rattle.std.proofs.lemmas.Bool.{false≢true}
-use Rattle.basic_types.specs.declared.value.Value.{Value}
+use Rattle.std.{proofs.Common.{◌≡◌, ℕ, not, true, List, inl, inr, Option, Some, None, ap, sym, ◌∙◌, subst, refl}, specs.Option.{option_and_then, option_map}, specs.Prelude.{neg_ℤ}, specs.Int.{saturate_signed, w32}, proofs.lemmas.Option.{same_Some}, proofs.lemmas.Bool.{false≢true}}
+use Rattle.basic_types.specs.{declared.value.Value.{Value}, declared.qtype.QType.{QType}, Normal.{pointer_type}, Values.{Has, number_has, truth_has, text_has, null_has, object_has}}
 use Rattle.basic_types.specs.declared.value.Value.TheVariants as value
-use Rattle.basic_types.specs.declared.qtype.QType.{QType}
-use Rattle.basic_types.specs.Normal.{pointer_type}
-use Rattle.basic_types.specs.Values.{Has, number_has, truth_has, text_has, null_has, object_has}
-use Rattle.syntax_trees.specs.declared.syntax.Unary.{Unary}
-use Rattle.syntax_trees.specs.declared.syntax.Unary.TheVariants.{Not, Minus}
-use Rattle.syntax_trees.specs.declared.syntax.Binary.{Binary}
-use Rattle.syntax_trees.specs.declared.syntax.Binary.TheVariants.{Add, Subtract, Multiply, Less, AtMost, Greater, AtLeast, Equal, Different, And, Or}
-use Rattle.syntax_trees.specs.declared.syntax.Expr.{Expr}
+use Rattle.syntax_trees.specs.{declared.syntax.Unary.{Unary}, declared.syntax.Unary.TheVariants.{Not, Minus}, declared.syntax.Binary.{Binary}, declared.syntax.Binary.TheVariants.{Add, Subtract, Multiply, Less, AtMost, Greater, AtLeast, Equal, Different, And, Or}, declared.syntax.Expr.{Expr}, declared.syntax.Expr.TheViews.{roll-Expr}, declared.syntax.Expr.TheFolds.{fold-roll-Expr, ind-Expr, map-Expr}}
 use Rattle.syntax_trees.specs.declared.syntax.Expr.TheVariants as e
 use Rattle.syntax_trees.specs.declared.syntax.Expr.TheOpen as layer
-use Rattle.syntax_trees.specs.declared.syntax.Expr.TheViews.{roll-Expr}
-use Rattle.syntax_trees.specs.declared.syntax.Expr.TheFolds.{fold-roll-Expr, ind-Expr, map-Expr}
-use Rattle.expressions.specs.declared.sort.Sort.{Sort}
+use Rattle.expressions.specs.{declared.sort.Sort.{Sort}, declared.typing.ExprType.{ExprType}, declared.typing.ExprType.TheVariants.{Null, Of}, Operators.{unary, binary}, Evaluation.{value, value_step}, Typing.{value_sort, sort_of, declared_sort, type_of_sort, unary_sort, binary_sort, literal_type, type_step, type_of, declared_types, IsOf, HasValueOf, TypedPaths, Accepts, TakesValues}}
 use Rattle.expressions.specs.declared.sort.Sort.TheVariants as sort
-use Rattle.expressions.specs.declared.typing.ExprType.{ExprType}
-use Rattle.expressions.specs.declared.typing.ExprType.TheVariants.{Null, Of}
-use Rattle.expressions.specs.Operators.{unary, binary}
-use Rattle.expressions.specs.Evaluation.{value, value_step}
-use Rattle.expressions.specs.Typing.{value_sort, sort_of, declared_sort, type_of_sort, unary_sort, binary_sort, literal_type, type_step, type_of, declared_types, IsOf, HasValueOf, TypedPaths, Accepts, TakesValues}
 
 pub type_of-Literal : {P : Type 0} (kinds : P → Option QType) (v : Value) → type_of kinds (e.Literal v) ≡ literal_type v
 type_of-Literal {P} kinds v = ap (type_of kinds) (sym (e.rolls-Literal v)) ∙ fold-roll-Expr P (Option ExprType) (type_step kinds) (layer.Literal v)

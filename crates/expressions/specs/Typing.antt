@@ -1,25 +1,10 @@
 -- The types of expressions (docs/language.md, "Types").
-use Rattle.std.specs.Prelude.{◌≡◌, ◌⊎◌, if◌then◌else◌, ℕ, true, false, List, Option, Some, None, codes}
-use Rattle.std.specs.Option.{option_and_then, option_map}
-use Rattle.basic_types.specs.declared.value.Value.{Value}
+use Rattle.std.specs.{Prelude.{◌≡◌, ◌⊎◌, if◌then◌else◌, ℕ, true, false, List, Option, Some, None, codes}, Option.{option_and_then, option_map}}
+use Rattle.basic_types.specs.{declared.value.Value.{Value}, declared.qtype.QType.{QType}, Normal.{pointer_type}, Types.{value_type}, Values.{Types, Has}}
 use Rattle.basic_types.specs.declared.value.Value.TheVariants as value
-use Rattle.basic_types.specs.declared.qtype.QType.{QType}
-use Rattle.basic_types.specs.Normal.{pointer_type}
-use Rattle.basic_types.specs.Types.{value_type}
-use Rattle.basic_types.specs.Values.{Types, Has}
-use Rattle.syntax_trees.specs.declared.syntax.Unary.{Unary}
-use Rattle.syntax_trees.specs.declared.syntax.Unary.TheVariants.{Not, Minus}
-use Rattle.syntax_trees.specs.declared.syntax.Binary.{Binary}
-use Rattle.syntax_trees.specs.declared.syntax.Binary.TheVariants.{Add, Subtract, Multiply, Less, AtMost, Greater, AtLeast, Equal, Different, And, Or}
-use Rattle.syntax_trees.specs.declared.syntax.Expr.{Expr}
+use Rattle.syntax_trees.specs.{declared.syntax.Unary.{Unary}, declared.syntax.Unary.TheVariants.{Not, Minus}, declared.syntax.Binary.{Binary}, declared.syntax.Binary.TheVariants.{Add, Subtract, Multiply, Less, AtMost, Greater, AtLeast, Equal, Different, And, Or}, declared.syntax.Expr.{Expr}, declared.syntax.Expr.TheFolds.{fold-Expr}}
 use Rattle.syntax_trees.specs.declared.syntax.Expr.TheOpen as layer
-use Rattle.syntax_trees.specs.declared.syntax.Expr.TheFolds.{fold-Expr}
-use Rattle.expressions.specs.declared.sort.Sort.{Sort}
-use Rattle.expressions.specs.declared.sort.Sort.TheVariants.{Int, Bool as Truth, Text, Reference}
-use Rattle.expressions.specs.declared.typing.ExprType.{ExprType}
-use Rattle.expressions.specs.declared.typing.ExprType.TheVariants.{Null, Of}
-use Rattle.expressions.specs.Evaluation.{value as value_of}
-use Rattle.expressions.specs.Operators.{same_text}
+use Rattle.expressions.specs.{declared.sort.Sort.{Sort}, declared.sort.Sort.TheVariants.{Int, Bool as Truth, Text, Reference}, declared.typing.ExprType.{ExprType}, declared.typing.ExprType.TheVariants.{Null, Of}, Evaluation.{value as value_of}, Operators.{same_text}}
 
 -- the sort of a value
 abbrev pub value_sort : Value → Sort

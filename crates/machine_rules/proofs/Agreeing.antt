@@ -1,58 +1,16 @@
 -- After a rule that is well properties and bindings agree, if they did before it.
-use Rattle.std.proofs.Common.{◌≡◌, ℕ, Bool, true, false, not, cond, List, [], ◌∷◌, length, take, All, Result, Ok, Err, Option, Some, None, sym, ap, ◌∙◌, subst, inl, inr}
-use Rattle.std.proofs.lemmas.List.Elements.{All-push}
-use Rattle.std.specs.List.{find}
+use Rattle.std.{proofs.Common.{◌≡◌, ℕ, Bool, true, false, not, cond, List, [], ◌∷◌, length, take, All, Result, Ok, Err, Option, Some, None, sym, ap, ◌∙◌, subst, inl, inr}, proofs.lemmas.List.Elements.{All-push}, specs.List.{find}}
 use Rattle.basic_types.specs.declared.value.Value.{Value}
-use Rattle.syntax_trees.specs.declared.connection.ConnectionType.{ConnectionType}
-use Rattle.syntax_trees.specs.declared.connection.Endpoints.{Endpoints as Named}
-use Rattle.meta_model.specs.declared.object.MetaMethod.{MetaMethod}
-use Rattle.meta_model.specs.declared.object.Work.{Work}
-use Rattle.meta_model.specs.declared.object.Work.TheVariants.{Signal, Slot, Native}
-use Rattle.meta_model.specs.Loaded.{Loaded}
-use Rattle.meta_model.specs.Members.{IsClass}
-use Rattle.meta_model.specs.Sound.{IsPlain}
+use Rattle.syntax_trees.specs.{declared.connection.ConnectionType.{ConnectionType}, declared.connection.Endpoints.{Endpoints as Named}}
+use Rattle.meta_model.specs.{declared.object.MetaMethod.{MetaMethod}, declared.object.Work.{Work}, declared.object.Work.TheVariants.{Signal, Slot, Native}, Loaded.{Loaded}, Members.{IsClass}, Sound.{IsPlain}}
 use Rattle.connections.specs.declared.connection.Connection.{Connection}
-use Rattle.event_loops.specs.declared.item.Item.{Item}
-use Rattle.event_loops.specs.declared.item.Item.TheVariants.{Call, Deletion}
-use Rattle.event_loops.specs.declared.item.Posted.{Posted}
-use Rattle.event_loops.specs.Queues.{items_at, is_before, taken_before}
-use Rattle.object_tree.specs.declared.life.Life.{Life}
-use Rattle.object_tree.specs.declared.object.Object.{Object}
-use Rattle.object_tree.specs.Objects.{life_of}
-use Rattle.object_tree.specs.Typed.{AreTyped}
-use Rattle.object_tree.proofs.Changing.{life-of-lives}
-use Rattle.binding_graph.specs.declared.binding.Binding.{Binding}
-use Rattle.binding_graph.specs.declared.place.Place.{Place}
-use Rattle.binding_graph.specs.Bindings.{binding_at, without, without_all, replaced}
-use Rattle.prop_bindings.specs.Changes.{places_in}
-use Rattle.machine_state.specs.Telling.{Assigning, writes_of}
-use Rattle.prop_bindings.specs.Fits.{IsFit, IsInOneLoop, Agree}
-use Rattle.binding_graph.specs.Places.{same_place}
-use Rattle.binding_graph.proofs.Apart.{apart-replaced}
-use Rattle.prop_bindings.proofs.Fitting.{all-stay}
-use Rattle.prop_bindings.proofs.Alive.{lives-on}
-use Rattle.binding_graph.proofs.Replaced.{without-at, push-none}
-use Rattle.prop_bindings.proofs.Homes.{joined-stays, all-joined}
-use Rattle.prop_bindings.proofs.Leaving.{agree-fewer, left_agree}
-use Rattle.binding_graph.proofs.Places.{same_place-refl}
-use Rattle.machine_state.specs.declared.endpoints.Endpoints.{Endpoints}
+use Rattle.event_loops.specs.{declared.item.Item.{Item}, declared.item.Item.TheVariants.{Call, Deletion}, declared.item.Posted.{Posted}, Queues.{items_at, is_before, taken_before}}
+use Rattle.object_tree.{specs.declared.life.Life.{Life}, specs.declared.object.Object.{Object}, specs.Objects.{life_of}, specs.Typed.{AreTyped}, proofs.Changing.{life-of-lives}}
+use Rattle.binding_graph.{specs.declared.binding.Binding.{Binding}, specs.declared.place.Place.{Place}, specs.Bindings.{binding_at, without, without_all, replaced}, specs.Places.{same_place}, proofs.Apart.{apart-replaced}, proofs.Replaced.{without-at, push-none}, proofs.Places.{same_place-refl}}
+use Rattle.prop_bindings.{specs.Changes.{places_in}, specs.Fits.{IsFit, IsInOneLoop, Agree}, proofs.Fitting.{all-stay}, proofs.Alive.{lives-on}, proofs.Homes.{joined-stays, all-joined}, proofs.Leaving.{agree-fewer, left_agree}}
+use Rattle.machine_state.specs.{Telling.{Assigning, writes_of}, declared.endpoints.Endpoints.{Endpoints}, declared.turn.Turn.{Turn}, Connections.{is_living, next_used}, State.{Step, State, Activation, Body, Emit, Update, Destroy}, Turns.{running, reaches_at_once}}
 use Rattle.trace_entries.specs.declared.refusal.Refusal.{Refusal}
-use Rattle.machine_state.specs.declared.turn.Turn.{Turn}
-use Rattle.machine_state.specs.Connections.{is_living, next_used}
-use Rattle.machine_state.specs.State.{Step, State, Activation, Body, Emit, Update, Destroy}
-use Rattle.machine_state.specs.Turns.{running, reaches_at_once}
-use Rattle.machine_rules.specs.Connecting.{kept_ends, names_of}
-use Rattle.machine_rules.specs.Destroying.{Dies, NextRule, ChildRule, DestroyRule, living_child, Schedules}
-use Rattle.machine_rules.specs.Operations.{Operation, Write, Begin, Choose, Connect, Disconnect, Delete, Schedule, TakeAnswer, Nothing}
-use Rattle.machine_rules.specs.Good.{IsWell, IsAcyclic}
-use Rattle.machine_rules.specs.Rules.{RuleAt, BodyRule, Does, EmitRule, UpdateRule, NotifiesIf, TurnRule, Serves, Delivers, Arrives, BeginsIf, begun, with_used, linked, unlinked}
-use Rattle.machine_rules.specs.code.Going.{GoodRules, done, then}
-use Rattle.machine_rules.specs.Settling.{Writes, Installs}
-use Rattle.machine_rules.specs.There.{IsField}
-use Rattle.machine_rules.proofs.Fields.{old-there, stored-reads}
-use Rattle.machine_rules.proofs.Differing.{scheduled-agree}
-use Rattle.machine_rules.specs.Natives.{NativeAnswers}
-use Rattle.machine_rules.proofs.Scheduling.{schedule-cases}
+use Rattle.machine_rules.{specs.Connecting.{kept_ends, names_of}, specs.Destroying.{Dies, NextRule, ChildRule, DestroyRule, living_child, Schedules}, specs.Operations.{Operation, Write, Begin, Choose, Connect, Disconnect, Delete, Schedule, TakeAnswer, Nothing}, specs.Good.{IsWell, IsAcyclic}, specs.Rules.{RuleAt, BodyRule, Does, EmitRule, UpdateRule, NotifiesIf, TurnRule, Serves, Delivers, Arrives, BeginsIf, begun, with_used, linked, unlinked}, specs.code.Going.{GoodRules, done, then}, specs.Settling.{Writes, Installs}, specs.There.{IsField}, proofs.Fields.{old-there, stored-reads}, proofs.Differing.{scheduled-agree}, specs.Natives.{NativeAnswers}, proofs.Scheduling.{schedule-cases}}
 
 -- a binding that replaces another stands
 replaced-at : (bs : List Binding) (b : Binding) → binding_at (replaced bs b) b.target ≡ Some b

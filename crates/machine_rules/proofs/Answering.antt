@@ -1,25 +1,13 @@
 -- Natives that have one answer to one question lead to one state.
-use Rattle.std.proofs.Common.{◌≡◌, ℕ, List, [], ◌∷◌, ◌++◌, map, refl, sym, ap, ◌∙◌, subst}
-use Rattle.std.specs.List.{AllZip}
+use Rattle.std.{proofs.Common.{◌≡◌, ℕ, List, [], ◌∷◌, ◌++◌, map, refl, sym, ap, ◌∙◌, subst}, specs.List.{AllZip}}
 use Rattle.basic_types.specs.declared.value.Value.{Value}
-use Rattle.meta_model.specs.declared.object.MetaMethod.{MetaMethod}
-use Rattle.meta_model.specs.declared.object.MetaObject.{MetaObject}
-use Rattle.meta_model.specs.declared.object.MetaProperty.{MetaProperty}
-use Rattle.meta_model.specs.Loaded.{Loaded}
-use Rattle.meta_model.specs.Members.{IsClass}
-use Rattle.object_tree.specs.declared.life.Life.{Life}
-use Rattle.object_tree.specs.declared.object.Object.{Object}
-use Rattle.meta_model.specs.declared.effects.MetaEffects.{MetaEffects}
+use Rattle.meta_model.specs.{declared.object.MetaMethod.{MetaMethod}, declared.object.MetaObject.{MetaObject}, declared.object.MetaProperty.{MetaProperty}, Loaded.{Loaded}, Members.{IsClass}, declared.effects.MetaEffects.{MetaEffects}}
+use Rattle.object_tree.specs.{declared.life.Life.{Life}, declared.object.Object.{Object}}
 use Rattle.native_slots.specs.declared.action.Action.{Action}
-use Rattle.trace_entries.specs.declared.entry.ShownAction.{ShownAction}
+use Rattle.trace_entries.specs.{declared.entry.ShownAction.{ShownAction}, declared.entry.EntryKind.TheVariants.{Answered}}
 use Rattle.trace_entries.specs.declared.entry.ShownAction.TheVariants as show
-use Rattle.trace_entries.specs.declared.entry.EntryKind.TheVariants.{Answered}
-use Rattle.machine_state.specs.Objects.{shown, all_shown}
-use Rattle.machine_state.specs.State.{Step, Act, State, Activation, Body}
-use Rattle.machine_rules.specs.Natives.{NativeAnswers, AnswersOnce, DeclaredBy, own, inherited, MayAnswer, IsShownAs, set_shown, emit_shown, AreShownAs}
-use Rattle.machine_rules.specs.There.{IsMember, IsField}
-use Rattle.machine_rules.specs.Rules.{Answers, told}
-use Rattle.machine_rules.proofs.Fields.{some-is, class-unique, life-unique, member-method, field-property}
+use Rattle.machine_state.specs.{Objects.{shown, all_shown}, State.{Step, Act, State, Activation, Body}}
+use Rattle.machine_rules.{specs.Natives.{NativeAnswers, AnswersOnce, DeclaredBy, own, inherited, MayAnswer, IsShownAs, set_shown, emit_shown, AreShownAs}, specs.There.{IsMember, IsField}, specs.Rules.{Answers, told}, proofs.Fields.{some-is, class-unique, life-unique, member-method, field-property}}
 
 -- two lists that stand to a third one by a relation with one answer
 pub zip-one : {X Y : Type 0} {R : X → Y → Type 0} → ((x : X) (a b : Y) → R x a → R x b → a ≡ b) → (xs : List X) (ys zs : List Y) → AllZip R xs ys → AllZip R xs zs → ys ≡ zs

@@ -1,25 +1,11 @@
 -- What a connection delivers.
-use Rattle.std.proofs.Common.{◌≡◌, ℕ, ◌+◌, ◌-◌, inl, inr, true, List, ◌++◌, length, take, Option, None, Some, refl, sym, ap, ◌∙◌, subst, ◌≢◌}
-use Rattle.std.specs.List.{AllByRecursion}
+use Rattle.std.{proofs.Common.{◌≡◌, ℕ, ◌+◌, ◌-◌, inl, inr, true, List, ◌++◌, length, take, Option, None, Some, refl, sym, ap, ◌∙◌, subst, ◌≢◌}, specs.List.{AllByRecursion}, specs.Prelude.{is_some}}
 use Rattle.basic_types.specs.declared.value.Value.{Value}
-use Rattle.meta_model.specs.declared.object.MetaMethod.{MetaMethod}
-use Rattle.meta_model.specs.declared.object.ValueType.{ValueType}
-use Rattle.meta_model.specs.Loaded.{Loaded}
+use Rattle.meta_model.specs.{declared.object.MetaMethod.{MetaMethod}, declared.object.ValueType.{ValueType}, Loaded.{Loaded}, declared.qobject.TheConstants.{DESTROYED}}
 use Rattle.connections.specs.declared.connection.Connection.{Connection}
-use Rattle.std.specs.Prelude.{is_some}
-use Rattle.meta_model.specs.declared.qobject.TheConstants.{DESTROYED}
-use Rattle.object_tree.specs.Objects.{Lives, life_of}
-use Rattle.object_tree.proofs.Changing.{lives-of-life}
-use Rattle.object_tree.specs.declared.life.Life.{Life}
-use Rattle.object_tree.specs.declared.object.Object.{Object}
-use Rattle.machine_state.specs.Connections.{is_living, next_used}
-use Rattle.machine_state.proofs.Due.{used-among, used-due, used-living}
-use Rattle.object_tree.specs.Typed.{ReadAs}
-use Rattle.machine_rules.specs.Good.{ArgumentsFit}
-use Rattle.machine_rules.specs.code.Sound.{Sends, SendsThese, Joined, IsDelivered, MayBeHeard}
-use Rattle.machine_rules.specs.There.{IsMember, IsDead}
-use Rattle.machine_rules.proofs.Dying.{lives-or-dead}
-use Rattle.machine_rules.proofs.Fields.{member-method, method-unique, read-front}
+use Rattle.object_tree.{specs.Objects.{Lives, life_of}, proofs.Changing.{lives-of-life}, specs.declared.life.Life.{Life}, specs.declared.object.Object.{Object}, specs.Typed.{ReadAs}}
+use Rattle.machine_state.{specs.Connections.{is_living, next_used}, proofs.Due.{used-among, used-due, used-living}}
+use Rattle.machine_rules.{specs.Good.{ArgumentsFit}, specs.code.Sound.{Sends, SendsThese, Joined, IsDelivered, MayBeHeard}, specs.There.{IsMember, IsDead}, proofs.Dying.{lives-or-dead}, proofs.Fields.{member-method, method-unique, read-front}}
 
 pub fit-of : {p : Loaded} {objects : List Object} {o m : ℕ} {x : Object} {method : MetaMethod} {arguments : List Value} → IsMember p objects o m x method → ReadAs p objects arguments method.kinds → ArgumentsFit p objects o m arguments
 fit-of {x = x} {method = method} is typed = record { object = x; method = method; is = is; typed = typed }

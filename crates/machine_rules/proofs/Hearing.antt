@@ -1,54 +1,17 @@
 -- A dead object's emissions: once its deletion is over, no connection leads from it, and before that none but its
 -- `destroyed` goes on (`specs/code/Sound.antt`, `MayBeHeard`).
-use Rattle.machine_state.specs.Telling.{Assigning}
-use Rattle.trace_entries.specs.declared.entry.Entry.{Entry}
-use Rattle.std.proofs.Common.{◌≡◌, ◌≢◌, ◌⊎◌, inl, inr, ⊎_elim, ℕ, eqb, ◌||◌, not, Bool, true, false, cond, List, [], ◌∷◌, ◌++◌, length, filter, take, Result, Ok, Err, Option, None, Some, refl, sym, ◌∙◌, subst}
-use Rattle.std.specs.List.{find}
-use Rattle.std.proofs.lemmas.Bool.{cases_eq, eqb-false}
+use Rattle.machine_state.{specs.Telling.{Assigning}, specs.declared.endpoints.Endpoints.{Endpoints}, specs.declared.turn.Turn.{Turn}, specs.declared.world.World.{World}, specs.Connections.{after_use, is_living, joins_these, next_used, parted}, specs.State.{Step, State, Activation, Body, Emit, Update, Destroy}, specs.Turns.{running, reaches_at_once}, proofs.Due.{all-removed, all-used}}
+use Rattle.trace_entries.specs.{declared.entry.Entry.{Entry}, declared.refusal.Refusal.{Refusal}}
+use Rattle.std.{proofs.Common.{◌≡◌, ◌≢◌, ◌⊎◌, inl, inr, ⊎_elim, ℕ, eqb, ◌||◌, not, Bool, true, false, cond, List, [], ◌∷◌, ◌++◌, length, filter, take, Result, Ok, Err, Option, None, Some, refl, sym, ◌∙◌, subst}, specs.List.{find}, proofs.lemmas.Bool.{cases_eq, eqb-false}}
 use Rattle.basic_types.specs.declared.value.Value.{Value}
-use Rattle.syntax_trees.specs.declared.connection.ConnectionType.{ConnectionType}
-use Rattle.syntax_trees.specs.declared.connection.Endpoints.{Endpoints as Named}
-use Rattle.meta_model.specs.declared.qobject.TheConstants.{DESTROYED}
-use Rattle.meta_model.specs.declared.object.MetaMethod.{MetaMethod}
-use Rattle.meta_model.specs.declared.object.Work.{Work}
-use Rattle.meta_model.specs.declared.object.Work.TheVariants.{Signal, Slot, Native}
-use Rattle.meta_model.specs.Loaded.{Loaded}
-use Rattle.connections.specs.declared.connection.Connection.{Connection}
-use Rattle.connections.specs.Connected.{Connected, touches, removed}
-use Rattle.event_loops.specs.declared.item.Item.{Item}
-use Rattle.event_loops.specs.declared.item.Item.TheVariants.{Call, Deletion}
-use Rattle.event_loops.specs.declared.item.Posted.{Posted}
-use Rattle.event_loops.specs.Queues.{Queues, items_at, is_before, taken_before}
-use Rattle.object_tree.specs.declared.life.Life.{Life}
-use Rattle.object_tree.specs.declared.object.Object.{Object}
-use Rattle.object_tree.specs.Family.{without_life}
-use Rattle.object_tree.specs.Objects.{life_of, change_life, scheduled}
-use Rattle.machine_state.specs.declared.endpoints.Endpoints.{Endpoints}
-use Rattle.trace_entries.specs.declared.refusal.Refusal.{Refusal}
-use Rattle.machine_state.specs.declared.turn.Turn.{Turn}
-use Rattle.machine_state.specs.declared.world.World.{World}
-use Rattle.machine_state.specs.Connections.{after_use, is_living, joins_these, next_used, parted}
-use Rattle.machine_state.specs.State.{Step, State, Activation, Body, Emit, Update, Destroy}
-use Rattle.machine_state.specs.Turns.{running, reaches_at_once}
-use Rattle.machine_state.proofs.Due.{all-removed, all-used}
-use Rattle.binding_graph.specs.declared.binding.Binding.{Binding}
-use Rattle.binding_graph.specs.declared.place.Place.{Place}
+use Rattle.syntax_trees.specs.{declared.connection.ConnectionType.{ConnectionType}, declared.connection.Endpoints.{Endpoints as Named}}
+use Rattle.meta_model.specs.{declared.qobject.TheConstants.{DESTROYED}, declared.object.MetaMethod.{MetaMethod}, declared.object.Work.{Work}, declared.object.Work.TheVariants.{Signal, Slot, Native}, Loaded.{Loaded}}
+use Rattle.connections.specs.{declared.connection.Connection.{Connection}, Connected.{Connected, touches, removed}}
+use Rattle.event_loops.specs.{declared.item.Item.{Item}, declared.item.Item.TheVariants.{Call, Deletion}, declared.item.Posted.{Posted}, Queues.{Queues, items_at, is_before, taken_before}}
+use Rattle.object_tree.specs.{declared.life.Life.{Life}, declared.object.Object.{Object}, Family.{without_life}, Objects.{life_of, change_life, scheduled}}
+use Rattle.binding_graph.specs.{declared.binding.Binding.{Binding}, declared.place.Place.{Place}}
 use Rattle.prop_bindings.specs.Changes.{DifferInValues}
-use Rattle.machine_rules.specs.Connecting.{AreThere, kept_ends, names_of}
-use Rattle.machine_rules.specs.Destroying.{Dies, forgotten, NextRule, ChildRule, DestroyRule, living_child, Schedules}
-use Rattle.machine_rules.specs.Natives.{NativeAnswers}
-use Rattle.machine_rules.specs.Operations.{Operation, Write, Begin, Choose, Connect, Disconnect, Delete, Schedule, TakeAnswer, Nothing}
-use Rattle.machine_rules.specs.Rules.{Rule, RuleAt, BodyRule, Does, EmitRule, UpdateRule, NotifiesIf, TurnRule, Serves, Delivers, Arrives, Begins, BeginsIf, begun, with_used, linked, unlinked}
-use Rattle.machine_rules.specs.Settling.{Settles, Writes, Installs}
-use Rattle.machine_rules.specs.There.{IsMember, IsDead}
-use Rattle.machine_rules.specs.code.Going.{GoodRules, done, then}
-use Rattle.machine_rules.specs.Reaches.{Reaches}
-use Rattle.machine_rules.specs.code.Sound.{IsUnheard, MayBeHeard, MayBeHeardIn}
-use Rattle.machine_rules.proofs.Differing.{differ-spared}
-use Rattle.machine_rules.proofs.Dying.{lives-not-dead, other-seen, scheduled-seen}
-use Rattle.machine_rules.proofs.Keeps.{some-stack, some-top, some-by}
-use Rattle.machine_rules.proofs.Lists.{all-snoc}
-use Rattle.machine_rules.proofs.Scheduling.{schedule-cases}
+use Rattle.machine_rules.{specs.Connecting.{AreThere, kept_ends, names_of}, specs.Destroying.{Dies, forgotten, NextRule, ChildRule, DestroyRule, living_child, Schedules}, specs.Natives.{NativeAnswers}, specs.Operations.{Operation, Write, Begin, Choose, Connect, Disconnect, Delete, Schedule, TakeAnswer, Nothing}, specs.Rules.{Rule, RuleAt, BodyRule, Does, EmitRule, UpdateRule, NotifiesIf, TurnRule, Serves, Delivers, Arrives, Begins, BeginsIf, begun, with_used, linked, unlinked}, specs.Settling.{Settles, Writes, Installs}, specs.There.{IsMember, IsDead}, specs.code.Going.{GoodRules, done, then}, specs.Reaches.{Reaches}, specs.code.Sound.{IsUnheard, MayBeHeard, MayBeHeardIn}, proofs.Differing.{differ-spared}, proofs.Dying.{lives-not-dead, other-seen, scheduled-seen}, proofs.Keeps.{some-stack, some-top, some-by}, proofs.Lists.{all-snoc}, proofs.Scheduling.{schedule-cases}}
 
 -- ---- a stack
 

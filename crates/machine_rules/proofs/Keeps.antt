@@ -1,65 +1,16 @@
 -- What each rule leaves as it was.
-use Rattle.machine_state.specs.Telling.{Assigning}
-use Rattle.std.proofs.Common.{◌≡◌, ◌⊎◌, inl, inr, ℕ, suc, ◌+◌, List, [], ◌∷◌, ◌++◌, Option, Some, None, refl, sym, ap, ◌∙◌, subst, arith, Result, Ok, Err, append_assoc, append-nil, ◌<◌, ◌≤◌, Bool, true, false, length, map}
-use Rattle.basic_types.specs.declared.value.Value.{Value}
-use Rattle.meta_model.specs.Loaded.{Loaded}
-use Rattle.meta_model.specs.declared.object.Work.{Work}
-use Rattle.meta_model.specs.declared.object.Work.TheVariants.{Signal, Slot, Native}
-use Rattle.meta_model.specs.declared.object.MetaMethod.{MetaMethod}
-use Rattle.std.specs.List.{AllByRecursion, find}
-use Rattle.event_loops.specs.declared.item.Item.{Item}
-use Rattle.event_loops.specs.declared.item.Item.TheVariants.{Call, Deletion}
-use Rattle.event_loops.specs.declared.item.Posted.{Posted}
-use Rattle.event_loops.specs.Queues.{Loop, Queues, items_at, is_before, posted_to, taken_before, dropped, without_object}
-use Rattle.object_tree.specs.declared.life.Life.{Life}
-use Rattle.object_tree.specs.declared.object.Object.{Object}
-use Rattle.connections.specs.declared.connection.Connection.{Connection}
-use Rattle.machine_state.specs.declared.world.World.{World}
-use Rattle.machine_state.specs.Worlds.{at}
-use Rattle.machine_state.proofs.Due.{last-used, all-used, all-removed}
-use Rattle.binding_graph.specs.declared.place.Place.{Place}
-use Rattle.machine_state.specs.State.{Step, State, Activation, Body, Emit, Update, Destroy}
-use Rattle.machine_rules.specs.Destroying.{Dies, forgotten, NextRule, ChildRule, DestroyRule, living_child, Schedules}
-use Rattle.machine_rules.specs.Rules.{RuleAt, BodyRule, Does, EmitRule, UpdateRule, NotifiesIf, Begins, BeginsIf, begun, with_used, linked, unlinked, TurnRule, Serves, Delivers, Arrives}
-use Rattle.machine_rules.specs.Operations.{Operation, Write, Begin, Choose, Connect, Disconnect, Delete, Schedule, TakeAnswer, Nothing}
-use Rattle.machine_state.specs.Connections.{is_living, next_used, joins_these}
-use Rattle.connections.specs.Connected.{touches}
-use Rattle.machine_state.specs.declared.turn.Turn.{Turn}
-use Rattle.machine_state.specs.Turns.{running, reaches_at_once}
-use Rattle.machine_rules.proofs.Waiting.{length-change, housed-same, home-change}
-use Rattle.meta_model.specs.declared.object.ValueType.{ValueType}
-use Rattle.object_tree.specs.Objects.{Lives, life_of, class_of, change_life, scheduled}
-use Rattle.object_tree.specs.Family.{without_life}
-use Rattle.object_tree.proofs.Changing.{life-of-lives, lives-of-life}
-use Rattle.object_tree.specs.Typed.{ReadAs}
-use Rattle.trace_entries.specs.declared.entry.Entry.{Entry}
-use Rattle.machine_rules.specs.There.{IsMember, IsDead}
-use Rattle.basic_types.specs.Types.{Fits}
-use Rattle.syntax_trees.specs.declared.connection.ConnectionType.{ConnectionType}
-use Rattle.syntax_trees.specs.declared.connection.Endpoints.{Endpoints as Named}
-use Rattle.meta_model.specs.Sound.{IsSound}
-use Rattle.machine_state.specs.declared.endpoints.Endpoints.{Endpoints}
-use Rattle.trace_entries.specs.declared.refusal.Refusal.{Refusal}
-use Rattle.machine_rules.specs.Connecting.{AreThere, kept_ends, named_signal, names_of, found_ends, may_connect}
-use Rattle.machine_rules.specs.Judgement.{goes_on, holds}
-use Rattle.machine_rules.proofs.Fitting.{kinds-fit}
-use Rattle.machine_rules.proofs.Lists.{all-snoc}
-use Rattle.machine_rules.proofs.Declared.{member-takes, member-sends}
-use Rattle.machine_rules.proofs.Dying.{lives-or-dead, lives-not-dead, died-stay, died-home, scheduled-stay}
-use Rattle.machine_rules.specs.code.Going.{GoodRules, done, then}
-use Rattle.machine_rules.specs.code.Sound.{IsDeclared, Receives, Sends, Joined, AgreeIn}
-use Rattle.machine_rules.specs.Reaches.{Reaches}
-use Rattle.machine_rules.specs.Settling.{Settles, Writes, Installs}
-use Rattle.machine_rules.proofs.Agreeing.{rules-settled}
-use Rattle.machine_rules.proofs.Differing.{differ-stay, differ-home}
-use Rattle.binding_graph.specs.declared.binding.Binding.{Binding}
+use Rattle.machine_state.{specs.Telling.{Assigning}, specs.declared.world.World.{World}, specs.Worlds.{at}, proofs.Due.{last-used, all-used, all-removed}, specs.State.{Step, State, Activation, Body, Emit, Update, Destroy}, specs.Connections.{is_living, next_used, joins_these}, specs.declared.turn.Turn.{Turn}, specs.Turns.{running, reaches_at_once}, specs.declared.endpoints.Endpoints.{Endpoints}}
+use Rattle.std.{proofs.Common.{◌≡◌, ◌⊎◌, inl, inr, ℕ, suc, ◌+◌, List, [], ◌∷◌, ◌++◌, Option, Some, None, refl, sym, ap, ◌∙◌, subst, arith, Result, Ok, Err, append_assoc, append-nil, ◌<◌, ◌≤◌, Bool, true, false, length, map}, specs.List.{AllByRecursion, find}, specs.Option.{option_map}}
+use Rattle.basic_types.specs.{declared.value.Value.{Value}, Types.{Fits}}
+use Rattle.meta_model.specs.{Loaded.{Loaded}, declared.object.Work.{Work}, declared.object.Work.TheVariants.{Signal, Slot, Native}, declared.object.MetaMethod.{MetaMethod}, declared.object.ValueType.{ValueType}, Sound.{IsSound}}
+use Rattle.event_loops.specs.{declared.item.Item.{Item}, declared.item.Item.TheVariants.{Call, Deletion}, declared.item.Posted.{Posted}, Queues.{Loop, Queues, items_at, is_before, posted_to, taken_before, dropped, without_object}}
+use Rattle.object_tree.{specs.declared.life.Life.{Life}, specs.declared.object.Object.{Object}, specs.Objects.{Lives, life_of, class_of, change_life, scheduled}, specs.Family.{without_life}, proofs.Changing.{life-of-lives, lives-of-life}, specs.Typed.{ReadAs}, proofs.TypedObjects.{Follow, read-still}}
+use Rattle.connections.specs.{declared.connection.Connection.{Connection}, Connected.{touches}}
+use Rattle.binding_graph.specs.{declared.place.Place.{Place}, declared.binding.Binding.{Binding}}
+use Rattle.machine_rules.{specs.Destroying.{Dies, forgotten, NextRule, ChildRule, DestroyRule, living_child, Schedules}, specs.Rules.{RuleAt, BodyRule, Does, EmitRule, UpdateRule, NotifiesIf, Begins, BeginsIf, begun, with_used, linked, unlinked, TurnRule, Serves, Delivers, Arrives}, specs.Operations.{Operation, Write, Begin, Choose, Connect, Disconnect, Delete, Schedule, TakeAnswer, Nothing}, proofs.Waiting.{length-change, housed-same, home-change}, specs.There.{IsMember, IsDead}, specs.Connecting.{AreThere, kept_ends, named_signal, names_of, found_ends, may_connect}, specs.Judgement.{goes_on, holds}, proofs.Fitting.{kinds-fit}, proofs.Lists.{all-snoc}, proofs.Declared.{member-takes, member-sends}, proofs.Dying.{lives-or-dead, lives-not-dead, died-stay, died-home, scheduled-stay}, specs.code.Going.{GoodRules, done, then}, specs.code.Sound.{IsDeclared, Receives, Sends, Joined, AgreeIn}, specs.Reaches.{Reaches}, specs.Settling.{Settles, Writes, Installs}, proofs.Agreeing.{rules-settled}, proofs.Differing.{differ-stay, differ-home}, specs.code.Keeps.{StayThere, AllJoined, Grows, Keeps, KeepsWorld}, specs.Natives.{NativeAnswers}, specs.Good.{whose, shows}, proofs.Scheduling.{deferred, schedule-cases}}
+use Rattle.trace_entries.specs.{declared.entry.Entry.{Entry}, declared.refusal.Refusal.{Refusal}}
+use Rattle.syntax_trees.specs.{declared.connection.ConnectionType.{ConnectionType}, declared.connection.Endpoints.{Endpoints as Named}}
 use Rattle.prop_bindings.specs.Changes.{DifferInValues}
-use Rattle.machine_rules.specs.code.Keeps.{StayThere, AllJoined, Grows, Keeps, KeepsWorld}
-use Rattle.object_tree.proofs.TypedObjects.{Follow, read-still}
-use Rattle.std.specs.Option.{option_map}
-use Rattle.machine_rules.specs.Natives.{NativeAnswers}
-use Rattle.machine_rules.specs.Good.{whose, shows}
-use Rattle.machine_rules.proofs.Scheduling.{deferred, schedule-cases}
 
 -- ---- objects that stay
 

@@ -1,41 +1,11 @@
 -- What is notified of properties that changed.
-use Rattle.std.proofs.Common.{◌≡◌, ℕ, ◌⊎◌, inl, inr, List, [], ◌∷◌, length, take, cond, Option, Some, None, slice_get, refl, sym, ap, ◌∙◌, subst, arith}
-use Rattle.std.specs.List.{AllByRecursion}
-use Rattle.std.specs.Option.{option_and_then, option_map}
-use Rattle.std.specs.Prelude.{is_some}
+use Rattle.std.{proofs.Common.{◌≡◌, ℕ, ◌⊎◌, inl, inr, List, [], ◌∷◌, length, take, cond, Option, Some, None, slice_get, refl, sym, ap, ◌∙◌, subst, arith}, specs.List.{AllByRecursion}, specs.Option.{option_and_then, option_map}, specs.Prelude.{is_some}}
 use Rattle.basic_types.specs.declared.value.Value.{Value}
-use Rattle.meta_model.specs.declared.object.MetaMethod.{MetaMethod}
-use Rattle.meta_model.specs.declared.object.MetaObject.{MetaObject}
-use Rattle.meta_model.specs.declared.object.MetaProperty.{MetaProperty}
-use Rattle.meta_model.specs.declared.object.ValueType.{ValueType}
-use Rattle.meta_model.specs.declared.object.Work.{Work}
-use Rattle.meta_model.specs.declared.object.Work.TheVariants.{Signal}
-use Rattle.meta_model.specs.Loaded.{Loaded}
-use Rattle.meta_model.specs.Members.{IsClass, property_at}
-use Rattle.meta_model.specs.Sound.{IsSound}
-use Rattle.object_tree.specs.declared.life.Life.{Life}
-use Rattle.object_tree.specs.declared.object.Object.{Object}
-use Rattle.object_tree.specs.Objects.{Lives, life_of, class_of, stored}
-use Rattle.object_tree.specs.Typed.{AreTyped, ReadsAs, ReadAs}
-use Rattle.object_tree.proofs.Changing.{life-of-lives, lives-of-life}
+use Rattle.meta_model.specs.{declared.object.MetaMethod.{MetaMethod}, declared.object.MetaObject.{MetaObject}, declared.object.MetaProperty.{MetaProperty}, declared.object.ValueType.{ValueType}, declared.object.Work.{Work}, declared.object.Work.TheVariants.{Signal}, Loaded.{Loaded}, Members.{IsClass, property_at}, Sound.{IsSound}}
+use Rattle.object_tree.{specs.declared.life.Life.{Life}, specs.declared.object.Object.{Object}, specs.Objects.{Lives, life_of, class_of, stored}, specs.Typed.{AreTyped, ReadsAs, ReadAs}, proofs.Changing.{life-of-lives, lives-of-life}}
 use Rattle.binding_graph.specs.declared.place.Place.{Place}
-use Rattle.machine_state.specs.declared.world.World.{World}
-use Rattle.machine_state.specs.State.{State, Activation, Update}
-use Rattle.machine_state.specs.Worlds.{at}
-use Rattle.machine_rules.specs.Good.{ArgumentsFit}
-use Rattle.machine_rules.specs.code.Keeps.{StayThere}
-use Rattle.machine_rules.specs.Reaches.{Calls}
-use Rattle.machine_rules.specs.Rules.{Notifies, NotifiesIf, begun, UpdateRule}
-use Rattle.machine_rules.specs.Settling.{signal_at, notified}
-use Rattle.machine_rules.specs.There.{IsMember, IsField}
-use Rattle.machine_rules.specs.Writing.{NotifiesBy, HasNotifier, MayNotify, Announces}
-use Rattle.machine_rules.proofs.Delivered.{fit-of}
-use Rattle.machine_rules.proofs.Dying.{lives-created}
-use Rattle.machine_rules.proofs.Fields.{life-unique, member-method, old-there, stored-reads}
-use Rattle.machine_rules.proofs.Keeps.{lived}
-use Rattle.machine_rules.proofs.Lists.{all-weaken}
-use Rattle.machine_rules.proofs.ReachedStates.{not-idle}
-use Rattle.machine_rules.specs.Natives.{NativeAnswers}
+use Rattle.machine_state.specs.{declared.world.World.{World}, State.{State, Activation, Update}, Worlds.{at}}
+use Rattle.machine_rules.{specs.Good.{ArgumentsFit}, specs.code.Keeps.{StayThere}, specs.Reaches.{Calls}, specs.Rules.{Notifies, NotifiesIf, begun, UpdateRule}, specs.Settling.{signal_at, notified}, specs.There.{IsMember, IsField}, specs.Writing.{NotifiesBy, HasNotifier, MayNotify, Announces}, proofs.Delivered.{fit-of}, proofs.Dying.{lives-created}, proofs.Fields.{life-unique, member-method, old-there, stored-reads}, proofs.Keeps.{lived}, proofs.Lists.{all-weaken}, proofs.ReachedStates.{not-idle}, specs.Natives.{NativeAnswers}}
 
 -- ---- the notify signal of a property
 

@@ -1,54 +1,17 @@
 -- From one state at most one follows by a rule.
-use Rattle.std.proofs.Common.{◌≡◌, ℕ, suc, List, [], ◌∷◌, ◌++◌, length, take, Option, Some, None, Result, sym, ap, ◌∙◌, subst, Bool, true, false}
-use Rattle.basic_types.specs.declared.value.Value.{Value}
-use Rattle.meta_model.specs.declared.object.MetaMethod.{MetaMethod}
-use Rattle.meta_model.specs.declared.object.MetaProperty.{MetaProperty}
-use Rattle.meta_model.specs.declared.object.Work.TheVariants.{Signal}
-use Rattle.meta_model.specs.Loaded.{Loaded}
-use Rattle.meta_model.specs.Members.{IsMethod}
-use Rattle.object_tree.specs.declared.life.Life.{Life}
-use Rattle.std.specs.List.{find}
-use Rattle.event_loops.specs.declared.item.Item.{Item}
-use Rattle.event_loops.specs.declared.item.Item.TheVariants.{Call, Deletion}
-use Rattle.event_loops.specs.declared.item.Posted.{Posted}
-use Rattle.event_loops.specs.Queues.{items_at, is_before, taken_before}
-use Rattle.object_tree.specs.declared.object.Object.{Object}
-use Rattle.object_tree.specs.Objects.{life_of}
-use Rattle.connections.specs.declared.connection.Connection.{Connection}
-use Rattle.trace_entries.specs.declared.entry.Entry.{Entry}
-use Rattle.machine_state.specs.declared.changes.telling.Cause.TheVariants.{Bind}
-use Rattle.machine_state.specs.Telling.{AreTold, Assigning, IsAssigningTold, writes_of}
-use Rattle.machine_state.proofs.Told.{assigning-once, told-once}
-use Rattle.binding_graph.specs.declared.binding.Binding.{Binding}
-use Rattle.binding_graph.specs.Bindings.{binding_at, without_all, replaced, Loop}
-use Rattle.prop_bindings.specs.Changes.{places_in}
-use Rattle.prop_bindings.specs.Fits.{Agree}
-use Rattle.prop_bindings.proofs.Once.{written_once, installed_once}
-use Rattle.machine_state.specs.Connections.{is_living, next_used}
-use Rattle.machine_state.specs.declared.turn.Turn.{Turn}
-use Rattle.machine_state.specs.Turns.{running, reaches_at_once}
-use Rattle.binding_graph.specs.declared.place.Place.{Place}
-use Rattle.machine_state.specs.State.{Step, State, Activation, Body, Emit, Update, Destroy}
-use Rattle.basic_types.specs.declared.sig.Sig.{Sig}
-use Rattle.syntax_trees.specs.declared.connection.ConnectionType.{ConnectionType}
-use Rattle.syntax_trees.specs.declared.connection.Endpoints.{Endpoints as Named}
-use Rattle.connections.specs.Connected.{Connected}
-use Rattle.machine_state.specs.declared.endpoints.Endpoints.{Endpoints}
-use Rattle.trace_entries.specs.declared.refusal.Refusal.{Refusal}
-use Rattle.machine_rules.specs.declared.ends.FoundEnds.{FoundEnds}
-use Rattle.machine_rules.specs.Connecting.{AreThere, kept_ends, names_of, found_ends, may_connect}
-use Rattle.machine_rules.specs.Judgement.{HasOneAnswer}
-use Rattle.machine_rules.proofs.OneAnswer.{one-check, one-then}
-use Rattle.machine_rules.specs.Destroying.{Dies, died, NextRule, ChildRule, DestroyRule, living_child, Schedules}
-use Rattle.machine_rules.specs.Operations.{Operation, Write, Begin, Choose, Connect, Disconnect, Delete, Schedule, TakeAnswer, Nothing}
-use Rattle.machine_rules.specs.Rules.{Rule, RuleAt, BodyRule, Does, EmitRule, Uses, UpdateRule, Notifies, NotifiesIf, Begins, BeginsIf, begun, with_used, Connects, Disconnects, linked, unlinked, Arrives, posted, TurnRule, Serves, Delivers}
-use Rattle.machine_rules.specs.Settling.{Settles, Writes, Installs, notified}
-use Rattle.machine_rules.proofs.Answering.{answers-one}
-use Rattle.machine_rules.proofs.Fields.{some-is, life-unique, method-unique, member-object, member-method, field-property}
-use Rattle.machine_rules.specs.Natives.{NativeAnswers, AnswersOnce}
-use Rattle.machine_rules.proofs.Scheduling.{told-one}
+use Rattle.std.{proofs.Common.{◌≡◌, ℕ, suc, List, [], ◌∷◌, ◌++◌, length, take, Option, Some, None, Result, sym, ap, ◌∙◌, subst, Bool, true, false}, specs.List.{find}}
+use Rattle.basic_types.specs.{declared.value.Value.{Value}, declared.sig.Sig.{Sig}}
+use Rattle.meta_model.specs.{declared.object.MetaMethod.{MetaMethod}, declared.object.MetaProperty.{MetaProperty}, declared.object.Work.TheVariants.{Signal}, Loaded.{Loaded}, Members.{IsMethod}}
+use Rattle.object_tree.specs.{declared.life.Life.{Life}, declared.object.Object.{Object}, Objects.{life_of}}
+use Rattle.event_loops.specs.{declared.item.Item.{Item}, declared.item.Item.TheVariants.{Call, Deletion}, declared.item.Posted.{Posted}, Queues.{items_at, is_before, taken_before}}
+use Rattle.connections.specs.{declared.connection.Connection.{Connection}, Connected.{Connected}}
+use Rattle.trace_entries.specs.{declared.entry.Entry.{Entry}, declared.refusal.Refusal.{Refusal}}
+use Rattle.machine_state.{specs.declared.changes.telling.Cause.TheVariants.{Bind}, specs.Telling.{AreTold, Assigning, IsAssigningTold, writes_of}, proofs.Told.{assigning-once, told-once}, specs.Connections.{is_living, next_used}, specs.declared.turn.Turn.{Turn}, specs.Turns.{running, reaches_at_once}, specs.State.{Step, State, Activation, Body, Emit, Update, Destroy}, specs.declared.endpoints.Endpoints.{Endpoints}, specs.Worlds.{store_of, with_store}}
+use Rattle.binding_graph.specs.{declared.binding.Binding.{Binding}, Bindings.{binding_at, without_all, replaced, Loop}, declared.place.Place.{Place}}
+use Rattle.prop_bindings.{specs.Changes.{places_in}, specs.Fits.{Agree}, proofs.Once.{written_once, installed_once}}
+use Rattle.syntax_trees.specs.{declared.connection.ConnectionType.{ConnectionType}, declared.connection.Endpoints.{Endpoints as Named}}
+use Rattle.machine_rules.{specs.declared.ends.FoundEnds.{FoundEnds}, specs.Connecting.{AreThere, kept_ends, names_of, found_ends, may_connect}, specs.Judgement.{HasOneAnswer}, proofs.OneAnswer.{one-check, one-then}, specs.Destroying.{Dies, died, NextRule, ChildRule, DestroyRule, living_child, Schedules}, specs.Operations.{Operation, Write, Begin, Choose, Connect, Disconnect, Delete, Schedule, TakeAnswer, Nothing}, specs.Rules.{Rule, RuleAt, BodyRule, Does, EmitRule, Uses, UpdateRule, Notifies, NotifiesIf, Begins, BeginsIf, begun, with_used, Connects, Disconnects, linked, unlinked, Arrives, posted, TurnRule, Serves, Delivers}, specs.Settling.{Settles, Writes, Installs, notified}, proofs.Answering.{answers-one}, proofs.Fields.{some-is, life-unique, method-unique, member-object, member-method, field-property}, specs.Natives.{NativeAnswers, AnswersOnce}, proofs.Scheduling.{told-one}}
 use Rattle.delete_later.specs.Scheduling.{scheduled_with}
-use Rattle.machine_state.specs.Worlds.{store_of, with_store}
 
 -- two methods of one number of one life's class
 method-is : {p : Loaded} {x y : Life} {m n : ℕ} {a b : MetaMethod} → x ≡ y → m ≡ n → IsMethod p x.class m a → IsMethod p y.class n b → a ≡ b

@@ -1,45 +1,15 @@
 -- What a native is asked is there, and so is what it answers, by its promise.
-use Rattle.std.proofs.Common.{◌≡◌, inl, inr, ℕ, zero, suc, ◌<◌, ◌≤◌, ◌&&◌, Bool, true, false, IsTrue, List, [], ◌∷◌, ◌++◌, length, Option, None, Some, slice_get, refl, sym, ap, ◌∙◌, subst, arith}
-use Rattle.std.specs.Prelude.{is_some, nat_le}
-use Rattle.native_slots.specs.declared.action.TheConstants.{MOST_ACTIONS}
-use Rattle.std.specs.List.{AllByRecursion, AllZip, list_all}
-use Rattle.std.specs.Option.{option_and_then, option_map_or}
-use Rattle.std.proofs.lemmas.Bool.{cases_lt}
-use Rattle.std.proofs.lemmas.List.Elements.{recursion_from_All}
-use Rattle.basic_types.specs.declared.value.Value.{Value}
+use Rattle.std.{proofs.Common.{◌≡◌, inl, inr, ℕ, zero, suc, ◌<◌, ◌≤◌, ◌&&◌, Bool, true, false, IsTrue, List, [], ◌∷◌, ◌++◌, length, Option, None, Some, slice_get, refl, sym, ap, ◌∙◌, subst, arith}, specs.Prelude.{is_some, nat_le}, specs.List.{AllByRecursion, AllZip, list_all}, specs.Option.{option_and_then, option_map_or}, proofs.lemmas.Bool.{cases_lt}, proofs.lemmas.List.Elements.{recursion_from_All}}
+use Rattle.native_slots.specs.{declared.action.TheConstants.{MOST_ACTIONS}, declared.action.Action.{Action}, Plain.{is_of, are_of}, Promises.{IsNative, IsValueOf, is_declared, are_declared, Takes, Gives, KeepsPromise, Promises}}
+use Rattle.basic_types.specs.{declared.value.Value.{Value}, Values.{number_has, truth_has, text_has, null_has, object_has}}
 use Rattle.basic_types.specs.declared.value.Value.TheVariants as value
-use Rattle.meta_model.specs.declared.effects.MetaEffects.{MetaEffects}
-use Rattle.meta_model.specs.declared.object.MetaMethod.{MetaMethod}
-use Rattle.meta_model.specs.declared.object.MetaObject.{MetaObject}
-use Rattle.meta_model.specs.declared.object.MetaProperty.{MetaProperty}
-use Rattle.meta_model.specs.declared.object.ValueType.{ValueType}
-use Rattle.meta_model.specs.declared.object.Work.{Work}
-use Rattle.meta_model.specs.declared.object.Work.TheVariants.{Native}
-use Rattle.meta_model.specs.Loaded.{Loaded}
-use Rattle.meta_model.specs.Members.{IsClass, IsMethod, IsProperty, Declares, Below, same, under, base_of, method_count, methods_before, methods_in}
-use Rattle.meta_model.specs.Sound.{IsSound, IsPlain, IsPlainProperty, IsSoundNative, IsSoundWork}
-use Rattle.meta_model.specs.Values.{Has, HaveTypes}
-use Rattle.basic_types.specs.Values.{number_has, truth_has, text_has, null_has, object_has}
-use Rattle.native_slots.specs.declared.action.Action.{Action}
+use Rattle.meta_model.specs.{declared.effects.MetaEffects.{MetaEffects}, declared.object.MetaMethod.{MetaMethod}, declared.object.MetaObject.{MetaObject}, declared.object.MetaProperty.{MetaProperty}, declared.object.ValueType.{ValueType}, declared.object.Work.{Work}, declared.object.Work.TheVariants.{Native}, Loaded.{Loaded}, Members.{IsClass, IsMethod, IsProperty, Declares, Below, same, under, base_of, method_count, methods_before, methods_in}, Sound.{IsSound, IsPlain, IsPlainProperty, IsSoundNative, IsSoundWork}, Values.{Has, HaveTypes}}
 use Rattle.native_slots.specs.declared.action.Action.TheVariants as action
-use Rattle.native_slots.specs.Plain.{is_of, are_of}
-use Rattle.native_slots.specs.Promises.{IsNative, IsValueOf, is_declared, are_declared, Takes, Gives, KeepsPromise, Promises}
-use Rattle.object_tree.specs.declared.life.Life.{Life}
-use Rattle.object_tree.specs.declared.object.Object.{Object}
-use Rattle.object_tree.proofs.Changing.{life-of-lives}
-use Rattle.object_tree.specs.Objects.{Lives, class_of, life_of}
-use Rattle.object_tree.specs.Seen.{seen_reference}
-use Rattle.object_tree.specs.Typed.{AreTyped, ReadsAs, ReadAs}
+use Rattle.object_tree.{specs.declared.life.Life.{Life}, specs.declared.object.Object.{Object}, proofs.Changing.{life-of-lives}, specs.Objects.{Lives, class_of, life_of}, specs.Seen.{seen_reference}, specs.Typed.{AreTyped, ReadsAs, ReadAs}}
 use Rattle.trace_entries.specs.declared.entry.ShownAction.TheVariants as show
 use Rattle.machine_state.specs.Objects.{shown, all_shown}
-use Rattle.machine_rules.specs.Good.{ArgumentsFit}
+use Rattle.machine_rules.{specs.Good.{ArgumentsFit}, specs.Natives.{DeclaredBy, own, inherited, IsShownAs, AreRead, set_shown, emit_shown}, specs.code.Answering.{HasStored, IsTellable, AreTellable, member_of_action}, specs.Reaches.{DoesWork}, specs.There.{IsMember, IsField}, proofs.Fields.{some-is, class-unique, member-method, old-there, stored-reads}, proofs.Inherited.{method-below, property-below, method-counted, counted-method}}
 use Rattle.trace_entries.specs.declared.entry.ShownAction.{ShownAction}
-use Rattle.machine_rules.specs.Natives.{DeclaredBy, own, inherited, IsShownAs, AreRead, set_shown, emit_shown}
-use Rattle.machine_rules.specs.code.Answering.{HasStored, IsTellable, AreTellable, member_of_action}
-use Rattle.machine_rules.specs.Reaches.{DoesWork}
-use Rattle.machine_rules.specs.There.{IsMember, IsField}
-use Rattle.machine_rules.proofs.Fields.{some-is, class-unique, member-method, old-there, stored-reads}
-use Rattle.machine_rules.proofs.Inherited.{method-below, property-below, method-counted, counted-method}
 
 -- ---- the class that declares a native
 

@@ -1,35 +1,14 @@
 -- How runs are put together.
-use Rattle.machine_state.specs.Telling.{Assigning, writes_of}
-use Rattle.std.proofs.Common.{◌≡◌, ◌≢◌, ℕ, suc, ◌+◌, ◌-◌, ◌<◌, ◌≤◌, inl, inr, Option, Some, IsTrue, List, [], ◌∷◌, ◌++◌, length, Result, Ok, Err, refl, sym, ap, ◌∙◌, subst, arith, length-append}
-use Rattle.std.specs.Prelude.{OnOk}
-use Rattle.std.specs.Result.{IsErrAnd}
-use Rattle.meta_model.specs.Loaded.{Loaded}
+use Rattle.machine_state.specs.{Telling.{Assigning, writes_of}, declared.world.World.{World}, State.{State, Activation, Body, Update, IsIdle}, Worlds.{at}, code.Changing.{Ticks, GoesTo}}
+use Rattle.std.{proofs.Common.{◌≡◌, ◌≢◌, ℕ, suc, ◌+◌, ◌-◌, ◌<◌, ◌≤◌, inl, inr, Option, Some, IsTrue, List, [], ◌∷◌, ◌++◌, length, Result, Ok, Err, refl, sym, ap, ◌∙◌, subst, arith, length-append}, specs.Prelude.{OnOk}, specs.Result.{IsErrAnd}}
+use Rattle.meta_model.specs.{Loaded.{Loaded}, declared.effects.MetaEffects.{MetaEffects}}
 use Rattle.expressions.specs.declared.evaluation.EvalFault.{EvalFault}
 use Rattle.expressions.specs.declared.evaluation.EvalFault.TheVariants as eval
-use Rattle.trace_entries.specs.declared.fault.Fault.{Fault}
-use Rattle.trace_entries.specs.declared.fault.Fault.TheVariants.{BadType, TooDeep, InUse, Steps, Memory}
-use Rattle.machine_state.specs.declared.world.World.{World}
-use Rattle.machine_state.specs.State.{State, Activation, Body, Update, IsIdle}
-use Rattle.machine_rules.specs.Rules.{Rule, RuleAt, StepRule, Does}
-use Rattle.machine_rules.specs.Settling.{Writes, notified}
-use Rattle.machine_rules.specs.Operations.{Operation, Write, TakeAnswer}
-use Rattle.meta_model.specs.declared.effects.MetaEffects.{MetaEffects}
+use Rattle.trace_entries.specs.{declared.fault.Fault.{Fault}, declared.fault.Fault.TheVariants.{BadType, TooDeep, InUse, Steps, Memory}, Faults.{IsFaultOf}}
+use Rattle.machine_rules.{specs.Rules.{Rule, RuleAt, StepRule, Does}, specs.Settling.{Writes, notified}, specs.Operations.{Operation, Write, TakeAnswer}, specs.There.{IsDead, NoneDied}, specs.code.Sound.{AgreeIn}, specs.Good.{has_body, IsWell, Spares, IsAcyclic, IsGood, TopFits, shows}, specs.Faults.{WritesDeep, GoesIll, GoesFatal, GoesDeep}, specs.code.Lacking.{LacksFirst}, specs.Next.{DoesNext, WritesNext, WritesIll}, specs.code.Going.{GoodRules, done, then, IsStuck}, specs.Reaches.{Reaches, StopsIn, RunsTo}, proofs.Stacks.{high, shows-over}, specs.Natives.{NativeAnswers}}
 use Rattle.prop_bindings.specs.Fits.{Agree}
 use Rattle.binding_graph.specs.declared.place.Place.{Place}
 use Rattle.object_tree.specs.declared.object.Object.{Object}
-use Rattle.machine_rules.specs.There.{IsDead, NoneDied}
-use Rattle.machine_rules.specs.code.Sound.{AgreeIn}
-use Rattle.machine_rules.specs.Good.{has_body, IsWell, Spares, IsAcyclic, IsGood, TopFits, shows}
-use Rattle.machine_rules.specs.Faults.{WritesDeep, GoesIll, GoesFatal, GoesDeep}
-use Rattle.machine_rules.specs.code.Lacking.{LacksFirst}
-use Rattle.machine_rules.specs.Next.{DoesNext, WritesNext, WritesIll}
-use Rattle.machine_rules.specs.code.Going.{GoodRules, done, then, IsStuck}
-use Rattle.machine_state.specs.Worlds.{at}
-use Rattle.machine_state.specs.code.Changing.{Ticks, GoesTo}
-use Rattle.machine_rules.specs.Reaches.{Reaches, StopsIn, RunsTo}
-use Rattle.machine_rules.proofs.Stacks.{high, shows-over}
-use Rattle.trace_entries.specs.Faults.{IsFaultOf}
-use Rattle.machine_rules.specs.Natives.{NativeAnswers}
 
 pub rules-trans : {p : Loaded} {natives : NativeAnswers} {d : ℕ} {s m t : State} {n k j : ℕ} → GoodRules p natives d s n m k → GoodRules p natives d m k t j → GoodRules p natives d s n t j
 rules-trans done r = r

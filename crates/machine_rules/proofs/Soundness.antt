@@ -1,60 +1,16 @@
 -- What stays sound: items that wait and emissions have arguments that fit.
-use Rattle.machine_state.specs.Telling.{Assigning}
-use Rattle.std.proofs.Common.{◌≡◌, ℕ, suc, ◌+◌, ◌<◌, Bool, true, false, List, [], ◌∷◌, ◌++◌, length, take, Result, Ok, Err, Option, Some, None, slice_get, refl, sym, subst, arith, inl, inr}
-use Rattle.std.specs.List.{AllByRecursion, find}
-use Rattle.std.specs.Option.{option_map}
-use Rattle.std.proofs.lemmas.Option.{slice_get_within}
+use Rattle.machine_state.{specs.Telling.{Assigning}, specs.declared.turn.Turn.{Turn}, specs.declared.world.World.{World}, specs.Connections.{is_living, next_used}, specs.State.{Step, State, Activation, Body, Emit, Update, Destroy}, specs.Turns.{running, reaches_at_once}, specs.code.Changing.{using, noted, HasWritten}, proofs.Due.{all-used, last-used}, specs.declared.endpoints.Endpoints.{Endpoints}}
+use Rattle.std.{proofs.Common.{◌≡◌, ℕ, suc, ◌+◌, ◌<◌, Bool, true, false, List, [], ◌∷◌, ◌++◌, length, take, Result, Ok, Err, Option, Some, None, slice_get, refl, sym, subst, arith, inl, inr}, specs.List.{AllByRecursion, find}, specs.Option.{option_map}, proofs.lemmas.Option.{slice_get_within}}
 use Rattle.basic_types.specs.declared.value.Value.{Value}
-use Rattle.meta_model.specs.declared.object.MetaMethod.{MetaMethod}
-use Rattle.meta_model.specs.declared.object.Work.{Work}
-use Rattle.meta_model.specs.declared.object.Work.TheVariants.{Signal, Slot, Native}
-use Rattle.meta_model.specs.Loaded.{Loaded}
+use Rattle.meta_model.specs.{declared.object.MetaMethod.{MetaMethod}, declared.object.Work.{Work}, declared.object.Work.TheVariants.{Signal, Slot, Native}, Loaded.{Loaded}, Sound.{IsSound}}
 use Rattle.connections.specs.declared.connection.Connection.{Connection}
-use Rattle.event_loops.specs.declared.item.Item.{Item}
-use Rattle.event_loops.specs.declared.item.Item.TheVariants.{Call, Deletion}
-use Rattle.event_loops.specs.declared.item.Posted.{Posted}
-use Rattle.event_loops.specs.Queues.{Loop, items_at, is_before, taken_before}
-use Rattle.object_tree.specs.declared.object.Object.{Object}
-use Rattle.object_tree.specs.declared.life.Life.{Life}
-use Rattle.object_tree.specs.Family.{without_life}
-use Rattle.object_tree.specs.Objects.{life_of, name_of, change_life, scheduled}
-use Rattle.binding_graph.specs.declared.binding.Binding.{Binding}
-use Rattle.prop_bindings.specs.Changes.{DifferInValues}
-use Rattle.prop_bindings.specs.Fits.{Agree}
-use Rattle.trace_entries.specs.declared.entry.Entry.{Entry}
-use Rattle.machine_state.specs.declared.turn.Turn.{Turn}
-use Rattle.machine_state.specs.declared.world.World.{World}
-use Rattle.machine_state.specs.Connections.{is_living, next_used}
-use Rattle.binding_graph.specs.declared.place.Place.{Place}
-use Rattle.machine_state.specs.State.{Step, State, Activation, Body, Emit, Update, Destroy}
-use Rattle.machine_state.specs.Turns.{running, reaches_at_once}
-use Rattle.machine_state.specs.code.Changing.{using, noted, HasWritten}
-use Rattle.machine_state.proofs.Due.{all-used, last-used}
-use Rattle.machine_rules.specs.Operations.{Operation, Write, Begin, Choose, Nothing, Connect, Disconnect, Delete, Schedule, TakeAnswer}
-use Rattle.machine_rules.specs.Good.{ArgumentsFit, TopFits, IsWell}
-use Rattle.machine_rules.specs.code.Keeps.{StayThere, AllJoined, KeepsWorld}
-use Rattle.machine_rules.specs.Reaches.{Reaches}
-use Rattle.machine_rules.specs.Settling.{Settles, Writes, Installs}
-use Rattle.machine_rules.specs.Rules.{RuleAt, BodyRule, Does, EmitRule, UpdateRule, NotifiesIf, TurnRule, Serves, Delivers, Arrives, Begins, BeginsIf, begun, with_used, linked, unlinked}
-use Rattle.machine_rules.specs.code.Going.{GoodRules, done, then}
-use Rattle.machine_rules.specs.code.Sound.{SendsThese, IsDelivered, Joined, Waits, AllWait, Sound, AgreeIn, IsSoundWorld, MayBeHeard}
-use Rattle.machine_rules.specs.Destroying.{Dies, forgotten, NextRule, ChildRule, DestroyRule, living_child, Schedules}
-use Rattle.machine_rules.proofs.Delivered.{next-delivered, delivered-fits}
-use Rattle.machine_rules.proofs.Declared.{fit-takes, emission-sends}
-use Rattle.machine_rules.proofs.Dying.{died-stay, scheduled-stay}
-use Rattle.machine_rules.proofs.Keeps.{takes-still, sends-still, values-stay, all-joined-still, rule-kept, some-top, some-stack, some-all, reaches-keeps, reaches-agree}
-use Rattle.machine_rules.proofs.Differing.{differ-stay, differ-home}
-use Rattle.machine_rules.proofs.Waiting.{all-posted, all-taken, all-dropped, housed-same}
-use Rattle.machine_rules.proofs.Lists.{all-append, all-weaken}
-use Rattle.machine_rules.specs.Connecting.{kept_ends, names_of}
-use Rattle.machine_state.specs.declared.endpoints.Endpoints.{Endpoints}
-use Rattle.trace_entries.specs.declared.refusal.Refusal.{Refusal}
-use Rattle.syntax_trees.specs.declared.connection.ConnectionType.{ConnectionType}
-use Rattle.syntax_trees.specs.declared.connection.Endpoints.{Endpoints as Named}
-use Rattle.meta_model.specs.Sound.{IsSound}
-use Rattle.machine_rules.specs.Natives.{NativeAnswers}
-use Rattle.machine_rules.proofs.Scheduling.{deferred, schedule-cases}
-use Rattle.machine_rules.proofs.Hearing.{AllHeard, nobody, Heard, may-be-heard, rule-heard, heard-over}
+use Rattle.event_loops.specs.{declared.item.Item.{Item}, declared.item.Item.TheVariants.{Call, Deletion}, declared.item.Posted.{Posted}, Queues.{Loop, items_at, is_before, taken_before}}
+use Rattle.object_tree.specs.{declared.object.Object.{Object}, declared.life.Life.{Life}, Family.{without_life}, Objects.{life_of, name_of, change_life, scheduled}}
+use Rattle.binding_graph.specs.{declared.binding.Binding.{Binding}, declared.place.Place.{Place}}
+use Rattle.prop_bindings.specs.{Changes.{DifferInValues}, Fits.{Agree}}
+use Rattle.trace_entries.specs.{declared.entry.Entry.{Entry}, declared.refusal.Refusal.{Refusal}}
+use Rattle.machine_rules.{specs.Operations.{Operation, Write, Begin, Choose, Nothing, Connect, Disconnect, Delete, Schedule, TakeAnswer}, specs.Good.{ArgumentsFit, TopFits, IsWell}, specs.code.Keeps.{StayThere, AllJoined, KeepsWorld}, specs.Reaches.{Reaches}, specs.Settling.{Settles, Writes, Installs}, specs.Rules.{RuleAt, BodyRule, Does, EmitRule, UpdateRule, NotifiesIf, TurnRule, Serves, Delivers, Arrives, Begins, BeginsIf, begun, with_used, linked, unlinked}, specs.code.Going.{GoodRules, done, then}, specs.code.Sound.{SendsThese, IsDelivered, Joined, Waits, AllWait, Sound, AgreeIn, IsSoundWorld, MayBeHeard}, specs.Destroying.{Dies, forgotten, NextRule, ChildRule, DestroyRule, living_child, Schedules}, proofs.Delivered.{next-delivered, delivered-fits}, proofs.Declared.{fit-takes, emission-sends}, proofs.Dying.{died-stay, scheduled-stay}, proofs.Keeps.{takes-still, sends-still, values-stay, all-joined-still, rule-kept, some-top, some-stack, some-all, reaches-keeps, reaches-agree}, proofs.Differing.{differ-stay, differ-home}, proofs.Waiting.{all-posted, all-taken, all-dropped, housed-same}, proofs.Lists.{all-append, all-weaken}, specs.Connecting.{kept_ends, names_of}, specs.Natives.{NativeAnswers}, proofs.Scheduling.{deferred, schedule-cases}, proofs.Hearing.{AllHeard, nobody, Heard, may-be-heard, rule-heard, heard-over}}
+use Rattle.syntax_trees.specs.{declared.connection.ConnectionType.{ConnectionType}, declared.connection.Endpoints.{Endpoints as Named}}
 
 -- ---- as long as the objects stay there
 

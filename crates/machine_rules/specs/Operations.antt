@@ -1,26 +1,16 @@
 -- What the steps of a body do: the statements of a slot, and what a native does (docs/machine.md, "Rules").
-use Rattle.std.specs.Prelude.{ℕ, true, false, List, [], ◌∷◌, Option, None, Some, slice_get, slice_set}
-use Rattle.std.specs.Option.{option_and_then, option_map}
+use Rattle.std.specs.{Prelude.{ℕ, true, false, List, [], ◌∷◌, Option, None, Some, slice_get, slice_set}, Option.{option_and_then, option_map}}
 use Rattle.basic_types.specs.declared.value.Value.{Value}
 use Rattle.basic_types.specs.declared.value.Value.TheVariants as value
-use Rattle.syntax_trees.specs.declared.connection.ConnectionType.{ConnectionType}
-use Rattle.meta_model.specs.declared.object.Statement.{Statement}
+use Rattle.syntax_trees.specs.{declared.connection.ConnectionType.{ConnectionType}, declared.syntax.Expr.{Expr}}
+use Rattle.meta_model.specs.{declared.object.Statement.{Statement}, declared.object.Statement.TheViews.{out-Statement}, declared.object.MetaEndpoints.{MetaEndpoints}, declared.object.MetaPath.{MetaPath}, declared.effects.MetaEffects.{MetaEffects}}
 use Rattle.meta_model.specs.declared.object.Statement.TheOpen as layer
-use Rattle.meta_model.specs.declared.object.Statement.TheViews.{out-Statement}
-use Rattle.meta_model.specs.declared.object.MetaEndpoints.{MetaEndpoints}
-use Rattle.syntax_trees.specs.declared.syntax.Expr.{Expr}
-use Rattle.meta_model.specs.declared.object.MetaPath.{MetaPath}
-use Rattle.object_tree.specs.declared.object.Object.{Object}
-use Rattle.object_tree.specs.declared.life.Life.{Life}
-use Rattle.object_tree.specs.Objects.{change_life}
+use Rattle.object_tree.specs.{declared.object.Object.{Object}, declared.life.Life.{Life}, Objects.{change_life}}
 use Rattle.prop_bindings.specs.declared.plans.assignment.Assignment.{Assignment}
 use Rattle.binding_graph.specs.Places.{property_of}
-use Rattle.machine_state.specs.declared.endpoints.Endpoints.{Endpoints}
-use Rattle.meta_model.specs.declared.effects.MetaEffects.{MetaEffects}
+use Rattle.machine_state.specs.{declared.endpoints.Endpoints.{Endpoints}, State.{Step, Run, Ask, Act}, Telling.{Assigning, Alone, Grouped}}
 use Rattle.native_slots.specs.declared.action.Action.{Action}
 use Rattle.native_slots.specs.declared.action.Action.TheVariants as action
-use Rattle.machine_state.specs.State.{Step, Run, Ask, Act}
-use Rattle.machine_state.specs.Telling.{Assigning, Alone, Grouped}
 use Rattle.machine_rules.specs.Paths.{path_value, value_of, values_of}
 
 -- what one step does

@@ -1,26 +1,11 @@
 -- What a call of the machine's code does, whatever activations are below (docs/machine.md, "Runs").
 use Rattle.std.specs.Prelude.{◌≡◌, ℕ, ◌<◌, ◌≤◌, ◌⊎◌, List, [], ◌∷◌, ◌++◌, length, Result, Ok, Err, MatchResult, Option, Some}
-use Rattle.meta_model.specs.Loaded.{Loaded}
+use Rattle.meta_model.specs.{Loaded.{Loaded}, declared.object.MetaMethod.{MetaMethod}, declared.object.Work.{Work}}
 use Rattle.basic_types.specs.declared.value.Value.{Value}
-use Rattle.meta_model.specs.declared.object.MetaMethod.{MetaMethod}
-use Rattle.meta_model.specs.declared.object.Work.{Work}
 use Rattle.object_tree.specs.declared.object.Object.{Object}
-use Rattle.trace_entries.specs.declared.fault.Fault.{Fault}
-use Rattle.trace_entries.specs.declared.fault.Fault.TheVariants.{Steps, Memory}
-use Rattle.machine_state.specs.declared.world.World.{World}
-use Rattle.machine_state.specs.State.{State, Activation, Destroy, IsIdle}
-use Rattle.machine_state.specs.Telling.{Assigning}
-use Rattle.machine_rules.specs.Good.{shows}
-use Rattle.machine_rules.specs.Natives.{NativeAnswers}
-use Rattle.machine_rules.specs.Operations.{Operation, Begin}
-use Rattle.machine_rules.specs.Rules.{Rule, Begins}
-use Rattle.machine_rules.specs.Settling.{Writes}
-use Rattle.machine_rules.specs.Destroying.{deleting, Dies}
-use Rattle.machine_rules.specs.There.{IsMember}
-use Rattle.machine_rules.specs.Next.{DoesNext, WritesNext}
-use Rattle.machine_rules.specs.code.Going.{GoodRules, RulesStop}
-use Rattle.machine_state.specs.Worlds.{at}
-use Rattle.machine_state.specs.code.Changing.{ending}
+use Rattle.trace_entries.specs.{declared.fault.Fault.{Fault}, declared.fault.Fault.TheVariants.{Steps, Memory}}
+use Rattle.machine_state.specs.{declared.world.World.{World}, State.{State, Activation, Destroy, IsIdle}, Telling.{Assigning}, Worlds.{at}, code.Changing.{ending}}
+use Rattle.machine_rules.specs.{Good.{shows}, Natives.{NativeAnswers}, Operations.{Operation, Begin}, Rules.{Rule, Begins}, Settling.{Writes}, Destroying.{deleting, Dies}, There.{IsMember}, Next.{DoesNext, WritesNext}, code.Going.{GoodRules, RulesStop}}
 
 -- ---- what calls of the machine's functions do
 

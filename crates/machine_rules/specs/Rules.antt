@@ -1,49 +1,19 @@
 -- What may follow a state by one rule, beside the taking of events (docs/machine.md, "Rules"). No rule is forbidden
 -- because activations would nest too deep, a value is of a wrong type or an object dies while a body of it is active: those
 -- are faults of a run, and not of a rule.
-use Rattle.std.specs.Prelude.{◌≡◌, ℕ, suc, List, [], ◌∷◌, ◌++◌, length, take, map, Option, None, Some, Result, Ok, Err, Bool, true, false, MatchOption}
-use Rattle.std.specs.List.{AllZip, find}
+use Rattle.std.specs.{Prelude.{◌≡◌, ℕ, suc, List, [], ◌∷◌, ◌++◌, length, take, map, Option, None, Some, Result, Ok, Err, Bool, true, false, MatchOption}, List.{AllZip, find}}
 use Rattle.basic_types.specs.declared.value.Value.{Value}
-use Rattle.syntax_trees.specs.declared.connection.ConnectionType.{ConnectionType}
-use Rattle.syntax_trees.specs.declared.connection.Endpoints.{Endpoints as Named}
-use Rattle.meta_model.specs.declared.object.Work.{Work}
-use Rattle.meta_model.specs.declared.object.Work.TheVariants.{Signal, Slot, Native}
-use Rattle.meta_model.specs.declared.object.MetaMethod.{MetaMethod}
-use Rattle.meta_model.specs.declared.object.MetaProperty.{MetaProperty}
-use Rattle.meta_model.specs.Loaded.{Loaded}
-use Rattle.meta_model.specs.Members.{IsMethod}
-use Rattle.event_loops.specs.declared.item.Item.{Item}
-use Rattle.event_loops.specs.declared.item.Item.TheVariants.{Call, Deletion}
-use Rattle.event_loops.specs.declared.item.Posted.{Posted}
-use Rattle.event_loops.specs.Queues.{HasName, items_at, is_before, posted_to, taken_before}
-use Rattle.object_tree.specs.declared.object.Object.{Object}
-use Rattle.object_tree.specs.Objects.{life_of, home_of, stored}
-use Rattle.object_tree.specs.declared.life.Life.{Life}
+use Rattle.syntax_trees.specs.{declared.connection.ConnectionType.{ConnectionType}, declared.connection.Endpoints.{Endpoints as Named}}
+use Rattle.meta_model.specs.{declared.object.Work.{Work}, declared.object.Work.TheVariants.{Signal, Slot, Native}, declared.object.MetaMethod.{MetaMethod}, declared.object.MetaProperty.{MetaProperty}, Loaded.{Loaded}, Members.{IsMethod}, declared.effects.MetaEffects.{MetaEffects}}
+use Rattle.event_loops.specs.{declared.item.Item.{Item}, declared.item.Item.TheVariants.{Call, Deletion}, declared.item.Posted.{Posted}, Queues.{HasName, items_at, is_before, posted_to, taken_before}}
+use Rattle.object_tree.specs.{declared.object.Object.{Object}, Objects.{life_of, home_of, stored}, declared.life.Life.{Life}}
 use Rattle.connections.specs.declared.connection.Connection.{Connection}
-use Rattle.trace_entries.specs.declared.entry.Entry.{Entry}
-use Rattle.trace_entries.specs.declared.entry.Entry.TheVariants.{At}
-use Rattle.trace_entries.specs.declared.entry.EntryKind.{EntryKind}
+use Rattle.trace_entries.specs.{declared.entry.Entry.{Entry}, declared.entry.Entry.TheVariants.{At}, declared.entry.EntryKind.{EntryKind}, declared.entry.Shown.{Shown}, declared.entry.ShownAction.{ShownAction}, declared.refusal.Refusal.{Refusal}, Refusals.{refusal_number}}
 use Rattle.trace_entries.specs.declared.entry.EntryKind.TheVariants as entry_kind
-use Rattle.trace_entries.specs.declared.entry.Shown.{Shown}
-use Rattle.trace_entries.specs.declared.entry.ShownAction.{ShownAction}
-use Rattle.meta_model.specs.declared.effects.MetaEffects.{MetaEffects}
 use Rattle.native_slots.specs.declared.action.Action.{Action}
-use Rattle.machine_state.specs.declared.endpoints.Endpoints.{Endpoints}
-use Rattle.trace_entries.specs.declared.refusal.Refusal.{Refusal}
-use Rattle.trace_entries.specs.Refusals.{refusal_number}
-use Rattle.machine_state.specs.Worlds.{with_connection, without_connections}
-use Rattle.machine_state.specs.Connections.{silences, next_used, after_use}
-use Rattle.machine_state.specs.Objects.{all_shown}
-use Rattle.machine_rules.specs.There.{IsMember, IsField}
-use Rattle.machine_rules.specs.Connecting.{AreThere, kept_ends, names_of, found_ends, may_connect, may_disconnect}
-use Rattle.machine_rules.specs.Destroying.{deleting, DestroyRule, Schedules}
-use Rattle.machine_rules.specs.Settling.{Writes}
-use Rattle.machine_rules.specs.Operations.{Operation, Write, Begin, Choose, Connect, Disconnect, Delete, Schedule, TakeAnswer, Nothing, operation_of_step}
-use Rattle.machine_rules.specs.Natives.{NativeAnswers, MayAnswer, IsShownAs}
+use Rattle.machine_state.specs.{declared.endpoints.Endpoints.{Endpoints}, Worlds.{with_connection, without_connections}, Connections.{silences, next_used, after_use}, Objects.{all_shown}, State.{Step, Run, Ask, Act, State, Activation, Body, Emit, Update, Destroy}, Turns.{running, reaches_at_once}, declared.turn.Turn.{Turn}}
+use Rattle.machine_rules.specs.{There.{IsMember, IsField}, Connecting.{AreThere, kept_ends, names_of, found_ends, may_connect, may_disconnect}, Destroying.{deleting, DestroyRule, Schedules}, Settling.{Writes}, Operations.{Operation, Write, Begin, Choose, Connect, Disconnect, Delete, Schedule, TakeAnswer, Nothing, operation_of_step}, Natives.{NativeAnswers, MayAnswer, IsShownAs}}
 use Rattle.binding_graph.specs.declared.place.Place.{Place}
-use Rattle.machine_state.specs.State.{Step, Run, Ask, Act, State, Activation, Body, Emit, Update, Destroy}
-use Rattle.machine_state.specs.Turns.{running, reaches_at_once}
-use Rattle.machine_state.specs.declared.turn.Turn.{Turn}
 
 -- what begins with a method: the emission of a signal, the body of a slot, or of a native, which begins with its answer
 abbrev pub top_of : ℕ → ℕ → List Value → ℕ → Work → Activation

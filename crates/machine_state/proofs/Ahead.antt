@@ -1,28 +1,14 @@
 -- What is written down of a change before it is carried out, over the objects as they are, is what the change makes of
 -- them.
-use Rattle.std.proofs.Common.{◌≡◌, ℕ, List, Option, None, Some, refl, ap, sym, ◌∙◌}
-use Rattle.std.specs.Prelude.{slice_get}
-use Rattle.std.specs.Option.{option_map}
-use Rattle.std.proofs.lemmas.Option.{same_Some}
+use Rattle.std.{proofs.Common.{◌≡◌, ℕ, List, Option, None, Some, refl, ap, sym, ◌∙◌}, specs.Prelude.{slice_get}, specs.Option.{option_map}, proofs.lemmas.Option.{same_Some}}
 use Rattle.basic_types.specs.declared.value.Value.{Value}
 use Rattle.basic_types.specs.declared.value.Value.TheVariants as value
-use Rattle.meta_model.specs.declared.object.MetaObject.{MetaObject}
-use Rattle.meta_model.specs.declared.object.MetaProperty.{MetaProperty}
-use Rattle.meta_model.specs.Loaded.{Loaded}
-use Rattle.object_tree.specs.declared.life.Life.{Life}
-use Rattle.object_tree.specs.declared.object.Object.{Object}
-use Rattle.object_tree.specs.Objects.{Lives, name_of}
-use Rattle.object_tree.specs.Seen.{seen_reference}
+use Rattle.meta_model.specs.{declared.object.MetaObject.{MetaObject}, declared.object.MetaProperty.{MetaProperty}, Loaded.{Loaded}}
+use Rattle.object_tree.specs.{declared.life.Life.{Life}, declared.object.Object.{Object}, Objects.{Lives, name_of}, Seen.{seen_reference}}
 use Rattle.binding_graph.specs.declared.place.Place.{Place}
-use Rattle.prop_bindings.specs.Changes.{valueless, DifferInValues}
-use Rattle.prop_bindings.proofs.Alive.{seen-same}
-use Rattle.trace_entries.specs.declared.entry.Entry.{Entry}
-use Rattle.trace_entries.specs.declared.entry.Entry.TheVariants.{At}
-use Rattle.trace_entries.specs.declared.entry.Shown.{Shown}
-use Rattle.machine_state.specs.declared.changes.telling.Cause.{Cause}
-use Rattle.machine_state.specs.Objects.{shown, shown_name, shown_reference}
-use Rattle.machine_state.specs.Telling.{HasValue, IsToldWith, entry_kind_of}
-use Rattle.machine_state.proofs.Changed.{emptied, get-map}
+use Rattle.prop_bindings.{specs.Changes.{valueless, DifferInValues}, proofs.Alive.{seen-same}}
+use Rattle.trace_entries.specs.{declared.entry.Entry.{Entry}, declared.entry.Entry.TheVariants.{At}, declared.entry.Shown.{Shown}}
+use Rattle.machine_state.{specs.declared.changes.telling.Cause.{Cause}, specs.Objects.{shown, shown_name, shown_reference}, specs.Telling.{HasValue, IsToldWith, entry_kind_of}, proofs.Changed.{emptied, get-map}}
 
 name-valueless : (there : Option Object) → option_map (λ (x : Object). x.name) (option_map valueless there) ≡ option_map (λ (x : Object). x.name) there
 name-valueless None = refl

@@ -1,26 +1,12 @@
 -- What a write of a property that no binding reads leaves of the world.
-use Rattle.std.proofs.Common.{◌≡◌, ℕ, Bool, not, false, cond, ◌||◌, List, [], ◌∷◌, refl, ap, sym, subst}
-use Rattle.std.specs.List.{AllZip}
+use Rattle.std.{proofs.Common.{◌≡◌, ℕ, Bool, not, false, cond, ◌||◌, List, [], ◌∷◌, refl, ap, sym, subst}, specs.List.{AllZip}}
 use Rattle.basic_types.specs.declared.value.Value.{Value}
 use Rattle.meta_model.specs.Loaded.{Loaded}
-use Rattle.object_tree.specs.declared.object.Object.{Object}
-use Rattle.object_tree.specs.Objects.{change_life, written}
-use Rattle.binding_graph.specs.declared.binding.Binding.{Binding}
-use Rattle.binding_graph.specs.declared.place.Place.{Place}
-use Rattle.binding_graph.specs.Bindings.{binding_at, without}
-use Rattle.binding_graph.specs.code.Graph.{Unread}
-use Rattle.binding_graph.proofs.Places.{same_place-refl}
-use Rattle.prop_bindings.specs.Changes.{AreChanged, IsWritten, none_changed, one, one_changed, one_stayed}
-use Rattle.prop_bindings.specs.Fits.{Agree, FitsAt}
-use Rattle.prop_bindings.proofs.Alone.{alone-agrees, alone-written}
+use Rattle.object_tree.specs.{declared.object.Object.{Object}, Objects.{change_life, written}}
+use Rattle.binding_graph.{specs.declared.binding.Binding.{Binding}, specs.declared.place.Place.{Place}, specs.Bindings.{binding_at, without}, specs.code.Graph.{Unread}, proofs.Places.{same_place-refl}}
+use Rattle.prop_bindings.{specs.Changes.{AreChanged, IsWritten, none_changed, one, one_changed, one_stayed}, specs.Fits.{Agree, FitsAt}, proofs.Alone.{alone-agrees, alone-written}}
 use Rattle.trace_entries.specs.declared.entry.Entry.{Entry}
-use Rattle.machine_state.specs.declared.changes.telling.Cause.TheVariants.{Write, Follow}
-use Rattle.machine_state.specs.declared.world.World.{World}
-use Rattle.machine_state.specs.Telling.{Alone, AreTold, HasValue, IsTold, others}
-use Rattle.machine_state.specs.code.Changing.{with_bound, HasWritten}
-use Rattle.machine_state.specs.code.Planned.{WillBeTold}
-use Rattle.machine_state.proofs.Changed.{fits-has, still-have}
-use Rattle.machine_state.proofs.Told.{told-now}
+use Rattle.machine_state.{specs.declared.changes.telling.Cause.TheVariants.{Write, Follow}, specs.declared.world.World.{World}, specs.Telling.{Alone, AreTold, HasValue, IsTold, others}, specs.code.Changing.{with_bound, HasWritten}, specs.code.Planned.{WillBeTold}, proofs.Changed.{fits-has, still-have}, proofs.Told.{told-now}}
 
 -- no other property changes
 none-other : (old new : List Object) (at : Place) (changed : List Place) → AreChanged old new (at ∷ []) changed → others (at ∷ []) changed ≡ []

@@ -1,35 +1,11 @@
 -- Properties that change have values, so they can be written down.
-use Rattle.std.proofs.Common.{◌≡◌, ℕ, zero, suc, List, [], ◌∷◌, ◌++◌, map, Option, None, Some, refl, ap, sym, ◌∙◌, subst}
-use Rattle.std.specs.Prelude.{slice_get}
-use Rattle.std.specs.List.{AllByRecursion}
-use Rattle.std.specs.Option.{option_map, option_and_then}
-use Rattle.std.proofs.lemmas.List.Elements.{recursion_from_All}
-use Rattle.std.proofs.lemmas.Option.{same_Some}
+use Rattle.std.{proofs.Common.{◌≡◌, ℕ, zero, suc, List, [], ◌∷◌, ◌++◌, map, Option, None, Some, refl, ap, sym, ◌∙◌, subst}, specs.Prelude.{slice_get}, specs.List.{AllByRecursion}, specs.Option.{option_map, option_and_then}, proofs.lemmas.List.Elements.{recursion_from_All}, proofs.lemmas.Option.{same_Some}}
 use Rattle.basic_types.specs.declared.value.Value.{Value}
-use Rattle.meta_model.specs.declared.object.MetaObject.{MetaObject}
-use Rattle.meta_model.specs.declared.object.MetaProperty.{MetaProperty}
-use Rattle.meta_model.specs.Loaded.{Loaded}
-use Rattle.meta_model.specs.Members.{IsProperty}
-use Rattle.object_tree.specs.declared.life.Life.{Life}
-use Rattle.object_tree.specs.declared.object.Object.{Object}
-use Rattle.object_tree.specs.Objects.{Lives, life_of}
-use Rattle.object_tree.specs.Seen.{seen}
-use Rattle.object_tree.specs.Typed.{AreTyped, IsTyped, ReadAs}
-use Rattle.object_tree.proofs.Changing.{lives-of-life}
-use Rattle.binding_graph.specs.declared.place.Place.{Place}
-use Rattle.binding_graph.specs.declared.binding.Binding.{Binding}
-use Rattle.prop_bindings.specs.Values.{values_in}
-use Rattle.binding_graph.specs.Bindings.{without, replaced}
-use Rattle.prop_bindings.specs.declared.plans.assignment.Assignment.{Assignment}
-use Rattle.prop_bindings.specs.Changes.{valueless, DifferInValues, ReadsAlike, AreChanged, none_changed, one_changed, one_stayed, IsInstalled, in_order, places_in}
-use Rattle.prop_bindings.specs.declared.plans.planned.Planned.{Planned}
-use Rattle.prop_bindings.specs.declared.plans.planned.PlannedBind.{PlannedBind}
-use Rattle.prop_bindings.specs.Fits.{FitsAt, IsFit, Agree}
-use Rattle.prop_bindings.specs.Calls.{AllFit, new_binding}
-use Rattle.prop_bindings.specs.Plans.{after, IsPlannedBind}
-use Rattle.machine_state.specs.code.Planned.{CanBeTold, HaveValues, WillWrite}
-use Rattle.machine_state.specs.Telling.{HasValue}
-use Rattle.machine_state.proofs.Followers.{written-first}
+use Rattle.meta_model.specs.{declared.object.MetaObject.{MetaObject}, declared.object.MetaProperty.{MetaProperty}, Loaded.{Loaded}, Members.{IsProperty}}
+use Rattle.object_tree.{specs.declared.life.Life.{Life}, specs.declared.object.Object.{Object}, specs.Objects.{Lives, life_of}, specs.Seen.{seen}, specs.Typed.{AreTyped, IsTyped, ReadAs}, proofs.Changing.{lives-of-life}}
+use Rattle.binding_graph.specs.{declared.place.Place.{Place}, declared.binding.Binding.{Binding}, Bindings.{without, replaced}}
+use Rattle.prop_bindings.specs.{Values.{values_in}, declared.plans.assignment.Assignment.{Assignment}, Changes.{valueless, DifferInValues, ReadsAlike, AreChanged, none_changed, one_changed, one_stayed, IsInstalled, in_order, places_in}, declared.plans.planned.Planned.{Planned}, declared.plans.planned.PlannedBind.{PlannedBind}, Fits.{FitsAt, IsFit, Agree}, Calls.{AllFit, new_binding}, Plans.{after, IsPlannedBind}}
+use Rattle.machine_state.{specs.code.Planned.{CanBeTold, HaveValues, WillWrite}, specs.Telling.{HasValue}, proofs.Followers.{written-first}}
 
 module _ (p : Loaded) (objects : List Object) where
   -- where there is a value there is a property, and the other way round

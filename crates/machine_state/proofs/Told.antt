@@ -1,29 +1,13 @@
 -- What is written down of a change is determined, and one more property is written down.
-use Rattle.std.proofs.Common.{◌≡◌, ℕ, List, [], ◌∷◌, ◌++◌, Option, None, Some, refl, ap, sym, ◌∙◌, subst, append_assoc}
-use Rattle.std.proofs.lemmas.List.{append-nil}
-use Rattle.std.specs.Prelude.{slice_get, IfSome}
-use Rattle.std.specs.List.{AllByRecursion, AllZip}
-use Rattle.std.specs.Option.{option_and_then}
-use Rattle.std.proofs.lemmas.Option.{same_Some}
+use Rattle.std.{proofs.Common.{◌≡◌, ℕ, List, [], ◌∷◌, ◌++◌, Option, None, Some, refl, ap, sym, ◌∙◌, subst, append_assoc}, proofs.lemmas.List.{append-nil}, specs.Prelude.{slice_get, IfSome}, specs.List.{AllByRecursion, AllZip}, specs.Option.{option_and_then}, proofs.lemmas.Option.{same_Some}}
 use Rattle.basic_types.specs.declared.value.Value.{Value}
-use Rattle.meta_model.specs.declared.object.MetaObject.{MetaObject}
-use Rattle.meta_model.specs.declared.object.MetaProperty.{MetaProperty}
-use Rattle.meta_model.specs.Loaded.{Loaded}
-use Rattle.object_tree.specs.declared.life.Life.{Life}
-use Rattle.object_tree.specs.declared.object.Object.{Object}
+use Rattle.meta_model.specs.{declared.object.MetaObject.{MetaObject}, declared.object.MetaProperty.{MetaProperty}, Loaded.{Loaded}}
+use Rattle.object_tree.{specs.declared.life.Life.{Life}, specs.declared.object.Object.{Object}, proofs.Changing.{life-of-lives}}
 use Rattle.binding_graph.specs.declared.place.Place.{Place}
-use Rattle.prop_bindings.specs.declared.plans.assignment.Assignment.{Assignment}
-use Rattle.prop_bindings.specs.Changes.{places_in}
-use Rattle.prop_bindings.specs.Values.{values_in}
-use Rattle.object_tree.proofs.Changing.{life-of-lives}
-use Rattle.trace_entries.specs.declared.entry.Entry.{Entry}
-use Rattle.trace_entries.specs.declared.entry.Entry.TheVariants.{At}
-use Rattle.machine_state.specs.declared.changes.telling.Cause.{Cause}
-use Rattle.machine_state.specs.declared.changes.telling.Cause.TheVariants.{Write, Follow}
+use Rattle.prop_bindings.specs.{declared.plans.assignment.Assignment.{Assignment}, Changes.{places_in}, Values.{values_in}}
+use Rattle.trace_entries.specs.{declared.entry.Entry.{Entry}, declared.entry.Entry.TheVariants.{At}}
+use Rattle.machine_state.specs.{declared.changes.telling.Cause.{Cause}, declared.changes.telling.Cause.TheVariants.{Write, Follow}, Objects.{shown}, Telling.{HasValue, IsTold, IsToldWith, IsSetTold, AreTold, IsGroupTold, Assigning, Alone, Grouped, IsAssigningTold, entry_kind_of, others, writes_of}, code.Planned.{AddsFollowers, AddsSets}}
 use Rattle.trace_entries.specs.declared.entry.EntryKind.TheVariants as entry_kind
-use Rattle.machine_state.specs.Objects.{shown}
-use Rattle.machine_state.specs.Telling.{HasValue, IsTold, IsToldWith, IsSetTold, AreTold, IsGroupTold, Assigning, Alone, Grouped, IsAssigningTold, entry_kind_of, others, writes_of}
-use Rattle.machine_state.specs.code.Planned.{AddsFollowers, AddsSets}
 
 -- each set of a group whose written properties are such writes one that is
 pub each-set : (Has : Place → Type 0) (sets : List (Option Assignment)) → AllByRecursion Has (places_in (writes_of (Grouped sets))) → AllByRecursion (λ (set : Option Assignment). IfSome set (λ (a : Assignment). Has a.place)) sets

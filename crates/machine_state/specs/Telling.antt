@@ -1,25 +1,13 @@
 -- What is written down where properties change (docs/machine.md, "Bindings"; Qt 6, "Qt Bindable Properties").
-use Rattle.std.specs.Prelude.{◌≡◌, ℕ, not, List, [], ◌∷◌, ◌++◌, filter, filter_map, Option, None, Some, slice_get}
-use Rattle.std.specs.List.{AllZip}
+use Rattle.std.specs.{Prelude.{◌≡◌, ℕ, not, List, [], ◌∷◌, ◌++◌, filter, filter_map, Option, None, Some, slice_get}, List.{AllZip}}
 use Rattle.basic_types.specs.declared.value.Value.{Value}
-use Rattle.meta_model.specs.declared.object.MetaProperty.{MetaProperty}
-use Rattle.meta_model.specs.Loaded.{Loaded}
-use Rattle.meta_model.specs.Members.{IsProperty}
-use Rattle.object_tree.specs.declared.life.Life.{Life}
-use Rattle.object_tree.specs.declared.object.Object.{Object}
-use Rattle.object_tree.specs.Objects.{Lives}
-use Rattle.prop_bindings.specs.declared.plans.assignment.Assignment.{Assignment}
-use Rattle.binding_graph.specs.declared.place.Place.{Place}
-use Rattle.binding_graph.specs.Places.{is_in}
-use Rattle.prop_bindings.specs.Changes.{places_in}
-use Rattle.trace_entries.specs.declared.entry.Entry.{Entry}
-use Rattle.trace_entries.specs.declared.entry.Entry.TheVariants.{At}
-use Rattle.trace_entries.specs.declared.entry.EntryKind.{EntryKind}
+use Rattle.meta_model.specs.{declared.object.MetaProperty.{MetaProperty}, Loaded.{Loaded}, Members.{IsProperty}}
+use Rattle.object_tree.specs.{declared.life.Life.{Life}, declared.object.Object.{Object}, Objects.{Lives}}
+use Rattle.prop_bindings.specs.{declared.plans.assignment.Assignment.{Assignment}, Changes.{places_in}}
+use Rattle.binding_graph.specs.{declared.place.Place.{Place}, Places.{is_in}}
+use Rattle.trace_entries.specs.{declared.entry.Entry.{Entry}, declared.entry.Entry.TheVariants.{At}, declared.entry.EntryKind.{EntryKind}, declared.entry.Shown.{Shown}}
 use Rattle.trace_entries.specs.declared.entry.EntryKind.TheVariants as entry_kind
-use Rattle.trace_entries.specs.declared.entry.Shown.{Shown}
-use Rattle.machine_state.specs.declared.changes.telling.Cause.{Cause}
-use Rattle.machine_state.specs.declared.changes.telling.Cause.TheVariants.{Write, Bind, Follow}
-use Rattle.machine_state.specs.Objects.{shown}
+use Rattle.machine_state.specs.{declared.changes.telling.Cause.{Cause}, declared.changes.telling.Cause.TheVariants.{Write, Bind, Follow}, Objects.{shown}}
 
 -- a property of a living object, with its declaration and its value
 pub record HasValue (p : Loaded) (objects : List Object) (at : Place) : Type 0 where

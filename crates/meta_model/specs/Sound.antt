@@ -1,42 +1,14 @@
 -- What every loaded program keeps: class 0 is `QObject`, which is above all others; numbers are those of members, and no
 -- two members are alike; a body, and a native's effects, speak of objects of the class that declares them; literals hold no
 -- object (docs/machine.md, "Loading").
-use Rattle.std.specs.Prelude.{◌≡◌, ◌≢◌, All, ℕ, ◌<◌, ◌⊎◌, Bool, false, List, [], ◌∷◌, ◌++◌, length, None, Some, slice_get}
-use Rattle.std.specs.List.{AllZip}
+use Rattle.std.specs.{Prelude.{◌≡◌, ◌≢◌, All, ℕ, ◌<◌, ◌⊎◌, Bool, false, List, [], ◌∷◌, ◌++◌, length, None, Some, slice_get}, List.{AllZip}}
 use Rattle.basic_types.specs.declared.value.Value.{Value}
-use Rattle.syntax_trees.specs.declared.syntax.Unary.{Unary}
-use Rattle.syntax_trees.specs.declared.syntax.Binary.{Binary}
-use Rattle.syntax_trees.specs.declared.syntax.Expr.{Expr}
+use Rattle.syntax_trees.specs.{declared.syntax.Unary.{Unary}, declared.syntax.Binary.{Binary}, declared.syntax.Expr.{Expr}, declared.syntax.Expr.TheViews.{out-Expr}, declared.connection.ConnectionType.{ConnectionType}}
 use Rattle.syntax_trees.specs.declared.syntax.Expr.TheOpen as expr
-use Rattle.syntax_trees.specs.declared.syntax.Expr.TheViews.{out-Expr}
-use Rattle.syntax_trees.specs.declared.connection.ConnectionType.{ConnectionType}
-use Rattle.meta_model.specs.declared.object.ValueType.{ValueType}
+use Rattle.meta_model.specs.{declared.object.ValueType.{ValueType}, declared.object.MetaRoot.{MetaRoot}, declared.object.MetaRoot.TheVariants.{This, Parameter}, declared.object.Step.{Step}, declared.object.MetaPath.{MetaPath}, declared.object.MetaEndpoints.{MetaEndpoints}, declared.object.Statement.{Statement}, declared.object.Statement.TheViews.{out-Statement}, declared.object.Work.{Work}, declared.object.Work.TheVariants.{Signal, Slot, Native}, declared.effects.MetaEffects.{MetaEffects}, declared.object.MetaObject.{MetaObject}, declared.object.MetaMethod.{MetaMethod}, declared.object.MetaProperty.{MetaProperty}, declared.object.MetaWire.{MetaWire}, declared.object.MetaOwns.{MetaOwns}, declared.site.SourceProperty.{SourceProperty}, declared.site.MetaSite.{MetaSite}, Loaded.{Loaded}, declared.qobject.TheConstants.{QOBJECT, OBJECT_NAME_CHANGED}, Members.{IsClass, IsMethod, IsProperty, Below, Declares, IsIn}, Literals.{HoldsNoObject}, Root.{root_class, BeginsAsRoot}, Sites.{paths_in, literals_in}}
 use Rattle.meta_model.specs.declared.object.ValueType.TheVariants as type
-use Rattle.meta_model.specs.declared.object.MetaRoot.{MetaRoot}
-use Rattle.meta_model.specs.declared.object.MetaRoot.TheVariants.{This, Parameter}
-use Rattle.meta_model.specs.declared.object.Step.{Step}
-use Rattle.meta_model.specs.declared.object.MetaPath.{MetaPath}
-use Rattle.meta_model.specs.declared.object.MetaEndpoints.{MetaEndpoints}
-use Rattle.meta_model.specs.declared.object.Statement.{Statement}
 use Rattle.meta_model.specs.declared.object.Statement.TheOpen as statement
-use Rattle.meta_model.specs.declared.object.Statement.TheViews.{out-Statement}
-use Rattle.meta_model.specs.declared.object.Work.{Work}
-use Rattle.meta_model.specs.declared.object.Work.TheVariants.{Signal, Slot, Native}
-use Rattle.meta_model.specs.declared.effects.MetaEffects.{MetaEffects}
-use Rattle.meta_model.specs.declared.object.MetaObject.{MetaObject}
-use Rattle.meta_model.specs.declared.object.MetaMethod.{MetaMethod}
-use Rattle.meta_model.specs.declared.object.MetaProperty.{MetaProperty}
-use Rattle.meta_model.specs.declared.object.MetaWire.{MetaWire}
-use Rattle.meta_model.specs.declared.object.MetaOwns.{MetaOwns}
-use Rattle.meta_model.specs.declared.site.SourceProperty.{SourceProperty}
-use Rattle.meta_model.specs.declared.site.MetaSite.{MetaSite}
-use Rattle.meta_model.specs.Loaded.{Loaded}
-use Rattle.meta_model.specs.declared.qobject.TheConstants.{QOBJECT, OBJECT_NAME_CHANGED}
-use Rattle.meta_model.specs.Members.{IsClass, IsMethod, IsProperty, Below, Declares, IsIn}
 pub use Rattle.meta_model.specs.Kinds.{IsKind}
-use Rattle.meta_model.specs.Literals.{HoldsNoObject}
-use Rattle.meta_model.specs.Root.{root_class, BeginsAsRoot}
-use Rattle.meta_model.specs.Sites.{paths_in, literals_in}
 use Rattle.name_indexes.specs.Twice.{StandsTwice}
 
 -- ---- paths, where `this` is declared to be of class `me`, and a body's parameters have `kinds`

@@ -1,53 +1,18 @@
 -- Bodies that are loaded by the numbers of members, as their names are found in outlines.
-use Rattle.std.proofs.Common.{◌≡◌, ◌≢◌, ℕ, ◌<◌, Bool, true, List, [], ◌∷◌, length, slice_get, Option, Some, None, inl, inr, refl, sym, ap, ◌∙◌, subst, arith}
-use Rattle.std.specs.List.{AllZip}
-use Rattle.std.proofs.lemmas.Option.{same_Some}
-use Rattle.basic_types.specs.declared.qtype.QType.{QType}
-use Rattle.basic_types.specs.declared.sig.Sig.{Sig}
-use Rattle.syntax_trees.specs.declared.syntax.Expr.{Expr}
-use Rattle.syntax_trees.specs.declared.syntax.Root.{Root}
-use Rattle.syntax_trees.specs.declared.syntax.Path.{Path}
-use Rattle.syntax_trees.specs.declared.connection.Endpoints.{Endpoints}
-use Rattle.syntax_trees.specs.declared.syntax.Stmt.{Stmt}
+use Rattle.std.{proofs.Common.{◌≡◌, ◌≢◌, ℕ, ◌<◌, Bool, true, List, [], ◌∷◌, length, slice_get, Option, Some, None, inl, inr, refl, sym, ap, ◌∙◌, subst, arith}, specs.List.{AllZip}, proofs.lemmas.Option.{same_Some}}
+use Rattle.basic_types.specs.{declared.qtype.QType.{QType}, declared.sig.Sig.{Sig}}
+use Rattle.syntax_trees.specs.{declared.syntax.Expr.{Expr}, declared.syntax.Root.{Root}, declared.syntax.Path.{Path}, declared.connection.Endpoints.{Endpoints}, declared.syntax.Stmt.{Stmt}, declared.syntax.Stmt.TheViews.{out-Stmt}, declared.program.Parameter.{Parameter}, declared.program.Property.{Property}}
 use Rattle.syntax_trees.specs.declared.syntax.Stmt.TheOpen as stmt
-use Rattle.syntax_trees.specs.declared.syntax.Stmt.TheViews.{out-Stmt}
-use Rattle.syntax_trees.specs.declared.program.Parameter.{Parameter}
-use Rattle.syntax_trees.specs.declared.program.Property.{Property}
-use Rattle.meta_model.specs.declared.object.ValueType.{ValueType}
+use Rattle.meta_model.specs.{declared.object.ValueType.{ValueType}, declared.object.MetaRoot.{MetaRoot}, declared.object.Step.{Step}, declared.object.MetaPath.{MetaPath}, declared.object.MetaEndpoints.{MetaEndpoints}, declared.object.Statement.{Statement}, declared.object.Statement.TheViews.{out-Statement}, declared.object.MetaMethod.{MetaMethod}, declared.object.MetaProperty.{MetaProperty}, Loaded.{Loaded}, Members.{IsClassNamed, IsMethod, IsProperty, HasSig}, Kinds.{IsKind}}
 use Rattle.meta_model.specs.declared.object.ValueType.TheVariants as type
-use Rattle.meta_model.specs.declared.object.MetaRoot.{MetaRoot}
-use Rattle.meta_model.specs.declared.object.Step.{Step}
-use Rattle.meta_model.specs.declared.object.MetaPath.{MetaPath}
-use Rattle.meta_model.specs.declared.object.MetaEndpoints.{MetaEndpoints}
-use Rattle.meta_model.specs.declared.object.Statement.{Statement}
 use Rattle.meta_model.specs.declared.object.Statement.TheOpen as statement
-use Rattle.meta_model.specs.declared.object.Statement.TheViews.{out-Statement}
 use Rattle.meta_model.specs.declared.object.Work.TheVariants as work
-use Rattle.meta_model.specs.declared.object.MetaMethod.{MetaMethod}
-use Rattle.meta_model.specs.declared.object.MetaProperty.{MetaProperty}
-use Rattle.class_outlines.specs.declared.outline.Sort.{Sort}
+use Rattle.class_outlines.{specs.declared.outline.Sort.{Sort}, specs.declared.outline.Heading.{Heading}, specs.declared.outline.Outline.{Outline}, specs.Outlines.{IsOutlineNamed, kinds_of}, specs.code.ReadTypes.{IsReadAs}, specs.Clashes.{AreOneCall, HasTwoMembers}, specs.Notifiers.{IsSignalOf}, specs.Ends.{IsSigned}, specs.Indexed.{IsCallOf}, proofs.Once.{once}, proofs.OneMember.{called_by}, proofs.Zips.{zip_left, zip_right}}
 use Rattle.class_outlines.specs.declared.outline.Sort.TheVariants as sort
-use Rattle.class_outlines.specs.declared.outline.Heading.{Heading}
-use Rattle.class_outlines.specs.declared.outline.Outline.{Outline}
-use Rattle.meta_model.specs.Loaded.{Loaded}
-use Rattle.meta_model.specs.Members.{IsClassNamed, IsMethod, IsProperty, HasSig}
-use Rattle.meta_model.specs.Kinds.{IsKind}
-use Rattle.class_outlines.specs.Outlines.{IsOutlineNamed, kinds_of}
 use Rattle.name_indexes.specs.Places.{StandsFirst}
-use Rattle.class_outlines.specs.code.ReadTypes.{IsReadAs}
-use Rattle.class_outlines.specs.Clashes.{AreOneCall, HasTwoMembers}
-use Rattle.class_outlines.specs.Notifiers.{IsSignalOf}
-use Rattle.class_outlines.specs.Ends.{IsSigned}
-use Rattle.name_resolution.specs.declared.body_resolution.work.ResolvedWork.{ResolvedWork}
+use Rattle.name_resolution.specs.{declared.body_resolution.work.ResolvedWork.{ResolvedWork}, code.Bodies.{Scope, IsRoot, this_root, parameter_root, PointsTo, AreSteps, IsPath, IsExpr, literal_is, path_is, unary_is, binary_is, AreExprs, IsObjectPath, IsReferencePath, IsSet, IsEmit, IsCall, AreEnds, IsStatement, set_is, emit_is, call_is, if_is, connect_is, disconnect_is, delete_is, later_is, group_is, AreStatements, none_are, next_is}, code.Loading.{work_at, found_work, work_of, IsMethodOf, IsPropertyOf, IsObject}}
 use Rattle.name_resolution.specs.declared.body_resolution.work.ResolvedWork.TheVariants as resolved
-use Rattle.name_resolution.specs.code.Bodies.{Scope, IsRoot, this_root, parameter_root, PointsTo, AreSteps, IsPath, IsExpr, literal_is, path_is, unary_is, binary_is, AreExprs, IsObjectPath, IsReferencePath, IsSet, IsEmit, IsCall, AreEnds, IsStatement, set_is, emit_is, call_is, if_is, connect_is, disconnect_is, delete_is, later_is, group_is, AreStatements, none_are, next_is}
-use Rattle.class_outlines.specs.Indexed.{IsCallOf}
-use Rattle.meta_objects.specs.LoadedBodies.{Site, site, IsLoadedRoot, this_loaded, parameter_loaded, AreLoadedSteps, no_steps, step_on, IsLoadedPath, IsLoadedObject, IsLoadedExpr, literal_loaded, path_loaded, unary_loaded, binary_loaded, AreLoadedExprs, IsLoadedSet, IsLoadedEmit, IsLoadedCall, AreLoadedEnds, IsLoadedStatement, set_loaded, emit_loaded, call_loaded, if_loaded, connect_loaded, disconnect_loaded, delete_loaded, later_loaded, group_loaded, AreLoadedStatements, none_loaded, next_loaded}
-use Rattle.name_resolution.specs.code.Loading.{work_at, found_work, work_of, IsMethodOf, IsPropertyOf, IsObject}
-use Rattle.class_outlines.proofs.Once.{once}
-use Rattle.class_outlines.proofs.OneMember.{called_by}
-use Rattle.class_outlines.proofs.Zips.{zip_left, zip_right}
-use Rattle.meta_objects.proofs.Soundness.{map_at}
+use Rattle.meta_objects.{specs.LoadedBodies.{Site, site, IsLoadedRoot, this_loaded, parameter_loaded, AreLoadedSteps, no_steps, step_on, IsLoadedPath, IsLoadedObject, IsLoadedExpr, literal_loaded, path_loaded, unary_loaded, binary_loaded, AreLoadedExprs, IsLoadedSet, IsLoadedEmit, IsLoadedCall, AreLoadedEnds, IsLoadedStatement, set_loaded, emit_loaded, call_loaded, if_loaded, connect_loaded, disconnect_loaded, delete_loaded, later_loaded, group_loaded, AreLoadedStatements, none_loaded, next_loaded}, proofs.Soundness.{map_at}}
 
 -- ---- first elements that are the only ones
 pub not_before : (k m : ℕ) → k < m → k ≡ m → ⊥

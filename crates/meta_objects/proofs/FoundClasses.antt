@@ -1,59 +1,17 @@
 -- A program that is loaded as declared, as its names are looked up in the outlines of its classes: so one way of loading is
 -- left, and what is loaded is sound.
-use Rattle.std.proofs.Common.{◌≡◌, ℕ, zero, suc, ◌+◌, ◌<◌, List, [], ◌∷◌, ◌++◌, map, length, get_or, slice_get, Option, Some, None, inl, inr, refl, sym, ap, ◌∙◌, subst, arith, append_assoc}
-use Rattle.std.specs.Prelude.{codes}
-use Rattle.std.specs.List.{AllZip}
-use Rattle.std.specs.Option.{option_and_then}
-use Rattle.std.proofs.lemmas.Option.{slice_get_within, slice_get-get_or, none-some, same_Some}
-use Rattle.basic_types.specs.declared.qtype.QType.{QType}
-use Rattle.basic_types.specs.declared.sig.Sig.{Sig}
-use Rattle.syntax_trees.specs.declared.program.Property.{Property}
-use Rattle.syntax_trees.specs.declared.program.Signal.{Signal}
-use Rattle.syntax_trees.specs.declared.program.SlotWork.{SlotWork}
+use Rattle.std.{proofs.Common.{◌≡◌, ℕ, zero, suc, ◌+◌, ◌<◌, List, [], ◌∷◌, ◌++◌, map, length, get_or, slice_get, Option, Some, None, inl, inr, refl, sym, ap, ◌∙◌, subst, arith, append_assoc}, specs.Prelude.{codes}, specs.List.{AllZip}, specs.Option.{option_and_then}, proofs.lemmas.Option.{slice_get_within, slice_get-get_or, none-some, same_Some}}
+use Rattle.basic_types.specs.{declared.qtype.QType.{QType}, declared.sig.Sig.{Sig}}
+use Rattle.syntax_trees.specs.{declared.program.Property.{Property}, declared.program.Signal.{Signal}, declared.program.SlotWork.{SlotWork}, declared.program.Slot.{Slot}, declared.program.Class.{Class}, declared.program.Program.{Program}}
 use Rattle.syntax_trees.specs.declared.program.SlotWork.TheVariants as does
-use Rattle.syntax_trees.specs.declared.program.Slot.{Slot}
-use Rattle.syntax_trees.specs.declared.program.Class.{Class}
-use Rattle.syntax_trees.specs.declared.program.Program.{Program}
-use Rattle.meta_model.specs.declared.object.ValueType.{ValueType}
+use Rattle.meta_model.specs.{declared.object.ValueType.{ValueType}, declared.object.Work.{Work}, declared.object.MetaMethod.{MetaMethod}, declared.object.MetaProperty.{MetaProperty}, declared.object.MetaObject.{MetaObject}, Loaded.{Loaded}, Members.{IsClass, IsClassNamed}, Kinds.{IsKind}, Sound.{IsSound}, Root.{root_class}}
 use Rattle.meta_model.specs.declared.object.ValueType.TheVariants as type
-use Rattle.meta_model.specs.declared.object.Work.{Work}
 use Rattle.meta_model.specs.declared.object.Work.TheVariants as work
-use Rattle.meta_model.specs.declared.object.MetaMethod.{MetaMethod}
-use Rattle.meta_model.specs.declared.object.MetaProperty.{MetaProperty}
-use Rattle.meta_model.specs.declared.object.MetaObject.{MetaObject}
-use Rattle.class_outlines.specs.declared.outline.Heading.{Heading}
-use Rattle.class_outlines.specs.declared.outline.Outline.{Outline}
-use Rattle.meta_model.specs.Loaded.{Loaded}
+use Rattle.class_outlines.{specs.declared.outline.Heading.{Heading}, specs.declared.outline.Outline.{Outline}, specs.Outlines.{IsOutlineNamed, kinds_of, signal_heading, slot_headings, own_methods, qobject}, specs.code.ReadTypes.{IsReadAs}, specs.Clashes.{HasTwoMembers}, specs.Conditions.{DuplicateMember}, specs.Notifiers.{IsSignalOf}, proofs.Once.{none_at}, proofs.Outlined.{Declared, outline_of, outlines_count, root_at, distinct_outlines}, proofs.Zips.{zip_right, zip_append, zip_also, zip_both}, proofs.Firsts.{first_in_front}}
 use Rattle.name_indexes.specs.Places.{StandsFirst}
-use Rattle.meta_model.specs.Members.{IsClass, IsClassNamed}
-use Rattle.meta_model.specs.Kinds.{IsKind}
-use Rattle.meta_model.specs.Sound.{IsSound}
-use Rattle.meta_model.specs.Root.{root_class}
-use Rattle.class_outlines.specs.Outlines.{IsOutlineNamed, kinds_of, signal_heading, slot_headings, own_methods, qobject}
-use Rattle.class_outlines.specs.code.ReadTypes.{IsReadAs}
-use Rattle.class_outlines.specs.Clashes.{HasTwoMembers}
-use Rattle.class_outlines.specs.Conditions.{DuplicateMember}
-use Rattle.class_outlines.specs.Notifiers.{IsSignalOf}
-use Rattle.name_resolution.specs.declared.body_resolution.work.ResolvedWork.{ResolvedWork}
+use Rattle.name_resolution.{specs.declared.body_resolution.work.ResolvedWork.{ResolvedWork}, specs.code.Bodies.{scope_of, IsWork, IsSlotWork, AreWorks, AllWorks}, specs.code.Wires.{IsWire, IsOwns}, specs.code.Loading.{work_at, found_work, IsMethodOf, IsNotify, IsPropertyOf, IsObject, IsLoaded}, specs.code.Sites.{IsSite}, proofs.Unique.{same_loaded}}
 use Rattle.name_resolution.specs.declared.body_resolution.work.ResolvedWork.TheVariants as resolved
-use Rattle.name_resolution.specs.code.Bodies.{scope_of, IsWork, IsSlotWork, AreWorks, AllWorks}
-use Rattle.name_resolution.specs.code.Wires.{IsWire, IsOwns}
-use Rattle.name_resolution.specs.code.Loading.{work_at, found_work, IsMethodOf, IsNotify, IsPropertyOf, IsObject, IsLoaded}
-use Rattle.name_resolution.specs.code.Sites.{IsSite}
-use Rattle.meta_objects.specs.LoadedSites.{IsLoadedSite}
-use Rattle.meta_objects.specs.LoadedBodies.{Site, site}
-use Rattle.meta_objects.specs.LoadedProgram.{IsLoadedSignal, IsLoadedWork, IsLoadedSlot, HasNotifier, IsLoadedProperty, IsLoadedClass, IsLoadedWire, IsLoadedOwns, IsLoadedProgram}
-use Rattle.meta_objects.specs.Builds.{HasOutlines, IsLoadedForm, OneAsDeclared, OneLoading}
-use Rattle.class_outlines.proofs.Once.{none_at}
-use Rattle.class_outlines.proofs.Outlined.{Declared, outline_of, outlines_count, root_at, distinct_outlines}
-use Rattle.class_outlines.proofs.Zips.{zip_right, zip_append, zip_also, zip_both}
-use Rattle.meta_objects.proofs.Soundness.{map_at}
-use Rattle.name_resolution.proofs.Unique.{same_loaded}
-use Rattle.class_outlines.proofs.Firsts.{first_in_front}
-use Rattle.meta_objects.proofs.OwnMembers.{name_changed_first}
-use Rattle.meta_objects.proofs.Whole.{sound}
-use Rattle.meta_objects.proofs.FoundBodies.{stands_first, first_signal, signal_sort, statements_found}
-use Rattle.meta_objects.proofs.FoundParts.{effects_found, wire_found, owns_found, site_found}
+use Rattle.meta_objects.{specs.LoadedSites.{IsLoadedSite}, specs.LoadedBodies.{Site, site}, specs.LoadedProgram.{IsLoadedSignal, IsLoadedWork, IsLoadedSlot, HasNotifier, IsLoadedProperty, IsLoadedClass, IsLoadedWire, IsLoadedOwns, IsLoadedProgram}, specs.Builds.{HasOutlines, IsLoadedForm, OneAsDeclared, OneLoading}, proofs.Soundness.{map_at}, proofs.OwnMembers.{name_changed_first}, proofs.Whole.{sound}, proofs.FoundBodies.{stands_first, first_signal, signal_sort, statements_found}, proofs.FoundParts.{effects_found, wire_found, owns_found, site_found}}
 
 -- ---- lists that are made place by place
 module _ {A B : Type 0} where

@@ -1,37 +1,11 @@
 -- Natives, wires, owns and binding sites that are loaded by the numbers of members, as their names are found in outlines.
-use Rattle.std.proofs.Common.{◌≡◌, ℕ, List, slice_get, Some, refl, sym, ◌∙◌, subst}
-use Rattle.std.specs.List.{AllZip}
-use Rattle.std.proofs.lemmas.Option.{same_Some}
+use Rattle.std.{proofs.Common.{◌≡◌, ℕ, List, slice_get, Some, refl, sym, ◌∙◌, subst}, specs.List.{AllZip}, proofs.lemmas.Option.{same_Some}}
 use Rattle.basic_types.specs.declared.sig.Sig.{Sig}
-use Rattle.syntax_trees.specs.declared.syntax.Expr.{Expr}
-use Rattle.syntax_trees.specs.declared.syntax.Path.{Path}
-use Rattle.syntax_trees.specs.declared.program.EffectNames.{EffectNames}
-use Rattle.syntax_trees.specs.declared.program.Formal.{Formal}
-use Rattle.syntax_trees.specs.declared.program.Property.{Property}
-use Rattle.syntax_trees.specs.declared.program.Wire.{Wire}
-use Rattle.syntax_trees.specs.declared.program.Owns.{Owns}
-use Rattle.syntax_trees.specs.declared.program.Site.{Site}
-use Rattle.meta_model.specs.declared.effects.MetaEffects.{MetaEffects}
-use Rattle.meta_model.specs.declared.object.MetaWire.{MetaWire}
-use Rattle.meta_model.specs.declared.object.MetaOwns.{MetaOwns}
-use Rattle.meta_model.specs.declared.site.SourceProperty.{SourceProperty}
-use Rattle.meta_model.specs.declared.site.MetaSite.{MetaSite}
-use Rattle.class_outlines.specs.declared.outline.Outline.{Outline}
-use Rattle.meta_model.specs.Loaded.{Loaded}
-use Rattle.meta_model.specs.Members.{IsClassNamed, IsPropertyNamed}
-use Rattle.class_outlines.specs.Outlines.{IsOutlineNamed}
-use Rattle.class_outlines.specs.Clashes.{HasTwoMembers}
-use Rattle.class_outlines.specs.DeclaredSites.{IsPropertyIn, IsSourceProperty}
-use Rattle.name_resolution.specs.declared.body_resolution.work.ResolvedWork.{ResolvedWork}
-use Rattle.name_resolution.specs.code.Natives.{HasPropertyIn, HasSignalIn, AreEffects}
-use Rattle.meta_objects.specs.LoadedNatives.{IsEmitted, AreLoadedEffects}
-use Rattle.name_resolution.specs.code.Wires.{IsWire, IsOwns}
-use Rattle.name_resolution.specs.code.Loading.{IsObject}
-use Rattle.meta_objects.specs.LoadedProgram.{IsLoadedWire, IsLoadedOwns}
-use Rattle.name_resolution.specs.code.Sites.{IsFormula, literal_is, path_is, unary_is, binary_is, IsSite}
-use Rattle.meta_objects.specs.LoadedSites.{IsLoadedSource, IsLoadedFormula, literal_loads, path_loads, unary_loads, binary_loads, IsLoadedSite}
-use Rattle.class_outlines.proofs.Zips.{zip_left, zip_also}
-use Rattle.meta_objects.proofs.FoundBodies.{first_property, first_class, heading_at, declared_at, name_of, outline_named, signal_end, method_end}
+use Rattle.syntax_trees.specs.{declared.syntax.Expr.{Expr}, declared.syntax.Path.{Path}, declared.program.EffectNames.{EffectNames}, declared.program.Formal.{Formal}, declared.program.Property.{Property}, declared.program.Wire.{Wire}, declared.program.Owns.{Owns}, declared.program.Site.{Site}}
+use Rattle.meta_model.specs.{declared.effects.MetaEffects.{MetaEffects}, declared.object.MetaWire.{MetaWire}, declared.object.MetaOwns.{MetaOwns}, declared.site.SourceProperty.{SourceProperty}, declared.site.MetaSite.{MetaSite}, Loaded.{Loaded}, Members.{IsClassNamed, IsPropertyNamed}}
+use Rattle.class_outlines.{specs.declared.outline.Outline.{Outline}, specs.Outlines.{IsOutlineNamed}, specs.Clashes.{HasTwoMembers}, specs.DeclaredSites.{IsPropertyIn, IsSourceProperty}, proofs.Zips.{zip_left, zip_also}}
+use Rattle.name_resolution.specs.{declared.body_resolution.work.ResolvedWork.{ResolvedWork}, code.Natives.{HasPropertyIn, HasSignalIn, AreEffects}, code.Wires.{IsWire, IsOwns}, code.Loading.{IsObject}, code.Sites.{IsFormula, literal_is, path_is, unary_is, binary_is, IsSite}}
+use Rattle.meta_objects.{specs.LoadedNatives.{IsEmitted, AreLoadedEffects}, specs.LoadedProgram.{IsLoadedWire, IsLoadedOwns}, specs.LoadedSites.{IsLoadedSource, IsLoadedFormula, literal_loads, path_loads, unary_loads, binary_loads, IsLoadedSite}, proofs.FoundBodies.{first_property, first_class, heading_at, declared_at, name_of, outline_named, signal_end, method_end}}
 
 module _ (outlines : List Outline) (works : List (List ResolvedWork)) (p : Loaded) (objects : AllZip (IsObject outlines works) outlines p.classes)
     (distinct : (i j : ℕ) (a b : Outline) → slice_get outlines i ≡ Some a → slice_get outlines j ≡ Some b → a.name ≡ b.name → i ≡ j)

@@ -1,35 +1,12 @@
 -- A native's effects that are resolved in outlines, as they are loaded, and what they promise.
-use Rattle.std.proofs.Common.{◌≡◌, ℕ, zero, suc, true, List, [], ◌∷◌, slice_get, Some, Any, inl, inr, refl, sym, ap, ◌∙◌, subst}
-use Rattle.std.specs.Prelude.{All}
-use Rattle.std.specs.List.{AllZip}
-use Rattle.std.proofs.lemmas.Option.{none-some, same_Some}
-use Rattle.basic_types.specs.declared.qtype.QType.{QType}
-use Rattle.basic_types.specs.declared.sig.Sig.{Sig}
-use Rattle.syntax_trees.specs.declared.program.EffectNames.{EffectNames}
-use Rattle.syntax_trees.specs.declared.program.Parameter.{Parameter}
-use Rattle.meta_model.specs.declared.effects.MetaEffects.{MetaEffects}
-use Rattle.meta_model.specs.declared.object.MetaMethod.{MetaMethod}
-use Rattle.meta_model.specs.declared.object.MetaObject.{MetaObject}
-use Rattle.meta_model.specs.declared.object.MetaProperty.{MetaProperty}
-use Rattle.meta_model.specs.declared.object.ValueType.{ValueType}
-use Rattle.class_outlines.specs.declared.outline.Outline.{Outline}
-use Rattle.class_outlines.specs.code.ReadTypes.{IsReadAs}
-use Rattle.meta_model.specs.Loaded.{Loaded}
-use Rattle.meta_model.specs.Members.{IsPropertyNamed}
-use Rattle.class_outlines.specs.Natives.{RepeatsEffect, IsPointer, TakesReference, AffectsReference}
-use Rattle.class_outlines.specs.Outlines.{IsOutlineNamed, kinds_of}
-use Rattle.class_outlines.specs.DeclaredSites.{IsReferenceIn}
-use Rattle.meta_model.specs.Sound.{IsPlain, IsPlainProperty, IsPlainSignal, AreOnce, AreSoundEffects}
+use Rattle.std.{proofs.Common.{◌≡◌, ℕ, zero, suc, true, List, [], ◌∷◌, slice_get, Some, Any, inl, inr, refl, sym, ap, ◌∙◌, subst}, specs.Prelude.{All}, specs.List.{AllZip}, proofs.lemmas.Option.{none-some, same_Some}}
+use Rattle.basic_types.specs.{declared.qtype.QType.{QType}, declared.sig.Sig.{Sig}}
+use Rattle.syntax_trees.specs.{declared.program.EffectNames.{EffectNames}, declared.program.Parameter.{Parameter}}
+use Rattle.meta_model.specs.{declared.effects.MetaEffects.{MetaEffects}, declared.object.MetaMethod.{MetaMethod}, declared.object.MetaObject.{MetaObject}, declared.object.MetaProperty.{MetaProperty}, declared.object.ValueType.{ValueType}, Loaded.{Loaded}, Members.{IsPropertyNamed}, Sound.{IsPlain, IsPlainProperty, IsPlainSignal, AreOnce, AreSoundEffects}}
+use Rattle.class_outlines.{specs.declared.outline.Outline.{Outline}, specs.code.ReadTypes.{IsReadAs}, specs.Natives.{RepeatsEffect, IsPointer, TakesReference, AffectsReference}, specs.Outlines.{IsOutlineNamed, kinds_of}, specs.DeclaredSites.{IsReferenceIn}, proofs.Once.{none_at}, proofs.Searches.{same_first}, proofs.Zips.{any_of, place_of_any, zip_right, zip_also}}
 use Rattle.name_indexes.specs.Twice.{StandsTwice}
-use Rattle.name_resolution.specs.declared.body_resolution.work.ResolvedWork.{ResolvedWork}
-use Rattle.name_resolution.specs.code.Loading.{work_of, IsObject}
-use Rattle.name_resolution.specs.code.Natives.{HasPropertyIn, HasSignalIn, AreEffects}
-use Rattle.meta_objects.specs.LoadedNatives.{IsEmitted, AreLoadedEffects}
-use Rattle.class_outlines.proofs.Once.{none_at}
-use Rattle.class_outlines.proofs.Searches.{same_first}
-use Rattle.class_outlines.proofs.Zips.{any_of, place_of_any, zip_right, zip_also}
-use Rattle.meta_objects.proofs.Sited.{all_of, named_in, plain_kind, plain_in}
-use Rattle.meta_objects.proofs.Soundness.{IsTyped, FoundMethod, method_at}
+use Rattle.name_resolution.specs.{declared.body_resolution.work.ResolvedWork.{ResolvedWork}, code.Loading.{work_of, IsObject}, code.Natives.{HasPropertyIn, HasSignalIn, AreEffects}}
+use Rattle.meta_objects.{specs.LoadedNatives.{IsEmitted, AreLoadedEffects}, proofs.Sited.{all_of, named_in, plain_kind, plain_in}, proofs.Soundness.{IsTyped, FoundMethod, method_at}}
 
 -- ---- numbers appear once where the names that they stand for do
 module _ {A : Type 0} (R : A → ℕ → Type 0) (alike : A → A → Type 0) (joined : (x y : A) (n : ℕ) → R x n → R y n → alike x y) where

@@ -1,30 +1,12 @@
 -- What holds of the members that each class declares holds of all members of all classes.
-use Rattle.std.proofs.Common.{◌≡◌, ℕ, zero, suc, ◌+◌, ◌<◌, ◌≤◌, Bool, true, false, List, [], ◌∷◌, ◌++◌, map, length, slice_get, Option, Some, None, Any, ◌⊎◌, inl, inr, refl, sym, ap, ◌∙◌, subst, below_more, arith}
-use Rattle.std.specs.Prelude.{codes}
-use Rattle.std.proofs.lemmas.Option.{none-some, same_Some}
-use Rattle.basic_types.specs.declared.qtype.QType.{QType}
-use Rattle.basic_types.specs.declared.sig.Sig.{Sig}
-use Rattle.syntax_trees.specs.declared.program.Parameter.{Parameter}
-use Rattle.syntax_trees.specs.declared.program.Property.{Property}
-use Rattle.syntax_trees.specs.declared.program.Signal.{Signal}
-use Rattle.syntax_trees.specs.declared.program.Slot.{Slot}
-use Rattle.syntax_trees.specs.declared.program.Class.{Class}
-use Rattle.meta_model.specs.declared.object.ValueType.TheVariants.{Text, Reference}
-use Rattle.class_outlines.specs.declared.outline.Heading.{Heading}
-use Rattle.class_outlines.specs.declared.outline.Outline.{Outline}
+use Rattle.std.{proofs.Common.{◌≡◌, ℕ, zero, suc, ◌+◌, ◌<◌, ◌≤◌, Bool, true, false, List, [], ◌∷◌, ◌++◌, map, length, slice_get, Option, Some, None, Any, ◌⊎◌, inl, inr, refl, sym, ap, ◌∙◌, subst, below_more, arith}, specs.Prelude.{codes}, proofs.lemmas.Option.{none-some, same_Some}}
+use Rattle.basic_types.specs.{declared.qtype.QType.{QType}, declared.sig.Sig.{Sig}}
+use Rattle.syntax_trees.specs.{declared.program.Parameter.{Parameter}, declared.program.Property.{Property}, declared.program.Signal.{Signal}, declared.program.Slot.{Slot}, declared.program.Class.{Class}}
+use Rattle.meta_model.specs.{declared.object.ValueType.TheVariants.{Text, Reference}, QObject.{destroyed, destroyed_alone, name_changed}}
+use Rattle.class_outlines.{specs.declared.outline.Heading.{Heading}, specs.declared.outline.Outline.{Outline}, specs.DeclaredKinds.{LacksType}, specs.Notifiers.{IsSignalOf, IsNotifiedBy, LacksNotifier, NotifiesBadly, BadNotify}, specs.Conditions.{LacksPropertyType, LacksParameterType, LacksTypes, LacksAnyType}, specs.Outlines.{heading, object_name, kinds_of, signal_heading, slot_headings, own_methods, qobject, IsOutlineNamed, Outlines}, proofs.Anys.{any_none, of_one, any_front, any_back, any_part}, proofs.Firsts.{first_in_front}, proofs.Once.{get_split_at}, proofs.Outlined.{Declared, outline_of}, proofs.Zips.{any_of, place_of_any}}
 use Rattle.class_outlines.specs.declared.outline.Sort.TheVariants as sort
 use Rattle.name_indexes.specs.Places.{StandsAt, StandsFirst}
-use Rattle.class_outlines.specs.DeclaredKinds.{LacksType}
-use Rattle.class_outlines.specs.Notifiers.{IsSignalOf, IsNotifiedBy, LacksNotifier, NotifiesBadly, BadNotify}
-use Rattle.class_outlines.specs.Conditions.{LacksPropertyType, LacksParameterType, LacksTypes, LacksAnyType}
-use Rattle.meta_model.specs.QObject.{destroyed, destroyed_alone, name_changed}
-use Rattle.class_outlines.specs.Outlines.{heading, object_name, kinds_of, signal_heading, slot_headings, own_methods, qobject, IsOutlineNamed, Outlines}
 use Rattle.meta_objects.specs.code.OwnTypes.{DeclaresUnknown}
-use Rattle.class_outlines.proofs.Anys.{any_none, of_one, any_front, any_back, any_part}
-use Rattle.class_outlines.proofs.Firsts.{first_in_front}
-use Rattle.class_outlines.proofs.Once.{get_split_at}
-use Rattle.class_outlines.proofs.Outlined.{Declared, outline_of}
-use Rattle.class_outlines.proofs.Zips.{any_of, place_of_any}
 
 -- ---- fronts
 any_later : {X : Type 0} (P : X → Type 0) (x : X) (xs : List X) → Any P xs → Any P (x ∷ xs)

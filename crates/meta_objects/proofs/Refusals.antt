@@ -1,33 +1,12 @@
 -- What refuses a program, and what a program that isn't refused has.
 use Rattle.std.proofs.Common.{◌≡◌, List, Result, Ok, Err, IsErr, IsErrAnd, Any, ◌⊎◌, inl, inr, sym, subst}
 use Rattle.syntax_trees.specs.declared.program.Program.{Program}
-use Rattle.class_outlines.specs.declared.fault.MetaFault.{MetaFault}
+use Rattle.class_outlines.{specs.declared.fault.MetaFault.{MetaFault}, specs.declared.outline.Outline.{Outline}, specs.Outlines.{Outlines}, specs.Clashes.{DuplicateClass, HasTwoMembers}, specs.Bases.{NoBase}, specs.Conditions.{RepeatsDeclared, DuplicateMember}, specs.Indexed.{AreIndexed}, specs.declared.offence.Offence.{Offence}, specs.declared.offence.LoadFault.{LoadFault}, specs.Offences.{IsOffence, IsOffenceBy, LoadsOf, fault_told}, proofs.Zips.{none_of_zip}, proofs.OutlineSteps.{none_lack}}
 use Rattle.class_outlines.specs.declared.fault.MetaFault.TheVariants as fault
-use Rattle.meta_model.specs.declared.object.MetaWire.{MetaWire}
-use Rattle.meta_model.specs.declared.object.MetaOwns.{MetaOwns}
-use Rattle.meta_model.specs.declared.site.MetaSite.{MetaSite}
-use Rattle.class_outlines.specs.declared.outline.Outline.{Outline}
-use Rattle.meta_model.specs.Loaded.{Loaded}
-use Rattle.class_outlines.specs.Outlines.{Outlines}
-use Rattle.class_outlines.specs.Clashes.{DuplicateClass, HasTwoMembers}
-use Rattle.class_outlines.specs.Bases.{NoBase}
-use Rattle.class_outlines.specs.Conditions.{RepeatsDeclared, DuplicateMember}
-use Rattle.class_outlines.specs.Indexed.{AreIndexed}
-use Rattle.name_resolution.specs.declared.body_resolution.work.ResolvedWork.{ResolvedWork}
-use Rattle.name_resolution.specs.code.Bodies.{IsSlotWork, AreWorks}
-use Rattle.name_resolution.specs.LackedNames.{LacksInSlot, LacksInClass}
-use Rattle.name_resolution.specs.code.Sites.{IsSite}
-use Rattle.name_resolution.specs.LackedNames.{LacksInSite}
-use Rattle.name_resolution.specs.code.Wires.{IsWire, IsOwns}
-use Rattle.name_resolution.specs.LackedNames.{LacksEnd, LacksClass, LacksMember}
-use Rattle.name_resolution.specs.code.Loading.{HasUses}
-use Rattle.class_outlines.specs.declared.offence.Offence.{Offence}
-use Rattle.class_outlines.specs.declared.offence.LoadFault.{LoadFault}
+use Rattle.meta_model.specs.{declared.object.MetaWire.{MetaWire}, declared.object.MetaOwns.{MetaOwns}, declared.site.MetaSite.{MetaSite}, Loaded.{Loaded}}
+use Rattle.name_resolution.specs.{declared.body_resolution.work.ResolvedWork.{ResolvedWork}, code.Bodies.{IsSlotWork, AreWorks}, LackedNames.{LacksInSlot, LacksInClass, LacksInSite, LacksEnd, LacksClass, LacksMember}, code.Sites.{IsSite}, code.Wires.{IsWire, IsOwns}, code.Loading.{HasUses}}
 use Rattle.class_outlines.specs.declared.offence.LoadFault.TheVariants as load
-use Rattle.class_outlines.specs.Offences.{IsOffence, IsOffenceBy, LoadsOf, fault_told}
 use Rattle.meta_objects.specs.Builds.{HasOutlines, Builds, LoadsProgram}
-use Rattle.class_outlines.proofs.Zips.{none_of_zip}
-use Rattle.class_outlines.proofs.OutlineSteps.{none_lack}
 
 pub outlined : (program : Program) (o : List Outline) → (¬ DuplicateClass program) → Outlines program.classes o → HasOutlines program o
 outlined program o distinct are = record { distinct = distinct; based = none_lack program.classes o are; are = are }

@@ -1,38 +1,13 @@
 -- Binding sites that are resolved in outlines, as they are loaded.
-use Rattle.std.proofs.Common.{◌≡◌, ℕ, ◌<◌, true, List, [], ◌∷◌, ◌++◌, length, get_or, slice_get, Some, inl, inr, refl, sym, ap, ◌∙◌, subst}
-use Rattle.std.specs.Prelude.{All}
-use Rattle.std.specs.List.{AllZip}
-use Rattle.std.proofs.lemmas.Option.{slice_get_within, slice_get-get_or}
-use Rattle.basic_types.specs.declared.qtype.QType.{QType}
-use Rattle.basic_types.specs.declared.value.Value.{Value}
-use Rattle.syntax_trees.specs.declared.syntax.Expr.{Expr}
+use Rattle.std.{proofs.Common.{◌≡◌, ℕ, ◌<◌, true, List, [], ◌∷◌, ◌++◌, length, get_or, slice_get, Some, inl, inr, refl, sym, ap, ◌∙◌, subst}, specs.Prelude.{All}, specs.List.{AllZip}, proofs.lemmas.Option.{slice_get_within, slice_get-get_or}}
+use Rattle.basic_types.specs.{declared.qtype.QType.{QType}, declared.value.Value.{Value}}
+use Rattle.syntax_trees.specs.{declared.syntax.Expr.{Expr}, declared.syntax.Path.{Path}, declared.program.Formal.{Formal}, declared.program.Property.{Property}, declared.program.Site.{Site}}
 use Rattle.syntax_trees.specs.declared.syntax.Expr.TheOpen as expr
-use Rattle.syntax_trees.specs.declared.syntax.Path.{Path}
-use Rattle.syntax_trees.specs.declared.program.Formal.{Formal}
-use Rattle.syntax_trees.specs.declared.program.Property.{Property}
-use Rattle.syntax_trees.specs.declared.program.Site.{Site}
-use Rattle.meta_model.specs.declared.object.ValueType.{ValueType}
+use Rattle.meta_model.{specs.declared.object.ValueType.{ValueType}, specs.declared.site.SourceProperty.{SourceProperty}, specs.declared.site.MetaSite.{MetaSite}, specs.Literals.{literal, HoldsNoObject}, specs.Loaded.{Loaded}, specs.Members.{IsClassNamed, IsPropertyNamed}, specs.Sites.{paths_in, literals_in}, specs.Sound.{IsPlain, IsPlainProperty, IsSoundSource, IsSoundSite}, proofs.PathsIn.{paths_of, literals_of}}
 use Rattle.meta_model.specs.declared.object.ValueType.TheVariants as type
-use Rattle.meta_model.specs.declared.site.SourceProperty.{SourceProperty}
-use Rattle.meta_model.specs.declared.site.MetaSite.{MetaSite}
-use Rattle.class_outlines.specs.declared.outline.Outline.{Outline}
-use Rattle.class_outlines.specs.code.ReadTypes.{IsReadAs}
-use Rattle.meta_model.specs.Literals.{literal, HoldsNoObject}
-use Rattle.meta_model.specs.Loaded.{Loaded}
-use Rattle.meta_model.specs.Members.{IsClassNamed, IsPropertyNamed}
-use Rattle.class_outlines.specs.Outlines.{IsOutlineNamed}
-use Rattle.meta_model.specs.Sites.{paths_in, literals_in}
-use Rattle.class_outlines.specs.DeclaredSites.{IsPropertyIn, IsSourceProperty, ReadsReference, UsesReference, by_target, by_source}
-use Rattle.meta_model.specs.Sound.{IsPlain, IsPlainProperty, IsSoundSource, IsSoundSite}
-use Rattle.name_resolution.specs.declared.body_resolution.work.ResolvedWork.{ResolvedWork}
-use Rattle.name_resolution.specs.code.Loading.{IsObject}
-use Rattle.name_resolution.specs.code.Sites.{IsFormula, literal_is, path_is, unary_is, binary_is, IsSite}
-use Rattle.meta_objects.specs.LoadedSites.{IsLoadedSource, IsLoadedFormula, literal_loads, path_loads, unary_loads, binary_loads, IsLoadedSite}
-use Rattle.meta_model.proofs.PathsIn.{paths_of, literals_of}
-use Rattle.class_outlines.proofs.Searches.{same_first}
-use Rattle.class_outlines.proofs.Zips.{any_of, zip_left, zip_right, zip_append, zip_also}
-use Rattle.meta_objects.proofs.SoundBodies.{no_object}
-use Rattle.meta_objects.proofs.Soundness.{object_at, named, FoundProperty, property_at}
+use Rattle.class_outlines.{specs.declared.outline.Outline.{Outline}, specs.code.ReadTypes.{IsReadAs}, specs.Outlines.{IsOutlineNamed}, specs.DeclaredSites.{IsPropertyIn, IsSourceProperty, ReadsReference, UsesReference, by_target, by_source}, proofs.Searches.{same_first}, proofs.Zips.{any_of, zip_left, zip_right, zip_append, zip_also}}
+use Rattle.name_resolution.specs.{declared.body_resolution.work.ResolvedWork.{ResolvedWork}, code.Loading.{IsObject}, code.Sites.{IsFormula, literal_is, path_is, unary_is, binary_is, IsSite}}
+use Rattle.meta_objects.{specs.LoadedSites.{IsLoadedSource, IsLoadedFormula, literal_loads, path_loads, unary_loads, binary_loads, IsLoadedSite}, proofs.SoundBodies.{no_object}, proofs.Soundness.{object_at, named, FoundProperty, property_at}}
 
 -- what holds of each element by its place
 pub all_of : {X : Type 0} (P : X → Type 0) (xs : List X) → ((k : ℕ) (x : X) → slice_get xs k ≡ Some x → P x) → All P xs

@@ -1,36 +1,14 @@
 -- A body as it is loaded is sound: its names' numbers are those of members.
 use Rattle.std.proofs.Common.{◌≡◌, ℕ, false, List, [], ◌∷◌, length, sym, ◌∙◌, subst}
-use Rattle.basic_types.specs.declared.sig.Sig.{Sig}
-use Rattle.basic_types.specs.declared.value.Value.{Value}
+use Rattle.basic_types.specs.{declared.sig.Sig.{Sig}, declared.value.Value.{Value}}
 use Rattle.basic_types.specs.declared.value.Value.TheVariants as value
-use Rattle.syntax_trees.specs.declared.syntax.Expr.{Expr}
-use Rattle.syntax_trees.specs.declared.syntax.Root.{Root}
-use Rattle.syntax_trees.specs.declared.syntax.Path.{Path}
-use Rattle.syntax_trees.specs.declared.connection.Endpoints.{Endpoints}
-use Rattle.syntax_trees.specs.declared.syntax.Stmt.{Stmt}
+use Rattle.syntax_trees.specs.{declared.syntax.Expr.{Expr}, declared.syntax.Root.{Root}, declared.syntax.Path.{Path}, declared.connection.Endpoints.{Endpoints}, declared.syntax.Stmt.{Stmt}, declared.syntax.Stmt.TheViews.{out-Stmt}}
 use Rattle.syntax_trees.specs.declared.syntax.Stmt.TheOpen as stmt
-use Rattle.syntax_trees.specs.declared.syntax.Stmt.TheViews.{out-Stmt}
-use Rattle.meta_model.specs.declared.object.ValueType.{ValueType}
+use Rattle.meta_model.specs.{declared.object.ValueType.{ValueType}, declared.object.MetaRoot.{MetaRoot}, declared.object.MetaRoot.TheVariants.{This}, declared.object.Step.{Step}, declared.object.MetaPath.{MetaPath}, declared.object.MetaEndpoints.{MetaEndpoints}, declared.object.Statement.{Statement}, declared.object.Statement.TheViews.{out-Statement}, declared.object.MetaMethod.{MetaMethod}, Loaded.{Loaded}, Members.{IsMethod}, Sound.{HasRoot, this_has, parameter_has, Leads, here, on, LeadsTo, LeadsToClass, IsSoundExpr, literal_sound, path_sound, unary_sound, binary_sound, AreSoundExprs, AreConnectable, AreSoundEnds, IsSoundStatement, set_sound, emit_sound, call_sound, if_sound, connect_sound, disconnect_sound, delete_sound, later_sound, group_sound, AreSound, none_sound, next_sound}, declared.qobject.TheConstants.{QOBJECT}, Root.{delete_later_body}, Literals.{literal, HoldsNoObject}}
 use Rattle.meta_model.specs.declared.object.ValueType.TheVariants as type
-use Rattle.meta_model.specs.declared.object.MetaRoot.{MetaRoot}
-use Rattle.meta_model.specs.declared.object.MetaRoot.TheVariants.{This}
-use Rattle.meta_model.specs.declared.object.Step.{Step}
-use Rattle.meta_model.specs.declared.object.MetaPath.{MetaPath}
-use Rattle.meta_model.specs.declared.object.MetaEndpoints.{MetaEndpoints}
-use Rattle.meta_model.specs.declared.object.Statement.{Statement}
 use Rattle.meta_model.specs.declared.object.Statement.TheOpen as statement
 use Rattle.meta_model.specs.declared.object.Statement.TheVariants as statement_by
-use Rattle.meta_model.specs.declared.object.Statement.TheViews.{out-Statement}
-use Rattle.meta_model.specs.declared.object.MetaMethod.{MetaMethod}
-use Rattle.meta_model.specs.Loaded.{Loaded}
-use Rattle.meta_model.specs.Members.{IsMethod}
-use Rattle.meta_model.specs.Sound.{HasRoot, this_has, parameter_has, Leads, here, on, LeadsTo, LeadsToClass, IsSoundExpr, literal_sound, path_sound, unary_sound, binary_sound, AreSoundExprs, AreConnectable, AreSoundEnds, IsSoundStatement, set_sound, emit_sound, call_sound, if_sound, connect_sound, disconnect_sound, delete_sound, later_sound, group_sound, AreSound, none_sound, next_sound}
-use Rattle.meta_model.specs.declared.qobject.TheConstants.{QOBJECT}
-use Rattle.meta_model.specs.Root.{delete_later_body}
-use Rattle.meta_model.specs.Literals.{literal, HoldsNoObject}
-use Rattle.meta_objects.specs.LoadedBodies.{Site, IsLoadedRoot, this_loaded, parameter_loaded, AreLoadedSteps, no_steps, step_on, IsLoadedPath, IsLoadedObject, IsLoadedExpr, literal_loaded, path_loaded, unary_loaded, binary_loaded, AreLoadedExprs, AreLoadedEnds, IsLoadedStatement, set_loaded, emit_loaded, call_loaded, if_loaded, connect_loaded, disconnect_loaded, delete_loaded, later_loaded, group_loaded, AreLoadedStatements, none_loaded, next_loaded}
-use Rattle.meta_objects.specs.LoadedEnds.{Connects}
-use Rattle.meta_objects.proofs.Soundness.{zip_length}
+use Rattle.meta_objects.{specs.LoadedBodies.{Site, IsLoadedRoot, this_loaded, parameter_loaded, AreLoadedSteps, no_steps, step_on, IsLoadedPath, IsLoadedObject, IsLoadedExpr, literal_loaded, path_loaded, unary_loaded, binary_loaded, AreLoadedExprs, AreLoadedEnds, IsLoadedStatement, set_loaded, emit_loaded, call_loaded, if_loaded, connect_loaded, disconnect_loaded, delete_loaded, later_loaded, group_loaded, AreLoadedStatements, none_loaded, next_loaded}, specs.LoadedEnds.{Connects}, proofs.Soundness.{zip_length}}
 
 -- a literal holds no object
 pub no_object : (v : Value) → HoldsNoObject (literal v)

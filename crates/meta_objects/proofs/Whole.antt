@@ -1,76 +1,17 @@
 -- A loaded program is sound.
-use Rattle.std.proofs.Common.{◌≡◌, ℕ, zero, suc, ◌<◌, ◌+◌, List, [], ◌∷◌, ◌++◌, map, length, get_or, slice_get, Option, Some, None, Any, ◌⊎◌, inl, inr, refl, sym, ap, ◌∙◌, subst, arith, append_assoc}
-use Rattle.std.specs.Prelude.{codes}
-use Rattle.std.specs.List.{AllZip}
-use Rattle.std.specs.Option.{option_and_then}
-use Rattle.std.proofs.lemmas.Option.{slice_get_within, slice_get-get_or, none-some, same_Some}
-use Rattle.basic_types.specs.declared.qtype.QType.{QType}
-use Rattle.basic_types.specs.declared.sig.Sig.{Sig}
-use Rattle.syntax_trees.specs.declared.syntax.Literal.{Literal}
+use Rattle.std.{proofs.Common.{◌≡◌, ℕ, zero, suc, ◌<◌, ◌+◌, List, [], ◌∷◌, ◌++◌, map, length, get_or, slice_get, Option, Some, None, Any, ◌⊎◌, inl, inr, refl, sym, ap, ◌∙◌, subst, arith, append_assoc}, specs.Prelude.{codes}, specs.List.{AllZip}, specs.Option.{option_and_then}, proofs.lemmas.Option.{slice_get_within, slice_get-get_or, none-some, same_Some}}
+use Rattle.basic_types.specs.{declared.qtype.QType.{QType}, declared.sig.Sig.{Sig}}
+use Rattle.syntax_trees.specs.{declared.syntax.Literal.{Literal}, declared.program.Property.{Property}, declared.program.Signal.{Signal}, declared.program.SlotWork.{SlotWork}, declared.program.Slot.{Slot}, declared.program.Class.{Class}, declared.program.Wire.{Wire}, declared.program.Owns.{Owns}, declared.program.Site.{Site}, declared.program.Program.{Program}}
 use Rattle.syntax_trees.specs.declared.syntax.Literal.TheVariants as literal
-use Rattle.syntax_trees.specs.declared.program.Property.{Property}
-use Rattle.syntax_trees.specs.declared.program.Signal.{Signal}
-use Rattle.syntax_trees.specs.declared.program.SlotWork.{SlotWork}
 use Rattle.syntax_trees.specs.declared.program.SlotWork.TheVariants as does
-use Rattle.syntax_trees.specs.declared.program.Slot.{Slot}
-use Rattle.syntax_trees.specs.declared.program.Class.{Class}
-use Rattle.syntax_trees.specs.declared.program.Wire.{Wire}
-use Rattle.syntax_trees.specs.declared.program.Owns.{Owns}
-use Rattle.syntax_trees.specs.declared.program.Site.{Site}
-use Rattle.syntax_trees.specs.declared.program.Program.{Program}
-use Rattle.meta_model.specs.declared.object.ValueType.{ValueType}
+use Rattle.meta_model.{specs.declared.object.ValueType.{ValueType}, specs.declared.object.MetaMethod.{MetaMethod}, specs.declared.object.MetaProperty.{MetaProperty}, specs.declared.object.MetaObject.{MetaObject}, specs.declared.object.MetaWire.{MetaWire}, specs.declared.object.MetaOwns.{MetaOwns}, specs.declared.site.MetaSite.{MetaSite}, specs.Loaded.{Loaded}, specs.Members.{IsClass, IsProperty, methods_in, method_count, methods_before, method_offset, Declares, base_of, Below, same, under, IsIn}, specs.Kinds.{IsKind}, specs.Sound.{IsSoundWork, IsSoundMethod, IsNotifier, IsSoundProperty, IsUnder, HasDistinctMethods, HasDistinctProperties, IsSoundClass, IsSoundWire, IsSoundOwns, IsSoundSite, AreDistinctSites, IsSound}, specs.Literals.{HoldsNoObject}, specs.Root.{root_methods, root_class, BeginsAsRoot}, proofs.InLists.{place_in}}
 use Rattle.meta_model.specs.declared.object.ValueType.TheVariants as type
-use Rattle.meta_model.specs.declared.object.MetaMethod.{MetaMethod}
-use Rattle.meta_model.specs.declared.object.MetaProperty.{MetaProperty}
-use Rattle.meta_model.specs.declared.object.MetaObject.{MetaObject}
-use Rattle.meta_model.specs.declared.object.MetaWire.{MetaWire}
-use Rattle.meta_model.specs.declared.object.MetaOwns.{MetaOwns}
-use Rattle.meta_model.specs.declared.site.MetaSite.{MetaSite}
-use Rattle.class_outlines.specs.declared.outline.Sort.{Sort}
+use Rattle.class_outlines.{specs.declared.outline.Sort.{Sort}, specs.declared.outline.Heading.{Heading}, specs.declared.outline.Outline.{Outline}, specs.DeclaredSites.{UsesReference}, specs.Outlines.{IsOutlineNamed, kinds_of, signal_heading, slot_headings, own_methods, qobject}, specs.DeclaredKinds.{LacksType}, specs.code.ReadTypes.{IsReadAs}, specs.Clashes.{AreOneCall, HasTwoMembers}, specs.Conditions.{RepeatsName, RepeatsInSlot, RepeatsInMethod, LacksTypes}, specs.Notifiers.{IsSignalOf, LacksNotifier}, specs.Natives.{RepeatsEffectIn, TouchesReference, HasReferenceNative}, proofs.Zips.{zip_left, zip_right, zip_split, zip_also, zip_both, same_zip_by, get_front, get_back}, proofs.Once.{once, none_at}, proofs.Firsts.{first_in_front}, proofs.ReadTypes.{same_read}, proofs.Outlined.{Declared, Reaches, here, up, HasSlot, outline_of, slot_of, outlines_count, root_at, reaches_root, delete_later_in_root, distinct_outlines}}
 use Rattle.class_outlines.specs.declared.outline.Sort.TheVariants as sort
-use Rattle.class_outlines.specs.declared.outline.Heading.{Heading}
-use Rattle.class_outlines.specs.declared.outline.Outline.{Outline}
-use Rattle.meta_model.specs.Loaded.{Loaded}
 use Rattle.name_indexes.specs.Places.{StandsFirst}
-use Rattle.meta_model.specs.Members.{IsClass, IsProperty, methods_in, method_count, methods_before, method_offset, Declares, base_of, Below, same, under, IsIn}
-use Rattle.meta_model.specs.Kinds.{IsKind}
-use Rattle.meta_model.specs.Sound.{IsSoundWork, IsSoundMethod, IsNotifier, IsSoundProperty, IsUnder, HasDistinctMethods, HasDistinctProperties, IsSoundClass, IsSoundWire, IsSoundOwns, IsSoundSite, AreDistinctSites, IsSound}
-use Rattle.meta_model.specs.Literals.{HoldsNoObject}
-use Rattle.class_outlines.specs.DeclaredSites.{UsesReference}
-use Rattle.meta_model.specs.Root.{root_methods, root_class, BeginsAsRoot}
-use Rattle.class_outlines.specs.Outlines.{IsOutlineNamed, kinds_of, signal_heading, slot_headings, own_methods, qobject}
-use Rattle.class_outlines.specs.DeclaredKinds.{LacksType}
-use Rattle.class_outlines.specs.code.ReadTypes.{IsReadAs}
-use Rattle.class_outlines.specs.Clashes.{AreOneCall, HasTwoMembers}
-use Rattle.class_outlines.specs.Conditions.{RepeatsName, RepeatsInSlot, RepeatsInMethod, LacksTypes}
-use Rattle.class_outlines.specs.Notifiers.{IsSignalOf, LacksNotifier}
-use Rattle.class_outlines.specs.Natives.{RepeatsEffectIn, TouchesReference, HasReferenceNative}
-use Rattle.name_resolution.specs.declared.body_resolution.work.ResolvedWork.{ResolvedWork}
+use Rattle.name_resolution.{specs.declared.body_resolution.work.ResolvedWork.{ResolvedWork}, specs.code.Bodies.{scope_of, IsWork, IsSlotWork, AreWorks}, specs.code.Wires.{IsWire, IsOwns}, specs.InitialValues.{initial_of}, specs.code.Loading.{work_at, found_work, work_of, IsMethodOf, IsNotify, IsPropertyOf, IsObject, HasUses, IsLoaded}, specs.code.Sites.{IsSite}, proofs.OneSite.{same_zip}, proofs.Unique.{same_method, same_property_by, same_place, same_object}}
 use Rattle.name_resolution.specs.declared.body_resolution.work.ResolvedWork.TheVariants as resolved
-use Rattle.name_resolution.specs.code.Bodies.{scope_of, IsWork, IsSlotWork, AreWorks}
-use Rattle.name_resolution.specs.code.Wires.{IsWire, IsOwns}
-use Rattle.name_resolution.specs.InitialValues.{initial_of}
-use Rattle.name_resolution.specs.code.Loading.{work_at, found_work, work_of, IsMethodOf, IsNotify, IsPropertyOf, IsObject, HasUses, IsLoaded}
-use Rattle.meta_objects.specs.Builds.{HasOutlines, IsClean, IsLoadedForm}
-use Rattle.name_resolution.specs.code.Sites.{IsSite}
-use Rattle.meta_objects.specs.LoadedSites.{IsLoadedSite}
-use Rattle.meta_objects.specs.LoadedBodies.{site}
-use Rattle.meta_objects.specs.LoadedEnds.{Connects}
-use Rattle.meta_objects.specs.LoadedProgram.{IsLoadedSignal, IsLoadedWork, IsLoadedSlot, HasNotifier, IsLoadedProperty, IsLoadedClass, HasLoadedClass, IsLoadedWire, IsLoadedOwns, IsLoadedProgram}
-use Rattle.class_outlines.proofs.Zips.{zip_left, zip_right, zip_split, zip_also, zip_both, same_zip_by, get_front, get_back}
-use Rattle.meta_model.proofs.InLists.{place_in}
-use Rattle.class_outlines.proofs.Once.{once, none_at}
-use Rattle.class_outlines.proofs.Firsts.{first_in_front}
-use Rattle.meta_objects.proofs.OwnMembers.{name_changed_first}
-use Rattle.class_outlines.proofs.ReadTypes.{same_read}
-use Rattle.meta_objects.proofs.Deciding.{carries}
-use Rattle.name_resolution.proofs.OneSite.{same_zip}
-use Rattle.name_resolution.proofs.Unique.{same_method, same_property_by, same_place, same_object}
-use Rattle.class_outlines.proofs.Outlined.{Declared, Reaches, here, up, HasSlot, outline_of, slot_of, outlines_count, root_at, reaches_root, delete_later_in_root, distinct_outlines}
-use Rattle.meta_objects.proofs.Soundness.{IsTyped, zip_length, object_at, named, kind_in, connects, kinds_counted, statements_load}
-use Rattle.meta_objects.proofs.Sited.{site_loads, site_sound}
-use Rattle.meta_objects.proofs.Natives.{plain_parameters, effects_load, effects_sound}
-use Rattle.meta_objects.proofs.SoundBodies.{connects_sound, delete_later_sound, statements_sound}
+use Rattle.meta_objects.{specs.Builds.{HasOutlines, IsClean, IsLoadedForm}, specs.LoadedSites.{IsLoadedSite}, specs.LoadedBodies.{site}, specs.LoadedEnds.{Connects}, specs.LoadedProgram.{IsLoadedSignal, IsLoadedWork, IsLoadedSlot, HasNotifier, IsLoadedProperty, IsLoadedClass, HasLoadedClass, IsLoadedWire, IsLoadedOwns, IsLoadedProgram}, proofs.OwnMembers.{name_changed_first}, proofs.Deciding.{carries}, proofs.Soundness.{IsTyped, zip_length, object_at, named, kind_in, connects, kinds_counted, statements_load}, proofs.Sited.{site_loads, site_sound}, proofs.Natives.{plain_parameters, effects_load, effects_sound}, proofs.SoundBodies.{connects_sound, delete_later_sound, statements_sound}}
 
 no_kinds : (o : List Outline) (types : List QType) (kinds : List ValueType) → AllZip (IsReadAs o) types kinds → types ≡ [] → kinds ≡ []
 no_kinds o [] [] h e = refl

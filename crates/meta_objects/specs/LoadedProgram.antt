@@ -1,36 +1,14 @@
 -- What a loaded program is, in Qt's words: the classes in their order, each with its base's members and then its own, as
 -- declared, and names are replaced by numbers (Qt 6, "The Meta-Object System"; docs/machine.md, "Loading").
-use Rattle.std.specs.Prelude.{◌≡◌, ℕ, suc, ◌<◌, List, ◌++◌, length, Option, None, Some, slice_get}
-use Rattle.std.specs.List.{AllZip}
+use Rattle.std.specs.{Prelude.{◌≡◌, ℕ, suc, ◌<◌, List, ◌++◌, length, Option, None, Some, slice_get}, List.{AllZip}}
 use Rattle.basic_types.specs.declared.sig.Sig.{Sig}
-use Rattle.syntax_trees.specs.declared.program.Property.{Property}
-use Rattle.syntax_trees.specs.declared.program.Signal.{Signal}
-use Rattle.syntax_trees.specs.declared.program.SlotWork.{SlotWork}
+use Rattle.syntax_trees.specs.{declared.program.Property.{Property}, declared.program.Signal.{Signal}, declared.program.SlotWork.{SlotWork}, declared.program.Slot.{Slot}, declared.program.Class.{Class}, declared.program.Wire.{Wire}, declared.program.Owns.{Owns}, declared.program.Program.{Program}}
 use Rattle.syntax_trees.specs.declared.program.SlotWork.TheVariants as slot
-use Rattle.syntax_trees.specs.declared.program.Slot.{Slot}
-use Rattle.syntax_trees.specs.declared.program.Class.{Class}
-use Rattle.syntax_trees.specs.declared.program.Wire.{Wire}
-use Rattle.syntax_trees.specs.declared.program.Owns.{Owns}
-use Rattle.syntax_trees.specs.declared.program.Program.{Program}
-use Rattle.meta_model.specs.declared.object.Work.{Work}
+use Rattle.meta_model.specs.{declared.object.Work.{Work}, declared.object.MetaMethod.{MetaMethod}, declared.object.MetaProperty.{MetaProperty}, declared.object.MetaObject.{MetaObject}, declared.object.MetaWire.{MetaWire}, declared.object.MetaOwns.{MetaOwns}, declared.qobject.TheConstants.{QOBJECT}, Loaded.{Loaded}, Members.{IsClass, IsClassNamed}, QObject.{sig_of}, Root.{root_class}, Kinds.{IsKind}}
 use Rattle.meta_model.specs.declared.object.Work.TheVariants as work
-use Rattle.meta_model.specs.declared.object.MetaMethod.{MetaMethod}
-use Rattle.meta_model.specs.declared.object.MetaProperty.{MetaProperty}
-use Rattle.meta_model.specs.declared.object.MetaObject.{MetaObject}
-use Rattle.meta_model.specs.declared.object.MetaWire.{MetaWire}
-use Rattle.meta_model.specs.declared.object.MetaOwns.{MetaOwns}
-use Rattle.meta_model.specs.declared.qobject.TheConstants.{QOBJECT}
-use Rattle.meta_model.specs.Loaded.{Loaded}
-use Rattle.meta_model.specs.Members.{IsClass, IsClassNamed}
-use Rattle.meta_model.specs.QObject.{sig_of}
 use Rattle.class_outlines.specs.Outlines.{kinds_of, base_name}
-use Rattle.meta_model.specs.Root.{root_class}
-use Rattle.meta_model.specs.Kinds.{IsKind}
 use Rattle.name_resolution.specs.InitialValues.{initial_of}
-use Rattle.meta_objects.specs.LoadedBodies.{Site, site, AreLoadedStatements}
-use Rattle.meta_objects.specs.LoadedEnds.{Connects}
-use Rattle.meta_objects.specs.LoadedNatives.{AreLoadedEffects}
-use Rattle.meta_objects.specs.LoadedSites.{IsLoadedSite}
+use Rattle.meta_objects.specs.{LoadedBodies.{Site, site, AreLoadedStatements}, LoadedEnds.{Connects}, LoadedNatives.{AreLoadedEffects}, LoadedSites.{IsLoadedSite}}
 
 -- ---- members
 -- a signal: its name, and its parameters' types, each resolved

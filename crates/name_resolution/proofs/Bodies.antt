@@ -1,38 +1,14 @@
 -- A body is resolved in one way at most.
-use Rattle.std.proofs.Common.{◌≡◌, ℕ, List, [], ◌∷◌, length, slice_get, refl, sym, ap, ◌∙◌, subst}
-use Rattle.std.proofs.lemmas.Option.{same_Some}
+use Rattle.std.proofs.{Common.{◌≡◌, ℕ, List, [], ◌∷◌, length, slice_get, refl, sym, ap, ◌∙◌, subst}, lemmas.Option.{same_Some}}
 use Rattle.basic_types.specs.declared.qtype.QType.{QType}
-use Rattle.syntax_trees.specs.declared.syntax.Expr.{Expr}
+use Rattle.syntax_trees.specs.{declared.syntax.Expr.{Expr}, declared.syntax.Expr.TheViews.{out-Expr, roll-Expr, roll-out-Expr}, declared.syntax.Root.{Root}, declared.syntax.Path.{Path}, declared.connection.Endpoints.{Endpoints}, declared.syntax.Stmt.{Stmt}, declared.syntax.Stmt.TheViews.{out-Stmt}, declared.program.Parameter.{Parameter}, declared.program.Property.{Property}}
 use Rattle.syntax_trees.specs.declared.syntax.Expr.TheOpen as expr
-use Rattle.syntax_trees.specs.declared.syntax.Expr.TheViews.{out-Expr, roll-Expr, roll-out-Expr}
-use Rattle.syntax_trees.specs.declared.syntax.Root.{Root}
-use Rattle.syntax_trees.specs.declared.syntax.Path.{Path}
-use Rattle.syntax_trees.specs.declared.connection.Endpoints.{Endpoints}
-use Rattle.syntax_trees.specs.declared.syntax.Stmt.{Stmt}
 use Rattle.syntax_trees.specs.declared.syntax.Stmt.TheOpen as stmt
-use Rattle.syntax_trees.specs.declared.syntax.Stmt.TheViews.{out-Stmt}
-use Rattle.syntax_trees.specs.declared.program.Parameter.{Parameter}
-use Rattle.syntax_trees.specs.declared.program.Property.{Property}
-use Rattle.meta_model.specs.declared.object.MetaRoot.{MetaRoot}
+use Rattle.meta_model.specs.{declared.object.MetaRoot.{MetaRoot}, declared.object.Step.{Step}, declared.object.MetaPath.{MetaPath}, declared.object.MetaEndpoints.{MetaEndpoints}, declared.object.ValueType.{ValueType}, declared.object.Statement.{Statement}, declared.object.Statement.TheViews.{out-Statement, roll-Statement, roll-out-Statement}, Literals.{literal}}
 use Rattle.meta_model.specs.declared.object.MetaRoot.TheVariants as resolved
-use Rattle.meta_model.specs.declared.object.Step.{Step}
-use Rattle.meta_model.specs.declared.object.MetaPath.{MetaPath}
-use Rattle.meta_model.specs.declared.object.MetaEndpoints.{MetaEndpoints}
-use Rattle.meta_model.specs.declared.object.ValueType.{ValueType}
-use Rattle.meta_model.specs.declared.object.Statement.{Statement}
 use Rattle.meta_model.specs.declared.object.Statement.TheOpen as statement
-use Rattle.meta_model.specs.declared.object.Statement.TheViews.{out-Statement, roll-Statement, roll-out-Statement}
-use Rattle.class_outlines.specs.declared.outline.Outline.{Outline}
-use Rattle.class_outlines.specs.Outlines.{IsOutlineNamed}
-use Rattle.class_outlines.specs.code.ReadTypes.{IsReadAs}
-use Rattle.class_outlines.specs.Notifiers.{IsSignalOf}
-use Rattle.class_outlines.specs.Ends.{IsSigned}
-use Rattle.meta_model.specs.Literals.{literal}
+use Rattle.class_outlines.{specs.declared.outline.Outline.{Outline}, specs.Outlines.{IsOutlineNamed}, specs.code.ReadTypes.{IsReadAs}, specs.Notifiers.{IsSignalOf}, specs.Ends.{IsSigned}, specs.Indexed.{IsPropertyOfName, IsCallOf}, proofs.Searches.{same_first}, proofs.Firsts.{first_item, same_in}, proofs.ReadTypes.{same_read}}
 use Rattle.name_resolution.specs.code.Bodies.{Scope, IsRoot, this_root, parameter_root, PointsTo, HasMember, IsStep, AreSteps, IsPath, IsExpr, literal_is, path_is, unary_is, binary_is, AreExprs, IsObjectPath, IsReferencePath, IsSet, IsEmit, IsCall, AreEnds, IsStatement, set_is, emit_is, call_is, if_is, connect_is, disconnect_is, delete_is, later_is, group_is, AreStatements, none_are, next_is, IsStatementOf}
-use Rattle.class_outlines.specs.Indexed.{IsPropertyOfName, IsCallOf}
-use Rattle.class_outlines.proofs.Searches.{same_first}
-use Rattle.class_outlines.proofs.Firsts.{first_item, same_in}
-use Rattle.class_outlines.proofs.ReadTypes.{same_read}
 
 -- a value is what it is made of
 same_expr : (a b : Expr MetaPath) → out-Expr MetaPath a ≡ out-Expr MetaPath b → a ≡ b

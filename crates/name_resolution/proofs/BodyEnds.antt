@@ -1,25 +1,14 @@
 -- Resolving `connect` and `disconnect`.
 use Rattle.std.proofs.Common.{ℕ, ◌≤◌, subst, arith}
-use Rattle.syntax_trees.specs.declared.connection.ConnectionType.{ConnectionType}
-use Rattle.syntax_trees.specs.declared.connection.Endpoints.{Endpoints}
-use Rattle.syntax_trees.specs.declared.syntax.Path.{Path}
+use Rattle.syntax_trees.specs.{declared.connection.ConnectionType.{ConnectionType}, declared.connection.Endpoints.{Endpoints}, declared.syntax.Path.{Path}}
 use Rattle.syntax_trees.specs.declared.syntax.Stmt.TheVariants as stmt_by
 use Rattle.syntax_trees.specs.declared.syntax.Stmt.TheOpen as stmt
-use Rattle.meta_model.specs.declared.object.MetaPath.{MetaPath}
-use Rattle.meta_model.specs.declared.object.MetaEndpoints.{MetaEndpoints}
-use Rattle.meta_model.specs.declared.object.Statement.{Statement}
+use Rattle.meta_model.specs.{declared.object.MetaPath.{MetaPath}, declared.object.MetaEndpoints.{MetaEndpoints}, declared.object.Statement.{Statement}, declared.object.Statement.TheViews.{out-Statement}, declared.qobject.TheConstants.{OBJECT_NAME_CHANGED}}
 use Rattle.meta_model.specs.declared.object.Statement.TheVariants as statement_by
 use Rattle.meta_model.specs.declared.object.Statement.TheOpen as statement
-use Rattle.meta_model.specs.declared.object.Statement.TheViews.{out-Statement}
-use Rattle.class_outlines.specs.declared.outline.Outline.{Outline}
-use Rattle.meta_model.specs.declared.qobject.TheConstants.{OBJECT_NAME_CHANGED}
+use Rattle.class_outlines.{specs.declared.outline.Outline.{Outline}, specs.Notifiers.{IsSignalOf}, specs.Ends.{IsSigned}, proofs.Firsts.{same_in}}
 use Rattle.name_indexes.specs.Places.{StandsFirst, NoneStands, StandsAt}
-use Rattle.class_outlines.specs.Notifiers.{IsSignalOf}
-use Rattle.class_outlines.specs.Ends.{IsSigned}
-use Rattle.name_resolution.specs.code.Bodies.{Scope, IsObjectPath, AreEnds, IsStatement, connect_is, disconnect_is, IsStatementOf}
-use Rattle.class_outlines.proofs.Firsts.{same_in}
-use Rattle.name_resolution.proofs.Bodies.{same_object}
-use Rattle.name_resolution.proofs.BodyPieces.{by_parts, parts_of}
+use Rattle.name_resolution.{specs.code.Bodies.{Scope, IsObjectPath, AreEnds, IsStatement, connect_is, disconnect_is, IsStatementOf}, proofs.Bodies.{same_object}, proofs.BodyPieces.{by_parts, parts_of}}
 
 module _ (s : Scope) where
   module _ (ends : Endpoints Path) where

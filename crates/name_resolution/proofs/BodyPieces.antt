@@ -1,46 +1,20 @@
 -- Resolving bodies piece by piece.
-use Rattle.std.proofs.Common.{◌≡◌, ℕ, suc, ◌+◌, ◌≤◌, true, List, [], ◌∷◌, ◌++◌, inl, inr, drop, length, slice_get, Some, refl, sym, ap, ◌∙◌, subst, arith, append_assoc}
-use Rattle.basic_types.specs.declared.qtype.QType.{QType}
-use Rattle.basic_types.specs.declared.value.Value.{Value}
-use Rattle.syntax_trees.specs.declared.syntax.Unary.{Unary}
-use Rattle.syntax_trees.specs.declared.syntax.Binary.{Binary}
-use Rattle.syntax_trees.specs.declared.syntax.Expr.{Expr}
+use Rattle.std.{proofs.Common.{◌≡◌, ℕ, suc, ◌+◌, ◌≤◌, true, List, [], ◌∷◌, ◌++◌, inl, inr, drop, length, slice_get, Some, refl, sym, ap, ◌∙◌, subst, arith, append_assoc}, specs.Prelude.{Result, Ok, Err}}
+use Rattle.basic_types.specs.{declared.qtype.QType.{QType}, declared.value.Value.{Value}}
+use Rattle.syntax_trees.specs.{declared.syntax.Unary.{Unary}, declared.syntax.Binary.{Binary}, declared.syntax.Expr.{Expr}, declared.syntax.Expr.TheViews.{out-Expr}, declared.syntax.Path.{Path}, declared.syntax.Root.{Root}, declared.program.Parameter.{Parameter}, declared.syntax.Stmt.{Stmt}, declared.syntax.Stmt.TheViews.{out-Stmt}, declared.program.Property.{Property}}
 use Rattle.syntax_trees.specs.declared.syntax.Expr.TheVariants as e
 use Rattle.syntax_trees.specs.declared.syntax.Expr.TheOpen as expr
-use Rattle.syntax_trees.specs.declared.syntax.Expr.TheViews.{out-Expr}
-use Rattle.syntax_trees.specs.declared.syntax.Path.{Path}
-use Rattle.syntax_trees.specs.declared.syntax.Root.{Root}
 use Rattle.syntax_trees.specs.declared.syntax.Root.TheVariants as root
-use Rattle.meta_model.specs.declared.object.MetaRoot.{MetaRoot}
+use Rattle.meta_model.specs.{declared.object.MetaRoot.{MetaRoot}, declared.object.Step.{Step}, declared.object.MetaPath.{MetaPath}, declared.object.ValueType.{ValueType}, declared.object.Statement.{Statement}, declared.object.Statement.TheViews.{out-Statement}, Literals.{literal}, Sound.{AreSets}}
 use Rattle.meta_model.specs.declared.object.MetaRoot.TheVariants as resolved
-use Rattle.class_outlines.specs.declared.offence.PartFault.{PartFault}
+use Rattle.class_outlines.{specs.declared.offence.PartFault.{PartFault}, specs.Offences.{LoadsPart}, specs.declared.outline.Outline.{Outline}, specs.code.ReadTypes.{IsReadAs}, specs.Indexed.{IsPropertyOfName}, proofs.OutlineSteps.{drop_at, drop_end}, proofs.Firsts.{first_item, same_in}}
 use Rattle.class_outlines.specs.declared.fault.MetaFault.TheVariants as fault
-use Rattle.name_resolution.specs.declared.body_resolution.path.Led.{Led}
-use Rattle.class_outlines.specs.Offences.{LoadsPart}
-use Rattle.std.specs.Prelude.{Result, Ok, Err}
-use Rattle.syntax_trees.specs.declared.program.Parameter.{Parameter}
-use Rattle.syntax_trees.specs.declared.syntax.Stmt.{Stmt}
+use Rattle.name_resolution.{specs.declared.body_resolution.path.Led.{Led}, specs.code.Bodies.{Scope, IsRoot, this_root, parameter_root, PointsTo, PointsToThis, HasMember, AreSteps, IsPath, IsExpr, literal_is, path_is, unary_is, binary_is, AreExprs, IsObjectPath, IsSet, IsStatement, set_is, if_is, group_is, AreStatements, none_are, next_is, IsStatementOf, LacksInBody}, proofs.Bodies.{part, same_member, same_root, same_path, same_object, same_statements}}
 use Rattle.syntax_trees.specs.declared.syntax.Stmt.TheVariants as stmt_by
 use Rattle.syntax_trees.specs.declared.syntax.Stmt.TheOpen as stmt
-use Rattle.syntax_trees.specs.declared.syntax.Stmt.TheViews.{out-Stmt}
-use Rattle.syntax_trees.specs.declared.program.Property.{Property}
-use Rattle.meta_model.specs.declared.object.Step.{Step}
-use Rattle.meta_model.specs.declared.object.MetaPath.{MetaPath}
-use Rattle.meta_model.specs.declared.object.ValueType.{ValueType}
-use Rattle.meta_model.specs.declared.object.Statement.{Statement}
 use Rattle.meta_model.specs.declared.object.Statement.TheVariants as statement_by
 use Rattle.meta_model.specs.declared.object.Statement.TheOpen as statement
-use Rattle.meta_model.specs.declared.object.Statement.TheViews.{out-Statement}
-use Rattle.class_outlines.specs.declared.outline.Outline.{Outline}
 use Rattle.name_indexes.specs.Places.{StandsAt, StandsFirst, Found}
-use Rattle.class_outlines.specs.code.ReadTypes.{IsReadAs}
-use Rattle.meta_model.specs.Literals.{literal}
-use Rattle.meta_model.specs.Sound.{AreSets}
-use Rattle.name_resolution.specs.code.Bodies.{Scope, IsRoot, this_root, parameter_root, PointsTo, PointsToThis, HasMember, AreSteps, IsPath, IsExpr, literal_is, path_is, unary_is, binary_is, AreExprs, IsObjectPath, IsSet, IsStatement, set_is, if_is, group_is, AreStatements, none_are, next_is, IsStatementOf, LacksInBody}
-use Rattle.class_outlines.specs.Indexed.{IsPropertyOfName}
-use Rattle.class_outlines.proofs.OutlineSteps.{drop_at, drop_end}
-use Rattle.class_outlines.proofs.Firsts.{first_item, same_in}
-use Rattle.name_resolution.proofs.Bodies.{part, same_member, same_root, same_path, same_object, same_statements}
 
 -- ---- members
 module _ (outlines : List Outline) where

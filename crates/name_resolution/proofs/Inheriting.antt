@@ -1,27 +1,11 @@
 -- What is resolved of a base is what the classes below it are to have.
-use Rattle.std.proofs.Common.{◌≡◌, ℕ, List, ◌++◌, take, slice_get, Option, None, Some, IfSome, Any, inl, inr, refl, sym, ap, ◌∙◌, subst}
-use Rattle.std.specs.List.{AllZip}
-use Rattle.std.specs.Option.{option_and_then}
-use Rattle.std.proofs.lemmas.Option.{none-some, same_Some}
+use Rattle.std.{proofs.Common.{◌≡◌, ℕ, List, ◌++◌, take, slice_get, Option, None, Some, IfSome, Any, inl, inr, refl, sym, ap, ◌∙◌, subst}, specs.List.{AllZip}, specs.Option.{option_and_then}, proofs.lemmas.Option.{none-some, same_Some}}
 use Rattle.basic_types.specs.declared.sig.Sig.{Sig}
-use Rattle.syntax_trees.specs.declared.program.Property.{Property}
-use Rattle.syntax_trees.specs.declared.program.Class.{Class}
-use Rattle.meta_model.specs.declared.object.MetaMethod.{MetaMethod}
-use Rattle.meta_model.specs.declared.object.MetaProperty.{MetaProperty}
-use Rattle.meta_model.specs.declared.object.MetaObject.{MetaObject}
-use Rattle.class_outlines.specs.declared.outline.Heading.{Heading}
-use Rattle.class_outlines.specs.declared.outline.Outline.{Outline}
-use Rattle.class_outlines.specs.Outlines.{own_methods}
-use Rattle.class_outlines.specs.Notifiers.{IsSignalOf, LacksNotifier, NotifiesBadly, BadNotify}
+use Rattle.syntax_trees.specs.{declared.program.Property.{Property}, declared.program.Class.{Class}}
+use Rattle.meta_model.specs.{declared.object.MetaMethod.{MetaMethod}, declared.object.MetaProperty.{MetaProperty}, declared.object.MetaObject.{MetaObject}}
+use Rattle.class_outlines.{specs.declared.outline.Heading.{Heading}, specs.declared.outline.Outline.{Outline}, specs.Outlines.{own_methods}, specs.Notifiers.{IsSignalOf, LacksNotifier, NotifiesBadly, BadNotify}, proofs.Firsts.{first_in_front}, proofs.Fronts.{get_take}, proofs.Once.{none_at}, proofs.Outlined.{Declared, outline_of}, proofs.Zips.{zip_right, get_front}}
 use Rattle.name_indexes.specs.Places.{StandsFirst}
-use Rattle.class_outlines.proofs.Firsts.{first_in_front}
-use Rattle.class_outlines.proofs.Fronts.{get_take}
-use Rattle.class_outlines.proofs.Once.{none_at}
-use Rattle.class_outlines.proofs.Outlined.{Declared, outline_of}
-use Rattle.class_outlines.proofs.Zips.{zip_right, get_front}
-use Rattle.name_resolution.specs.declared.body_resolution.work.ResolvedWork.{ResolvedWork}
-use Rattle.name_resolution.specs.code.Inherited.{AreOutlined, IsNextObject, InheritMethods, InheritProperties, inherited_method, inherited_property}
-use Rattle.name_resolution.specs.code.Loading.{IsMethodOf, IsNotify, IsPropertyOf, IsObject}
+use Rattle.name_resolution.specs.{declared.body_resolution.work.ResolvedWork.{ResolvedWork}, code.Inherited.{AreOutlined, IsNextObject, InheritMethods, InheritProperties, inherited_method, inherited_property}, code.Loading.{IsMethodOf, IsNotify, IsPropertyOf, IsObject}}
 
 -- what is found, if anything is, has P
 if_found : {X : Type 0} (P : X → Type 0) (found : Option X) → ((x : X) → found ≡ Some x → P x) → IfSome found P

@@ -1,52 +1,13 @@
 -- Names are looked up in one way.
-use Rattle.std.proofs.Common.{◌≡◌, ℕ, zero, suc, ◌≤◌, List, [], ◌∷◌, ◌++◌, take, length, Option, Some, None, refl, sym, ap, ◌∙◌, subst, arith}
-use Rattle.std.specs.List.{AllZip}
-use Rattle.std.proofs.lemmas.List.{take_all}
-use Rattle.basic_types.specs.declared.qtype.QType.{QType}
-use Rattle.basic_types.specs.declared.sig.Sig.{Sig}
-use Rattle.basic_types.specs.declared.kind.Kind.{Kind}
-use Rattle.basic_types.specs.declared.value.Value.{Value}
-use Rattle.syntax_trees.specs.declared.program.Property.{Property}
-use Rattle.syntax_trees.specs.declared.program.EffectNames.{EffectNames}
-use Rattle.syntax_trees.specs.declared.program.SlotWork.{SlotWork}
+use Rattle.std.{proofs.Common.{◌≡◌, ℕ, zero, suc, ◌≤◌, List, [], ◌∷◌, ◌++◌, take, length, Option, Some, None, refl, sym, ap, ◌∙◌, subst, arith}, specs.List.{AllZip}, proofs.lemmas.List.{take_all}}
+use Rattle.basic_types.specs.{declared.qtype.QType.{QType}, declared.sig.Sig.{Sig}, declared.kind.Kind.{Kind}, declared.value.Value.{Value}}
+use Rattle.syntax_trees.specs.{declared.program.Property.{Property}, declared.program.EffectNames.{EffectNames}, declared.program.SlotWork.{SlotWork}, declared.program.Slot.{Slot}, declared.program.Class.{Class}, declared.program.Wire.{Wire}, declared.program.Owns.{Owns}, declared.program.Program.{Program}}
 use Rattle.syntax_trees.specs.declared.program.SlotWork.TheVariants as declared
-use Rattle.syntax_trees.specs.declared.program.Slot.{Slot}
-use Rattle.syntax_trees.specs.declared.program.Class.{Class}
-use Rattle.syntax_trees.specs.declared.program.Wire.{Wire}
-use Rattle.syntax_trees.specs.declared.program.Owns.{Owns}
-use Rattle.syntax_trees.specs.declared.program.Program.{Program}
-use Rattle.meta_model.specs.declared.effects.MetaEffects.{MetaEffects}
-use Rattle.meta_model.specs.declared.object.ValueType.{ValueType}
-use Rattle.meta_model.specs.declared.object.Work.{Work}
-use Rattle.meta_model.specs.declared.object.MetaMethod.{MetaMethod}
-use Rattle.meta_model.specs.declared.object.MetaProperty.{MetaProperty}
-use Rattle.meta_model.specs.declared.object.MetaObject.{MetaObject}
-use Rattle.meta_model.specs.declared.object.MetaWire.{MetaWire}
-use Rattle.meta_model.specs.declared.object.MetaOwns.{MetaOwns}
-use Rattle.meta_model.specs.declared.site.MetaSite.{MetaSite}
-use Rattle.class_outlines.specs.declared.outline.Heading.{Heading}
-use Rattle.class_outlines.specs.declared.outline.Outline.{Outline}
-use Rattle.meta_model.specs.Loaded.{Loaded}
+use Rattle.meta_model.specs.{declared.effects.MetaEffects.{MetaEffects}, declared.object.ValueType.{ValueType}, declared.object.Work.{Work}, declared.object.MetaMethod.{MetaMethod}, declared.object.MetaProperty.{MetaProperty}, declared.object.MetaObject.{MetaObject}, declared.object.MetaWire.{MetaWire}, declared.object.MetaOwns.{MetaOwns}, declared.site.MetaSite.{MetaSite}, Loaded.{Loaded}}
+use Rattle.class_outlines.{specs.declared.outline.Heading.{Heading}, specs.declared.outline.Outline.{Outline}, specs.Outlines.{IsOutline, Outlines, base_name, own_methods, qobject}, specs.code.ReadTypes.{IsReadAs}, specs.Notifiers.{IsSignalOf}, proofs.Searches.{same_first}, proofs.Firsts.{first_item}, proofs.Fronts.{inside, next_take}, proofs.SiteProperties.{one_property_in}, proofs.ReadTypes.{same_read}}
 use Rattle.name_indexes.specs.Places.{IsPlace}
-use Rattle.class_outlines.specs.Outlines.{IsOutline, Outlines, base_name, own_methods, qobject}
-use Rattle.class_outlines.specs.code.ReadTypes.{IsReadAs}
-use Rattle.class_outlines.specs.Notifiers.{IsSignalOf}
-use Rattle.name_resolution.specs.declared.body_resolution.work.ResolvedWork.{ResolvedWork}
+use Rattle.name_resolution.{specs.declared.body_resolution.work.ResolvedWork.{ResolvedWork}, specs.code.Natives.{HasPropertyIn, HasSignalIn, AreEffects}, specs.code.Bodies.{scope_of, IsWork, IsSlotWork, AreWorks, AllWorks}, specs.code.Wires.{IsWire, IsOwns}, specs.InitialValues.{initial_of}, specs.code.Loading.{IsMethodOf, IsNotify, IsPropertyOf, IsObject, IsLoaded}, specs.code.Sites.{IsSite}, proofs.Ends.{one_end}, proofs.Bodies.{same_statements}, proofs.OneSite.{same_zip, same_site}}
 use Rattle.name_resolution.specs.declared.body_resolution.work.ResolvedWork.TheVariants as loads
-use Rattle.name_resolution.specs.code.Natives.{HasPropertyIn, HasSignalIn, AreEffects}
-use Rattle.name_resolution.specs.code.Bodies.{scope_of, IsWork, IsSlotWork, AreWorks, AllWorks}
-use Rattle.name_resolution.specs.code.Wires.{IsWire, IsOwns}
-use Rattle.name_resolution.specs.InitialValues.{initial_of}
-use Rattle.name_resolution.specs.code.Loading.{IsMethodOf, IsNotify, IsPropertyOf, IsObject, IsLoaded}
-use Rattle.name_resolution.specs.code.Sites.{IsSite}
-use Rattle.class_outlines.proofs.Searches.{same_first}
-use Rattle.class_outlines.proofs.Firsts.{first_item}
-use Rattle.class_outlines.proofs.Fronts.{inside, next_take}
-use Rattle.class_outlines.proofs.SiteProperties.{one_property_in}
-use Rattle.name_resolution.proofs.Ends.{one_end}
-use Rattle.name_resolution.proofs.Bodies.{same_statements}
-use Rattle.name_resolution.proofs.OneSite.{same_zip, same_site}
-use Rattle.class_outlines.proofs.ReadTypes.{same_read}
 
 -- ---- outlines
 abbrev outline_by : ℕ → Class → ℕ → Outline → Outline

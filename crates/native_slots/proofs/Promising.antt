@@ -1,34 +1,8 @@
 -- Closures that fit keep what a program may expect of its natives.
-use Rattle.std.proofs.Common.{◌≡◌, ℕ, zero, suc, List, [], ◌∷◌, Bool, true, false, ◌&&◌, IsTrue, length, slice_get, Option, Vec, Result, Ok, Err, refl, sym, ◌∙◌, ap, subst, map}
-use Rattle.std.specs.Prelude.{nat_le, OnOk}
-use Rattle.std.specs.List.{AllZip, list_all}
-use Rattle.std.specs.Option.{option_map, option_map_or, option_and_then, unwrap_or}
-use Rattle.std.specs.declared.alloc.Global.{Global}
-use Rattle.std.specs.declared.alloc.AllocError.{AllocError}
+use Rattle.std.{proofs.Common.{◌≡◌, ℕ, zero, suc, List, [], ◌∷◌, Bool, true, false, ◌&&◌, IsTrue, length, slice_get, Option, Vec, Result, Ok, Err, refl, sym, ◌∙◌, ap, subst, map}, specs.Prelude.{nat_le, OnOk}, specs.List.{AllZip, list_all}, specs.Option.{option_map, option_map_or, option_and_then, unwrap_or}, specs.declared.alloc.Global.{Global}, specs.declared.alloc.AllocError.{AllocError}}
 use Rattle.basic_types.specs.declared.value.Value.{Value}
-use Rattle.meta_model.specs.declared.effects.MetaEffects.{MetaEffects}
-use Rattle.meta_model.specs.declared.object.MetaMethod.{MetaMethod}
-use Rattle.meta_model.specs.declared.object.MetaObject.{MetaObject}
-use Rattle.meta_model.specs.declared.object.MetaProperty.{MetaProperty}
-use Rattle.meta_model.specs.Loaded.{Loaded}
-use Rattle.meta_model.specs.Values.{Has, HaveTypes}
-use Rattle.native_slots.specs.declared.action.Action.{Action}
-use Rattle.native_slots.specs.declared.action.Action.TheVariants.{Emit, Set}
-use Rattle.native_slots.specs.declared.action.TheConstants.{MOST_ACTIONS}
-use Rattle.native_slots.specs.declared.effects.Effects.{Effects}
-use Rattle.native_slots.specs.declared.effects.PlainProperty.{PlainProperty}
-use Rattle.native_slots.specs.declared.effects.PlainSignal.{PlainSignal}
-use Rattle.native_slots.specs.declared.head.NativeHead.{NativeHead}
-use Rattle.native_slots.specs.declared.misfit.Misfit.{Misfit}
-use Rattle.native_slots.specs.declared.plain_type.PlainType.{PlainType}
-use Rattle.native_slots.specs.Answers.{takes_any, MayAnswer}
-use Rattle.native_slots.specs.Effects.{kinds_of, kinds_of_properties, accepts, is_within, are_within}
-use Rattle.native_slots.specs.Fitting.{IsPropertyAs, IsSignalAs, AreAsDeclared}
-use Rattle.native_slots.specs.Misfits.{Fits}
-use Rattle.native_slots.specs.Plain.{kind_of, is_of, are_of}
-use Rattle.native_slots.specs.Promises.{IsValueOf, Promises, is_declared, are_declared}
-use Rattle.native_slots.proofs.Asking.{heads_found}
-use Rattle.native_slots.proofs.PlainValues.{of_has}
+use Rattle.meta_model.specs.{declared.effects.MetaEffects.{MetaEffects}, declared.object.MetaMethod.{MetaMethod}, declared.object.MetaObject.{MetaObject}, declared.object.MetaProperty.{MetaProperty}, Loaded.{Loaded}, Values.{Has, HaveTypes}}
+use Rattle.native_slots.{specs.declared.action.Action.{Action}, specs.declared.action.Action.TheVariants.{Emit, Set}, specs.declared.action.TheConstants.{MOST_ACTIONS}, specs.declared.effects.Effects.{Effects}, specs.declared.effects.PlainProperty.{PlainProperty}, specs.declared.effects.PlainSignal.{PlainSignal}, specs.declared.head.NativeHead.{NativeHead}, specs.declared.misfit.Misfit.{Misfit}, specs.declared.plain_type.PlainType.{PlainType}, specs.Answers.{takes_any, MayAnswer}, specs.Effects.{kinds_of, kinds_of_properties, accepts, is_within, are_within}, specs.Fitting.{IsPropertyAs, IsSignalAs, AreAsDeclared}, specs.Misfits.{Fits}, specs.Plain.{kind_of, is_of, are_of}, specs.Promises.{IsValueOf, Promises, is_declared, are_declared}, proofs.Asking.{heads_found}, proofs.PlainValues.{of_has}}
 
 both_true : (a b : Bool) → IsTrue a → IsTrue b → IsTrue (a && b)
 both_true true b h k = k

@@ -3,37 +3,14 @@ use Rattle.std.proofs.Common.{◌≡◌, ℕ, ◌+◌, true, false, List, [], �
 use Rattle.script_lang.specs.declared.event.Event.{Event}
 use Rattle.script_lang.specs.declared.event.Event.TheVariants as event
 use Rattle.meta_model.specs.Loaded.{Loaded}
-use Rattle.object_tree.specs.Objects.{change_life, blocked}
-use Rattle.object_tree.specs.Creating.{fresh, initial_values}
-use Rattle.object_tree.specs.declared.life.Life.{Life}
+use Rattle.object_tree.specs.{Objects.{change_life, blocked}, Creating.{fresh, initial_values}, declared.life.Life.{Life}}
 use Rattle.event_loops.specs.Queues.{with_loop}
-use Rattle.machine_state.specs.Accepting.{accepted, refused}
-use Rattle.trace_entries.specs.Refusals.{refusal_number}
-use Rattle.machine_state.specs.State.{State, IsIdle}
-use Rattle.machine_state.specs.Telling.{Alone}
-use Rattle.machine_state.specs.Worlds.{begun_turn, with_connection, without_connections}
-use Rattle.trace_entries.specs.declared.entry.Entry.{Entry}
+use Rattle.machine_state.specs.{Accepting.{accepted, refused}, State.{State, IsIdle}, Telling.{Alone}, Worlds.{begun_turn, with_connection, without_connections}}
+use Rattle.trace_entries.specs.{Refusals.{refusal_number}, declared.entry.Entry.{Entry}, declared.fault.Answer.{Answer}, declared.fault.Answer.TheVariants.{Refused}, declared.fault.Fault.{Fault}, declared.refusal.Refusal.{Refusal}}
 use Rattle.trace_entries.specs.declared.entry.Entry.TheVariants as entry
-use Rattle.trace_entries.specs.declared.fault.Answer.{Answer}
-use Rattle.trace_entries.specs.declared.fault.Answer.TheVariants.{Refused}
-use Rattle.trace_entries.specs.declared.fault.Fault.{Fault}
-use Rattle.trace_entries.specs.declared.refusal.Refusal.{Refusal}
-use Rattle.binding_graph.specs.Places.{property_of}
-use Rattle.binding_graph.specs.declared.binding.Binding.{Binding}
-use Rattle.machine_rules.specs.Destroying.{deleting, Schedules}
-use Rattle.machine_rules.specs.Next.{DoesNext, WritesNext, WritesIll, LacksValue}
-use Rattle.machine_rules.specs.Good.{IsWell, IsGood}
-use Rattle.machine_rules.specs.Judgement.{Numbered, Then, goes_on, ends, Gives, gives, Becomes, becomes}
-use Rattle.machine_rules.specs.Natives.{NativeAnswers}
-use Rattle.machine_rules.specs.Operations.{Operation}
-use Rattle.machine_rules.specs.Rules.{Begins}
-use Rattle.machine_rules.specs.Settling.{Writes, Installs}
-use Rattle.object_machine.specs.Causes.{BindsNext, Brings, StopsFor, spent, short, brings, lacks_value, writes_ill, binds_ill, goes_ill, goes_fatal, binds_loop, writes_deep, goes_deep}
-use Rattle.object_machine.specs.Events.{Adopts, MovesTo}
-use Rattle.object_machine.specs.Laws.{in_front, RunReadsNoTrace}
-use Rattle.object_machine.specs.Runs.{Run, done, goes, takes, Each, GoodRun, Follows, by_rule, by_event, IsDue, goes_on as is_under_way, is_next}
-use Rattle.object_machine.specs.Takes.{judged, Takes, accepts, refuses}
-use Rattle.object_machine.proofs.RuleFronts.{reads-no-trace, begins-front, writes-front, installs-front, schedules-front}
+use Rattle.binding_graph.specs.{Places.{property_of}, declared.binding.Binding.{Binding}}
+use Rattle.machine_rules.specs.{Destroying.{deleting, Schedules}, Next.{DoesNext, WritesNext, WritesIll, LacksValue}, Good.{IsWell, IsGood}, Judgement.{Numbered, Then, goes_on, ends, Gives, gives, Becomes, becomes}, Natives.{NativeAnswers}, Operations.{Operation}, Rules.{Begins}, Settling.{Writes, Installs}}
+use Rattle.object_machine.{specs.Causes.{BindsNext, Brings, StopsFor, spent, short, brings, lacks_value, writes_ill, binds_ill, goes_ill, goes_fatal, binds_loop, writes_deep, goes_deep}, specs.Events.{Adopts, MovesTo}, specs.Laws.{in_front, RunReadsNoTrace}, specs.Runs.{Run, done, goes, takes, Each, GoodRun, Follows, by_rule, by_event, IsDue, goes_on as is_under_way, is_next}, specs.Takes.{judged, Takes, accepts, refuses}, proofs.RuleFronts.{reads-no-trace, begins-front, writes-front, installs-front, schedules-front}}
 
 module _ (front : List Entry) where
   abbrev shifted : Result State Refusal → Result State Refusal

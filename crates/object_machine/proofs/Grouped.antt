@@ -1,38 +1,15 @@
 -- What the sets of a group read, and what they write: properties that are there, as long as the values that were written
 -- before fit.
-use Rattle.std.proofs.Common.{◌≡◌, ℕ, List, [], ◌∷◌, ◌++◌, Option, Some, None, refl, sym, ap, ◌∙◌, subst}
-use Rattle.std.specs.Prelude.{IfSome}
-use Rattle.std.specs.Option.{option_map, option_and_then}
+use Rattle.std.{proofs.Common.{◌≡◌, ℕ, List, [], ◌∷◌, ◌++◌, Option, Some, None, refl, sym, ap, ◌∙◌, subst}, specs.Prelude.{IfSome}, specs.Option.{option_map, option_and_then}}
 use Rattle.basic_types.specs.declared.value.Value.{Value}
 use Rattle.syntax_trees.specs.declared.syntax.Expr.{Expr}
-use Rattle.meta_model.specs.declared.object.MetaPath.{MetaPath}
-use Rattle.meta_model.specs.declared.object.Statement.{Statement}
+use Rattle.meta_model.specs.{declared.object.MetaPath.{MetaPath}, declared.object.Statement.{Statement}, declared.object.Statement.TheViews.{out-Statement}, declared.object.ValueType.{ValueType}, Loaded.{Loaded}, Members.{Below, IsProperty}, Sound.{IsSound, IsSoundStatement, set_sound, LeadsToClass, AreSound, next_sound}}
 use Rattle.meta_model.specs.declared.object.Statement.TheOpen as layer
-use Rattle.meta_model.specs.declared.object.Statement.TheViews.{out-Statement}
-use Rattle.meta_model.specs.declared.object.ValueType.{ValueType}
-use Rattle.meta_model.specs.Loaded.{Loaded}
-use Rattle.meta_model.specs.Members.{Below, IsProperty}
-use Rattle.meta_model.specs.Sound.{IsSound, IsSoundStatement, set_sound, LeadsToClass, AreSound, next_sound}
-use Rattle.object_tree.specs.declared.life.Life.{Life}
-use Rattle.object_tree.specs.declared.object.Object.{Object}
-use Rattle.object_tree.specs.Objects.{Lives}
-use Rattle.object_tree.specs.Typed.{AreTyped, ReadAs}
-use Rattle.object_tree.proofs.Changing.{life-of-lives}
-use Rattle.object_tree.proofs.TypedObjects.{reads-still, read-still, typed-written}
-use Rattle.prop_bindings.specs.declared.plans.assignment.Assignment.{Assignment}
-use Rattle.binding_graph.specs.declared.place.Place.{Place}
-use Rattle.prop_bindings.specs.Calls.{AllFit}
-use Rattle.prop_bindings.specs.Changes.{DifferInValues}
-use Rattle.prop_bindings.specs.Fits.{FitsAt}
-use Rattle.binding_graph.specs.Places.{property_of}
-use Rattle.prop_bindings.proofs.Alive.{lives-on}
-use Rattle.prop_bindings.proofs.Values.{written-differs}
+use Rattle.object_tree.{specs.declared.life.Life.{Life}, specs.declared.object.Object.{Object}, specs.Objects.{Lives}, specs.Typed.{AreTyped, ReadAs}, proofs.Changing.{life-of-lives}, proofs.TypedObjects.{reads-still, read-still, typed-written}}
+use Rattle.prop_bindings.{specs.declared.plans.assignment.Assignment.{Assignment}, specs.Calls.{AllFit}, specs.Changes.{DifferInValues}, specs.Fits.{FitsAt}, proofs.Alive.{lives-on}, proofs.Values.{written-differs}}
+use Rattle.binding_graph.specs.{declared.place.Place.{Place}, Places.{property_of}}
 use Rattle.machine_state.specs.Telling.{Grouped, writes_of}
-use Rattle.machine_rules.specs.Operations.{led_to, set_in, sets_in, after_set}
-use Rattle.machine_rules.specs.Paths.{path_value, value_of}
-use Rattle.machine_rules.specs.There.{HasField}
-use Rattle.machine_rules.proofs.Differing.{differ-stay}
-use Rattle.machine_rules.proofs.Inherited.{property-below}
+use Rattle.machine_rules.{specs.Operations.{led_to, set_in, sets_in, after_set}, specs.Paths.{path_value, value_of}, specs.There.{HasField}, proofs.Differing.{differ-stay}, proofs.Inherited.{property-below}}
 use Rattle.object_machine.proofs.TypedPaths.{Reaches, to_null, to_object, path-reaches}
 
 -- ---- objects that differ in values alone

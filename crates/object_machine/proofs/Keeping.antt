@@ -1,35 +1,13 @@
 -- What events and rules count, and what runs keep.
 use Rattle.std.proofs.Common.{◌≡◌, ℕ, ◌+◌, ◌≤◌, List, [], Bool, true, false, Some, Ok, refl, sym, ap, subst, arith}
-use Rattle.script_lang.specs.declared.event.Event.{Event}
-use Rattle.script_lang.specs.declared.event.Event.TheVariants.{Loop, Turn, New, Adopt, Move, Connect, Disconnect, Set, Bind, Emit, Call, Block, Unblock, Delete, Later}
-use Rattle.script_lang.specs.declared.event.Input.{Input}
-use Rattle.meta_model.specs.Loaded.{Loaded}
-use Rattle.meta_model.specs.Sound.{IsSound}
-use Rattle.prop_bindings.specs.Fits.{Agree}
-use Rattle.prop_bindings.proofs.Agreeing.{unbound_agree}
+use Rattle.script_lang.specs.{declared.event.Event.{Event}, declared.event.Event.TheVariants.{Loop, Turn, New, Adopt, Move, Connect, Disconnect, Set, Bind, Emit, Call, Block, Unblock, Delete, Later}, declared.event.Input.{Input}}
+use Rattle.meta_model.specs.{Loaded.{Loaded}, Sound.{IsSound}}
+use Rattle.prop_bindings.{specs.Fits.{Agree}, proofs.Agreeing.{unbound_agree}}
 use Rattle.trace_entries.specs.declared.fault.Answer.{Answer}
-use Rattle.machine_state.specs.declared.world.World.{World}
-use Rattle.machine_state.specs.Accepting.{accepted}
-use Rattle.machine_state.specs.State.{State}
-use Rattle.machine_state.specs.Worlds.{at, with_store}
+use Rattle.machine_state.specs.{declared.world.World.{World}, Accepting.{accepted}, State.{State}, Worlds.{at, with_store}}
 use Rattle.delete_later.specs.declared.store.Store.{Store}
-use Rattle.machine_rules.specs.Natives.{NativeAnswers}
-use Rattle.machine_rules.specs.code.Sound.{IsSoundWorld}
-use Rattle.machine_rules.specs.code.Keeps.{Grows, Keeps}
-use Rattle.machine_rules.proofs.Keeps.{grows-by, grows-same, grows-then, begins-kept, writes-kept, installs-kept, schedules-kept, rule-kept}
-use Rattle.machine_rules.specs.Good.{IsGood}
-use Rattle.machine_rules.proofs.Agreeing.{rule-agrees}
-use Rattle.object_machine.specs.declared.invoking.Invocation.{Invocation}
-use Rattle.object_machine.specs.declared.invoking.Invocation.TheVariants.{Emit as EmitIt, Call as CallIt}
-use Rattle.machine_rules.specs.Judgement.{becomes, gives, goes_on}
-use Rattle.object_machine.proofs.Judged.{given-is}
-use Rattle.object_machine.proofs.Moving.{moved-by}
-use Rattle.object_machine.specs.Laws.{AlwaysSettled}
-use Rattle.object_machine.specs.Runs.{Run, done, goes, takes, Each}
-use Rattle.object_machine.specs.Takes.{judged, Takes, accepts, refuses}
-use Rattle.object_machine.specs.Events.{block, invoke}
-use Rattle.object_machine.proofs.Settling.{takes-agree}
-use Rattle.object_machine.proofs.Standing.{Invariant}
+use Rattle.machine_rules.{specs.Natives.{NativeAnswers}, specs.code.Sound.{IsSoundWorld}, specs.code.Keeps.{Grows, Keeps}, proofs.Keeps.{grows-by, grows-same, grows-then, begins-kept, writes-kept, installs-kept, schedules-kept, rule-kept}, specs.Good.{IsGood}, proofs.Agreeing.{rule-agrees}, specs.Judgement.{becomes, gives, goes_on}}
+use Rattle.object_machine.{specs.declared.invoking.Invocation.{Invocation}, specs.declared.invoking.Invocation.TheVariants.{Emit as EmitIt, Call as CallIt}, proofs.Judged.{given-is}, proofs.Moving.{moved-by}, specs.Laws.{AlwaysSettled}, specs.Runs.{Run, done, goes, takes, Each}, specs.Takes.{judged, Takes, accepts, refuses}, specs.Events.{block, invoke}, proofs.Settling.{takes-agree}, proofs.Standing.{Invariant}}
 
 -- ---- counts
 

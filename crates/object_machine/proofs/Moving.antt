@@ -1,27 +1,12 @@
 -- Objects that move to another event loop, with what waits for them.
-use Rattle.std.proofs.Common.{◌≡◌, ◌≢◌, ◌⊎◌, ℕ, zero, suc, ◌<◌, Bool, true, false, not, cond, List, [], ◌∷◌, ◌++◌, map, filter, length, Option, None, Some, slice_get, refl, sym, ap, ◌∙◌, subst, inl, inr, arith}
-use Rattle.std.specs.List.{AllByRecursion}
-use Rattle.std.specs.Option.{option_map}
-use Rattle.std.proofs.lemmas.Bool.{cases_eq}
-use Rattle.std.proofs.lemmas.List.{length-map}
-use Rattle.std.proofs.lemmas.Option.{same_Some}
-use Rattle.meta_model.specs.Loaded.{Loaded}
-use Rattle.object_tree.specs.declared.object.Object.{Object}
-use Rattle.meta_model.specs.Among.{is_among}
-use Rattle.object_tree.specs.Moving.{in_loop, all_in_loop}
-use Rattle.object_tree.specs.Objects.{change_life, home_of}
-use Rattle.object_tree.proofs.Moving.{home-in_loop}
-use Rattle.object_tree.proofs.TypedObjects.{shape_in, shape-change}
-use Rattle.event_loops.specs.declared.item.Posted.{Posted}
-use Rattle.event_loops.specs.Queues.{Loop, Queues, items_at, change, with_items, is_for_any, all_items, items_elsewhere, without_objects, rehomed}
+use Rattle.std.{proofs.Common.{◌≡◌, ◌≢◌, ◌⊎◌, ℕ, zero, suc, ◌<◌, Bool, true, false, not, cond, List, [], ◌∷◌, ◌++◌, map, filter, length, Option, None, Some, slice_get, refl, sym, ap, ◌∙◌, subst, inl, inr, arith}, specs.List.{AllByRecursion}, specs.Option.{option_map}, proofs.lemmas.Bool.{cases_eq}, proofs.lemmas.List.{length-map}, proofs.lemmas.Option.{same_Some}}
+use Rattle.meta_model.specs.{Loaded.{Loaded}, Among.{is_among}}
+use Rattle.object_tree.{specs.declared.object.Object.{Object}, specs.Moving.{in_loop, all_in_loop}, specs.Objects.{change_life, home_of}, proofs.Moving.{home-in_loop}, proofs.TypedObjects.{shape_in, shape-change}}
+use Rattle.event_loops.specs.{declared.item.Posted.{Posted}, Queues.{Loop, Queues, items_at, change, with_items, is_for_any, all_items, items_elsewhere, without_objects, rehomed}}
 use Rattle.binding_graph.specs.Bindings.{lead_out}
 use Rattle.prop_bindings.specs.Fits.{Agree}
-use Rattle.delete_later.specs.declared.store.Store.{Store}
-use Rattle.delete_later.specs.Moving.{moved_to, IsMoved}
-use Rattle.delete_later.proofs.Moving.{agree-moved}
-use Rattle.machine_rules.specs.code.Sound.{AreHoused, Waits, AllWait}
-use Rattle.machine_rules.proofs.Lists.{all-append, all-filtered}
-use Rattle.machine_rules.proofs.Waiting.{items-wait}
+use Rattle.delete_later.{specs.declared.store.Store.{Store}, specs.Moving.{moved_to, IsMoved}, proofs.Moving.{agree-moved}}
+use Rattle.machine_rules.{specs.code.Sound.{AreHoused, Waits, AllWait}, proofs.Lists.{all-append, all-filtered}, proofs.Waiting.{items-wait}}
 use Rattle.machine_rules.proofs.Waiting as waiting
 
 -- ---- objects

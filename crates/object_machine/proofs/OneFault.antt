@@ -1,46 +1,15 @@
 -- A state stops for one fault at most.
 use Rattle.std.proofs.Common.{◌≡◌, ◌⊎◌, inl, inr, ℕ, suc, IsTrue, List, [], ◌∷◌, length, None, Some, Ok, Err, refl, sym, ap, ◌∙◌, subst, arith}
 use Rattle.basic_types.specs.declared.value.Value.{Value}
-use Rattle.script_lang.specs.declared.event.Event.{Event}
-use Rattle.script_lang.specs.declared.event.Event.TheVariants.{Bind}
-use Rattle.meta_model.specs.Loaded.{Loaded}
-use Rattle.meta_model.specs.Sound.{IsSound}
-use Rattle.object_tree.specs.declared.object.Object.{Object}
-use Rattle.object_tree.specs.Typed.{AreTyped}
-use Rattle.binding_graph.specs.declared.binding.Binding.{Binding}
-use Rattle.binding_graph.specs.Bindings.{binding_at, replaced, Loop}
-use Rattle.prop_bindings.specs.Calls.{AllFit}
-use Rattle.prop_bindings.specs.Fits.{Agree, IsFit}
-use Rattle.prop_bindings.proofs.Fitting.{fit-stays}
-use Rattle.trace_entries.specs.declared.fault.Answer.{Answer}
-use Rattle.trace_entries.specs.declared.fault.Fault.{Fault}
-use Rattle.trace_entries.specs.declared.refusal.Refusal.{Refusal}
-use Rattle.machine_state.specs.Accepting.{accepted}
-use Rattle.machine_state.specs.State.{Step, Run, State, Activation, Body, IsIdle}
-use Rattle.machine_state.specs.Telling.{Assigning, writes_of}
-use Rattle.machine_rules.specs.Operations.{Operation, Write, TakeAnswer, operation_of_step}
-use Rattle.machine_rules.specs.Faults.{WritesDeep, GoesIll, GoesFatal, GoesDeep}
-use Rattle.machine_rules.specs.Next.{DoesNext, WritesNext, WritesIll, LacksValue}
-use Rattle.machine_rules.specs.Good.{IsWell, Spares, IsAcyclic, TopFits, has_body}
-use Rattle.machine_rules.specs.Natives.{NativeAnswers, AnswersOnce}
-use Rattle.machine_rules.specs.Rules.{Rule, RuleAt, StepRule, Does}
-use Rattle.machine_rules.specs.Settling.{Installs}
-use Rattle.machine_rules.specs.There.{IsDead}
-use Rattle.machine_rules.specs.Judgement.{becomes, goes_on, ends}
-use Rattle.machine_rules.proofs.Agreeing.{bound-fits}
-use Rattle.machine_rules.proofs.Differing.{differ-spared}
-use Rattle.machine_rules.proofs.OneRule.{does-one, stack-one}
-use Rattle.machine_rules.proofs.ReachingFitting.{fits-read}
-use Rattle.machine_rules.proofs.ReachedStates.{next-writes}
-use Rattle.object_machine.specs.Causes.{BindsNext, BindsIll, BindsLoop, Brings, spent, short, brings, lacks_value, writes_ill, binds_ill, goes_ill, goes_fatal, binds_loop, writes_deep, goes_deep}
-use Rattle.object_machine.specs.Events.{may_bind, bind}
-use Rattle.object_machine.specs.FaultLaws.{OneFault}
-use Rattle.object_machine.specs.Runs.{Follows, by_rule, by_event}
-use Rattle.object_machine.specs.Takes.{Takes, accepts, refuses}
-use Rattle.object_machine.proofs.CheckedRuns.Settled.{writes-agree}
-use Rattle.object_machine.proofs.OneRun.{no-rule, taken-idle}
-use Rattle.object_machine.proofs.OneTaking.{one_taking, one-may-bind}
-use Rattle.object_machine.proofs.Settling.{bound-plain}
+use Rattle.script_lang.specs.{declared.event.Event.{Event}, declared.event.Event.TheVariants.{Bind}}
+use Rattle.meta_model.specs.{Loaded.{Loaded}, Sound.{IsSound}}
+use Rattle.object_tree.specs.{declared.object.Object.{Object}, Typed.{AreTyped}}
+use Rattle.binding_graph.specs.{declared.binding.Binding.{Binding}, Bindings.{binding_at, replaced, Loop}}
+use Rattle.prop_bindings.{specs.Calls.{AllFit}, specs.Fits.{Agree, IsFit}, proofs.Fitting.{fit-stays}}
+use Rattle.trace_entries.specs.{declared.fault.Answer.{Answer}, declared.fault.Fault.{Fault}, declared.refusal.Refusal.{Refusal}}
+use Rattle.machine_state.specs.{Accepting.{accepted}, State.{Step, Run, State, Activation, Body, IsIdle}, Telling.{Assigning, writes_of}}
+use Rattle.machine_rules.{specs.Operations.{Operation, Write, TakeAnswer, operation_of_step}, specs.Faults.{WritesDeep, GoesIll, GoesFatal, GoesDeep}, specs.Next.{DoesNext, WritesNext, WritesIll, LacksValue}, specs.Good.{IsWell, Spares, IsAcyclic, TopFits, has_body}, specs.Natives.{NativeAnswers, AnswersOnce}, specs.Rules.{Rule, RuleAt, StepRule, Does}, specs.Settling.{Installs}, specs.There.{IsDead}, specs.Judgement.{becomes, goes_on, ends}, proofs.Agreeing.{bound-fits}, proofs.Differing.{differ-spared}, proofs.OneRule.{does-one, stack-one}, proofs.ReachingFitting.{fits-read}, proofs.ReachedStates.{next-writes}}
+use Rattle.object_machine.{specs.Causes.{BindsNext, BindsIll, BindsLoop, Brings, spent, short, brings, lacks_value, writes_ill, binds_ill, goes_ill, goes_fatal, binds_loop, writes_deep, goes_deep}, specs.Events.{may_bind, bind}, specs.FaultLaws.{OneFault}, specs.Runs.{Follows, by_rule, by_event}, specs.Takes.{Takes, accepts, refuses}, proofs.CheckedRuns.Settled.{writes-agree}, proofs.OneRun.{no-rule, taken-idle}, proofs.OneTaking.{one_taking, one-may-bind}, proofs.Settling.{bound-plain}}
 
 -- natives that answer nothing else than nothing
 abbrev silent : NativeAnswers

@@ -1,25 +1,13 @@
 -- For one list of events there is one run: of two of them one goes on where the other ends.
-use Rattle.std.proofs.Common.{◌≡◌, ◌⊎◌, inl, inr, ℕ, List, [], ◌∷◌, ◌++◌, Option, refl, sym, ap, ◌∙◌, subst}
-use Rattle.std.proofs.lemmas.List.{append-nil}
+use Rattle.std.proofs.{Common.{◌≡◌, ◌⊎◌, inl, inr, ℕ, List, [], ◌∷◌, ◌++◌, Option, refl, sym, ap, ◌∙◌, subst}, lemmas.List.{append-nil}}
 use Rattle.script_lang.specs.declared.event.Event.{Event}
-use Rattle.meta_model.specs.Loaded.{Loaded}
-use Rattle.meta_model.specs.Sound.{IsSound}
+use Rattle.meta_model.specs.{Loaded.{Loaded}, Sound.{IsSound}}
 use Rattle.trace_entries.specs.declared.fault.Answer.{Answer}
-use Rattle.machine_state.specs.State.{State, IsIdle, Activation}
-use Rattle.machine_rules.specs.Natives.{NativeAnswers, AnswersOnce}
-use Rattle.machine_rules.specs.Rules.{Rule, RuleAt, TurnRule}
-use Rattle.machine_state.specs.declared.turn.Turn.{Turn}
-use Rattle.machine_rules.proofs.Agreeing.{rule-agrees}
-use Rattle.machine_rules.proofs.OneRule.{rule-one}
+use Rattle.machine_state.specs.{State.{State, IsIdle, Activation}, declared.turn.Turn.{Turn}}
+use Rattle.machine_rules.{specs.Natives.{NativeAnswers, AnswersOnce}, specs.Rules.{Rule, RuleAt, TurnRule}, proofs.Agreeing.{rule-agrees}, proofs.OneRule.{rule-one}, specs.Good.{IsGood}}
 use Rattle.prop_bindings.specs.Fits.{Agree}
-use Rattle.machine_rules.specs.Good.{IsGood}
 use Rattle.native_slots.specs.declared.action.Action.{Action}
-use Rattle.object_machine.specs.Laws.{OneRun, OneRunOfAnswers, OneFront, OneFrontOfAnswers, IsFront}
-use Rattle.object_machine.specs.Runs.{Run, done, goes, takes, Each, EachRule, GoodRun, RunsWhole, RunsFront}
-use Rattle.object_machine.specs.Takes.{Takes, accepts, refuses}
-use Rattle.object_machine.proofs.Keeping.{runs-pay}
-use Rattle.object_machine.proofs.OneTaking.{one_taking}
-use Rattle.object_machine.proofs.Settling.{takes-agree}
+use Rattle.object_machine.{specs.Laws.{OneRun, OneRunOfAnswers, OneFront, OneFrontOfAnswers, IsFront}, specs.Runs.{Run, done, goes, takes, Each, EachRule, GoodRun, RunsWhole, RunsFront}, specs.Takes.{Takes, accepts, refuses}, proofs.Keeping.{runs-pay}, proofs.OneTaking.{one_taking}, proofs.Settling.{takes-agree}}
 
 -- nothing follows by a rule where nothing is going on
 pub no-rule : (p : Loaded) (natives : NativeAnswers) (s t : State) → IsIdle s → Rule p natives s t → ⊥

@@ -1,44 +1,19 @@
 -- An event has one answer.
 use Rattle.std.proofs.Common.{◌≡◌, ℕ, List, Option, None, Some, slice_get, length, arith, Result, Ok, Err, true, false, refl, sym, ap, ◌∙◌, subst}
 use Rattle.basic_types.specs.declared.sig.Sig.{Sig}
-use Rattle.meta_model.specs.declared.object.MetaMethod.{MetaMethod}
-use Rattle.meta_model.specs.declared.object.MetaObject.{MetaObject}
-use Rattle.meta_model.specs.declared.site.MetaSite.{MetaSite}
-use Rattle.meta_model.specs.Loaded.{Loaded}
-use Rattle.meta_model.specs.Sound.{IsSound}
-use Rattle.object_tree.specs.declared.life.Life.{Life}
-use Rattle.object_tree.specs.declared.object.Object.{Object}
+use Rattle.meta_model.specs.{declared.object.MetaMethod.{MetaMethod}, declared.object.MetaObject.{MetaObject}, declared.site.MetaSite.{MetaSite}, Loaded.{Loaded}, Sound.{IsSound}}
+use Rattle.object_tree.specs.{declared.life.Life.{Life}, declared.object.Object.{Object}}
 use Rattle.binding_graph.specs.declared.binding.Binding.{Binding}
 use Rattle.prop_bindings.specs.Fits.{Agree}
-use Rattle.syntax_trees.specs.declared.connection.ConnectionType.{ConnectionType}
-use Rattle.syntax_trees.specs.declared.connection.Endpoints.{Endpoints as Named}
-use Rattle.script_lang.specs.declared.event.Event.{Event}
+use Rattle.syntax_trees.specs.{declared.connection.ConnectionType.{ConnectionType}, declared.connection.Endpoints.{Endpoints as Named}}
+use Rattle.script_lang.specs.{declared.event.Event.{Event}, declared.event.Input.{Input}}
 use Rattle.script_lang.specs.declared.event.Event.TheVariants as event
-use Rattle.script_lang.specs.declared.event.Input.{Input}
-use Rattle.trace_entries.specs.declared.fault.Answer.{Answer}
-use Rattle.trace_entries.specs.declared.fault.Answer.TheVariants.{Refused}
-use Rattle.trace_entries.specs.declared.refusal.Refusal.{Refusal}
-use Rattle.trace_entries.specs.Refusals.{refusal_number}
-use Rattle.machine_state.specs.Accepting.{accepted, refused}
-use Rattle.machine_state.specs.State.{State}
-use Rattle.machine_state.specs.Worlds.{store_of, with_store}
-use Rattle.delete_later.specs.declared.store.Store.{Store}
-use Rattle.machine_rules.proofs.OneRule.{begins-one, writes-one, installs-one, schedules-one}
-use Rattle.object_machine.specs.declared.invoking.Invocation.{Invocation}
-use Rattle.object_machine.specs.declared.invoking.Invocation.TheVariants.{Emit, Call}
-use Rattle.machine_rules.specs.Judgement.{Numbered}
-use Rattle.machine_rules.specs.Judgement.{HasOneAnswer}
-use Rattle.machine_rules.specs.Judgement.{becomes, goes_on, ends}
-use Rattle.machine_rules.specs.Settling.{Installs}
-use Rattle.machine_rules.specs.Good.{IsAcyclic}
-use Rattle.object_machine.specs.Laws.{IsAcyclicIn, OneJudgement, OneTaking}
-use Rattle.object_machine.specs.Takes.{judged, Takes, accepts, refuses}
-use Rattle.object_machine.specs.Events.{adopt, Adopts, move, MovesTo, assign, IsSiteOf, may_bind, bind, block, delete, later, connect, disconnect, find_ends, IsMethodOf, add_loop, turn, create, IsClassOf, IsHome, invoke}
+use Rattle.trace_entries.specs.{declared.fault.Answer.{Answer}, declared.fault.Answer.TheVariants.{Refused}, declared.refusal.Refusal.{Refusal}, Refusals.{refusal_number}}
+use Rattle.machine_state.specs.{Accepting.{accepted, refused}, State.{State}, Worlds.{store_of, with_store}}
+use Rattle.delete_later.{specs.declared.store.Store.{Store}, proofs.Moving.{moved-once}}
+use Rattle.machine_rules.{proofs.OneRule.{begins-one, writes-one, installs-one, schedules-one, may-connect-one}, specs.Judgement.{Numbered, HasOneAnswer, becomes, goes_on, ends}, specs.Settling.{Installs}, specs.Good.{IsAcyclic}, proofs.OneAnswer.{one-find, one-check, one-gives, one-becomes, one-then, numbered-is}}
+use Rattle.object_machine.{specs.declared.invoking.Invocation.{Invocation}, specs.declared.invoking.Invocation.TheVariants.{Emit, Call}, specs.Laws.{IsAcyclicIn, OneJudgement, OneTaking}, specs.Takes.{judged, Takes, accepts, refuses}, specs.Events.{adopt, Adopts, move, MovesTo, assign, IsSiteOf, may_bind, bind, block, delete, later, connect, disconnect, find_ends, IsMethodOf, add_loop, turn, create, IsClassOf, IsHome, invoke}, proofs.OneAnswer.{one-living, one-all-living, one-value, one-values, one-method, one-property, one-adopted}}
 use Rattle.event_loops.specs.Queues.{Loop, IsNamed}
-use Rattle.machine_rules.proofs.OneAnswer.{one-find, one-check, one-gives, one-becomes, one-then, numbered-is}
-use Rattle.machine_rules.proofs.OneRule.{may-connect-one}
-use Rattle.object_machine.proofs.OneAnswer.{one-living, one-all-living, one-value, one-values, one-method, one-property, one-adopted}
-use Rattle.delete_later.proofs.Moving.{moved-once}
 
 one-class : {p : Loaded} {name : List ℕ} → IsSound p → (a b : Numbered MetaObject) → IsClassOf p name a → IsClassOf p name b → a ≡ b
 one-class {p} sound a b f g =

@@ -1,40 +1,17 @@
 -- What a step of a body that stands does is possible: what it names is there.
-use Rattle.std.proofs.Common.{◌≡◌, ℕ, true, false, List, [], ◌∷◌, ◌++◌, Option, Some, None, refl, subst, sym, ap, ◌∙◌}
-use Rattle.std.specs.Prelude.{IfSome}
-use Rattle.std.specs.Option.{option_map}
+use Rattle.std.{proofs.Common.{◌≡◌, ℕ, true, false, List, [], ◌∷◌, ◌++◌, Option, Some, None, refl, subst, sym, ap, ◌∙◌}, specs.Prelude.{IfSome}, specs.Option.{option_map}}
 use Rattle.basic_types.specs.declared.value.Value.{Value}
 use Rattle.basic_types.specs.declared.value.Value.TheVariants as value
-use Rattle.meta_model.specs.declared.object.MetaMethod.{MetaMethod}
-use Rattle.meta_model.specs.declared.object.Statement.{Statement}
+use Rattle.meta_model.specs.{declared.object.MetaMethod.{MetaMethod}, declared.object.Statement.{Statement}, declared.object.Statement.TheViews.{out-Statement}, declared.object.ValueType.{ValueType}, Loaded.{Loaded}, Members.{Below}, declared.object.MetaPath.{MetaPath}, Sound.{LeadsToClass, IsSound, AreSound, AreSoundEnds, IsSoundStatement, set_sound, emit_sound, call_sound, if_sound, connect_sound, disconnect_sound, delete_sound, later_sound, group_sound}, declared.object.MetaEndpoints.{MetaEndpoints}, declared.effects.MetaEffects.{MetaEffects}}
 use Rattle.meta_model.specs.declared.object.Statement.TheOpen as layer
-use Rattle.meta_model.specs.declared.object.Statement.TheViews.{out-Statement}
-use Rattle.meta_model.specs.declared.object.ValueType.{ValueType}
-use Rattle.meta_model.specs.Loaded.{Loaded}
-use Rattle.meta_model.specs.Members.{Below}
-use Rattle.meta_model.specs.declared.object.MetaPath.{MetaPath}
-use Rattle.meta_model.specs.Sound.{LeadsToClass, IsSound, AreSound, AreSoundEnds, IsSoundStatement, set_sound, emit_sound, call_sound, if_sound, connect_sound, disconnect_sound, delete_sound, later_sound, group_sound}
-use Rattle.object_tree.specs.declared.life.Life.{Life}
-use Rattle.object_tree.specs.declared.object.Object.{Object}
-use Rattle.object_tree.specs.Objects.{Lives}
-use Rattle.meta_model.specs.declared.object.MetaEndpoints.{MetaEndpoints}
-use Rattle.machine_state.specs.declared.endpoints.Endpoints.{Endpoints}
-use Rattle.machine_state.specs.State.{Step, Run, Ask, Act}
-use Rattle.meta_model.specs.declared.effects.MetaEffects.{MetaEffects}
+use Rattle.object_tree.specs.{declared.life.Life.{Life}, declared.object.Object.{Object}, Objects.{Lives}, Typed.{AreTyped}}
+use Rattle.machine_state.specs.{declared.endpoints.Endpoints.{Endpoints}, State.{Step, Run, Ask, Act}, Telling.{Alone, Grouped, writes_of}}
 use Rattle.native_slots.specs.declared.action.Action.{Action}
 use Rattle.native_slots.specs.declared.action.Action.TheVariants as action
-use Rattle.machine_rules.specs.Connecting.{AreThere}
-use Rattle.prop_bindings.specs.declared.plans.assignment.Assignment.{Assignment}
-use Rattle.prop_bindings.specs.Calls.{AllFit}
+use Rattle.machine_rules.{specs.Connecting.{AreThere}, specs.Operations.{set_at, sets_in, operation_of_set, Operation, Write, Begin, Choose, Connect, Disconnect, Delete, Schedule, TakeAnswer, Nothing, on_object, on_ends, chosen_by, operation, operation_of_action, operation_of_step}, specs.Paths.{path_value, value_of, values_of}, specs.There.{HasField, IsMember}, proofs.Inherited.{method-below}}
+use Rattle.prop_bindings.specs.{declared.plans.assignment.Assignment.{Assignment}, Calls.{AllFit}}
 use Rattle.binding_graph.specs.Places.{property_of}
-use Rattle.machine_state.specs.Telling.{Alone, Grouped, writes_of}
-use Rattle.object_machine.proofs.Grouped.{IfWrites, within-first, set-possible, sets-possible}
-use Rattle.machine_rules.specs.Operations.{set_at, sets_in, operation_of_set, Operation, Write, Begin, Choose, Connect, Disconnect, Delete, Schedule, TakeAnswer, Nothing, on_object, on_ends, chosen_by, operation, operation_of_action, operation_of_step}
-use Rattle.object_tree.specs.Typed.{AreTyped}
-use Rattle.machine_rules.specs.Paths.{path_value, value_of, values_of}
-use Rattle.machine_rules.specs.There.{HasField, IsMember}
-use Rattle.machine_rules.proofs.Inherited.{method-below}
-use Rattle.object_machine.proofs.Standing.{ActionStands, StepStands, BodyStands}
-use Rattle.object_machine.proofs.TypedPaths.{Reaches, to_null, to_object, path-reaches}
+use Rattle.object_machine.proofs.{Grouped.{IfWrites, within-first, set-possible, sets-possible}, Standing.{ActionStands, StepStands, BodyStands}, TypedPaths.{Reaches, to_null, to_object, path-reaches}}
 
 -- the members that are named are there, of writes as long as those before them fit, and a block that is chosen is sound for
 -- the body

@@ -1,100 +1,20 @@
 -- Why what is going on goes on: its members and statements are there, and the objects whose bodies are active live.
-use Rattle.std.proofs.Common.{◌≡◌, ℕ, suc, ◌+◌, ◌<◌, Bool, List, [], ◌∷◌, ◌++◌, map, length, take, true, false, Option, Some, None, slice_get, refl, sym, ap, IsTrue, inl, length-append, ◌∙◌, subst, Ok, arith, inr, ◌⊎◌}
-use Rattle.std.specs.List.{AllByRecursion, find}
-use Rattle.basic_types.specs.declared.value.Value.{Value}
-use Rattle.script_lang.specs.declared.event.Event.{Event}
-use Rattle.script_lang.specs.declared.event.Event.TheVariants.{Loop, Turn, New, Adopt, Move, Connect, Disconnect, Set, Bind, Emit as EmitEvent, Call as CallEvent, Block, Unblock, Delete as DeleteEvent, Later as LaterEvent}
-use Rattle.meta_model.specs.declared.object.MetaMethod.{MetaMethod}
-use Rattle.meta_model.specs.declared.object.Statement.{Statement}
-use Rattle.meta_model.specs.declared.effects.MetaEffects.{MetaEffects}
-use Rattle.meta_model.specs.Members.{IsMethod, IsProperty}
+use Rattle.std.{proofs.Common.{◌≡◌, ℕ, suc, ◌+◌, ◌<◌, Bool, List, [], ◌∷◌, ◌++◌, map, length, take, true, false, Option, Some, None, slice_get, refl, sym, ap, IsTrue, inl, length-append, ◌∙◌, subst, Ok, arith, inr, ◌⊎◌}, specs.List.{AllByRecursion, find}, specs.Prelude.{Result, Err}}
+use Rattle.basic_types.specs.{declared.value.Value.{Value}, declared.sig.Sig.{Sig}, Types.{Fits}}
+use Rattle.script_lang.specs.{declared.event.Event.{Event}, declared.event.Event.TheVariants.{Loop, Turn, New, Adopt, Move, Connect, Disconnect, Set, Bind, Emit as EmitEvent, Call as CallEvent, Block, Unblock, Delete as DeleteEvent, Later as LaterEvent}, declared.event.Input.{Input}}
+use Rattle.meta_model.specs.{declared.object.MetaMethod.{MetaMethod}, declared.object.Statement.{Statement}, declared.effects.MetaEffects.{MetaEffects}, Members.{IsMethod, IsProperty}, declared.object.ValueType.{ValueType}, declared.object.Work.{Work}, declared.object.Work.TheVariants.{Signal, Slot, Native}, Loaded.{Loaded}, Sound.{IsSound, IsSoundWork, IsSoundBody, IsSoundNative, AreSound, none_sound, next_sound}}
 use Rattle.native_slots.specs.declared.action.Action.{Action}
-use Rattle.trace_entries.specs.declared.entry.ShownAction.{ShownAction}
-use Rattle.meta_model.specs.declared.object.ValueType.{ValueType}
-use Rattle.meta_model.specs.declared.object.Work.{Work}
-use Rattle.meta_model.specs.declared.object.Work.TheVariants.{Signal, Slot, Native}
-use Rattle.meta_model.specs.Loaded.{Loaded}
-use Rattle.meta_model.specs.Sound.{IsSound, IsSoundWork, IsSoundBody, IsSoundNative, AreSound, none_sound, next_sound}
+use Rattle.trace_entries.specs.{declared.entry.ShownAction.{ShownAction}, declared.refusal.Refusal.{Refusal}, declared.entry.Entry.{Entry}, declared.fault.Answer.{Answer}}
 use Rattle.connections.specs.declared.connection.Connection.{Connection}
-use Rattle.object_tree.specs.declared.life.Life.{Life}
-use Rattle.object_tree.specs.declared.object.Object.{Object}
-use Rattle.object_tree.specs.Adopting.{IsAdopted}
-use Rattle.object_tree.specs.Creating.{begun as begun_life, fresh, initial_values}
-use Rattle.object_tree.specs.Family.{moved}
-use Rattle.object_tree.specs.Family.{without_life}
-use Rattle.object_tree.specs.Objects.{Lives, life_of, change_life, with_life, blocked}
-use Rattle.object_tree.proofs.Changing.{length-change}
-use Rattle.object_tree.specs.Moving.{all_in_loop}
-use Rattle.object_tree.proofs.Moving.{length-in_loop}
-use Rattle.object_tree.specs.Typed.{AreTyped, ReadAs}
-use Rattle.binding_graph.specs.declared.binding.Binding.{Binding}
-use Rattle.binding_graph.specs.declared.place.Place.{Place}
-use Rattle.prop_bindings.specs.Changes.{DifferInValues}
-use Rattle.prop_bindings.specs.Fits.{Agree}
-use Rattle.object_tree.proofs.TypedObjects.{class-more, seen-appended, shape_in, class-same, seen-same, shape-change, shape-moved}
-use Rattle.std.specs.Prelude.{Result, Err}
-use Rattle.machine_state.specs.declared.endpoints.Endpoints.{Endpoints}
-use Rattle.trace_entries.specs.declared.refusal.Refusal.{Refusal}
-use Rattle.machine_rules.specs.Natives.{NativeAnswers, IsShownAs, set_shown, emit_shown, AreShownAs}
-use Rattle.machine_rules.specs.Connecting.{AreThere, kept_ends, names_of}
-use Rattle.machine_rules.specs.Operations.{Operation, Write, Begin, Choose, Connect as Link, Disconnect as Unlink, Delete, Schedule, TakeAnswer, Nothing, operation_of_step}
-use Rattle.machine_rules.specs.Destroying.{Dies, NextRule, ChildRule, DestroyRule, living_child, Schedules}
-use Rattle.object_machine.proofs.Possible.{possible}
-use Rattle.object_machine.proofs.Standing.{ActionStands, StepStands, BodyStands, Stands, Invariant, AllStand, SparedIn, all-stand-still}
-use Rattle.machine_state.specs.Telling.{Assigning}
-use Rattle.trace_entries.specs.declared.entry.Entry.{Entry}
-use Rattle.machine_state.specs.State.{Step, Run, Ask, Act, State, IsIdle, Activation, Body, Emit, Update, Destroy}
-use Rattle.machine_rules.specs.Rules.{Rule, RuleAt, BodyRule, Does, EmitRule, UpdateRule, Begins, begun, with_used, linked, unlinked, TurnRule, Serves, Delivers, Arrives, BeginsIf, NotifiesIf}
-use Rattle.machine_rules.specs.Settling.{Settles, Writes, Installs}
-use Rattle.machine_rules.specs.Writing.{MayNotify}
-use Rattle.object_tree.specs.Objects.{home_of}
-use Rattle.event_loops.specs.declared.item.Item.{Item}
-use Rattle.event_loops.specs.declared.item.Item.TheVariants.{Call, Deletion}
-use Rattle.event_loops.specs.declared.item.Posted.{Posted}
-use Rattle.event_loops.specs.Queues.{Loop as ALoop, Queues, items_at, is_before, taken_before, with_loop, rehomed}
-use Rattle.delete_later.specs.declared.store.Store.{Store}
-use Rattle.delete_later.specs.Moving.{IsMoved}
-use Rattle.machine_state.specs.declared.turn.Turn.{Turn as ATurn}
-use Rattle.machine_state.specs.Turns.{running, reaches_at_once}
-use Rattle.machine_state.specs.Worlds.{store_of, with_store}
-use Rattle.machine_state.specs.Connections.{is_living, next_used}
-use Rattle.basic_types.specs.declared.sig.Sig.{Sig}
-use Rattle.basic_types.specs.Types.{Fits}
-use Rattle.syntax_trees.specs.declared.connection.ConnectionType.{ConnectionType}
-use Rattle.syntax_trees.specs.declared.connection.Endpoints.{Endpoints as Named}
-use Rattle.script_lang.specs.declared.event.Input.{Input}
-use Rattle.machine_state.specs.Accepting.{accepted}
-use Rattle.trace_entries.specs.declared.fault.Answer.{Answer}
-use Rattle.object_machine.specs.declared.invoking.Invocation.{Invocation}
-use Rattle.object_machine.specs.declared.invoking.Invocation.TheVariants.{Emit as EmitIt, Call as CallIt}
-use Rattle.machine_rules.specs.Judgement.{found as finds, holds as so, becomes, gives as just, goes_on}
-use Rattle.object_machine.specs.Takes.{judged, Takes, accepts, refuses}
-use Rattle.object_machine.specs.Events.{block, find_ends, invoke}
-use Rattle.machine_rules.specs.declared.ends.FoundEnds.{FoundEnds}
-use Rattle.machine_state.specs.Connections.{joins_these}
-use Rattle.machine_state.proofs.Due.{all-removed}
-use Rattle.object_machine.proofs.Judged.{given-is}
-use Rattle.object_machine.proofs.Judging.Naming.{living-is, living-object}
-use Rattle.machine_rules.specs.Good.{has_body, ArgumentsFit, TopFits, IsWell, Spares, IsGood}
-use Rattle.machine_rules.proofs.Agreeing.{rule-agrees}
-use Rattle.object_machine.proofs.Settling.{takes-agree}
-use Rattle.object_machine.specs.Runs.{Run as ARun, done, goes, takes, Each, GoodRun}
-use Rattle.machine_rules.specs.code.Sound.{Joined, AreHoused}
-use Rattle.machine_rules.specs.code.Keeps.{StayThere, Keeps}
-use Rattle.machine_rules.specs.There.{IsDead, IsMember}
-use Rattle.machine_rules.proofs.Dying.{died-stay, scheduled-stay, scheduled-seen}
-use Rattle.machine_rules.proofs.Fields.{life-unique, member-method}
-use Rattle.machine_rules.proofs.Differing.{differ-stay, differ-spared}
-use Rattle.machine_rules.proofs.Notifying.{all-notified}
-use Rattle.object_machine.proofs.Changes.{adopted-by, length-moved}
-use Rattle.machine_rules.proofs.Lists.{all-append, all-snoc}
-use Rattle.machine_rules.proofs.Keeps.{all-stay, all-joined-still, rule-kept, begins-kept, writes-kept, installs-kept, schedules-kept, joined-by}
-use Rattle.object_machine.proofs.Moving.{moved-by, shape-in_loop, housed-in_loop, all-rehomed, length-rehomed}
-use Rattle.object_machine.proofs.Homes.{housed-more, housed-loop, waiting-loop, home-there, home-moved}
-use Rattle.machine_rules.proofs.Soundness.{AllFit, Fair, rule-fair, begins-fair, writes-fair, installs-fair, schedules-fair, all-wait-still}
-use Rattle.machine_rules.proofs.Waiting.{housed-same, home-change}
-use Rattle.machine_rules.proofs.Scheduling.{schedule-cases}
-use Rattle.machine_rules.proofs.Hearing.{AllHeard, nobody, Heard, rule-heard, begins-heard, writes-heard, installs-heard, schedules-heard}
+use Rattle.object_tree.{specs.declared.life.Life.{Life}, specs.declared.object.Object.{Object}, specs.Adopting.{IsAdopted}, specs.Creating.{begun as begun_life, fresh, initial_values}, specs.Family.{moved, without_life}, specs.Objects.{Lives, life_of, change_life, with_life, blocked, home_of}, proofs.Changing.{length-change}, specs.Moving.{all_in_loop}, proofs.Moving.{length-in_loop}, specs.Typed.{AreTyped, ReadAs}, proofs.TypedObjects.{class-more, seen-appended, shape_in, class-same, seen-same, shape-change, shape-moved}}
+use Rattle.binding_graph.specs.{declared.binding.Binding.{Binding}, declared.place.Place.{Place}}
+use Rattle.prop_bindings.specs.{Changes.{DifferInValues}, Fits.{Agree}}
+use Rattle.machine_state.{specs.declared.endpoints.Endpoints.{Endpoints}, specs.Telling.{Assigning}, specs.State.{Step, Run, Ask, Act, State, IsIdle, Activation, Body, Emit, Update, Destroy}, specs.declared.turn.Turn.{Turn as ATurn}, specs.Turns.{running, reaches_at_once}, specs.Worlds.{store_of, with_store}, specs.Connections.{is_living, next_used, joins_these}, specs.Accepting.{accepted}, proofs.Due.{all-removed}}
+use Rattle.machine_rules.{specs.Natives.{NativeAnswers, IsShownAs, set_shown, emit_shown, AreShownAs}, specs.Connecting.{AreThere, kept_ends, names_of}, specs.Operations.{Operation, Write, Begin, Choose, Connect as Link, Disconnect as Unlink, Delete, Schedule, TakeAnswer, Nothing, operation_of_step}, specs.Destroying.{Dies, NextRule, ChildRule, DestroyRule, living_child, Schedules}, specs.Rules.{Rule, RuleAt, BodyRule, Does, EmitRule, UpdateRule, Begins, begun, with_used, linked, unlinked, TurnRule, Serves, Delivers, Arrives, BeginsIf, NotifiesIf}, specs.Settling.{Settles, Writes, Installs}, specs.Writing.{MayNotify}, specs.Judgement.{found as finds, holds as so, becomes, gives as just, goes_on}, specs.declared.ends.FoundEnds.{FoundEnds}, specs.Good.{has_body, ArgumentsFit, TopFits, IsWell, Spares, IsGood}, proofs.Agreeing.{rule-agrees}, specs.code.Sound.{Joined, AreHoused}, specs.code.Keeps.{StayThere, Keeps}, specs.There.{IsDead, IsMember}, proofs.Dying.{died-stay, scheduled-stay, scheduled-seen}, proofs.Fields.{life-unique, member-method}, proofs.Differing.{differ-stay, differ-spared}, proofs.Notifying.{all-notified}, proofs.Lists.{all-append, all-snoc}, proofs.Keeps.{all-stay, all-joined-still, rule-kept, begins-kept, writes-kept, installs-kept, schedules-kept, joined-by}, proofs.Soundness.{AllFit, Fair, rule-fair, begins-fair, writes-fair, installs-fair, schedules-fair, all-wait-still}, proofs.Waiting.{housed-same, home-change}, proofs.Scheduling.{schedule-cases}, proofs.Hearing.{AllHeard, nobody, Heard, rule-heard, begins-heard, writes-heard, installs-heard, schedules-heard}}
+use Rattle.object_machine.{proofs.Possible.{possible}, proofs.Standing.{ActionStands, StepStands, BodyStands, Stands, Invariant, AllStand, SparedIn, all-stand-still}, specs.declared.invoking.Invocation.{Invocation}, specs.declared.invoking.Invocation.TheVariants.{Emit as EmitIt, Call as CallIt}, specs.Takes.{judged, Takes, accepts, refuses}, specs.Events.{block, find_ends, invoke}, proofs.Judged.{given-is}, proofs.Judging.Naming.{living-is, living-object}, proofs.Settling.{takes-agree}, specs.Runs.{Run as ARun, done, goes, takes, Each, GoodRun}, proofs.Changes.{adopted-by, length-moved}, proofs.Moving.{moved-by, shape-in_loop, housed-in_loop, all-rehomed, length-rehomed}, proofs.Homes.{housed-more, housed-loop, waiting-loop, home-there, home-moved}}
+use Rattle.event_loops.specs.{declared.item.Item.{Item}, declared.item.Item.TheVariants.{Call, Deletion}, declared.item.Posted.{Posted}, Queues.{Loop as ALoop, Queues, items_at, is_before, taken_before, with_loop, rehomed}}
+use Rattle.delete_later.specs.{declared.store.Store.{Store}, Moving.{IsMoved}}
+use Rattle.syntax_trees.specs.{declared.connection.ConnectionType.{ConnectionType}, declared.connection.Endpoints.{Endpoints as Named}}
 
 -- ---- steps
 

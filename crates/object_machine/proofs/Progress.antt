@@ -1,60 +1,18 @@
 -- What goes on in a run lacks a next rule only for want of a value.
-use Rattle.std.proofs.Common.{◌≡◌, inl, inr, ◌∙◌, ℕ, true, false, List, [], ◌∷◌, Option, Some, None, Result, Ok, Err, refl, subst, Bool, cond, length, take, ap}
-use Rattle.std.specs.List.{AllByRecursion}
+use Rattle.std.{proofs.Common.{◌≡◌, inl, inr, ◌∙◌, ℕ, true, false, List, [], ◌∷◌, Option, Some, None, Result, Ok, Err, refl, subst, Bool, cond, length, take, ap}, specs.List.{AllByRecursion, find}, specs.Prelude.{is_some}, specs.Option.{option_map}}
 use Rattle.basic_types.specs.declared.value.Value.{Value}
 use Rattle.script_lang.specs.declared.event.Event.{Event}
-use Rattle.meta_model.specs.declared.object.ValueType.{ValueType}
-use Rattle.meta_model.specs.declared.object.MetaMethod.{MetaMethod}
-use Rattle.meta_model.specs.declared.effects.MetaEffects.{MetaEffects}
-use Rattle.meta_model.specs.Loaded.{Loaded}
-use Rattle.machine_state.specs.declared.endpoints.Endpoints.{Endpoints}
-use Rattle.trace_entries.specs.declared.refusal.Refusal.{Refusal}
+use Rattle.meta_model.specs.{declared.object.ValueType.{ValueType}, declared.object.MetaMethod.{MetaMethod}, declared.effects.MetaEffects.{MetaEffects}, Loaded.{Loaded}, Sound.{IsSound}}
+use Rattle.machine_state.specs.{declared.endpoints.Endpoints.{Endpoints}, State.{Step, Run, Ask, Act, State, Activation, Body, Emit, Update, Destroy}, declared.turn.Turn.{Turn}, Turns.{running, reaches_at_once}, Connections.{is_living, next_used}, Telling.{Assigning, writes_of}}
+use Rattle.trace_entries.specs.{declared.refusal.Refusal.{Refusal}, declared.fault.Fault.{Fault}, declared.fault.Fault.TheVariants.{BadType, TooDeep, BindingLoop, InUse, Steps, Memory, Stopped}}
 use Rattle.syntax_trees.specs.declared.connection.ConnectionType.{ConnectionType}
-use Rattle.machine_rules.specs.Natives.{NativeAnswers}
-use Rattle.machine_rules.specs.Connecting.{AreThere}
-use Rattle.machine_rules.specs.Judgement.{Check, Then, holds, fails, goes_on as next_is, ends as ends_so}
+use Rattle.machine_rules.{specs.Natives.{NativeAnswers}, specs.Connecting.{AreThere}, specs.Judgement.{Check, Then, holds, fails, goes_on as next_is, ends as ends_so}, specs.Rules.{RuleAt, StepRule, Does, EmitRule, UpdateRule, Connects, Disconnects, TurnRule, Serves, Delivers, Arrives, with_used, BeginsIf, NotifiesIf}, specs.Destroying.{Dies, NextRule, ChildRule, DestroyRule, living_child, Schedules, scheduled_now, scheduled_before, not_living}, specs.Operations.{Operation, Write, Begin, Choose, Connect, Disconnect, Delete, Schedule, TakeAnswer, Nothing, operation_of_step}, specs.code.Lacking.{LacksFirst}, specs.Next.{DoesNext, LacksValue}, specs.code.Going.{IsStuck, RulesStop}, specs.There.{IsField}, specs.Writing.{MayNotify}, proofs.Delivered.{next-delivered}, proofs.Fields.{old-there}, specs.code.Sound.{IsDelivered, Waits}, proofs.Soundness.{AllFit}, proofs.Waiting.{loop-named, first-waits}, proofs.Hearing.{AllHeard, nobody, may-be-heard}}
 use Rattle.run_context.proofs.Linking.{kept-there}
-use Rattle.meta_model.specs.Sound.{IsSound}
 use Rattle.connections.specs.declared.connection.Connection.{Connection}
-use Rattle.trace_entries.specs.declared.fault.Fault.{Fault}
-use Rattle.trace_entries.specs.declared.fault.Fault.TheVariants.{BadType, TooDeep, BindingLoop, InUse, Steps, Memory, Stopped}
-use Rattle.object_tree.specs.declared.object.Object.{Object}
-use Rattle.machine_state.specs.State.{Step, Run, Ask, Act, State, Activation, Body, Emit, Update, Destroy}
-use Rattle.machine_rules.specs.Rules.{RuleAt, StepRule, Does, EmitRule, UpdateRule, Connects, Disconnects, TurnRule, Serves, Delivers, Arrives, with_used, BeginsIf, NotifiesIf}
-use Rattle.machine_rules.specs.Destroying.{Dies, NextRule, ChildRule, DestroyRule, living_child, Schedules, scheduled_now, scheduled_before, not_living}
-use Rattle.machine_rules.specs.Operations.{Operation, Write, Begin, Choose, Connect, Disconnect, Delete, Schedule, TakeAnswer, Nothing, operation_of_step}
-use Rattle.std.specs.Prelude.{is_some}
-use Rattle.std.specs.List.{find}
-use Rattle.object_tree.specs.Family.{children_of}
-use Rattle.std.specs.Option.{option_map}
-use Rattle.event_loops.specs.declared.item.Item.{Item}
-use Rattle.event_loops.specs.declared.item.Item.TheVariants.{Call, Deletion}
-use Rattle.event_loops.specs.declared.item.Posted.{Posted}
-use Rattle.event_loops.specs.Queues.{Queues, HasName, items_at, is_before, taken_before}
-use Rattle.object_tree.specs.declared.life.Life.{Life}
-use Rattle.object_tree.specs.Objects.{life_of}
-use Rattle.object_tree.proofs.Changing.{life-of-lives, lives-of-life}
-use Rattle.object_tree.specs.Objects.{home_of}
+use Rattle.object_tree.{specs.declared.object.Object.{Object}, specs.Family.{children_of}, specs.declared.life.Life.{Life}, specs.Objects.{life_of, home_of}, proofs.Changing.{life-of-lives, lives-of-life}}
+use Rattle.event_loops.specs.{declared.item.Item.{Item}, declared.item.Item.TheVariants.{Call, Deletion}, declared.item.Posted.{Posted}, Queues.{Queues, HasName, items_at, is_before, taken_before}}
 use Rattle.binding_graph.specs.declared.place.Place.{Place}
-use Rattle.machine_state.specs.declared.turn.Turn.{Turn}
-use Rattle.machine_state.specs.Turns.{running, reaches_at_once}
-use Rattle.machine_state.specs.Connections.{is_living, next_used}
-use Rattle.machine_rules.specs.code.Lacking.{LacksFirst}
-use Rattle.machine_rules.specs.Next.{DoesNext, LacksValue}
-use Rattle.machine_rules.specs.code.Going.{IsStuck, RulesStop}
-use Rattle.machine_state.specs.Telling.{Assigning, writes_of}
-use Rattle.object_machine.specs.Causes.{StopsFor, spent, short, brings, lacks_value, writes_ill, goes_ill, goes_fatal, writes_deep, goes_deep}
-use Rattle.machine_rules.specs.There.{IsField}
-use Rattle.machine_rules.specs.Writing.{MayNotify}
-use Rattle.machine_rules.proofs.Delivered.{next-delivered}
-use Rattle.machine_rules.proofs.Fields.{old-there}
-use Rattle.object_machine.proofs.Possible.{IsPossible, possible, acts}
-use Rattle.object_machine.proofs.Standing.{BodyStands, Stands, Invariant}
-use Rattle.machine_rules.specs.code.Sound.{IsDelivered, Waits}
-use Rattle.machine_rules.proofs.Soundness.{AllFit}
-use Rattle.machine_rules.proofs.Waiting.{loop-named, first-waits}
-use Rattle.object_machine.specs.Runs.{by_rule, goes_on}
-use Rattle.machine_rules.proofs.Hearing.{AllHeard, nobody, may-be-heard}
+use Rattle.object_machine.{specs.Causes.{StopsFor, spent, short, brings, lacks_value, writes_ill, goes_ill, goes_fatal, writes_deep, goes_deep}, proofs.Possible.{IsPossible, possible, acts}, proofs.Standing.{BodyStands, Stands, Invariant}, specs.Runs.{by_rule, goes_on}}
 
 -- a judgement has some answer
 check-somehow : {k : Refusal} {Holds : Type 0} → ((r : Result (Unit {0}) Refusal) → ¬ Check k Holds r) → ⊥

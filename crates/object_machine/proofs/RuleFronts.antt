@@ -1,47 +1,19 @@
 -- A rule reads nothing of the trace and only adds to it, so what was written before may be in front of it or not.
-use Rattle.std.proofs.Common.{◌≡◌, ℕ, suc, List, [], ◌∷◌, ◌++◌, length, map, take, Bool, true, false, Option, None, Some, Result, Ok, Err, ap, sym, ◌∙◌, append_assoc}
+use Rattle.std.{proofs.Common.{◌≡◌, ℕ, suc, List, [], ◌∷◌, ◌++◌, length, map, take, Bool, true, false, Option, None, Some, Result, Ok, Err, ap, sym, ◌∙◌, append_assoc}, specs.List.{find}}
 use Rattle.basic_types.specs.declared.value.Value.{Value}
-use Rattle.syntax_trees.specs.declared.connection.ConnectionType.{ConnectionType}
-use Rattle.syntax_trees.specs.declared.connection.Endpoints.{Endpoints as Named}
-use Rattle.meta_model.specs.Loaded.{Loaded}
-use Rattle.meta_model.specs.declared.object.MetaMethod.{MetaMethod}
-use Rattle.meta_model.specs.declared.object.Work.{Work}
-use Rattle.meta_model.specs.declared.object.Work.TheVariants.{Signal}
+use Rattle.syntax_trees.specs.{declared.connection.ConnectionType.{ConnectionType}, declared.connection.Endpoints.{Endpoints as Named}}
+use Rattle.meta_model.specs.{Loaded.{Loaded}, declared.object.MetaMethod.{MetaMethod}, declared.object.Work.{Work}, declared.object.Work.TheVariants.{Signal}, QObject.{destroyed}, declared.qobject.TheConstants.{DESTROYED}}
 use Rattle.connections.specs.declared.connection.Connection.{Connection}
-use Rattle.event_loops.specs.Queues.{taken_before, posted_to, is_before, items_at}
-use Rattle.event_loops.specs.declared.item.Item.{Item}
-use Rattle.event_loops.specs.declared.item.Item.TheVariants.{Call, Deletion}
-use Rattle.event_loops.specs.declared.item.Posted.{Posted}
-use Rattle.object_tree.specs.Objects.{life_of}
-use Rattle.object_tree.specs.declared.life.Life.{Life}
-use Rattle.object_tree.specs.declared.object.Object.{Object}
-use Rattle.binding_graph.specs.declared.binding.Binding.{Binding}
-use Rattle.binding_graph.specs.declared.place.Place.{Place}
-use Rattle.std.specs.List.{find}
-use Rattle.delete_later.specs.Ending.{died_in}
-use Rattle.delete_later.specs.Scheduling.{scheduled_with}
-use Rattle.machine_state.specs.Connections.{is_living, next_used}
-use Rattle.machine_state.specs.Objects.{all_shown}
-use Rattle.machine_state.specs.State.{Step, Act, State, Activation, Body, Emit, Update, Destroy}
-use Rattle.machine_state.specs.Telling.{Assigning}
-use Rattle.machine_state.specs.Turns.{running, reaches_at_once}
-use Rattle.machine_state.specs.Worlds.{store_of, with_store, with_connection, without_connections}
-use Rattle.machine_state.specs.declared.endpoints.Endpoints.{Endpoints}
-use Rattle.trace_entries.specs.declared.entry.Entry.{Entry}
-use Rattle.trace_entries.specs.declared.entry.Entry.TheVariants.{At}
-use Rattle.trace_entries.specs.declared.entry.EntryKind.{EntryKind}
+use Rattle.event_loops.specs.{Queues.{taken_before, posted_to, is_before, items_at}, declared.item.Item.{Item}, declared.item.Item.TheVariants.{Call, Deletion}, declared.item.Posted.{Posted}}
+use Rattle.object_tree.specs.{Objects.{life_of}, declared.life.Life.{Life}, declared.object.Object.{Object}}
+use Rattle.binding_graph.specs.{declared.binding.Binding.{Binding}, declared.place.Place.{Place}}
+use Rattle.delete_later.specs.{Ending.{died_in}, Scheduling.{scheduled_with}}
+use Rattle.machine_state.specs.{Connections.{is_living, next_used}, Objects.{all_shown}, State.{Step, Act, State, Activation, Body, Emit, Update, Destroy}, Telling.{Assigning}, Turns.{running, reaches_at_once}, Worlds.{store_of, with_store, with_connection, without_connections}, declared.endpoints.Endpoints.{Endpoints}, declared.turn.Turn.{Turn}}
+use Rattle.trace_entries.specs.{declared.entry.Entry.{Entry}, declared.entry.Entry.TheVariants.{At}, declared.entry.EntryKind.{EntryKind}, declared.refusal.Refusal.{Refusal}}
 use Rattle.trace_entries.specs.declared.entry.EntryKind.TheVariants as entry_kind
 use Rattle.trace_entries.specs.declared.entry.Shown.TheVariants as show
-use Rattle.trace_entries.specs.declared.refusal.Refusal.{Refusal}
-use Rattle.machine_state.specs.declared.turn.Turn.{Turn}
-use Rattle.meta_model.specs.QObject.{destroyed}
-use Rattle.meta_model.specs.declared.qobject.TheConstants.{DESTROYED}
 use Rattle.basic_types.specs.declared.value.Value.TheVariants as value
-use Rattle.machine_rules.specs.Destroying.{Dies, NextRule, ChildRule, DestroyRule, TellsSchedule, scheduled_now, scheduled_before, not_living, Schedules, living_child}
-use Rattle.machine_rules.specs.Natives.{NativeAnswers}
-use Rattle.machine_rules.specs.Operations.{Operation, Write, Begin, Choose, Connect, Disconnect, Delete, Schedule, TakeAnswer, Nothing}
-use Rattle.machine_rules.specs.Rules.{top_of, begin_entry, begun, Begins, Notifies, NotifiesIf, UpdateRule, told, linked, Connects, unlinked, Disconnects, Does, BodyRule, Arrives, with_used, Uses, EmitRule, BeginsIf, Delivers, Serves, TurnRule, RuleAt}
-use Rattle.machine_rules.specs.Settling.{Settles, Writes, Installs, notified}
+use Rattle.machine_rules.specs.{Destroying.{Dies, NextRule, ChildRule, DestroyRule, TellsSchedule, scheduled_now, scheduled_before, not_living, Schedules, living_child}, Natives.{NativeAnswers}, Operations.{Operation, Write, Begin, Choose, Connect, Disconnect, Delete, Schedule, TakeAnswer, Nothing}, Rules.{top_of, begin_entry, begun, Begins, Notifies, NotifiesIf, UpdateRule, told, linked, Connects, unlinked, Disconnects, Does, BodyRule, Arrives, with_used, Uses, EmitRule, BeginsIf, Delivers, Serves, TurnRule, RuleAt}, Settling.{Settles, Writes, Installs, notified}}
 use Rattle.object_machine.specs.Laws.{in_front, ReadsNoTrace}
 
 module _ (front : List Entry) where

@@ -1,39 +1,15 @@
 -- After an event that is well and closes no chain of bindings properties and bindings agree, if they did before it.
 use Rattle.std.proofs.Common.{◌≡◌, ℕ, Bool, true, false, List, [], ◌∷◌, ◌++◌, Ok, Some, sym, subst}
-use Rattle.meta_model.specs.declared.object.MetaProperty.{MetaProperty}
-use Rattle.meta_model.specs.Loaded.{Loaded}
-use Rattle.meta_model.specs.Members.{IsProperty}
-use Rattle.meta_model.specs.Sound.{IsSound, IsPlain}
-use Rattle.object_tree.specs.declared.object.Object.{Object}
-use Rattle.object_tree.specs.Creating.{fresh, initial_values}
-use Rattle.object_tree.specs.Typed.{AreTyped}
+use Rattle.meta_model.specs.{declared.object.MetaProperty.{MetaProperty}, Loaded.{Loaded}, Members.{IsProperty}, Sound.{IsSound, IsPlain}}
+use Rattle.object_tree.specs.{declared.object.Object.{Object}, Creating.{fresh, initial_values}, Typed.{AreTyped}}
 use Rattle.binding_graph.specs.declared.binding.Binding.{Binding}
-use Rattle.prop_bindings.specs.Calls.{binding_of}
-use Rattle.prop_bindings.specs.Fits.{Agree, IsInOneLoop}
+use Rattle.prop_bindings.specs.{Calls.{binding_of}, Fits.{Agree, IsInOneLoop}}
 use Rattle.delete_later.proofs.Agreeing.{agree-on, live-created}
-use Rattle.script_lang.specs.declared.event.Event.{Event}
-use Rattle.script_lang.specs.declared.event.Event.TheVariants.{Loop, Turn, New, Adopt, Move, Connect, Disconnect, Set, Bind, Emit, Call, Block, Unblock, Delete, Later}
-use Rattle.script_lang.specs.declared.event.Input.{Input}
+use Rattle.script_lang.specs.{declared.event.Event.{Event}, declared.event.Event.TheVariants.{Loop, Turn, New, Adopt, Move, Connect, Disconnect, Set, Bind, Emit, Call, Block, Unblock, Delete, Later}, declared.event.Input.{Input}}
 use Rattle.trace_entries.specs.declared.fault.Answer.{Answer}
-use Rattle.machine_state.specs.Accepting.{accepted}
-use Rattle.machine_state.specs.State.{State, Activation}
-use Rattle.machine_rules.specs.Good.{IsWell, IsAcyclic}
-use Rattle.machine_rules.specs.Judgement.{found as finds, holds as so, becomes, goes_on}
-use Rattle.machine_rules.specs.Settling.{Installs}
-use Rattle.machine_rules.specs.There.{IsField}
-use Rattle.machine_rules.proofs.Agreeing.{begun-agrees, writes-agrees, installs-agrees, schedules-agrees}
-use Rattle.machine_rules.proofs.Fields.{field-property}
-use Rattle.machine_rules.proofs.Keeps.{lives-of-class}
-use Rattle.object_machine.specs.declared.invoking.Invocation.{Invocation}
-use Rattle.object_machine.specs.declared.invoking.Invocation.TheVariants.{Emit as EmitIt, Call as CallIt}
-use Rattle.object_machine.specs.Laws.{TakingSettles}
-use Rattle.object_machine.specs.Takes.{judged, Takes, accepts, refuses}
-use Rattle.object_machine.specs.Events.{may_bind, block, invoke}
-use Rattle.machine_rules.proofs.Inherited.{property-below}
-use Rattle.object_machine.proofs.Judged.{given-is}
-use Rattle.object_machine.proofs.Changes.{agree-adopted}
-use Rattle.object_machine.proofs.Moving.{stores-agree}
-use Rattle.object_machine.proofs.Changes.{agree-blocked}
+use Rattle.machine_state.specs.{Accepting.{accepted}, State.{State, Activation}}
+use Rattle.machine_rules.{specs.Good.{IsWell, IsAcyclic}, specs.Judgement.{found as finds, holds as so, becomes, goes_on}, specs.Settling.{Installs}, specs.There.{IsField}, proofs.Agreeing.{begun-agrees, writes-agrees, installs-agrees, schedules-agrees}, proofs.Fields.{field-property}, proofs.Keeps.{lives-of-class}, proofs.Inherited.{property-below}}
+use Rattle.object_machine.{specs.declared.invoking.Invocation.{Invocation}, specs.declared.invoking.Invocation.TheVariants.{Emit as EmitIt, Call as CallIt}, specs.Laws.{TakingSettles}, specs.Takes.{judged, Takes, accepts, refuses}, specs.Events.{may_bind, block, invoke}, proofs.Judged.{given-is}, proofs.Changes.{agree-adopted, agree-blocked}, proofs.Moving.{stores-agree}}
 
 -- a binding that may be installed binds a property of a value type
 pub bound-plain : {p : Loaded} {t : State} {b : Binding} {below : List Activation} (s : State) (site target : List ℕ) (sources : List (List ℕ)) → IsSound p → may_bind p s site target sources (Ok b) → (x : Installs p (accepted s) below b t) → IsPlain x.property.kind

@@ -1,34 +1,13 @@
 -- What holds in a run: an object lives as long as a body of it is active, the properties that are to be notified are
 -- there as long as their objects live, and bodies are sound.
-use Rattle.std.proofs.Common.{◌≡◌, ℕ, eqb, Some, slice_get, ◌||◌, Bool, true, false, IsTrue, List, [], ◌∷◌, sym, subst, refl}
-use Rattle.std.specs.List.{AllByRecursion}
-use Rattle.std.proofs.lemmas.Bool.{eq-eqb}
+use Rattle.std.{proofs.Common.{◌≡◌, ℕ, eqb, Some, slice_get, ◌||◌, Bool, true, false, IsTrue, List, [], ◌∷◌, sym, subst, refl}, specs.List.{AllByRecursion}, proofs.lemmas.Bool.{eq-eqb}}
 use Rattle.basic_types.specs.declared.value.Value.{Value}
-use Rattle.meta_model.specs.declared.effects.MetaEffects.{MetaEffects}
-use Rattle.meta_model.specs.declared.object.MetaMethod.{MetaMethod}
-use Rattle.meta_model.specs.declared.object.MetaProperty.{MetaProperty}
-use Rattle.meta_model.specs.declared.object.Statement.TheViews.{out-Statement}
-use Rattle.meta_model.specs.declared.object.ValueType.{ValueType}
-use Rattle.meta_model.specs.Loaded.{Loaded}
-use Rattle.meta_model.specs.Members.{IsMethod, IsProperty, Below}
-use Rattle.meta_model.specs.Sound.{IsSoundStatement}
+use Rattle.meta_model.specs.{declared.effects.MetaEffects.{MetaEffects}, declared.object.MetaMethod.{MetaMethod}, declared.object.MetaProperty.{MetaProperty}, declared.object.Statement.TheViews.{out-Statement}, declared.object.ValueType.{ValueType}, Loaded.{Loaded}, Members.{IsMethod, IsProperty, Below}, Sound.{IsSoundStatement}}
 use Rattle.native_slots.specs.declared.action.Action.{Action}
 use Rattle.native_slots.specs.declared.action.Action.TheVariants as action
-use Rattle.object_tree.specs.declared.life.Life.{Life}
-use Rattle.object_tree.specs.declared.object.Object.{Object}
-use Rattle.object_tree.specs.Objects.{Lives}
-use Rattle.object_tree.specs.Typed.{ReadAs}
+use Rattle.object_tree.specs.{declared.life.Life.{Life}, declared.object.Object.{Object}, Objects.{Lives}, Typed.{ReadAs}}
 use Rattle.machine_state.specs.State.{Step, Run, Ask, Act, State, Activation, Body, Emit, Update, Destroy}
-use Rattle.machine_rules.specs.Good.{has_body}
-use Rattle.machine_rules.specs.code.Keeps.{StayThere}
-use Rattle.machine_rules.proofs.Soundness.{AllFit}
-use Rattle.machine_rules.specs.code.Sound.{Sound}
-use Rattle.machine_rules.specs.There.{IsDead}
-use Rattle.machine_rules.specs.Writing.{MayNotify}
-use Rattle.machine_rules.proofs.Dying.{lives-not-dead}
-use Rattle.machine_rules.proofs.Keeps.{lives-on, values-stay}
-use Rattle.machine_rules.proofs.Notifying.{all-may-still}
-use Rattle.machine_rules.proofs.Hearing.{Heard}
+use Rattle.machine_rules.{specs.Good.{has_body}, specs.code.Keeps.{StayThere}, proofs.Soundness.{AllFit}, specs.code.Sound.{Sound}, specs.There.{IsDead}, specs.Writing.{MayNotify}, proofs.Dying.{lives-not-dead}, proofs.Keeps.{lives-on, values-stay}, proofs.Notifying.{all-may-still}, proofs.Hearing.{Heard}}
 
 -- ---- what stands
 

@@ -1,30 +1,11 @@
 -- Paths that loading resolved lead to values of their types.
-use Rattle.std.proofs.Common.{◌≡◌, ℕ, Bool, List, Option, Some, None, refl, ap, ◌∙◌, sym, subst}
-use Rattle.std.specs.Option.{option_map}
-use Rattle.basic_types.specs.declared.value.Value.{Value}
+use Rattle.std.{proofs.Common.{◌≡◌, ℕ, Bool, List, Option, Some, None, refl, ap, ◌∙◌, sym, subst}, specs.Option.{option_map}}
+use Rattle.basic_types.specs.{declared.value.Value.{Value}, Values.{number_has, truth_has, text_has, null_has, object_has}}
 use Rattle.basic_types.specs.declared.value.Value.TheVariants as value
-use Rattle.meta_model.specs.declared.object.MetaPath.{MetaPath}
-use Rattle.meta_model.specs.declared.object.MetaProperty.{MetaProperty}
-use Rattle.meta_model.specs.declared.object.MetaRoot.{MetaRoot}
-use Rattle.meta_model.specs.declared.object.Step.{Step}
-use Rattle.meta_model.specs.declared.object.ValueType.{ValueType}
+use Rattle.meta_model.specs.{declared.object.MetaPath.{MetaPath}, declared.object.MetaProperty.{MetaProperty}, declared.object.MetaRoot.{MetaRoot}, declared.object.Step.{Step}, declared.object.ValueType.{ValueType}, Loaded.{Loaded}, Members.{IsProperty, Below}, Sound.{IsSound, HasRoot, this_has, parameter_has, Leads, here, on, LeadsTo, LeadsToClass}, Values.{default, Has}}
 use Rattle.meta_model.specs.declared.object.ValueType.TheVariants as type
-use Rattle.meta_model.specs.Loaded.{Loaded}
-use Rattle.meta_model.specs.Members.{IsProperty, Below}
-use Rattle.meta_model.specs.Sound.{IsSound, HasRoot, this_has, parameter_has, Leads, here, on, LeadsTo, LeadsToClass}
-use Rattle.meta_model.specs.Values.{default, Has}
-use Rattle.basic_types.specs.Values.{number_has, truth_has, text_has, null_has, object_has}
-use Rattle.object_tree.specs.declared.life.Life.{Life}
-use Rattle.object_tree.specs.declared.object.Object.{Object}
-use Rattle.object_tree.specs.Objects.{Lives, class_of, stored}
-use Rattle.object_tree.specs.Seen.{seen}
-use Rattle.object_tree.specs.Typed.{AreTyped, ReadAs}
-use Rattle.object_tree.proofs.TypedObjects.{has-reads}
-use Rattle.machine_rules.specs.Paths.{root_value, step_value, steps_value, path_value}
-use Rattle.machine_rules.specs.There.{IsField}
-use Rattle.machine_rules.proofs.Fields.{old-there, stored-reads, read-get, read-there}
-use Rattle.machine_rules.proofs.Keeps.{lives-of-class, class-of-lives}
-use Rattle.machine_rules.proofs.Inherited.{property-below}
+use Rattle.object_tree.{specs.declared.life.Life.{Life}, specs.declared.object.Object.{Object}, specs.Objects.{Lives, class_of, stored}, specs.Seen.{seen}, specs.Typed.{AreTyped, ReadAs}, proofs.TypedObjects.{has-reads}}
+use Rattle.machine_rules.{specs.Paths.{root_value, step_value, steps_value, path_value}, specs.There.{IsField}, proofs.Fields.{old-there, stored-reads, read-get, read-there}, proofs.Keeps.{lives-of-class, class-of-lives}, proofs.Inherited.{property-below}}
 
 -- a value of a type is found
 pub record Yields (p : Loaded) (objects : List Object) (T : ValueType) (found : Option Value) : Type 0 where

@@ -2,26 +2,14 @@
 -- "Faults"; docs/certificate.md, "The check").
 use Rattle.std.specs.Prelude.{ℕ, ◌≤◌, List, [], length}
 use Rattle.script_lang.specs.declared.event.Event.{Event}
-use Rattle.meta_model.specs.Loaded.{Loaded}
-use Rattle.meta_model.specs.Sound.{IsSound}
+use Rattle.meta_model.specs.{Loaded.{Loaded}, Sound.{IsSound}, declared.effects.MetaEffects.{MetaEffects}}
 use Rattle.certificate_lang.specs.declared.certificate.Certificate.{Certificate}
 use Rattle.rank_check.specs.Valid.{IsValid}
 use Rattle.native_slots.specs.Promises.{Takes, Promises}
-use Rattle.trace_entries.specs.declared.fault.Answer.{Answer}
-use Rattle.trace_entries.specs.declared.fault.Fault.{Fault}
-use Rattle.machine_state.specs.State.{State, IsIdle}
-use Rattle.machine_state.specs.Worlds.{at, untouched}
-use Rattle.machine_rules.specs.Good.{HasArguments, Spares, IsAcyclic, AreSettled, IsTyped}
-use Rattle.machine_rules.specs.code.Lacking.{LacksFirst}
-use Rattle.machine_rules.specs.Next.{DoesNext, WritesNext, LacksValue}
-use Rattle.machine_rules.specs.Natives.{NativeAnswers}
-use Rattle.object_machine.specs.Causes.{StopsFor}
-use Rattle.object_machine.specs.Checked.{IsLimit}
-use Rattle.object_machine.specs.Runs.{Run, Each, GoodRun, Follows}
-use Rattle.machine_rules.specs.Rules.{Rule}
-use Rattle.machine_state.specs.Telling.{Assigning, writes_of}
-use Rattle.machine_rules.specs.Operations.{TakeAnswer}
-use Rattle.meta_model.specs.declared.effects.MetaEffects.{MetaEffects}
+use Rattle.trace_entries.specs.{declared.fault.Answer.{Answer}, declared.fault.Fault.{Fault}}
+use Rattle.machine_state.specs.{State.{State, IsIdle}, Worlds.{at, untouched}, Telling.{Assigning, writes_of}}
+use Rattle.machine_rules.specs.{Good.{HasArguments, Spares, IsAcyclic, AreSettled, IsTyped}, code.Lacking.{LacksFirst}, Next.{DoesNext, WritesNext, LacksValue}, Natives.{NativeAnswers}, Rules.{Rule}, Operations.{TakeAnswer}}
+use Rattle.object_machine.specs.{Causes.{StopsFor}, Checked.{IsLimit}, Runs.{Run, Each, GoodRun, Follows}}
 
 -- ---- every step of every run
 

@@ -1,50 +1,19 @@
 -- The events of a script: what each asks for, in this order, and what it does (docs/machine.md, "Events").
 use Rattle.std.specs.Prelude.{◌≡◌, ◌≢◌, ℕ, ◌+◌, ◌<◌, Bool, List, [], ◌∷◌, ◌++◌, length, slice_get, Option, None, Some, Result}
-use Rattle.basic_types.specs.declared.value.Value.{Value}
-use Rattle.basic_types.specs.declared.value.Value.TheVariants.{Ref}
-use Rattle.basic_types.specs.declared.sig.Sig.{Sig}
-use Rattle.syntax_trees.specs.Literals.{literal_value}
-use Rattle.syntax_trees.specs.declared.connection.Endpoints.{Endpoints as Named}
-use Rattle.syntax_trees.specs.declared.connection.ConnectionType.{ConnectionType}
-use Rattle.meta_model.specs.declared.object.MetaMethod.{MetaMethod}
-use Rattle.meta_model.specs.declared.object.Work.TheVariants.{Signal}
-use Rattle.meta_model.specs.Loaded.{Loaded}
-use Rattle.meta_model.specs.Members.{IsMethod, IsClass, Owns, IsProperty}
-use Rattle.meta_model.specs.declared.object.MetaObject.{MetaObject}
-use Rattle.meta_model.specs.declared.object.MetaProperty.{MetaProperty}
-use Rattle.meta_model.specs.declared.site.MetaSite.{MetaSite}
-use Rattle.meta_model.specs.declared.qobject.TheConstants.{OBJECT_NAME_CHANGED}
-use Rattle.object_tree.specs.declared.life.Life.{Life}
-use Rattle.object_tree.specs.declared.object.Object.{Object}
-use Rattle.object_tree.specs.Objects.{IsNamed, life_of, IsFree, change_life}
-use Rattle.object_tree.specs.Creating.{fresh, initial_values, most_objects}
-use Rattle.object_tree.specs.Adopting.{IsAdopted}
-use Rattle.object_tree.specs.Family.{Above}
-use Rattle.object_tree.specs.Typed.{ReadsAs, ReadAs}
+use Rattle.basic_types.specs.{declared.value.Value.{Value}, declared.value.Value.TheVariants.{Ref}, declared.sig.Sig.{Sig}}
+use Rattle.syntax_trees.specs.{Literals.{literal_value}, declared.connection.Endpoints.{Endpoints as Named}, declared.connection.ConnectionType.{ConnectionType}}
+use Rattle.meta_model.specs.{declared.object.MetaMethod.{MetaMethod}, declared.object.Work.TheVariants.{Signal}, Loaded.{Loaded}, Members.{IsMethod, IsClass, Owns, IsProperty}, declared.object.MetaObject.{MetaObject}, declared.object.MetaProperty.{MetaProperty}, declared.site.MetaSite.{MetaSite}, declared.qobject.TheConstants.{OBJECT_NAME_CHANGED}}
+use Rattle.object_tree.specs.{declared.life.Life.{Life}, declared.object.Object.{Object}, Objects.{IsNamed, life_of, IsFree, change_life}, Creating.{fresh, initial_values, most_objects}, Adopting.{IsAdopted}, Family.{Above}, Typed.{ReadsAs, ReadAs}}
 use Rattle.event_loops.specs.Queues.{IsTaken, with_loop, IsNamed as IsLoop, Loop}
-use Rattle.binding_graph.specs.declared.binding.Binding.{Binding}
-use Rattle.prop_bindings.specs.Calls.{CoversBinding, binding_of}
-use Rattle.prop_bindings.specs.Fits.{InOneLoop}
-use Rattle.binding_graph.specs.Places.{property_of}
-use Rattle.delete_later.specs.declared.store.Store.{Store}
-use Rattle.delete_later.specs.Moving.{IsMoved, IsBoundOut}
+use Rattle.binding_graph.specs.{declared.binding.Binding.{Binding}, Places.{property_of}}
+use Rattle.prop_bindings.specs.{Calls.{CoversBinding, binding_of}, Fits.{InOneLoop}}
+use Rattle.delete_later.specs.{declared.store.Store.{Store}, Moving.{IsMoved, IsBoundOut}}
 use Rattle.script_lang.specs.declared.event.Input.{Input}
 use Rattle.script_lang.specs.declared.event.Input.TheVariants as input
-use Rattle.trace_entries.specs.declared.refusal.Refusal.{Refusal}
-use Rattle.trace_entries.specs.declared.refusal.Refusal.TheVariants.{NoObject, Dead, NoMember, LoopExists, NoLoop, NameUsed, NoClass, TooManyObjects, NotOwned, Cycle, OtherLoop, BadArgs, BadSource, HasParent, Bound}
-use Rattle.machine_state.specs.Accepting.{accepted}
-use Rattle.machine_state.specs.State.{State}
-use Rattle.machine_state.specs.Worlds.{store_of, with_store, with_connection, without_connections}
-use Rattle.machine_state.specs.Turns.{main}
-use Rattle.machine_rules.specs.Judgement.{Numbered, Find, Gives, ◌>>=◌, Check, Becomes}
-use Rattle.machine_rules.specs.declared.ends.FoundEnds.{FoundEnds}
-use Rattle.machine_rules.specs.Connecting.{named_signal, may_connect, may_disconnect}
-use Rattle.machine_rules.specs.Settling.{Writes, Installs}
-use Rattle.machine_state.specs.Telling.{Alone}
-use Rattle.machine_rules.specs.Rules.{Begins}
-use Rattle.machine_rules.specs.Destroying.{deleting, Schedules}
-use Rattle.object_machine.specs.declared.invoking.Invocation.{Invocation}
-use Rattle.object_machine.specs.declared.invoking.Invocation.TheVariants.{Emit, Call}
+use Rattle.trace_entries.specs.{declared.refusal.Refusal.{Refusal}, declared.refusal.Refusal.TheVariants.{NoObject, Dead, NoMember, LoopExists, NoLoop, NameUsed, NoClass, TooManyObjects, NotOwned, Cycle, OtherLoop, BadArgs, BadSource, HasParent, Bound}}
+use Rattle.machine_state.specs.{Accepting.{accepted}, State.{State}, Worlds.{store_of, with_store, with_connection, without_connections}, Turns.{main}, Telling.{Alone}}
+use Rattle.machine_rules.specs.{Judgement.{Numbered, Find, Gives, ◌>>=◌, Check, Becomes}, declared.ends.FoundEnds.{FoundEnds}, Connecting.{named_signal, may_connect, may_disconnect}, Settling.{Writes, Installs}, Rules.{Begins}, Destroying.{deleting, Schedules}}
+use Rattle.object_machine.specs.{declared.invoking.Invocation.{Invocation}, declared.invoking.Invocation.TheVariants.{Emit, Call}}
 
 -- ---- the objects that events name
 

@@ -1,25 +1,8 @@
 -- A new object in a slot, slots that stay as they were, and what the objects in slots have.
-use Rattle.std.proofs.Common.{◌≡◌, ◌≢◌, ⊎_elim, ℕ, zero, suc, ◌+◌, Bool, true, false, ◌||◌, not, nat_lt, cond, List, [], ◌∷◌, ◌++◌, length, Option, None, Some, is_some, option_map, count_by, refl, sym, ap, subst, ◌∙◌, arith}
-use Rattle.std.specs.Prelude.{slice_get, IsSome, IfSome}
-use Rattle.std.specs.Option.{option_and_then}
-use Rattle.std.proofs.lemmas.Bool.{cases_eq, eq-eqb, ne_eqb, false≢true}
-use Rattle.std.proofs.lemmas.Option.{same_Some}
-use Rattle.std.proofs.lemmas.List.Sums.{sum_by_push}
+use Rattle.std.{proofs.Common.{◌≡◌, ◌≢◌, ⊎_elim, ℕ, zero, suc, ◌+◌, Bool, true, false, ◌||◌, not, nat_lt, cond, List, [], ◌∷◌, ◌++◌, length, Option, None, Some, is_some, option_map, count_by, refl, sym, ap, subst, ◌∙◌, arith}, specs.Prelude.{slice_get, IsSome, IfSome}, specs.Option.{option_and_then}, proofs.lemmas.Bool.{cases_eq, eq-eqb, ne_eqb, false≢true}, proofs.lemmas.Option.{same_Some}, proofs.lemmas.List.Sums.{sum_by_push}}
 use Rattle.slab.specs.Slab.{Slab, get, slab_len, Updates}
 use Rattle.name_indexes.specs.NamePlaces.{Adds}
-use Rattle.object_tree.specs.declared.life.Life.{Life}
-use Rattle.object_tree.specs.declared.object.Object.{Object}
-use Rattle.object_tree.specs.declared.slot.Slot.{Slot}
-use Rattle.object_tree.specs.declared.slot.Entry.{Entry}
-use Rattle.object_tree.specs.Held.{are_any, is_held, held_in, is_dead}
-use Rattle.object_tree.specs.Seen.{seen_object}
-use Rattle.object_tree.specs.Objects.{with_life, life_of, class_of, change}
-use Rattle.object_tree.specs.Family.{children_in, children_of, parent_of, joined_by}
-use Rattle.object_tree.specs.Children.{are_distinct}
-use Rattle.object_tree.specs.Forest.{Forest, HasDistinct}
-use Rattle.object_tree.specs.code.Slots.{object_in, or_gone, object_at, shown_from, new_slot, key_at, name_at, as_number, KeepsSlots, AreDistinctIn, AreHoused}
-use Rattle.object_tree.proofs.Changing.{get-change_other}
-use Rattle.object_tree.proofs.Slots.{get-none, get-some, shown-same, entry-of, no_entry}
+use Rattle.object_tree.{specs.declared.life.Life.{Life}, specs.declared.object.Object.{Object}, specs.declared.slot.Slot.{Slot}, specs.declared.slot.Entry.{Entry}, specs.Held.{are_any, is_held, held_in, is_dead}, specs.Seen.{seen_object}, specs.Objects.{with_life, life_of, class_of, change}, specs.Family.{children_in, children_of, parent_of, joined_by}, specs.Children.{are_distinct}, specs.Forest.{Forest, HasDistinct}, specs.code.Slots.{object_in, or_gone, object_at, shown_from, new_slot, key_at, name_at, as_number, KeepsSlots, AreDistinctIn, AreHoused}, proofs.Changing.{get-change_other}, proofs.Slots.{get-none, get-some, shown-same, entry-of, no_entry}}
 
 -- ---- a new object
 

@@ -1,25 +1,7 @@
 -- What objects that move to another loop leave as it was.
-use Rattle.std.proofs.Common.{◌≡◌, ◌≢◌, ℕ, suc, eqb, Bool, true, false, ◌||◌, cond, List, [], ◌∷◌, length, Option, None, Some, refl, sym, ap, ◌∙◌, subst}
-use Rattle.std.specs.Prelude.{slice_get}
-use Rattle.std.specs.Option.{option_map, option_and_then}
-use Rattle.std.proofs.lemmas.Bool.{eqb-true, eq-eqb, false≢true}
-use Rattle.std.proofs.lemmas.Option.{same_Some}
-use Rattle.meta_model.specs.Loaded.{Loaded}
-use Rattle.object_tree.specs.declared.life.Life.{Life}
-use Rattle.object_tree.specs.declared.object.Object.{Object}
-use Rattle.meta_model.specs.Among.{is_among}
-use Rattle.object_tree.specs.Children.{are_distinct}
-use Rattle.object_tree.specs.Objects.{change_life, with_life, life_of, name_of, home_of}
-use Rattle.object_tree.specs.Family.{parent_of, children_in, children_of, IsChild, Above, itself, over_parent}
-use Rattle.object_tree.specs.Forest.{Forest, is_the}
-use Rattle.object_tree.specs.code.Kept.{Kept}
-use Rattle.object_tree.specs.Moving.{in_loop, all_in_loop, AreWhole, AreBelow}
-use Rattle.object_tree.specs.Typed.{AreTyped}
-use Rattle.object_tree.proofs.Above.{parent_in, child-is, parent-is}
-use Rattle.object_tree.proofs.Changing.{length-change, get-change_same, get-change_other, part-change, life-of-lives}
-use Rattle.object_tree.proofs.Families.{above-through, parent-with_life}
-use Rattle.object_tree.proofs.Keeping.{names-same}
-use Rattle.object_tree.proofs.TypedObjects.{typed-change}
+use Rattle.std.{proofs.Common.{◌≡◌, ◌≢◌, ℕ, suc, eqb, Bool, true, false, ◌||◌, cond, List, [], ◌∷◌, length, Option, None, Some, refl, sym, ap, ◌∙◌, subst}, specs.Prelude.{slice_get}, specs.Option.{option_map, option_and_then}, proofs.lemmas.Bool.{eqb-true, eq-eqb, false≢true}, proofs.lemmas.Option.{same_Some}}
+use Rattle.meta_model.specs.{Loaded.{Loaded}, Among.{is_among}}
+use Rattle.object_tree.{specs.declared.life.Life.{Life}, specs.declared.object.Object.{Object}, specs.Children.{are_distinct}, specs.Objects.{change_life, with_life, life_of, name_of, home_of}, specs.Family.{parent_of, children_in, children_of, IsChild, Above, itself, over_parent}, specs.Forest.{Forest, is_the}, specs.code.Kept.{Kept}, specs.Moving.{in_loop, all_in_loop, AreWhole, AreBelow}, specs.Typed.{AreTyped}, proofs.Above.{parent_in, child-is, parent-is}, proofs.Changing.{length-change, get-change_same, get-change_other, part-change, life-of-lives}, proofs.Families.{above-through, parent-with_life}, proofs.Keeping.{names-same}, proofs.TypedObjects.{typed-change}}
 
 -- the loop that shows in an object
 abbrev home_in : Option Object → Option ℕ

@@ -1,29 +1,9 @@
 -- Objects whose properties have values of their types, after a change.
-use Rattle.std.proofs.Common.{◌≡◌, ◌≢◌, ⊎_elim, ◌⊎◌, inl, inr, ℕ, zero, suc, List, [], ◌∷◌, ◌++◌, length, map, All, Option, None, Some, refl, sym, ap, ◌∙◌, subst, arith}
-use Rattle.std.specs.Prelude.{slice_get, slice_set}
-use Rattle.std.specs.List.{AllByRecursion}
-use Rattle.std.proofs.lemmas.List.Elements.{All-from_recursion}
-use Rattle.std.specs.Option.{option_map, option_and_then}
-use Rattle.std.proofs.lemmas.Bool.{cases_eq}
-use Rattle.std.proofs.lemmas.Option.{same_Some}
-use Rattle.basic_types.specs.declared.value.Value.{Value}
+use Rattle.std.{proofs.Common.{◌≡◌, ◌≢◌, ⊎_elim, ◌⊎◌, inl, inr, ℕ, zero, suc, List, [], ◌∷◌, ◌++◌, length, map, All, Option, None, Some, refl, sym, ap, ◌∙◌, subst, arith}, specs.Prelude.{slice_get, slice_set}, specs.List.{AllByRecursion}, proofs.lemmas.List.Elements.{All-from_recursion}, specs.Option.{option_map, option_and_then}, proofs.lemmas.Bool.{cases_eq}, proofs.lemmas.Option.{same_Some}}
+use Rattle.basic_types.specs.{declared.value.Value.{Value}, Values.{number_has, truth_has, text_has, null_has, object_has}}
 use Rattle.basic_types.specs.declared.value.Value.TheVariants as value
-use Rattle.meta_model.specs.declared.object.MetaObject.{MetaObject}
-use Rattle.meta_model.specs.declared.object.MetaProperty.{MetaProperty}
-use Rattle.meta_model.specs.declared.object.ValueType.{ValueType}
-use Rattle.meta_model.specs.Loaded.{Loaded}
-use Rattle.meta_model.specs.Members.{IsClass}
-use Rattle.meta_model.specs.Values.{Has}
-use Rattle.basic_types.specs.Values.{number_has, truth_has, text_has, null_has, object_has}
-use Rattle.object_tree.specs.declared.life.Life.{Life}
-use Rattle.object_tree.specs.declared.object.Object.{Object}
-use Rattle.object_tree.specs.Objects.{Lives, change_life, with_life, written, class_of, class_with}
-use Rattle.object_tree.specs.Seen.{seen, seen_object, seen_reference}
-use Rattle.object_tree.specs.Family.{leaves, moved, put_under, dead, without_life, parent_of}
-use Rattle.object_tree.specs.Typed.{ReadsAs, ReadAs, IsTyped, AreTyped, FitsProperty}
-use Rattle.object_tree.specs.Creating.{BeginsAs, BeginsWell, initials, initial_values, begun, fresh}
-use Rattle.object_tree.proofs.Changing.{get-change_same, get-change_other, part-change, life-part, one-life}
-use Rattle.object_tree.proofs.Families.{moved-part, leaves-part}
+use Rattle.meta_model.specs.{declared.object.MetaObject.{MetaObject}, declared.object.MetaProperty.{MetaProperty}, declared.object.ValueType.{ValueType}, Loaded.{Loaded}, Members.{IsClass}, Values.{Has}}
+use Rattle.object_tree.{specs.declared.life.Life.{Life}, specs.declared.object.Object.{Object}, specs.Objects.{Lives, change_life, with_life, written, class_of, class_with}, specs.Seen.{seen, seen_object, seen_reference}, specs.Family.{leaves, moved, put_under, dead, without_life, parent_of}, specs.Typed.{ReadsAs, ReadAs, IsTyped, AreTyped, FitsProperty}, specs.Creating.{BeginsAs, BeginsWell, initials, initial_values, begun, fresh}, proofs.Changing.{get-change_same, get-change_other, part-change, life-part, one-life}, proofs.Families.{moved-part, leaves-part}}
 
 -- ---- what reads as a type goes on to
 

@@ -1,25 +1,12 @@
 -- What is certified is agreed to.
 use Rattle.std.proofs.Common.{◌≡◌, ◌≤◌, ℕ, List, Option, Some, None, Ok, refl, arith, sym, subst}
-use Rattle.certificate_lang.specs.declared.certificate.Certificate.{Certificate}
-use Rattle.program_commands.proofs.Writable.{made_is_read}
-use Rattle.certificate_lang.specs.Texts.{certificate_text}
+use Rattle.certificate_lang.specs.{declared.certificate.Certificate.{Certificate}, Texts.{certificate_text}}
+use Rattle.program_commands.{proofs.Writable.{made_is_read}, specs.declared.outcome.Outcome.{Outcome}, specs.declared.outcome.Outcome.TheVariants.{Valid, Uncertified, Certificate as Certified}, specs.declared.refusal.Refusal.{Refusal}, specs.Commands.{CertifyComesTo, CheckComesTo, IsAgreed, CertifiedIsAgreed}, specs.Loading.{LoadsProgram, with_certificate}, specs.Outcomes.{outcome_status}, specs.Texts.{with_text}, specs.Reasons.{reason_status}, specs.Refusals.{refusal_status, status_of}, specs.Steps.{First, Is, fails, goes_on}, proofs.Stepping.{loads_of}}
 use Rattle.class_lang.specs.declared.size.Limits.{Limits}
 use Rattle.meta_model.specs.Loaded.{Loaded}
-use Rattle.rank_make.specs.Makes.{Makes}
-use Rattle.rank_make.specs.declared.why.Why.{Why}
+use Rattle.rank_make.specs.{Makes.{Makes}, declared.why.Why.{Why}}
 use Rattle.rank_make.specs.declared.why.Why.TheVariants as why
-use Rattle.program_commands.specs.declared.outcome.Outcome.{Outcome}
-use Rattle.program_commands.specs.declared.outcome.Outcome.TheVariants.{Valid, Uncertified, Certificate as Certified}
-use Rattle.program_commands.specs.declared.refusal.Refusal.{Refusal}
 use Rattle.program_commands.specs.declared.refusal.Refusal.TheVariants as refusal
-use Rattle.program_commands.specs.Commands.{CertifyComesTo, CheckComesTo, IsAgreed, CertifiedIsAgreed}
-use Rattle.program_commands.specs.Loading.{LoadsProgram, with_certificate}
-use Rattle.program_commands.specs.Outcomes.{outcome_status}
-use Rattle.program_commands.specs.Texts.{with_text}
-use Rattle.program_commands.specs.Reasons.{reason_status}
-use Rattle.program_commands.specs.Refusals.{refusal_status, status_of}
-use Rattle.program_commands.specs.Steps.{First, Is, fails, goes_on}
-use Rattle.program_commands.proofs.Stepping.{loads_of}
 
 some_status : (k : ℕ) (number : Option ℕ) → 1 ≤ k → ¬ (status_of k number ≡ 0)
 some_status k (Some n) h e = omega (arith, h, e)

@@ -1,28 +1,14 @@
 -- What holds of all tokens holds of those behind a reading.
-use Rattle.std.proofs.Common.{Bool, true, false, List, [], ◌∷◌, None, Some}
-use Rattle.std.specs.List.{AllByRecursion}
-use Rattle.basic_types.specs.declared.kind.Kind.TheVariants.{Auto, Direct, Queued}
-use Rattle.basic_types.specs.declared.normal.ConstPlace.{ConstPlace}
-use Rattle.basic_types.specs.declared.normal.ConstPlace.TheVariants.{Nowhere, Before, After}
-use Rattle.basic_types.specs.declared.normal.TypeEnding.TheVariants.{Bare, Reference, Pointer}
-use Rattle.basic_types.specs.declared.word.Word.{Word}
+use Rattle.std.{proofs.Common.{Bool, true, false, List, [], ◌∷◌, None, Some}, specs.List.{AllByRecursion}}
+use Rattle.basic_types.specs.{declared.kind.Kind.TheVariants.{Auto, Direct, Queued}, declared.normal.ConstPlace.{ConstPlace}, declared.normal.ConstPlace.TheVariants.{Nowhere, Before, After}, declared.normal.TypeEnding.TheVariants.{Bare, Reference, Pointer}, declared.word.Word.{Word}}
 use Rattle.basic_types.specs.declared.word.Word.TheVariants as word
-use Rattle.token_reading.specs.Connections.{spell_flag}
-use Rattle.token_reading.specs.Lists.{spell_further, spell_after, spell_others, spell_listed, spell_each}
-use Rattle.token_reading.specs.Literals.{unsigned, negative, spell_literal}
-use Rattle.token_reading.specs.Optional.{spell_optional, spell_optional_name}
-use Rattle.token_reading.specs.Reading.{spell_name}
-use Rattle.token_reading.specs.Signatures.{spelled_type, spell_ending, spell_named, spell_type, sig, spell_sig, spell_kind}
+use Rattle.token_reading.specs.{Connections.{spell_flag}, Lists.{spell_further, spell_after, spell_others, spell_listed, spell_each}, Literals.{unsigned, negative, spell_literal}, Optional.{spell_optional, spell_optional_name}, Reading.{spell_name}, Signatures.{spelled_type, spell_ending, spell_named, spell_type, sig, spell_sig, spell_kind}}
 use Rattle.texts.specs.declared.symbol.Symbol.TheVariants as s
 use Rattle.syntax_trees.specs.declared.syntax.Root.TheVariants as root
 use Rattle.texts.specs.declared.token.Token.{Token}
 use Rattle.texts.specs.declared.token.Token.TheVariants as token
-use Rattle.slot_lang.specs.Expressions.{expression, no_conjunction, or_else, conjunction, no_comparison, and_also, alone, compared, sum, no_term, signed, term, no_factor, times, prefixed, literal, path, grouped, spell_root, spell_names, spell_path, spell_expression, spell_conjunctions, spell_conjunction, spell_comparisons, spell_comparison, spell_sum, spell_terms, spell_term, spell_factors, spell_factor}
-use Rattle.slot_lang.specs.Grammar.{spell_target, spell_value, spell_set, spell_sets, spell_arguments, spell_path_ends, spell_how, spell_object, no_more, more, set, emit, call, choice, connect, disconnect, delete, later, group, no_else, else_block, spell_statements, spell_statement, spell_else, spell_block}
-use Rattle.class_lang.specs.Declarations.{bare, semicolon, spell_ending as spell_class_ending, spell_base, end, spell_end, wire, spell_wire, owns, spell_owns}
-use Rattle.class_lang.specs.Natives.{effects, spell_effects}
-use Rattle.class_lang.specs.Parameters.{signal_parameter, spell_signal_parameter, slot_parameter, spell_slot_parameter}
-use Rattle.class_lang.specs.Sites.{formal, spell_formal, site, spell_site}
+use Rattle.slot_lang.specs.{Expressions.{expression, no_conjunction, or_else, conjunction, no_comparison, and_also, alone, compared, sum, no_term, signed, term, no_factor, times, prefixed, literal, path, grouped, spell_root, spell_names, spell_path, spell_expression, spell_conjunctions, spell_conjunction, spell_comparisons, spell_comparison, spell_sum, spell_terms, spell_term, spell_factors, spell_factor}, Grammar.{spell_target, spell_value, spell_set, spell_sets, spell_arguments, spell_path_ends, spell_how, spell_object, no_more, more, set, emit, call, choice, connect, disconnect, delete, later, group, no_else, else_block, spell_statements, spell_statement, spell_else, spell_block}}
+use Rattle.class_lang.specs.{Declarations.{bare, semicolon, spell_ending as spell_class_ending, spell_base, end, spell_end, wire, spell_wire, owns, spell_owns}, Natives.{effects, spell_effects}, Parameters.{signal_parameter, spell_signal_parameter, slot_parameter, spell_slot_parameter}, Sites.{formal, spell_formal, site, spell_site}}
 
 module _ (P : Token → Type 0) where
   abbrev pub All : List Token → Type 0

@@ -1,34 +1,19 @@
 -- Least certificates are equal.
-use Rattle.std.proofs.Common.{◌≡◌, inl, inr, ℕ, zero, suc, ◌<◌, List, [], ◌∷◌, slice_get, Some, Ok, refl, sym, ap, ◌∙◌, subst, arith}
-use Rattle.std.specs.List.{Contains, AllZip}
-use Rattle.std.proofs.lemmas.Option.{same_Some}
+use Rattle.std.{proofs.Common.{◌≡◌, inl, inr, ℕ, zero, suc, ◌<◌, List, [], ◌∷◌, slice_get, Some, Ok, refl, sym, ap, ◌∙◌, subst, arith}, specs.List.{Contains, AllZip}, proofs.lemmas.Option.{same_Some}}
 use Rattle.basic_types.specs.declared.sig.Sig.{Sig}
 use Rattle.syntax_trees.specs.declared.program.Program.{Program}
-use Rattle.meta_model.specs.declared.object.MetaMethod.{MetaMethod}
-use Rattle.meta_model.specs.declared.object.MetaObject.{MetaObject}
-use Rattle.meta_model.specs.Loaded.{Loaded}
-use Rattle.meta_model.specs.Members.{IsClassNamed, HasSig, IsPropertyNamed}
-use Rattle.meta_model.specs.Sound.{IsSound}
-use Rattle.meta_objects.specs.Builds.{Builds}
-use Rattle.meta_objects.proofs.FoundClasses.{one_loading, form_sound}
+use Rattle.meta_model.specs.{declared.object.MetaMethod.{MetaMethod}, declared.object.MetaObject.{MetaObject}, Loaded.{Loaded}, Members.{IsClassNamed, HasSig, IsPropertyNamed}, Sound.{IsSound}}
+use Rattle.meta_objects.{specs.Builds.{Builds}, proofs.FoundClasses.{one_loading, form_sound}}
 use Rattle.class_lang.proofs.OneAnswer.{one_program_text}
-use Rattle.effect_scan.specs.declared.node.Node.{Node}
-use Rattle.effect_scan.specs.declared.node.Member.{Member}
+use Rattle.effect_scan.specs.{declared.node.Node.{Node}, declared.node.Member.{Member}, Nodes.{nodes_of}}
 use Rattle.effect_scan.specs.declared.node.Member.TheVariants as place
-use Rattle.effect_scan.specs.Nodes.{nodes_of}
-use Rattle.certificate_lang.specs.declared.certificate.MemberName.{MemberName}
+use Rattle.certificate_lang.specs.{declared.certificate.MemberName.{MemberName}, declared.certificate.NodeName.{NodeName}, declared.certificate.SetItem.{SetItem}, declared.certificate.Line.{Line}, declared.certificate.Certificate.{Certificate}}
 use Rattle.certificate_lang.specs.declared.certificate.MemberName.TheVariants as member
-use Rattle.certificate_lang.specs.declared.certificate.NodeName.{NodeName}
-use Rattle.certificate_lang.specs.declared.certificate.SetItem.{SetItem}
 use Rattle.certificate_lang.specs.declared.certificate.SetItem.TheVariants as item
-use Rattle.certificate_lang.specs.declared.certificate.Line.{Line}
-use Rattle.certificate_lang.specs.declared.certificate.Certificate.{Certificate}
-use Rattle.rank_check.specs.Names.{IsMemberNamed, IsNodeNamed}
-use Rattle.rank_check.specs.Valid.{IsLineOf}
+use Rattle.rank_check.specs.{Names.{IsMemberNamed, IsNodeNamed}, Valid.{IsLineOf}}
 use Rattle.rank_graph.proofs.Distinct.{in_first, in_rest}
 use Rattle.rank_make.specs.Least.{AreWritten, IsClosureOf, IsLeastValid}
-use Rattle.program_commands.specs.Laws.{OneLeast, OneMade}
-use Rattle.program_commands.proofs.Increasing.{one_list}
+use Rattle.program_commands.{specs.Laws.{OneLeast, OneMade}, proofs.Increasing.{one_list}}
 
 module _ (p : Loaded) where
   -- ---- a class, a member and a node have one name

@@ -1,27 +1,10 @@
 -- The names of what is loaded.
-use Rattle.std.proofs.Common.{◌≡◌, ◌≢◌, ◌∙◌, ℕ, zero, suc, ◌<◌, Bool, true, false, ◌&&◌, nat_eq, List, [], ◌∷◌, ◌++◌, length, slice_get, Some, codes, refl, sym, ap, subst, arith}
-use Rattle.std.specs.List.{AllByRecursion, AllZip}
-use Rattle.std.proofs.lemmas.Bool.{eq-eqb, false≢true}
-use Rattle.std.proofs.lemmas.List.Elements.{All-from_recursion}
-use Rattle.std.proofs.lemmas.Option.{same_Some, none-some, slice_get_within}
-use Rattle.basic_types.specs.Laws.{IsNormalSig}
-use Rattle.basic_types.specs.Name.{is_name_byte}
-use Rattle.basic_types.specs.Signatures.{IsFreeName}
-use Rattle.basic_types.specs.Words.{IsFree, word_spelling}
+use Rattle.std.{proofs.Common.{◌≡◌, ◌≢◌, ◌∙◌, ℕ, zero, suc, ◌<◌, Bool, true, false, ◌&&◌, nat_eq, List, [], ◌∷◌, ◌++◌, length, slice_get, Some, codes, refl, sym, ap, subst, arith}, specs.List.{AllByRecursion, AllZip}, proofs.lemmas.Bool.{eq-eqb, false≢true}, proofs.lemmas.List.Elements.{All-from_recursion}, proofs.lemmas.Option.{same_Some, none-some, slice_get_within}}
+use Rattle.basic_types.specs.{Laws.{IsNormalSig}, Name.{is_name_byte}, Signatures.{IsFreeName}, Words.{IsFree, word_spelling}}
 use Rattle.basic_types.specs.declared.word.Word.TheVariants as word
-use Rattle.syntax_trees.specs.declared.program.Property.{Property}
-use Rattle.syntax_trees.specs.declared.program.Signal.{Signal}
-use Rattle.syntax_trees.specs.declared.program.Slot.{Slot}
-use Rattle.syntax_trees.specs.declared.program.Class.{Class}
-use Rattle.syntax_trees.specs.declared.program.Program.{Program}
-use Rattle.meta_model.specs.declared.object.MetaMethod.{MetaMethod}
-use Rattle.meta_model.specs.declared.object.MetaProperty.{MetaProperty}
-use Rattle.meta_model.specs.declared.object.MetaObject.{MetaObject}
-use Rattle.meta_model.specs.Loaded.{Loaded}
-use Rattle.meta_model.specs.Members.{IsClass}
-use Rattle.meta_model.specs.QObject.{sig_of}
+use Rattle.syntax_trees.specs.{declared.program.Property.{Property}, declared.program.Signal.{Signal}, declared.program.Slot.{Slot}, declared.program.Class.{Class}, declared.program.Program.{Program}}
+use Rattle.meta_model.specs.{declared.object.MetaMethod.{MetaMethod}, declared.object.MetaProperty.{MetaProperty}, declared.object.MetaObject.{MetaObject}, Loaded.{Loaded}, Members.{IsClass}, QObject.{sig_of}, Root.{root_class}}
 use Rattle.class_outlines.specs.Outlines.{kinds_of}
-use Rattle.meta_model.specs.Root.{root_class}
 use Rattle.meta_objects.specs.LoadedProgram.{IsLoadedSignal, IsLoadedSlot, IsLoadedProperty, IsLoadedClass, IsLoadedProgram}
 use Rattle.program_commands.specs.Names.{IsNamedClass, IsNamedProgram, IsNamedObject, LoadedProgramsAreNamed}
 

@@ -1,46 +1,22 @@
 -- Each step comes to one thing, unless memory runs out, and so do steps one after another.
 use Rattle.std.proofs.Common.{◌≡◌, ◌≢◌, ◌⊎◌, inl, inr, ℕ, List, None, Result, Ok, Err, codes, refl, sym, ap, ◌∙◌, subst}
-use Rattle.certificate_lang.specs.Reads.{ReadsCertificate, number_of as certificate_number}
-use Rattle.certificate_lang.specs.declared.certificate.Certificate.{Certificate}
-use Rattle.certificate_lang.specs.declared.fault.CertificateFault.{CertificateFault}
+use Rattle.certificate_lang.{specs.Reads.{ReadsCertificate, number_of as certificate_number}, specs.declared.certificate.Certificate.{Certificate}, specs.declared.fault.CertificateFault.{CertificateFault}, proofs.Certificates.{one_certificate}, specs.Texts.{certificate_text}}
 use Rattle.certificate_lang.specs.declared.fault.CertificateFault.TheVariants as of_certificate
-use Rattle.certificate_lang.proofs.Certificates.{one_certificate}
-use Rattle.program_commands.proofs.Makings.{one_making}
-use Rattle.program_commands.proofs.Verdicts.{one_verdict}
-use Rattle.class_lang.specs.Reads.{number_of as text_number}
-use Rattle.class_lang.specs.declared.size.Limits.{Limits}
-use Rattle.class_lang.specs.declared.fault.TextFault.{TextFault}
+use Rattle.program_commands.{proofs.Makings.{one_making}, proofs.Verdicts.{one_verdict}, specs.Commands.{IsSameOutcome, OneDescription, OneCertifying, OneCheck}, specs.declared.outcome.Outcome.{Outcome}, specs.declared.outcome.Outcome.TheVariants.{Refused, Uncertified, Certificate as Certified}, specs.declared.refusal.Refusal.{Refusal}, specs.Loading.{LoadsProgram, LoadsCertified, LoadsValid}, specs.Texts.{with_text}, specs.Outcomes.{IsShort}, specs.Refusals.{refusal_number, line_of, status_of}, specs.Steps.{First, Is, fails, goes_on}, proofs.Stepping.{loads_of}}
+use Rattle.class_lang.{specs.Reads.{number_of as text_number}, specs.declared.size.Limits.{Limits}, specs.declared.fault.TextFault.{TextFault}, proofs.OneAnswer.{one_answer as one_reading}}
 use Rattle.class_lang.specs.declared.fault.TextFault.TheVariants as of_text
-use Rattle.class_lang.proofs.OneAnswer.{one_answer as one_reading}
-use Rattle.class_outlines.specs.FaultNumbers.{number_of as meta_number}
-use Rattle.meta_model.specs.Loaded.{Loaded}
-use Rattle.meta_model.specs.Sound.{IsSound}
-use Rattle.class_outlines.specs.declared.fault.MetaFault.{MetaFault}
+use Rattle.class_outlines.specs.{FaultNumbers.{number_of as meta_number}, declared.fault.MetaFault.{MetaFault}}
+use Rattle.meta_model.specs.{Loaded.{Loaded}, Sound.{IsSound}}
 use Rattle.class_outlines.specs.declared.fault.MetaFault.TheVariants as of_meta
-use Rattle.meta_objects.specs.Builds.{Builds}
-use Rattle.meta_objects.proofs.OnlyAnswer.{one_answer as one_loading}
-use Rattle.meta_objects.proofs.FoundClasses.{form_sound}
-use Rattle.rank_check.specs.Checks.{Checking, Denial, Examines, number_of as no_number}
-use Rattle.rank_check.specs.declared.no.No.{No}
+use Rattle.meta_objects.{specs.Builds.{Builds}, proofs.OnlyAnswer.{one_answer as one_loading}, proofs.FoundClasses.{form_sound}}
+use Rattle.rank_check.specs.{Checks.{Checking, Denial, Examines, number_of as no_number}, declared.no.No.{No}}
 use Rattle.rank_check.specs.declared.no.No.TheVariants as of_check
-use Rattle.rank_make.specs.Makes.{Makes}
-use Rattle.rank_make.specs.declared.why.Why.{Why}
+use Rattle.rank_make.specs.{Makes.{Makes}, declared.why.Why.{Why}}
 use Rattle.rank_make.specs.declared.why.Why.TheVariants as why
 use Rattle.script_lang.specs.declared.fault.ScriptFault.{ScriptFault}
 use Rattle.script_lang.specs.declared.fault.ScriptFault.TheVariants as of_script
 use Rattle.syntax_trees.specs.declared.program.Program.{Program}
-use Rattle.program_commands.specs.Commands.{IsSameOutcome, OneDescription, OneCertifying, OneCheck}
-use Rattle.program_commands.specs.declared.outcome.Outcome.{Outcome}
-use Rattle.program_commands.specs.declared.outcome.Outcome.TheVariants.{Refused, Uncertified, Certificate as Certified}
-use Rattle.program_commands.specs.declared.refusal.Refusal.{Refusal}
 use Rattle.program_commands.specs.declared.refusal.Refusal.TheVariants as refusal
-use Rattle.certificate_lang.specs.Texts.{certificate_text}
-use Rattle.program_commands.specs.Loading.{LoadsProgram, LoadsCertified, LoadsValid}
-use Rattle.program_commands.specs.Texts.{with_text}
-use Rattle.program_commands.specs.Outcomes.{IsShort}
-use Rattle.program_commands.specs.Refusals.{refusal_number, line_of, status_of}
-use Rattle.program_commands.specs.Steps.{First, Is, fails, goes_on}
-use Rattle.program_commands.proofs.Stepping.{loads_of}
 
 -- what holds is one thing, or short of memory
 abbrev pub OneOf : {R : Type 0} → (R → Type 0) → (R → Type 0) → Type 0

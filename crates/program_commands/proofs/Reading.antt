@@ -1,36 +1,14 @@
 -- The names that a program's text gives.
-use Rattle.std.proofs.Common.{ℕ, ◌≤◌, Bool, true, false, List, [], ◌∷◌, length, map, refl, sym, subst}
-use Rattle.std.specs.List.{AllByRecursion}
-use Rattle.std.proofs.lemmas.Bool.{false≢true}
-use Rattle.std.proofs.lemmas.List.{length-map}
-use Rattle.std.proofs.lemmas.List.Elements.{recursion_from_All}
-use Rattle.basic_types.specs.Laws.{IsNormalType, IsNormalSig}
-use Rattle.basic_types.specs.Normal.{pointer_type}
-use Rattle.basic_types.specs.Signatures.{IsFreeName, most_parameters}
-use Rattle.basic_types.specs.Types.{value_type}
-use Rattle.basic_types.specs.declared.normal.ConstPlace.TheVariants.{Nowhere, Before, After}
-use Rattle.basic_types.specs.declared.normal.TypeEnding.TheVariants.{Bare, Reference, Pointer}
+use Rattle.std.{proofs.Common.{ℕ, ◌≤◌, Bool, true, false, List, [], ◌∷◌, length, map, refl, sym, subst}, specs.List.{AllByRecursion}, proofs.lemmas.Bool.{false≢true}, proofs.lemmas.List.{length-map}, proofs.lemmas.List.Elements.{recursion_from_All}}
+use Rattle.basic_types.specs.{Laws.{IsNormalType, IsNormalSig}, Normal.{pointer_type}, Signatures.{IsFreeName, most_parameters}, Types.{value_type}, declared.normal.ConstPlace.TheVariants.{Nowhere, Before, After}, declared.normal.TypeEnding.TheVariants.{Bare, Reference, Pointer}}
 use Rattle.basic_types.specs.declared.word.Word.TheVariants as word
-use Rattle.token_reading.specs.Lists.{spell_each, spell_further, spell_listed}
-use Rattle.token_reading.specs.Literals.{spell_literal}
-use Rattle.texts.specs.Pieces.{AreTokens, Piece, IsCut, tokens_of}
+use Rattle.token_reading.specs.{Lists.{spell_each, spell_further, spell_listed}, Literals.{spell_literal}, Signatures.{TypeReading, spelled_type, spell_type, tree_of_type, spell_sig}}
+use Rattle.texts.{specs.Pieces.{AreTokens, Piece, IsCut, tokens_of}, specs.declared.token.Token.{Token}, proofs.Fronts.{named}}
 use Rattle.texts.specs.Pieces as piece
-use Rattle.token_reading.specs.Signatures.{TypeReading, spelled_type, spell_type, tree_of_type, spell_sig}
-use Rattle.syntax_trees.specs.declared.program.Parameter.{Parameter}
-use Rattle.syntax_trees.specs.declared.program.Property.{Property}
-use Rattle.syntax_trees.specs.declared.program.Signal.{Signal}
-use Rattle.syntax_trees.specs.declared.program.Slot.{Slot}
-use Rattle.syntax_trees.specs.declared.program.Class.{Class}
-use Rattle.syntax_trees.specs.declared.program.Program.{Program}
+use Rattle.syntax_trees.specs.{declared.program.Parameter.{Parameter}, declared.program.Property.{Property}, declared.program.Signal.{Signal}, declared.program.Slot.{Slot}, declared.program.Class.{Class}, declared.program.Program.{Program}}
 use Rattle.texts.specs.declared.symbol.Symbol.TheVariants as s
-use Rattle.texts.specs.declared.token.Token.{Token}
 use Rattle.texts.specs.declared.token.Token.TheVariants as token
-use Rattle.texts.proofs.Fronts.{named}
-use Rattle.class_lang.specs.Declarations.{ClassReading, class, spell_class, spell_ending, tree_of_class, DeclarationReading, a_class, a_wire, an_owns, a_site, spell_declaration, tree_of_declaration, classes_in}
-use Rattle.class_lang.specs.Limits.{ClassHasFewParameters, SlotHasFewParameters}
-use Rattle.class_lang.specs.Members.{MemberReading, a_property, a_signal, a_slot, a_native, property, signal, slot, spell_member, tree_of_member, properties_in, signals_in, slots_in}
-use Rattle.class_lang.specs.Natives.{native}
-use Rattle.class_lang.specs.Parameters.{SignalParameter, signal_parameter, spell_signal_parameter, tree_of_signal_parameter, SlotParameter, slot_parameter, spell_slot_parameter, tree_of_slot_parameter}
+use Rattle.class_lang.specs.{Declarations.{ClassReading, class, spell_class, spell_ending, tree_of_class, DeclarationReading, a_class, a_wire, an_owns, a_site, spell_declaration, tree_of_declaration, classes_in}, Limits.{ClassHasFewParameters, SlotHasFewParameters}, Members.{MemberReading, a_property, a_signal, a_slot, a_native, property, signal, slot, spell_member, tree_of_member, properties_in, signals_in, slots_in}, Natives.{native}, Parameters.{SignalParameter, signal_parameter, spell_signal_parameter, tree_of_signal_parameter, SlotParameter, slot_parameter, spell_slot_parameter, tree_of_slot_parameter}}
 use Rattle.meta_model.specs.QObject.{sig_of}
 use Rattle.class_outlines.specs.Outlines.{kinds_of}
 use Rattle.program_commands.specs.Names.{IsNamedClass, ReadProgramsAreNamed}

@@ -1,28 +1,12 @@
 -- What is valid for a program can be written.
-use Rattle.std.proofs.Common.{ℕ, List, subst, arith}
-use Rattle.std.specs.List.{Contains}
-use Rattle.basic_types.specs.Signatures.{IsFreeName}
-use Rattle.meta_model.specs.declared.object.MetaMethod.{MetaMethod}
-use Rattle.meta_model.specs.declared.object.MetaProperty.{MetaProperty}
-use Rattle.basic_types.specs.Laws.{IsNormalSig}
-use Rattle.meta_model.specs.Loaded.{Loaded}
-use Rattle.meta_model.specs.Members.{IsClassNamed}
+use Rattle.std.{proofs.Common.{ℕ, List, subst, arith}, specs.List.{Contains}}
+use Rattle.basic_types.specs.{Signatures.{IsFreeName}, Laws.{IsNormalSig}}
+use Rattle.meta_model.specs.{declared.object.MetaMethod.{MetaMethod}, declared.object.MetaProperty.{MetaProperty}, Loaded.{Loaded}, Members.{IsClassNamed}}
 use Rattle.effect_scan.specs.declared.node.Member.{Member}
-use Rattle.certificate_lang.specs.declared.certificate.MemberName.{MemberName}
+use Rattle.certificate_lang.{specs.declared.certificate.MemberName.{MemberName}, specs.declared.certificate.SetItem.{SetItem}, specs.declared.certificate.SetItem.TheVariants.{Class, Closure}, specs.declared.certificate.Line.{Line}, specs.declared.certificate.Certificate.{Certificate}, specs.Written.{IsWritableMember, IsWritableItem, IsWritableLine, IsWritable}, proofs.Lines.{text_is_read}}
 use Rattle.certificate_lang.specs.declared.certificate.MemberName.TheVariants as member
-use Rattle.certificate_lang.specs.declared.certificate.SetItem.{SetItem}
-use Rattle.certificate_lang.specs.declared.certificate.SetItem.TheVariants.{Class, Closure}
-use Rattle.certificate_lang.specs.declared.certificate.Line.{Line}
-use Rattle.certificate_lang.specs.declared.certificate.Certificate.{Certificate}
-use Rattle.certificate_lang.specs.Written.{IsWritableMember, IsWritableItem, IsWritableLine, IsWritable}
-use Rattle.certificate_lang.proofs.Lines.{text_is_read}
-use Rattle.program_commands.specs.Names.{IsNamedObject, IsNamedLoaded}
-use Rattle.program_commands.proofs.NamesLoading.{all_at, at_all, loaded_is_named}
-use Rattle.program_commands.proofs.Reading.{read_is_named}
-use Rattle.rank_check.specs.Names.{IsMemberNamed}
-use Rattle.rank_check.specs.Valid.{StandsFor, IsValid}
-use Rattle.rank_check.proofs.Elements.{element_at}
-use Rattle.program_commands.specs.Laws.{ValidIsWritable, MadeIsRead}
+use Rattle.program_commands.{specs.Names.{IsNamedObject, IsNamedLoaded}, proofs.NamesLoading.{all_at, at_all, loaded_is_named}, proofs.Reading.{read_is_named}, specs.Laws.{ValidIsWritable, MadeIsRead}}
+use Rattle.rank_check.{specs.Names.{IsMemberNamed}, specs.Valid.{StandsFor, IsValid}, proofs.Elements.{element_at}}
 
 module _ (p : Loaded) (named : IsNamedLoaded p) where
   class_free : (name : List ℕ) (c : ℕ) → IsClassNamed p name c → IsFreeName name

@@ -1,28 +1,13 @@
 -- Whether an expression has a value, and of what sort, is a matter of the sorts of what it reads.
-use Rattle.std.proofs.Common.{◌≡◌, ◌≢◌, ℕ, ℤ, Bool, false, zero, suc, List, [], ◌∷◌, Option, None, Some, refl, ap, sym, ◌∙◌, subst}
-use Rattle.std.specs.Prelude.{slice_get, pos}
-use Rattle.std.specs.Option.{option_map, option_and_then}
-use Rattle.std.proofs.lemmas.Option.{same_Some}
-use Rattle.basic_types.specs.declared.value.Value.{Value}
+use Rattle.std.{proofs.Common.{◌≡◌, ◌≢◌, ℕ, ℤ, Bool, false, zero, suc, List, [], ◌∷◌, Option, None, Some, refl, ap, sym, ◌∙◌, subst}, specs.Prelude.{slice_get, pos}, specs.Option.{option_map, option_and_then}, proofs.lemmas.Option.{same_Some}}
+use Rattle.basic_types.specs.{declared.value.Value.{Value}, Values.{number_has, truth_has, text_has, null_has, object_has}}
 use Rattle.basic_types.specs.declared.value.Value.TheVariants as value
-use Rattle.syntax_trees.specs.declared.syntax.Unary.{Unary}
-use Rattle.syntax_trees.specs.declared.syntax.Unary.TheVariants.{Not, Minus}
-use Rattle.syntax_trees.specs.declared.syntax.Binary.{Binary}
-use Rattle.syntax_trees.specs.declared.syntax.Binary.TheVariants.{Add, Subtract, Multiply, Less, AtMost, Greater, AtLeast, Equal, Different, And, Or}
-use Rattle.syntax_trees.specs.declared.syntax.Expr.{Expr}
+use Rattle.syntax_trees.specs.{declared.syntax.Unary.{Unary}, declared.syntax.Unary.TheVariants.{Not, Minus}, declared.syntax.Binary.{Binary}, declared.syntax.Binary.TheVariants.{Add, Subtract, Multiply, Less, AtMost, Greater, AtLeast, Equal, Different, And, Or}, declared.syntax.Expr.{Expr}, declared.syntax.Expr.TheViews.{roll-Expr}, declared.syntax.Expr.TheFolds.{fold-roll-Expr, ind-Expr, map-Expr}}
 use Rattle.syntax_trees.specs.declared.syntax.Expr.TheOpen as layer
-use Rattle.syntax_trees.specs.declared.syntax.Expr.TheViews.{roll-Expr}
-use Rattle.syntax_trees.specs.declared.syntax.Expr.TheFolds.{fold-roll-Expr, ind-Expr, map-Expr}
-use Rattle.expressions.specs.Operators.{unary, binary, plus, on_numbers, on_truths, equal}
-use Rattle.expressions.specs.Evaluation.{value as value_in, value_step}
-use Rattle.meta_model.specs.declared.object.ValueType.{ValueType}
+use Rattle.expressions.specs.{Operators.{unary, binary, plus, on_numbers, on_truths, equal}, Evaluation.{value as value_in, value_step}}
+use Rattle.meta_model.specs.{declared.object.ValueType.{ValueType}, Loaded.{Loaded}, Values.{Has}}
 use Rattle.meta_model.specs.declared.object.ValueType.TheVariants as type
-use Rattle.meta_model.specs.Loaded.{Loaded}
-use Rattle.meta_model.specs.Values.{Has}
-use Rattle.basic_types.specs.Values.{number_has, truth_has, text_has, null_has, object_has}
-use Rattle.object_tree.specs.declared.object.Object.{Object}
-use Rattle.object_tree.specs.Seen.{seen}
-use Rattle.object_tree.specs.Typed.{ReadsAs, ReadAs}
+use Rattle.object_tree.specs.{declared.object.Object.{Object}, Seen.{seen}, Typed.{ReadsAs, ReadAs}}
 
 -- one value for each sort: numbers, truth values, texts, and references
 abbrev pub sort_of : Value → Value

@@ -1,29 +1,11 @@
 -- Where nothing of objects differs but values, who lives lives on, and references read as they did.
-use Rattle.std.proofs.Common.{◌≡◌, ℕ, zero, suc, List, [], ◌∷◌, map, All, Option, None, Some, refl, ap, sym, ◌∙◌, subst}
-use Rattle.std.specs.Prelude.{slice_get}
-use Rattle.std.specs.Option.{option_map, option_and_then}
-use Rattle.std.proofs.lemmas.List.Elements.{All-weaker}
-use Rattle.std.proofs.lemmas.Option.{same_Some}
+use Rattle.std.{proofs.Common.{◌≡◌, ℕ, zero, suc, List, [], ◌∷◌, map, All, Option, None, Some, refl, ap, sym, ◌∙◌, subst}, specs.Prelude.{slice_get}, specs.Option.{option_map, option_and_then}, proofs.lemmas.List.Elements.{All-weaker}, proofs.lemmas.Option.{same_Some}}
 use Rattle.basic_types.specs.declared.value.Value.{Value}
 use Rattle.basic_types.specs.declared.value.Value.TheVariants as variant
-use Rattle.meta_model.specs.declared.object.MetaObject.{MetaObject}
-use Rattle.meta_model.specs.declared.object.MetaProperty.{MetaProperty}
-use Rattle.meta_model.specs.declared.object.ValueType.{ValueType}
-use Rattle.meta_model.specs.Loaded.{Loaded}
-use Rattle.meta_model.specs.Members.{IsProperty}
-use Rattle.object_tree.specs.declared.life.Life.{Life}
-use Rattle.object_tree.specs.declared.object.Object.{Object}
-use Rattle.object_tree.specs.Objects.{Lives, life_of}
-use Rattle.object_tree.specs.Seen.{seen, seen_object}
-use Rattle.object_tree.specs.Typed.{AreTyped, IsTyped, ReadAs}
-use Rattle.object_tree.proofs.Changing.{life-of-lives, lives-of-life}
-use Rattle.meta_model.specs.declared.site.SourceProperty.{SourceProperty}
-use Rattle.binding_graph.specs.declared.place.Place.{Place}
-use Rattle.binding_graph.specs.declared.binding.Binding.{Binding}
-use Rattle.prop_bindings.specs.Values.{values_in}
-use Rattle.binding_graph.specs.Bindings.{source_place, value_of}
-use Rattle.prop_bindings.specs.Changes.{valueless, DifferInValues}
-use Rattle.prop_bindings.specs.Fits.{IsFit}
+use Rattle.meta_model.specs.{declared.object.MetaObject.{MetaObject}, declared.object.MetaProperty.{MetaProperty}, declared.object.ValueType.{ValueType}, Loaded.{Loaded}, Members.{IsProperty}, declared.site.SourceProperty.{SourceProperty}}
+use Rattle.object_tree.{specs.declared.life.Life.{Life}, specs.declared.object.Object.{Object}, specs.Objects.{Lives, life_of}, specs.Seen.{seen, seen_object}, specs.Typed.{AreTyped, IsTyped, ReadAs}, proofs.Changing.{life-of-lives, lives-of-life}}
+use Rattle.binding_graph.specs.{declared.place.Place.{Place}, declared.binding.Binding.{Binding}, Bindings.{source_place, value_of}}
+use Rattle.prop_bindings.specs.{Values.{values_in}, Changes.{valueless, DifferInValues}, Fits.{IsFit}}
 
 abbrev pub emptied : Life → Life
 emptied l = record l { values = [] }

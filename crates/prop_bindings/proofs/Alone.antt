@@ -1,30 +1,10 @@
 -- A write of a property on which nothing depends.
-use Rattle.std.proofs.Common.{◌≡◌, ℕ, Bool, List, [], ◌∷◌, cond, inl, inr, Option, Some, refl, ap, sym, ◌∙◌, subst}
-use Rattle.std.specs.Option.{option_map}
+use Rattle.std.{proofs.Common.{◌≡◌, ℕ, Bool, List, [], ◌∷◌, cond, inl, inr, Option, Some, refl, ap, sym, ◌∙◌, subst}, specs.Option.{option_map}}
 use Rattle.basic_types.specs.declared.value.Value.{Value}
 use Rattle.meta_model.specs.Loaded.{Loaded}
-use Rattle.object_tree.specs.declared.object.Object.{Object}
-use Rattle.object_tree.specs.Objects.{change_life, written}
-use Rattle.object_tree.specs.Seen.{seen}
-use Rattle.binding_graph.specs.declared.place.Place.{Place}
-use Rattle.binding_graph.specs.declared.binding.Binding.{Binding}
-use Rattle.binding_graph.specs.Bindings.{Reads, binding_at, without, without_all}
-use Rattle.binding_graph.specs.code.Graph.{Unread}
-use Rattle.binding_graph.specs.code.Orders.{IsAffected}
-use Rattle.binding_graph.proofs.Places.{same_place-refl}
-use Rattle.binding_graph.proofs.Replaced.{without-fewer}
-use Rattle.prop_bindings.specs.Values.{values_in}
-use Rattle.prop_bindings.specs.Changes.{AreChanged, DifferInValues, IsWritten, none_changed, one, one_changed, one_stayed}
-use Rattle.prop_bindings.specs.Counts.{CountsWritten}
-use Rattle.prop_bindings.specs.Fits.{Agree, FitsAt}
-use Rattle.prop_bindings.specs.code.Parts.{LeadTo}
-use Rattle.prop_bindings.proofs.Calling.{lead-to}
-use Rattle.prop_bindings.proofs.Changed.{changed-once}
-use Rattle.prop_bindings.proofs.Evaluating.{given-sound, rest-alike}
-use Rattle.prop_bindings.proofs.InOrder.{lifted-changes}
-use Rattle.prop_bindings.proofs.Staying.{alike-by, alike-from}
-use Rattle.prop_bindings.proofs.Values.{value-changed, written-differs}
-use Rattle.prop_bindings.proofs.Wrote.{wrote-other}
+use Rattle.object_tree.specs.{declared.object.Object.{Object}, Objects.{change_life, written}, Seen.{seen}}
+use Rattle.binding_graph.{specs.declared.place.Place.{Place}, specs.declared.binding.Binding.{Binding}, specs.Bindings.{Reads, binding_at, without, without_all}, specs.code.Graph.{Unread}, specs.code.Orders.{IsAffected}, proofs.Places.{same_place-refl}, proofs.Replaced.{without-fewer}}
+use Rattle.prop_bindings.{specs.Values.{values_in}, specs.Changes.{AreChanged, DifferInValues, IsWritten, none_changed, one, one_changed, one_stayed}, specs.Counts.{CountsWritten}, specs.Fits.{Agree, FitsAt}, specs.code.Parts.{LeadTo}, proofs.Calling.{lead-to}, proofs.Changed.{changed-once}, proofs.Evaluating.{given-sound, rest-alike}, proofs.InOrder.{lifted-changes}, proofs.Staying.{alike-by, alike-from}, proofs.Values.{value-changed, written-differs}, proofs.Wrote.{wrote-other}}
 
 module _ (objects : List Object) (at : Place) (v : Value) where
   abbrev new : List Object

@@ -1,34 +1,10 @@
 -- What the calls answer, from what was found to follow and what was settled after it.
-use Rattle.std.proofs.Common.{◌≡◌, ◌-◌, ℕ, true, false, All, List, [], ◌∷◌, ◌++◌, map, length, take, drop, Option, Some, refl, ap, sym, ◌∙◌, subst}
-use Rattle.std.proofs.lemmas.List.{take_rest}
-use Rattle.std.proofs.lemmas.List.Elements.{All-filter, All-push}
-use Rattle.std.proofs.lemmas.Option.{same_Some}
+use Rattle.std.proofs.{Common.{◌≡◌, ◌-◌, ℕ, true, false, All, List, [], ◌∷◌, ◌++◌, map, length, take, drop, Option, Some, refl, ap, sym, ◌∙◌, subst}, lemmas.List.{take_rest}, lemmas.List.Elements.{All-filter, All-push}, lemmas.Option.{same_Some}}
 use Rattle.basic_types.specs.declared.value.Value.{Value}
 use Rattle.meta_model.specs.Loaded.{Loaded}
 use Rattle.object_tree.specs.declared.object.Object.{Object}
-use Rattle.binding_graph.specs.declared.place.Place.{Place}
-use Rattle.prop_bindings.specs.declared.plans.assignment.Assignment.{Assignment}
-use Rattle.binding_graph.specs.declared.binding.Binding.{Binding}
-use Rattle.prop_bindings.specs.declared.plans.planned.Planned.{Planned}
-use Rattle.binding_graph.specs.Places.{In}
-use Rattle.prop_bindings.specs.Values.{values_in}
-use Rattle.binding_graph.specs.Bindings.{binding_at, without, without_all, replaced, reads_any, value_of, Settled, Loop}
-use Rattle.prop_bindings.specs.Calls.{AllFit}
-use Rattle.prop_bindings.specs.Changes.{in_order, once, places_in, DifferInValues, AreChanged, HaveLasting, none_changed, one_stayed, IsWritten, IsInstalled}
-use Rattle.prop_bindings.specs.Counts.{CountsGroup, CountsReached}
-use Rattle.prop_bindings.specs.Fits.{FitsAt, IsFit, IsInOneLoop, Agree}
-use Rattle.prop_bindings.specs.Plans.{after, assigned}
-use Rattle.prop_bindings.specs.code.Parts.{AreSound, LeadTo, wrote}
-use Rattle.binding_graph.specs.code.Orders.{update, pass, bound, IsAffected, IsLater}
-use Rattle.binding_graph.proofs.Apart.{apart-all, apart-replaced, acyclic-all}
-use Rattle.prop_bindings.proofs.Counting.{changed-among, counts-affected, counts-same}
-use Rattle.prop_bindings.proofs.Evaluating.{rest-alike}
-use Rattle.prop_bindings.proofs.Fitting.{fit-stays}
-use Rattle.prop_bindings.proofs.Homes.{joined-stays, all-joined}
-use Rattle.prop_bindings.proofs.EachOnce.{distinct-once, in-once, once-distinct, once-in, without_all-once}
-use Rattle.binding_graph.proofs.Several.{without_all-fewer}
-use Rattle.prop_bindings.proofs.Wrote.{lasting-same, wrote-lasting, wrote-other}
-use Rattle.prop_bindings.proofs.Settling.{written-value, written-settled, written-kept, closes-loop, installed-later, installed-acyclic, installed-settled, installed-kept, later-is}
+use Rattle.binding_graph.{specs.declared.place.Place.{Place}, specs.declared.binding.Binding.{Binding}, specs.Places.{In}, specs.Bindings.{binding_at, without, without_all, replaced, reads_any, value_of, Settled, Loop}, specs.code.Orders.{update, pass, bound, IsAffected, IsLater}, proofs.Apart.{apart-all, apart-replaced, acyclic-all}, proofs.Several.{without_all-fewer}}
+use Rattle.prop_bindings.{specs.declared.plans.assignment.Assignment.{Assignment}, specs.declared.plans.planned.Planned.{Planned}, specs.Values.{values_in}, specs.Calls.{AllFit}, specs.Changes.{in_order, once, places_in, DifferInValues, AreChanged, HaveLasting, none_changed, one_stayed, IsWritten, IsInstalled}, specs.Counts.{CountsGroup, CountsReached}, specs.Fits.{FitsAt, IsFit, IsInOneLoop, Agree}, specs.Plans.{after, assigned}, specs.code.Parts.{AreSound, LeadTo, wrote}, proofs.Counting.{changed-among, counts-affected, counts-same}, proofs.Evaluating.{rest-alike}, proofs.Fitting.{fit-stays}, proofs.Homes.{joined-stays, all-joined}, proofs.EachOnce.{distinct-once, in-once, once-distinct, once-in, without_all-once}, proofs.Wrote.{lasting-same, wrote-lasting, wrote-other}, proofs.Settling.{written-value, written-settled, written-kept, closes-loop, installed-later, installed-acyclic, installed-settled, installed-kept, later-is}}
 
 -- all but the first
 pub tail-is : (lent later reached : List Place) (at : Place) → lent ≡ later → later ≡ at ∷ reached → take (length lent - 1) (drop 1 lent) ≡ reached

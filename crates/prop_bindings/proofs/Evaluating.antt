@@ -1,28 +1,10 @@
 -- What an evaluation, and a write with those of its followers, make of objects and sound bindings.
-use Rattle.std.proofs.Common.{◌≡◌, List, Option, None, Some, ap, sym, ◌∙◌, subst, refl}
-use Rattle.std.specs.Option.{option_map}
-use Rattle.object_tree.specs.Seen.{seen}
-use Rattle.std.proofs.lemmas.Option.{same_Some}
+use Rattle.std.{proofs.Common.{◌≡◌, List, Option, None, Some, ap, sym, ◌∙◌, subst, refl}, specs.Option.{option_map}, proofs.lemmas.Option.{same_Some}}
+use Rattle.object_tree.{specs.Seen.{seen}, specs.declared.object.Object.{Object}, specs.Objects.{change_life, written}, specs.Typed.{AreTyped}, proofs.TypedObjects.{typed-written}}
 use Rattle.basic_types.specs.declared.value.Value.{Value}
 use Rattle.meta_model.specs.Loaded.{Loaded}
-use Rattle.object_tree.specs.declared.object.Object.{Object}
-use Rattle.object_tree.specs.Objects.{change_life, written}
-use Rattle.object_tree.specs.Typed.{AreTyped}
-use Rattle.object_tree.proofs.TypedObjects.{typed-written}
-use Rattle.binding_graph.specs.declared.place.Place.{Place}
-use Rattle.binding_graph.specs.declared.binding.Binding.{Binding}
-use Rattle.prop_bindings.specs.Values.{values_in}
-use Rattle.binding_graph.specs.Places.{In}
-use Rattle.binding_graph.specs.Bindings.{binding_at, value_of}
-use Rattle.prop_bindings.specs.Changes.{DifferInValues, ReadsAlike}
-use Rattle.prop_bindings.specs.Fits.{FitsAt, IsFit}
-use Rattle.binding_graph.specs.code.Orders.{given, evaluated, pass, update}
-use Rattle.prop_bindings.specs.code.Parts.{AreSound, IsSoundBySome, StaySound}
-use Rattle.prop_bindings.proofs.Staying.{reads-alike}
-use Rattle.binding_graph.proofs.Passes.{pass-other}
-use Rattle.prop_bindings.proofs.Values.{written-differs, values-updated}
-use Rattle.prop_bindings.proofs.Fitting.{all-stay}
-use Rattle.prop_bindings.proofs.There.{bound-has, has-value}
+use Rattle.binding_graph.{specs.declared.place.Place.{Place}, specs.declared.binding.Binding.{Binding}, specs.Places.{In}, specs.Bindings.{binding_at, value_of}, specs.code.Orders.{given, evaluated, pass, update}, proofs.Passes.{pass-other}}
+use Rattle.prop_bindings.{specs.Values.{values_in}, specs.Changes.{DifferInValues, ReadsAlike}, specs.Fits.{FitsAt, IsFit}, specs.code.Parts.{AreSound, IsSoundBySome, StaySound}, proofs.Staying.{reads-alike}, proofs.Values.{written-differs, values-updated}, proofs.Fitting.{all-stay}, proofs.There.{bound-has, has-value}}
 
 -- ---- a value of its type is written
 pub given-sound : (p : Loaded) (objects : List Object) (bs : List Binding) (at : Place) (v : Value) → AreSound p objects bs → FitsAt p objects at v → AreSound p (change_life at.object (written at.property v) objects) bs

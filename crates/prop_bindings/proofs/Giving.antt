@@ -1,33 +1,11 @@
 -- What writes give: their properties, each once, with the values that are written last.
-use Rattle.std.proofs.Common.{◌≡◌, ◌||◌, ℕ, Bool, true, false, cond, List, [], ◌∷◌, ◌++◌, inl, inr, Some, refl, ap, sym, ◌∙◌, subst}
-use Rattle.std.specs.Option.{is_some}
-use Rattle.std.specs.Map.{lookup}
-use Rattle.std.proofs.Math.Path.{fun_ext}
-use Rattle.std.proofs.lemmas.Bool.{cases_Bool}
+use Rattle.std.{proofs.Common.{◌≡◌, ◌||◌, ℕ, Bool, true, false, cond, List, [], ◌∷◌, ◌++◌, inl, inr, Some, refl, ap, sym, ◌∙◌, subst}, specs.Option.{is_some}, specs.Map.{lookup}, proofs.Math.Path.{fun_ext}, proofs.lemmas.Bool.{cases_Bool}}
 use Rattle.indexmap.specs.IndexMap.{IndexMap, get}
 use Rattle.basic_types.specs.declared.value.Value.{Value}
 use Rattle.meta_model.specs.Loaded.{Loaded}
-use Rattle.object_tree.specs.declared.object.Object.{Object}
-use Rattle.object_tree.specs.Objects.{change_life, written}
-use Rattle.object_tree.specs.Typed.{AreTyped}
-use Rattle.binding_graph.specs.declared.place.Place.{Place}
-use Rattle.prop_bindings.specs.declared.plans.assignment.Assignment.{Assignment}
-use Rattle.binding_graph.specs.declared.binding.Binding.{Binding}
-use Rattle.binding_graph.specs.Places.{In, is_in, same_place}
-use Rattle.prop_bindings.specs.Values.{values_in}
-use Rattle.prop_bindings.specs.Calls.{AllFit}
-use Rattle.prop_bindings.specs.Changes.{HaveLasting, once, one, places_in}
-use Rattle.prop_bindings.specs.Fits.{FitsAt}
-use Rattle.binding_graph.specs.code.Keys.{key_of, same_key}
-use Rattle.binding_graph.specs.code.Orders.{update}
-use Rattle.prop_bindings.specs.code.Parts.{AreGiven, GivesOnly, HaveAhead, IsSoundBySome, MayGiveSome, AreSound, ahead, wrote}
-use Rattle.prop_bindings.proofs.Assigned.{ahead-more, ahead-none}
-use Rattle.prop_bindings.proofs.Evaluating.{given-values}
-use Rattle.prop_bindings.proofs.Once.{given-once}
-use Rattle.binding_graph.proofs.Places.{In-right, is_in-false, is_in-true, same_place-true}
-use Rattle.prop_bindings.proofs.EachOnce.{in-once, once-again, once-in, once-new}
-use Rattle.binding_graph.proofs.Several.{is_in-of}
-use Rattle.prop_bindings.proofs.Wrote.{lasting-same, wrote-lasting, wrote-other, wrote-push, wrote-sound}
+use Rattle.object_tree.specs.{declared.object.Object.{Object}, Objects.{change_life, written}, Typed.{AreTyped}}
+use Rattle.binding_graph.{specs.declared.place.Place.{Place}, specs.declared.binding.Binding.{Binding}, specs.Places.{In, is_in, same_place}, specs.code.Keys.{key_of, same_key}, specs.code.Orders.{update}, proofs.Places.{In-right, is_in-false, is_in-true, same_place-true}, proofs.Several.{is_in-of}}
+use Rattle.prop_bindings.{specs.declared.plans.assignment.Assignment.{Assignment}, specs.Values.{values_in}, specs.Calls.{AllFit}, specs.Changes.{HaveLasting, once, one, places_in}, specs.Fits.{FitsAt}, specs.code.Parts.{AreGiven, GivesOnly, HaveAhead, IsSoundBySome, MayGiveSome, AreSound, ahead, wrote}, proofs.Assigned.{ahead-more, ahead-none}, proofs.Evaluating.{given-values}, proofs.Once.{given-once}, proofs.EachOnce.{in-once, once-again, once-in, once-new}, proofs.Wrote.{lasting-same, wrote-lasting, wrote-other, wrote-push, wrote-sound}}
 
 module _ {S : Type 0} (values : IndexMap (ℕ × ℕ) Value S) where
   pub given-none : values.entries ≡ [] → AreGiven [] [] values

@@ -1,36 +1,11 @@
 -- Objects and bindings that agree do so after a change that leaves what the bindings touch as it was, and once one of the
 -- objects is dead, without what touches it.
-use Rattle.std.proofs.Common.{◌≡◌, ◌≢◌, ℕ, zero, suc, eqb, Bool, true, not, ◌||◌, ◌<◌, arith, List, [], ◌∷◌, filter, All, length, get_or, inl, inr, Option, None, Some, refl, ap, sym, ◌∙◌, subst}
-use Rattle.std.specs.Prelude.{slice_get}
-use Rattle.std.specs.Option.{option_map, option_and_then}
-use Rattle.std.proofs.lemmas.Bool.{false≢true, cases_Bool, eq-eqb}
-use Rattle.std.proofs.lemmas.List.Elements.{All-nil, All-filter, All-weaker, filter_passes}
-use Rattle.std.proofs.lemmas.Option.{same_Some, none-some}
+use Rattle.std.{proofs.Common.{◌≡◌, ◌≢◌, ℕ, zero, suc, eqb, Bool, true, not, ◌||◌, ◌<◌, arith, List, [], ◌∷◌, filter, All, length, get_or, inl, inr, Option, None, Some, refl, ap, sym, ◌∙◌, subst}, specs.Prelude.{slice_get}, specs.Option.{option_map, option_and_then}, proofs.lemmas.Bool.{false≢true, cases_Bool, eq-eqb}, proofs.lemmas.List.Elements.{All-nil, All-filter, All-weaker, filter_passes}, proofs.lemmas.Option.{same_Some, none-some}}
 use Rattle.basic_types.specs.declared.value.Value.{Value}
-use Rattle.meta_model.specs.Loaded.{Loaded}
-use Rattle.meta_model.specs.Members.{IsProperty}
-use Rattle.object_tree.specs.declared.life.Life.{Life}
-use Rattle.object_tree.specs.declared.object.Object.{Object}
-use Rattle.meta_model.specs.Among.{is_among}
-use Rattle.object_tree.specs.Family.{dead, leaves, parent_of, without_life}
-use Rattle.object_tree.specs.Objects.{life_of, home_of}
-use Rattle.object_tree.specs.Typed.{AreTyped}
-use Rattle.object_tree.proofs.Changing.{get-change_other, life-of-lives, lives-of-life}
-use Rattle.object_tree.proofs.Families.{leaves-part}
-use Rattle.object_tree.proofs.TypedObjects.{typed-died}
-use Rattle.meta_model.specs.declared.site.SourceProperty.{SourceProperty}
-use Rattle.binding_graph.specs.declared.place.Place.{Place}
-use Rattle.binding_graph.specs.declared.binding.Binding.{Binding}
-use Rattle.binding_graph.specs.Places.{property_of}
-use Rattle.prop_bindings.specs.Values.{values_in}
-use Rattle.binding_graph.specs.Bindings.{binding_at, source_place, touches, dropped, value_of}
-use Rattle.prop_bindings.specs.Fits.{IsFit, IsInOneLoop, Agree}
-use Rattle.prop_bindings.specs.Laws.{LeftAgree}
-use Rattle.binding_graph.proofs.Apart.{some-fewer, apart-fewer, acyclic-fewer}
-use Rattle.prop_bindings.proofs.Alike.{reads-sort, plain-has}
-use Rattle.binding_graph.proofs.Loops.{chain-ends}
-use Rattle.prop_bindings.proofs.More.{values-more}
-use Rattle.prop_bindings.proofs.There.{bound-has}
+use Rattle.meta_model.specs.{Loaded.{Loaded}, Members.{IsProperty}, Among.{is_among}, declared.site.SourceProperty.{SourceProperty}}
+use Rattle.object_tree.{specs.declared.life.Life.{Life}, specs.declared.object.Object.{Object}, specs.Family.{dead, leaves, parent_of, without_life}, specs.Objects.{life_of, home_of}, specs.Typed.{AreTyped}, proofs.Changing.{get-change_other, life-of-lives, lives-of-life}, proofs.Families.{leaves-part}, proofs.TypedObjects.{typed-died}}
+use Rattle.binding_graph.{specs.declared.place.Place.{Place}, specs.declared.binding.Binding.{Binding}, specs.Places.{property_of}, specs.Bindings.{binding_at, source_place, touches, dropped, value_of}, proofs.Apart.{some-fewer, apart-fewer, acyclic-fewer}, proofs.Loops.{chain-ends}}
+use Rattle.prop_bindings.{specs.Values.{values_in}, specs.Fits.{IsFit, IsInOneLoop, Agree}, specs.Laws.{LeftAgree}, proofs.Alike.{reads-sort, plain-has}, proofs.More.{values-more}, proofs.There.{bound-has}}
 
 -- ---- no bindings
 pub agree-none : (p : Loaded) (objects : List Object) → AreTyped p objects → Agree p objects []

@@ -1,39 +1,14 @@
 -- Bindings of sites: whether one may be installed, and what a bind answers.
-use Rattle.std.proofs.Common.{◌≡◌, ◌<◌, ◌≤◌, inl, inr, length, arith, ℕ, List, [], ◌∷◌, ◌++◌, zero, suc, Option, None, Some, Result, Ok, Err, refl, ap, sym, ◌∙◌, subst}
-use Rattle.std.specs.Prelude.{slice_get}
-use Rattle.std.specs.Option.{option_map, option_and_then}
-use Rattle.std.specs.Result.{IsErrAnd}
-use Rattle.std.proofs.lemmas.Option.{same_Some, slice_get_cases}
+use Rattle.std.{proofs.Common.{◌≡◌, ◌<◌, ◌≤◌, inl, inr, length, arith, ℕ, List, [], ◌∷◌, ◌++◌, zero, suc, Option, None, Some, Result, Ok, Err, refl, ap, sym, ◌∙◌, subst}, specs.Prelude.{slice_get}, specs.Option.{option_map, option_and_then}, specs.Result.{IsErrAnd}, proofs.lemmas.Option.{same_Some, slice_get_cases}}
 use Rattle.basic_types.specs.declared.value.Value.{Value}
 use Rattle.syntax_trees.specs.declared.syntax.Expr.{Expr}
-use Rattle.expressions.specs.declared.evaluation.EvalFault.{EvalFault}
+use Rattle.expressions.specs.{declared.evaluation.EvalFault.{EvalFault}, Evaluation.{Evaluates}}
 use Rattle.expressions.specs.declared.evaluation.EvalFault.TheVariants as eval
-use Rattle.expressions.specs.Evaluation.{Evaluates}
-use Rattle.meta_model.specs.declared.object.MetaObject.{MetaObject}
-use Rattle.meta_model.specs.declared.object.MetaProperty.{MetaProperty}
-use Rattle.meta_model.specs.declared.site.MetaSite.{MetaSite}
-use Rattle.meta_model.specs.declared.site.SourceProperty.{SourceProperty}
-use Rattle.meta_model.specs.Loaded.{Loaded}
-use Rattle.meta_model.specs.Members.{IsClass, IsProperty, base_of, Below, same, under}
-use Rattle.meta_model.specs.Sound.{IsSound, IsSoundSite, IsPlain}
-use Rattle.object_tree.specs.declared.life.Life.{Life}
-use Rattle.object_tree.specs.declared.object.Object.{Object}
-use Rattle.object_tree.proofs.Changing.{life-of-lives}
-use Rattle.binding_graph.specs.declared.binding.Binding.{Binding}
-use Rattle.prop_bindings.specs.declared.plans.fault.BindFault.{BindFault}
+use Rattle.meta_model.specs.{declared.object.MetaObject.{MetaObject}, declared.object.MetaProperty.{MetaProperty}, declared.site.MetaSite.{MetaSite}, declared.site.SourceProperty.{SourceProperty}, Loaded.{Loaded}, Members.{IsClass, IsProperty, base_of, Below, same, under}, Sound.{IsSound, IsSoundSite, IsPlain}}
+use Rattle.object_tree.{specs.declared.life.Life.{Life}, specs.declared.object.Object.{Object}, proofs.Changing.{life-of-lives}}
+use Rattle.binding_graph.specs.{declared.binding.Binding.{Binding}, Places.{property_of}, Bindings.{binding_at, replaced, value_of, Loop}}
+use Rattle.prop_bindings.{specs.declared.plans.fault.BindFault.{BindFault}, specs.declared.plans.planned.PlannedBind.{PlannedBind}, specs.declared.preparing.Prepared.{Prepared}, specs.FaultNumbers.{fault_of}, specs.Values.{values_in}, specs.Calls.{IsOf, MayBind, CoversBinding, binding_of, new_binding, IsNotBound, bad_source, bad_type, closes, no_memory}, specs.Plans.{PlansBind, after}, specs.code.Parts.{IsPrepared, Prepares, IsNotInstalled, loops, short, Installs}, specs.Changes.{IsInstalled}, specs.Fits.{FitsAt, IsFit}, proofs.Calling.{fits-of}}
 use Rattle.prop_bindings.specs.declared.plans.fault.BindFault.TheVariants as bind
-use Rattle.prop_bindings.specs.declared.plans.planned.PlannedBind.{PlannedBind}
-use Rattle.prop_bindings.specs.declared.preparing.Prepared.{Prepared}
-use Rattle.prop_bindings.specs.FaultNumbers.{fault_of}
-use Rattle.binding_graph.specs.Places.{property_of}
-use Rattle.prop_bindings.specs.Values.{values_in}
-use Rattle.binding_graph.specs.Bindings.{binding_at, replaced, value_of, Loop}
-use Rattle.prop_bindings.specs.Calls.{IsOf, MayBind, CoversBinding, binding_of, new_binding, IsNotBound, bad_source, bad_type, closes, no_memory}
-use Rattle.prop_bindings.specs.Plans.{PlansBind, after}
-use Rattle.prop_bindings.specs.code.Parts.{IsPrepared, Prepares, IsNotInstalled, loops, short, Installs}
-use Rattle.prop_bindings.specs.Changes.{IsInstalled}
-use Rattle.prop_bindings.specs.Fits.{FitsAt, IsFit}
-use Rattle.prop_bindings.proofs.Calling.{fits-of}
 
 -- ---- a property's number is the same in each class below
 get-front : {X : Type 0} (xs ys : List X) (k : ℕ) (x : X) → slice_get xs k ≡ Some x → slice_get (xs ++ ys) k ≡ Some x

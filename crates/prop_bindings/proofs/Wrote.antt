@@ -1,32 +1,10 @@
 -- Objects after writes in turn, from which nothing followed.
-use Rattle.std.proofs.Common.{◌≡◌, ℕ, Bool, cond, List, [], ◌∷◌, ◌++◌, inl, inr, Option, None, Some, refl, ap, sym, ◌∙◌, subst}
-use Rattle.std.specs.List.{AllByRecursion}
-use Rattle.std.specs.Option.{option_map}
-use Rattle.std.proofs.lemmas.Bool.{cases_Bool}
-use Rattle.std.proofs.lemmas.Option.{same_Some}
+use Rattle.std.{proofs.Common.{◌≡◌, ℕ, Bool, cond, List, [], ◌∷◌, ◌++◌, inl, inr, Option, None, Some, refl, ap, sym, ◌∙◌, subst}, specs.List.{AllByRecursion}, specs.Option.{option_map}, proofs.lemmas.Bool.{cases_Bool}, proofs.lemmas.Option.{same_Some}}
 use Rattle.basic_types.specs.declared.value.Value.{Value}
-use Rattle.meta_model.specs.Loaded.{Loaded}
-use Rattle.meta_model.specs.Members.{IsProperty}
-use Rattle.object_tree.specs.declared.life.Life.{Life}
-use Rattle.object_tree.specs.declared.object.Object.{Object}
-use Rattle.object_tree.specs.Objects.{change_life, class_of, life_of, written}
-use Rattle.object_tree.specs.Typed.{AreTyped}
-use Rattle.object_tree.proofs.Changing.{life-of-lives}
-use Rattle.object_tree.proofs.TypedObjects.{Follow, reads-still, typed-written}
-use Rattle.binding_graph.specs.declared.place.Place.{Place}
-use Rattle.prop_bindings.specs.declared.plans.assignment.Assignment.{Assignment}
-use Rattle.binding_graph.specs.declared.binding.Binding.{Binding}
-use Rattle.binding_graph.specs.Places.{In, is_in}
-use Rattle.prop_bindings.specs.Values.{values_in}
-use Rattle.prop_bindings.specs.Calls.{AllFit}
-use Rattle.prop_bindings.specs.Changes.{DifferInValues, HaveLasting, lasting, places_in}
-use Rattle.prop_bindings.specs.Fits.{FitsAt}
-use Rattle.prop_bindings.specs.code.Parts.{AreSound, wrote}
-use Rattle.prop_bindings.proofs.Evaluating.{given-sound}
-use Rattle.prop_bindings.proofs.Alive.{lives-alike, lives-on, seen-number}
-use Rattle.binding_graph.proofs.Places.{different, is_in-false}
-use Rattle.prop_bindings.proofs.There.{has-value}
-use Rattle.prop_bindings.proofs.Values.{value-kept, value-written, written-differs}
+use Rattle.meta_model.specs.{Loaded.{Loaded}, Members.{IsProperty}}
+use Rattle.object_tree.{specs.declared.life.Life.{Life}, specs.declared.object.Object.{Object}, specs.Objects.{change_life, class_of, life_of, written}, specs.Typed.{AreTyped}, proofs.Changing.{life-of-lives}, proofs.TypedObjects.{Follow, reads-still, typed-written}}
+use Rattle.binding_graph.{specs.declared.place.Place.{Place}, specs.declared.binding.Binding.{Binding}, specs.Places.{In, is_in}, proofs.Places.{different, is_in-false}}
+use Rattle.prop_bindings.{specs.declared.plans.assignment.Assignment.{Assignment}, specs.Values.{values_in}, specs.Calls.{AllFit}, specs.Changes.{DifferInValues, HaveLasting, lasting, places_in}, specs.Fits.{FitsAt}, specs.code.Parts.{AreSound, wrote}, proofs.Evaluating.{given-sound}, proofs.Alive.{lives-alike, lives-on, seen-number}, proofs.There.{has-value}, proofs.Values.{value-kept, value-written, written-differs}}
 
 -- ---- a value that fits does so where nothing but values differs
 abbrev emptied : Life → Life

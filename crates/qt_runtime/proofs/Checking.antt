@@ -1,29 +1,14 @@
 -- A machine of a checked program stays one, and stops for a limit alone.
-use Rattle.std.proofs.Common.{◌≡◌, ℕ, ◌≤◌, ◌⊎◌, inl, inr, Bool, true, List, [], ◌∷◌, ◌++◌, length, Result, Ok, Err, refl, sym, subst, append-nil}
-use Rattle.std.specs.Prelude.{IfOk, IfErr}
+use Rattle.std.{proofs.Common.{◌≡◌, ℕ, ◌≤◌, ◌⊎◌, inl, inr, Bool, true, List, [], ◌∷◌, ◌++◌, length, Result, Ok, Err, refl, sym, subst, append-nil}, specs.Prelude.{IfOk, IfErr}}
 use Rattle.certificate_lang.specs.declared.certificate.Certificate.{Certificate}
 use Rattle.rank_check.specs.Valid.{IsValid}
-use Rattle.meta_model.specs.Loaded.{Loaded}
-use Rattle.meta_model.specs.Sound.{IsSound}
+use Rattle.meta_model.specs.{Loaded.{Loaded}, Sound.{IsSound}}
 use Rattle.script_lang.specs.declared.event.Event.{Event}
 use Rattle.native_slots.specs.Promises.{Takes}
-use Rattle.trace_entries.specs.declared.fault.Answer.{Answer}
-use Rattle.trace_entries.specs.declared.fault.Fault.{Fault}
-use Rattle.machine_state.specs.declared.world.World.{World}
-use Rattle.machine_state.specs.Worlds.{at, untouched}
-use Rattle.trace_entries.specs.declared.entry.Entry.{Entry}
-use Rattle.machine_state.specs.State.{State}
-use Rattle.machine_rules.specs.Good.{HasArguments, Spares, IsAcyclic, AreSettled, IsTyped}
-use Rattle.machine_rules.specs.Natives.{NativeAnswers, KeepPromises}
-use Rattle.object_machine.specs.Causes.{StopsFor}
-use Rattle.object_machine.specs.Laws.{in_front}
-use Rattle.object_machine.specs.Runs.{Run, done}
-use Rattle.object_machine.proofs.Fronts.{run-front, each-behind, lacks-front, writes-ill-front, stops-front}
-use Rattle.object_machine.proofs.Running.{run-trans, each-weaker}
-use Rattle.object_machine.specs.CheckedLaws.{IsFaultless, IsReached}
-use Rattle.object_machine.proofs.CheckedRuns.Claims.{only_limits, each_run_is_faultless}
-use Rattle.object_machine.specs.Checked.{HasCome, IsChecked, Claims, IsLimit, StopsAtLimit}
-use Rattle.object_machine.specs.Seen.{Seen, AreKept, InEachRun, Completes, Halts, Stays, begun, cleared}
+use Rattle.trace_entries.specs.{declared.fault.Answer.{Answer}, declared.fault.Fault.{Fault}, declared.entry.Entry.{Entry}}
+use Rattle.machine_state.specs.{declared.world.World.{World}, Worlds.{at, untouched}, State.{State}}
+use Rattle.machine_rules.specs.{Good.{HasArguments, Spares, IsAcyclic, AreSettled, IsTyped}, Natives.{NativeAnswers, KeepPromises}}
+use Rattle.object_machine.{specs.Causes.{StopsFor}, specs.Laws.{in_front}, specs.Runs.{Run, done}, proofs.Fronts.{run-front, each-behind, lacks-front, writes-ill-front, stops-front}, proofs.Running.{run-trans, each-weaker}, specs.CheckedLaws.{IsFaultless, IsReached}, proofs.CheckedRuns.Claims.{only_limits, each_run_is_faultless}, specs.Checked.{HasCome, IsChecked, Claims, IsLimit, StopsAtLimit}, specs.Seen.{Seen, AreKept, InEachRun, Completes, Halts, Stays, begun, cleared}}
 use Rattle.qt_runtime.proofs.Halting.{seen}
 
 -- the program that is within is the one that is seen

@@ -1,45 +1,18 @@
 -- What an event pushes: a method that begins, or what follows a write.
-use Rattle.std.proofs.Common.{◌≡◌, ℕ, ◌-◌, ◌<◌, Result, Ok, MatchResult, inl, inr, subst, arith, List, [], ◌∷◌, ◌++◌, None, refl, sym, ap, ◌∙◌}
-use Rattle.std.specs.Result.{IsErrAnd}
+use Rattle.std.{proofs.Common.{◌≡◌, ℕ, ◌-◌, ◌<◌, Result, Ok, MatchResult, inl, inr, subst, arith, List, [], ◌∷◌, ◌++◌, None, refl, sym, ap, ◌∙◌}, specs.Result.{IsErrAnd}}
 use Rattle.basic_types.specs.declared.value.Value.{Value}
 use Rattle.script_lang.specs.declared.event.Event.{Event}
-use Rattle.meta_model.specs.declared.object.MetaMethod.{MetaMethod}
-use Rattle.meta_model.specs.declared.object.Work.{Work}
-use Rattle.meta_model.specs.declared.object.Work.TheVariants.{Signal, Slot, Native}
-use Rattle.meta_model.specs.Loaded.{Loaded}
+use Rattle.meta_model.specs.{declared.object.MetaMethod.{MetaMethod}, declared.object.Work.{Work}, declared.object.Work.TheVariants.{Signal, Slot, Native}, Loaded.{Loaded}}
 use Rattle.object_tree.specs.declared.object.Object.{Object}
-use Rattle.machine_state.specs.Telling.{Alone}
-use Rattle.trace_entries.specs.declared.entry.Entry.{Entry}
-use Rattle.trace_entries.specs.declared.fault.Answer.{Answer}
-use Rattle.trace_entries.specs.declared.fault.Answer.TheVariants.{Done}
-use Rattle.trace_entries.specs.declared.fault.Fault.{Fault}
-use Rattle.machine_state.specs.declared.world.World.{World}
-use Rattle.machine_state.specs.Objects.{all_shown}
-use Rattle.machine_state.specs.State.{Activation, Update}
-use Rattle.machine_state.specs.Accepting.{accepted}
-use Rattle.machine_state.specs.Worlds.{at}
-use Rattle.machine_state.specs.code.Changing.{accepting_entries, accepting_turn, with_bound, HasWritten, HasBound}
-use Rattle.object_machine.specs.Takes.{judged, accepts}
-use Rattle.machine_rules.specs.Natives.{NativeAnswers}
+use Rattle.machine_state.specs.{Telling.{Alone}, declared.world.World.{World}, Objects.{all_shown}, State.{Activation, Update}, Accepting.{accepted}, Worlds.{at}, code.Changing.{accepting_entries, accepting_turn, with_bound, HasWritten, HasBound}}
+use Rattle.trace_entries.specs.{declared.entry.Entry.{Entry}, declared.fault.Answer.{Answer}, declared.fault.Answer.TheVariants.{Done}, declared.fault.Fault.{Fault}}
+use Rattle.object_machine.{specs.Takes.{judged, accepts}, specs.code.Accepted.{AsksFor, WritesTo}, proofs.Judging.Assigning.{field-of}, specs.Causes.{Halts}}
+use Rattle.machine_rules.{specs.Natives.{NativeAnswers}, specs.Reaches.{RunsTo}, specs.Good.{ArgumentsFit, TopFits}, specs.Rules.{begun, begin_entry, top_of}, specs.Settling.{Installs, notified}, proofs.Soundness.{sound-settled}, specs.code.Sound.{IsSoundWorld}}
 use Rattle.run_context.specs.code.Activating.{IsActivated, IsBarred}
-use Rattle.machine_rules.specs.Reaches.{RunsTo}
-use Rattle.binding_graph.specs.declared.binding.Binding.{Binding}
-use Rattle.binding_graph.specs.declared.place.Place.{Place}
-use Rattle.prop_bindings.specs.Calls.{new_binding}
-use Rattle.prop_bindings.specs.Changes.{DifferInValues, IsWritten, IsInstalled, one}
-use Rattle.prop_bindings.specs.Fits.{Agree, FitsAt}
-use Rattle.machine_rules.specs.Good.{ArgumentsFit, TopFits}
-use Rattle.machine_rules.specs.Rules.{begun, begin_entry, top_of}
-use Rattle.machine_rules.specs.Settling.{Installs, notified}
+use Rattle.binding_graph.specs.{declared.binding.Binding.{Binding}, declared.place.Place.{Place}}
+use Rattle.prop_bindings.specs.{Calls.{new_binding}, Changes.{DifferInValues, IsWritten, IsInstalled, one}, Fits.{Agree, FitsAt}}
 use Rattle.rule_interpreter.proofs.Beginning.{top-fits}
-use Rattle.machine_rules.proofs.Soundness.{sound-settled}
-use Rattle.machine_rules.specs.code.Sound.{IsSoundWorld}
-use Rattle.object_machine.specs.code.Accepted.{AsksFor, WritesTo}
-use Rattle.qt_runtime.specs.code.Taking.{Took}
-use Rattle.object_machine.proofs.Judging.Assigning.{field-of}
-use Rattle.qt_runtime.proofs.Taken.{idle, Ready, good-pushed, took-unchanged}
-use Rattle.object_machine.specs.Causes.{Halts}
-use Rattle.qt_runtime.proofs.Stopping.{took-run}
+use Rattle.qt_runtime.{specs.code.Taking.{Took}, proofs.Taken.{idle, Ready, good-pushed, took-unchanged}, proofs.Stopping.{took-run}}
 
 begun-here : (w : World) (o : ℕ) (x : Object) (m : ℕ) (method : MetaMethod) (values : List Value) (work : Work) →
     at (accepting_entries w (begin_entry 1 x m method.sig.name (all_shown w.store.tree values) work ∷ [])) (top_of o m values w.store.connections.last work ∷ []) ≡ begun (accepted (at w [])) [] o x m method values work

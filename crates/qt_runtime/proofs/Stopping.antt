@@ -4,22 +4,10 @@ use Rattle.script_lang.specs.declared.event.Event.{Event}
 use Rattle.meta_model.specs.Loaded.{Loaded}
 use Rattle.trace_entries.specs.declared.fault.Answer.TheVariants as answer
 use Rattle.trace_entries.specs.declared.fault.Fault.{Fault}
-use Rattle.machine_state.specs.declared.world.World.{World}
-use Rattle.machine_state.specs.State.{State, Activation}
-use Rattle.machine_state.specs.Worlds.{at}
-use Rattle.machine_rules.specs.Natives.{NativeAnswers}
-use Rattle.machine_rules.specs.Good.{IsGood}
-use Rattle.machine_rules.specs.code.Going.{GoodRules, RulesStop}
-use Rattle.machine_rules.specs.Reaches.{RunsTo}
-use Rattle.machine_rules.specs.code.Sound.{IsSoundWorld}
-use Rattle.machine_rules.proofs.Keeps.{rules-kept}
-use Rattle.object_machine.specs.Causes.{Halts}
-use Rattle.object_machine.specs.Takes.{Takes}
-use Rattle.qt_runtime.specs.code.Taking.{Took}
-use Rattle.object_machine.proofs.Keeping.{invariant-at}
-use Rattle.object_machine.proofs.Preservation.{runs-invariant}
-use Rattle.object_machine.proofs.Progress.{cause-of}
-use Rattle.qt_runtime.proofs.Taken.{idle, runs-taken}
+use Rattle.machine_state.specs.{declared.world.World.{World}, State.{State, Activation}, Worlds.{at}}
+use Rattle.machine_rules.{specs.Natives.{NativeAnswers}, specs.Good.{IsGood}, specs.code.Going.{GoodRules, RulesStop}, specs.Reaches.{RunsTo}, specs.code.Sound.{IsSoundWorld}, proofs.Keeps.{rules-kept}}
+use Rattle.object_machine.{specs.Causes.{Halts}, specs.Takes.{Takes}, proofs.Keeping.{invariant-at}, proofs.Preservation.{runs-invariant}, proofs.Progress.{cause-of}}
+use Rattle.qt_runtime.{specs.code.Taking.{Took}, proofs.Taken.{idle, runs-taken}}
 
 -- the event was taken, and rules stopped on the way
 stopped-after : {p : Loaded} {natives : NativeAnswers} {d n : ℕ} {w v : World} {m : State} {f : Fault} (e : Event) (stack : List Activation) → IsSoundWorld p w → Takes p e answer.Done (at w []) m → IsGood p d (at w []) m → 0 < w.left → n ≡ w.left - 1 → GoodRules p natives d m n (at v stack) v.left → RulesStop p natives d (at v stack) v.left f → Halts p natives d w (e ∷ []) f v

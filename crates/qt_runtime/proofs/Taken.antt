@@ -1,37 +1,18 @@
 -- What the taking of an event comes to.
-use Rattle.std.proofs.Common.{◌≡◌, ℕ, suc, ◌-◌, ◌<◌, ◌≤◌, List, [], ◌∷◌, None, Result, Ok, Err, refl, sym, ap, ◌∙◌, subst, arith}
-use Rattle.std.specs.Result.{IsErrAnd}
+use Rattle.std.{proofs.Common.{◌≡◌, ℕ, suc, ◌-◌, ◌<◌, ◌≤◌, List, [], ◌∷◌, None, Result, Ok, Err, refl, sym, ap, ◌∙◌, subst, arith}, specs.Result.{IsErrAnd}}
 use Rattle.script_lang.specs.declared.event.Event.{Event}
 use Rattle.meta_model.specs.Loaded.{Loaded}
-use Rattle.trace_entries.specs.declared.fault.Answer.{Answer}
+use Rattle.trace_entries.specs.{declared.fault.Answer.{Answer}, declared.fault.Fault.{Fault}, declared.fault.Fault.TheVariants.{Steps, Memory}, declared.refusal.Refusal.{Refusal}, Refusals.{refusal_number}}
 use Rattle.trace_entries.specs.declared.fault.Answer.TheVariants as answer
-use Rattle.trace_entries.specs.declared.fault.Fault.{Fault}
-use Rattle.trace_entries.specs.declared.fault.Fault.TheVariants.{Steps, Memory}
-use Rattle.trace_entries.specs.declared.refusal.Refusal.{Refusal}
-use Rattle.machine_state.specs.declared.world.World.{World}
-use Rattle.machine_state.specs.Accepting.{refused}
-use Rattle.trace_entries.specs.Refusals.{refusal_number}
-use Rattle.machine_state.specs.State.{State, Activation, IsIdle}
-use Rattle.machine_state.specs.Worlds.{at, after}
-use Rattle.machine_state.specs.code.Changing.{Rejects}
-use Rattle.machine_rules.specs.Natives.{NativeAnswers}
-use Rattle.binding_graph.specs.declared.binding.Binding.{Binding}
-use Rattle.binding_graph.specs.Bindings.{binding_at, Loop}
+use Rattle.machine_state.specs.{declared.world.World.{World}, Accepting.{refused}, State.{State, Activation, IsIdle}, Worlds.{at, after}, code.Changing.{Rejects}}
+use Rattle.machine_rules.specs.{Natives.{NativeAnswers}, Good.{IsGood, TopFits}, Next.{WritesIll}, code.Going.{GoodRules}}
+use Rattle.binding_graph.specs.{declared.binding.Binding.{Binding}, Bindings.{binding_at, Loop}}
 use Rattle.prop_bindings.specs.Fits.{Agree}
-use Rattle.machine_rules.specs.Good.{IsGood, TopFits}
-use Rattle.machine_rules.specs.Next.{WritesIll}
-use Rattle.machine_rules.specs.code.Going.{GoodRules}
 use Rattle.machine_rules.specs.code.Going as of_rules
-use Rattle.object_machine.specs.declared.not_accepted.NotAccepted.{NotAccepted}
-use Rattle.object_machine.specs.code.Judgement.{IsNotAccepted}
+use Rattle.object_machine.{specs.declared.not_accepted.NotAccepted.{NotAccepted}, specs.code.Judgement.{IsNotAccepted}, specs.Runs.{GoodRun, RunsWhole, done, takes, is_next, by_event}, specs.Takes.{judged, Takes, accepts, refuses}, proofs.Running.{rules-run}, specs.Causes.{Halts, short, spent, brings, goes_ill}}
 use Rattle.object_machine.specs.code.Judgement as not_accepted
-use Rattle.object_machine.specs.Runs.{GoodRun, RunsWhole, done, takes, is_next, by_event}
-use Rattle.object_machine.specs.Takes.{judged, Takes, accepts, refuses}
-use Rattle.qt_runtime.specs.code.Quiet.{IsRefused, Stops, TookQuietly}
+use Rattle.qt_runtime.specs.{code.Quiet.{IsRefused, Stops, TookQuietly}, code.Taking.{SaysWhy, Took}}
 use Rattle.qt_runtime.specs.code.Quiet as before
-use Rattle.qt_runtime.specs.code.Taking.{SaysWhy, Took}
-use Rattle.object_machine.proofs.Running.{rules-run}
-use Rattle.object_machine.specs.Causes.{Halts, short, spent, brings, goes_ill}
 
 -- an event is taken, and rules follow
 pub runs-taken : {p : Loaded} {natives : NativeAnswers} {d : ℕ} {a : Answer} {s m t : State} {n j k : ℕ} (e : Event) → Takes p e a s m → IsGood p d s m → 0 < n → j ≡ n - 1 → GoodRules p natives d m j t k → GoodRun p natives d s n (e ∷ []) (a ∷ []) t k

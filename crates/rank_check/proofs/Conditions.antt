@@ -1,35 +1,10 @@
 -- The conditions on ranks and sets, of nodes and by their numbers.
-use Rattle.std.proofs.Common.{◌≡◌, ℕ, ◌+◌, ◌<◌, ◌≤◌, Bool, List, [], ◌∷◌, length, map, get_or, slice_get, Some, refl, sym, ap, ◌∙◌, subst, arith, below_more}
-use Rattle.std.specs.List.{Contains}
-use Rattle.std.proofs.lemmas.Option.{slice_get_within, slice_get-get_or, same_Some, none-some}
-use Rattle.meta_model.specs.declared.object.MetaObject.{MetaObject}
-use Rattle.meta_model.specs.declared.qobject.TheConstants.{DESTROYED}
-use Rattle.meta_model.specs.Loaded.{Loaded}
-use Rattle.meta_model.specs.Root.{root_class}
-use Rattle.meta_model.specs.Sound.{IsSound}
-use Rattle.effect_scan.specs.declared.node.Node.{Node}
-use Rattle.effect_scan.specs.declared.node.Member.TheVariants.{Method, Destruction}
-use Rattle.effect_scan.specs.Nodes.{node, shape_of, nodes_from, nodes_of, IsAt}
-use Rattle.effect_scan.specs.Laws.{IsNode, EdgesJoinNodes}
-use Rattle.effect_scan.specs.Rows.{row, Edge}
-use Rattle.effect_scan.specs.Edges.{MayLead}
-use Rattle.effect_scan.specs.Scans.{Scanned, IsScan}
-use Rattle.effect_scan.specs.Destroying.{Closure, AreClosures}
+use Rattle.std.{proofs.Common.{◌≡◌, ℕ, ◌+◌, ◌<◌, ◌≤◌, Bool, List, [], ◌∷◌, length, map, get_or, slice_get, Some, refl, sym, ap, ◌∙◌, subst, arith, below_more}, specs.List.{Contains}, proofs.lemmas.Option.{slice_get_within, slice_get-get_or, same_Some, none-some}}
+use Rattle.meta_model.specs.{declared.object.MetaObject.{MetaObject}, declared.qobject.TheConstants.{DESTROYED}, Loaded.{Loaded}, Root.{root_class}, Sound.{IsSound}}
+use Rattle.effect_scan.specs.{declared.node.Node.{Node}, declared.node.Member.TheVariants.{Method, Destruction}, Nodes.{node, shape_of, nodes_from, nodes_of, IsAt}, Laws.{IsNode, EdgesJoinNodes}, Rows.{row, Edge}, Edges.{MayLead}, Scans.{Scanned, IsScan}, Destroying.{Closure, AreClosures}}
 use Rattle.class_sets.specs.Marks.{IsMarked}
-use Rattle.certificate_lang.specs.declared.certificate.Line.{Line}
-use Rattle.certificate_lang.specs.declared.certificate.Certificate.{Certificate}
-use Rattle.rank_check.specs.declared.entries.Entry.{Entry}
-use Rattle.rank_check.specs.declared.causes.NodeLine.{NodeLine}
-use Rattle.rank_check.specs.declared.causes.Rise.{Rise}
-use Rattle.rank_check.specs.declared.causes.Mistake.{Mistake}
-use Rattle.rank_check.specs.declared.causes.Mistake.TheVariants.{Unclosed, Own, Lost}
-use Rattle.rank_check.specs.Names.{IsNodeNamed}
-use Rattle.rank_check.specs.Valid.{IsLineOf, Destroys, RanksFall, SetsHold, IsValid}
-use Rattle.rank_check.specs.Causes.{IsAtPlace, IsEdgeOf, IsRise, IsMistake}
-use Rattle.rank_check.specs.Entries.{IsEntry, NamesNodes}
-use Rattle.rank_check.specs.ByNumbers.{IsPlaceOf, Fall, IsRiseIn, AreWithin, HoldsOwn, IsOwnMistake, Hold, IsMistakeOfOne, IsMistakeIn}
-use Rattle.rank_check.proofs.Elements.{some_inside, place_of}
-use Rattle.rank_check.proofs.Assembled.{one_at}
+use Rattle.certificate_lang.specs.{declared.certificate.Line.{Line}, declared.certificate.Certificate.{Certificate}}
+use Rattle.rank_check.{specs.declared.entries.Entry.{Entry}, specs.declared.causes.NodeLine.{NodeLine}, specs.declared.causes.Rise.{Rise}, specs.declared.causes.Mistake.{Mistake}, specs.declared.causes.Mistake.TheVariants.{Unclosed, Own, Lost}, specs.Names.{IsNodeNamed}, specs.Valid.{IsLineOf, Destroys, RanksFall, SetsHold, IsValid}, specs.Causes.{IsAtPlace, IsEdgeOf, IsRise, IsMistake}, specs.Entries.{IsEntry, NamesNodes}, specs.ByNumbers.{IsPlaceOf, Fall, IsRiseIn, AreWithin, HoldsOwn, IsOwnMistake, Hold, IsMistakeOfOne, IsMistakeIn}, proofs.Elements.{some_inside, place_of}, proofs.Assembled.{one_at}}
 
 -- edges lead to nodes
 pub edges_inside : (p : Loaded) (scan : Scanned) → IsScan p scan → (count : ℕ) → count ≡ length (nodes_of p) → (a b : ℕ) → Edge scan.rows a b → b < count

@@ -1,29 +1,11 @@
 -- What of a program or a certificate breaks a condition (docs/certificate.md, "The check").
 use Rattle.std.specs.Prelude.{◌≡◌, ◌≢◌, ◌≤◌, ◌<◌, ℕ, List, Some, slice_get}
 use Rattle.meta_model.specs.Loaded.{Loaded}
-use Rattle.effect_scan.specs.declared.node.Node.{Node}
-use Rattle.effect_scan.specs.declared.node.Member.TheVariants.{Destruction}
-use Rattle.effect_scan.specs.Nodes.{nodes_of, IsAt}
-use Rattle.effect_scan.specs.Edges.{MayLead}
-use Rattle.effect_scan.specs.Destroying.{Closure}
-use Rattle.type_check.specs.Firsts.{IsFirstWithout}
-use Rattle.type_check.specs.Wires.{IsFitWire}
-use Rattle.type_check.specs.Typed.{FindsUntyped}
-use Rattle.certificate_lang.specs.declared.certificate.SetItem.{SetItem}
-use Rattle.certificate_lang.specs.declared.certificate.Line.{Line}
-use Rattle.certificate_lang.specs.declared.certificate.Certificate.{Certificate}
-use Rattle.rank_check.specs.declared.causes.NodeLine.{NodeLine}
-use Rattle.rank_check.specs.declared.causes.Extra.{Extra}
-use Rattle.rank_check.specs.declared.causes.Extra.TheVariants.{Unknown, Twice, Class}
-use Rattle.rank_check.specs.declared.causes.Rise.{Rise}
-use Rattle.rank_check.specs.declared.causes.Mistake.{Mistake}
-use Rattle.rank_check.specs.declared.causes.Mistake.TheVariants.{Unclosed, Own, Lost}
-use Rattle.rank_check.specs.declared.causes.Loose.{Loose}
-use Rattle.rank_check.specs.declared.causes.Loose.TheVariants.{TooGreat, NotAbove}
-use Rattle.rank_check.specs.declared.causes.Cause.{Cause}
+use Rattle.effect_scan.specs.{declared.node.Node.{Node}, declared.node.Member.TheVariants.{Destruction}, Nodes.{nodes_of, IsAt}, Edges.{MayLead}, Destroying.{Closure}}
+use Rattle.type_check.specs.{Firsts.{IsFirstWithout}, Wires.{IsFitWire}, Typed.{FindsUntyped}}
+use Rattle.certificate_lang.specs.{declared.certificate.SetItem.{SetItem}, declared.certificate.Line.{Line}, declared.certificate.Certificate.{Certificate}}
+use Rattle.rank_check.specs.{declared.causes.NodeLine.{NodeLine}, declared.causes.Extra.{Extra}, declared.causes.Extra.TheVariants.{Unknown, Twice, Class}, declared.causes.Rise.{Rise}, declared.causes.Mistake.{Mistake}, declared.causes.Mistake.TheVariants.{Unclosed, Own, Lost}, declared.causes.Loose.{Loose}, declared.causes.Loose.TheVariants.{TooGreat, NotAbove}, declared.causes.Cause.{Cause}, Names.{IsNodeNamed}, Valid.{IsLineOf, StandsFor, Destroys, HasBody, most_bound}}
 use Rattle.rank_check.specs.declared.causes.Cause.TheVariants as cause
-use Rattle.rank_check.specs.Names.{IsNodeNamed}
-use Rattle.rank_check.specs.Valid.{IsLineOf, StandsFor, Destroys, HasBody, most_bound}
 
 -- ---- lines
 

@@ -1,27 +1,12 @@
 -- What a check keeps of a certificate, by the numbers of lines, nodes and classes.
-use Rattle.std.specs.Prelude.{◌≡◌, ◌≢◌, ◌↔◌, ◌<◌, ℕ, Bool, true, false, List, length, Option, Some, None, Result, Ok, Err, MatchResult, slice_get, slice_index_or}
-use Rattle.std.specs.List.{AllZip}
+use Rattle.std.specs.{Prelude.{◌≡◌, ◌≢◌, ◌↔◌, ◌<◌, ℕ, Bool, true, false, List, length, Option, Some, None, Result, Ok, Err, MatchResult, slice_get, slice_index_or}, List.{AllZip}}
 use Rattle.meta_model.specs.Loaded.{Loaded}
 use Rattle.name_indexes.specs.LookUps.{LooksUp, FindsOnly}
-use Rattle.effect_scan.specs.declared.node.Node.{Node}
-use Rattle.effect_scan.specs.Nodes.{nodes_of, IsAt}
+use Rattle.effect_scan.specs.{declared.node.Node.{Node}, Nodes.{nodes_of, IsAt}}
 use Rattle.class_sets.specs.Marks.{IsMarked, Marks}
-use Rattle.type_check.specs.Wires.{AreFitWires}
-use Rattle.type_check.specs.Typed.{IsTypedProgram}
-use Rattle.certificate_lang.specs.declared.certificate.NodeName.{NodeName}
-use Rattle.certificate_lang.specs.declared.certificate.SetItem.{SetItem}
-use Rattle.certificate_lang.specs.declared.certificate.Line.{Line}
-use Rattle.certificate_lang.specs.declared.certificate.Certificate.{Certificate}
-use Rattle.rank_check.specs.declared.causes.Cause.{Cause}
-use Rattle.rank_check.specs.declared.causes.NodeLine.{NodeLine}
-use Rattle.rank_check.specs.declared.causes.Extra.{Extra}
-use Rattle.rank_check.specs.declared.causes.Extra.TheVariants.{Unknown, Twice, Class}
-use Rattle.rank_check.specs.declared.entries.Entry.{Entry}
-use Rattle.rank_check.specs.Names.{IsNodeNamed}
-use Rattle.rank_check.specs.Valid.{StandsFor, AreClassesThere, IsListed, HasEachNode, HasNothingElse}
-use Rattle.rank_check.specs.Causes.{StandsForNoClass, StandsForNone, IsExtra, IsAtPlace}
-use Rattle.rank_check.specs.Checks.{IsCause}
-use Rattle.rank_check.specs.ByNumbers.{IsPlaceOf}
+use Rattle.type_check.specs.{Wires.{AreFitWires}, Typed.{IsTypedProgram}}
+use Rattle.certificate_lang.specs.{declared.certificate.NodeName.{NodeName}, declared.certificate.SetItem.{SetItem}, declared.certificate.Line.{Line}, declared.certificate.Certificate.{Certificate}}
+use Rattle.rank_check.specs.{declared.causes.Cause.{Cause}, declared.causes.NodeLine.{NodeLine}, declared.causes.Extra.{Extra}, declared.causes.Extra.TheVariants.{Unknown, Twice, Class}, declared.entries.Entry.{Entry}, Names.{IsNodeNamed}, Valid.{StandsFor, AreClassesThere, IsListed, HasEachNode, HasNothingElse}, Causes.{StandsForNoClass, StandsForNone, IsExtra, IsAtPlace}, Checks.{IsCause}, ByNumbers.{IsPlaceOf}}
 
 -- ---- the nodes of lines
 -- the node of this number is named so

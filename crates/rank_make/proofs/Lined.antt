@@ -1,32 +1,12 @@
 -- Why the certificate that is made is valid, and least.
-use Rattle.std.proofs.Common.{◌≡◌, ◌⊎◌, inl, inr, ◌↔◌, ℕ, suc, ◌+◌, ◌<◌, ◌≤◌, Bool, true, List, [], ◌∷◌, length, slice_get, Some, refl, sym, ap, ◌∙◌, subst, arith}
-use Rattle.std.specs.List.{AllZip, Contains}
-use Rattle.std.proofs.lemmas.Option.{slice_get_within}
-use Rattle.meta_model.specs.Loaded.{Loaded}
-use Rattle.meta_model.specs.Sound.{IsSound}
-use Rattle.meta_model.proofs.OneAnswer.{one_class}
-use Rattle.meta_model.proofs.Zips.{zip_left, zip_right}
-use Rattle.effect_scan.specs.declared.node.Node.{Node}
-use Rattle.effect_scan.specs.Nodes.{nodes_of, IsAt}
-use Rattle.effect_scan.specs.Rows.{Edge}
-use Rattle.effect_scan.specs.Destroying.{Closure, itself, child}
-use Rattle.effect_scan.specs.Laws.{EdgesJoinNodes}
-use Rattle.effect_scan.specs.Scans.{Scanned, IsScan}
-use Rattle.certificate_lang.specs.declared.certificate.SetItem.{SetItem}
+use Rattle.std.{proofs.Common.{◌≡◌, ◌⊎◌, inl, inr, ◌↔◌, ℕ, suc, ◌+◌, ◌<◌, ◌≤◌, Bool, true, List, [], ◌∷◌, length, slice_get, Some, refl, sym, ap, ◌∙◌, subst, arith}, specs.List.{AllZip, Contains}, proofs.lemmas.Option.{slice_get_within}}
+use Rattle.meta_model.{specs.Loaded.{Loaded}, specs.Sound.{IsSound}, proofs.OneAnswer.{one_class}, proofs.Zips.{zip_left, zip_right}}
+use Rattle.effect_scan.specs.{declared.node.Node.{Node}, Nodes.{nodes_of, IsAt}, Rows.{Edge}, Destroying.{Closure, itself, child}, Laws.{EdgesJoinNodes}, Scans.{Scanned, IsScan}}
+use Rattle.certificate_lang.specs.{declared.certificate.SetItem.{SetItem}, declared.certificate.Line.{Line}, declared.certificate.Certificate.{Certificate}}
 use Rattle.certificate_lang.specs.declared.certificate.SetItem.TheVariants as item
-use Rattle.certificate_lang.specs.declared.certificate.Line.{Line}
-use Rattle.certificate_lang.specs.declared.certificate.Certificate.{Certificate}
-use Rattle.rank_check.specs.Names.{IsNodeNamed}
-use Rattle.rank_check.specs.Valid.{IsLineOf, StandsFor, Destroys, AreClassesThere, HasEachNode, HasNothingElse, RanksFall, SetsHold, IsBounded, IsValid, most_bound}
-use Rattle.rank_check.specs.Entries.{IsReady}
-use Rattle.rank_check.proofs.Elements.{some_inside, place_of, element_at}
-use Rattle.rank_graph.specs.Solutions.{LeadsTo}
-use Rattle.rank_graph.specs.Walks.{LeadsBy}
-use Rattle.rank_make.specs.Least.{IsLeast, IsClosureOf, AreInOrder, IsInOrder, IsLeastValid}
-use Rattle.rank_make.specs.Solved.{own_rows, IsSolved, NoneEnds, IsLineFor, AreLinesFor}
-use Rattle.rank_check.proofs.Listing.{closure_low}
-use Rattle.rank_make.proofs.Placed.{one_number, one_at, one_name}
-use Rattle.rank_make.proofs.Numbers.{edge_of, edge_leads, own_has, own_is, rank_falls, leads_back}
+use Rattle.rank_check.{specs.Names.{IsNodeNamed}, specs.Valid.{IsLineOf, StandsFor, Destroys, AreClassesThere, HasEachNode, HasNothingElse, RanksFall, SetsHold, IsBounded, IsValid, most_bound}, specs.Entries.{IsReady}, proofs.Elements.{some_inside, place_of, element_at}, proofs.Listing.{closure_low}}
+use Rattle.rank_graph.specs.{Solutions.{LeadsTo}, Walks.{LeadsBy}}
+use Rattle.rank_make.{specs.Least.{IsLeast, IsClosureOf, AreInOrder, IsInOrder, IsLeastValid}, specs.Solved.{own_rows, IsSolved, NoneEnds, IsLineFor, AreLinesFor}, proofs.Placed.{one_number, one_at, one_name}, proofs.Numbers.{edge_of, edge_leads, own_has, own_is, rank_falls, leads_back}}
 
 -- two lists related element by element
 zip_from : {A B : Type 0} (R : A → B → Type 0) (xs : List A) (ys : List B) → length xs ≡ length ys → ((n : ℕ) (x : A) (y : B) → slice_get xs n ≡ Some x → slice_get ys n ≡ Some y → R x y) → AllZip R xs ys

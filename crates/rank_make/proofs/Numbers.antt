@@ -1,27 +1,10 @@
 -- Walks between nodes and between their numbers.
-use Rattle.std.proofs.Common.{◌≡◌, ℕ, suc, ◌+◌, ◌<◌, ◌≤◌, Bool, true, List, [], ◌∷◌, length, slice_get, Some, refl, sym, ap, ◌∙◌, subst, arith}
-use Rattle.std.specs.List.{Contains, AllZip}
-use Rattle.std.specs.Option.{option_map}
-use Rattle.std.proofs.lemmas.List.{length-map}
-use Rattle.std.proofs.lemmas.Option.{slice_get-map}
+use Rattle.std.{proofs.Common.{◌≡◌, ℕ, suc, ◌+◌, ◌<◌, ◌≤◌, Bool, true, List, [], ◌∷◌, length, slice_get, Some, refl, sym, ap, ◌∙◌, subst, arith}, specs.List.{Contains, AllZip}, specs.Option.{option_map}, proofs.lemmas.List.{length-map}, proofs.lemmas.Option.{slice_get-map}}
 use Rattle.meta_model.specs.Loaded.{Loaded}
-use Rattle.effect_scan.specs.declared.node.Node.{Node}
-use Rattle.effect_scan.specs.declared.node.Member.{Member}
-use Rattle.effect_scan.specs.declared.node.Member.TheVariants.{Method, Property, Destruction}
-use Rattle.effect_scan.specs.Nodes.{nodes_of, IsAt}
-use Rattle.effect_scan.specs.Rows.{row, Edge}
-use Rattle.effect_scan.specs.Edges.{MayLead}
-use Rattle.effect_scan.specs.Destroying.{Closure}
-use Rattle.effect_scan.specs.Laws.{EdgesJoinNodes}
-use Rattle.effect_scan.specs.Scans.{Scanned, IsScan}
-use Rattle.effect_scan.proofs.Adding.{row_found, no_members, edge_inside}
+use Rattle.effect_scan.{specs.declared.node.Node.{Node}, specs.declared.node.Member.{Member}, specs.declared.node.Member.TheVariants.{Method, Property, Destruction}, specs.Nodes.{nodes_of, IsAt}, specs.Rows.{row, Edge}, specs.Edges.{MayLead}, specs.Destroying.{Closure}, specs.Laws.{EdgesJoinNodes}, specs.Scans.{Scanned, IsScan}, proofs.Adding.{row_found, no_members, edge_inside}}
 use Rattle.rank_check.proofs.Elements.{some_inside}
-use Rattle.rank_graph.specs.Solutions.{LeadsTo}
-use Rattle.rank_graph.specs.Walks.{LeadsBy}
-use Rattle.rank_make.specs.Walks.{NoCycle, NoDestroyPath}
-use Rattle.rank_make.specs.Solved.{own_by, own_of, own_rows, IsSolved, NoneEnds}
-use Rattle.rank_make.proofs.Placed.{one_number, one_at}
-use Rattle.rank_make.proofs.Barred.{begins_at_node, path_some}
+use Rattle.rank_graph.specs.{Solutions.{LeadsTo}, Walks.{LeadsBy}}
+use Rattle.rank_make.{specs.Walks.{NoCycle, NoDestroyPath}, specs.Solved.{own_by, own_of, own_rows, IsSolved, NoneEnds}, proofs.Placed.{one_number, one_at}, proofs.Barred.{begins_at_node, path_some}}
 
 module _ (p : Loaded) (scan : Scanned) (is : IsScan p scan) where
   pub edge_of : (x y : Node) (n m : ℕ) → IsAt (nodes_of p) x n → IsAt (nodes_of p) y m → MayLead p x y → Edge scan.rows n m

@@ -1,27 +1,10 @@
 -- A node has one place, and a name is that of one node.
-use Rattle.std.proofs.Common.{◌≡◌, inl, inr, ℕ, zero, suc, ◌+◌, ◌<◌, List, [], ◌∷◌, length, map, take, slice_get, Option, Some, None, refl, sym, ap, ◌∙◌, subst, arith}
-use Rattle.std.specs.Option.{option_map}
-use Rattle.std.proofs.lemmas.List.{length-append}
-use Rattle.std.proofs.lemmas.Option.{slice_get-map, same_Some, none-some}
-use Rattle.meta_model.specs.declared.object.MetaMethod.{MetaMethod}
-use Rattle.meta_model.specs.declared.object.MetaObject.{MetaObject}
-use Rattle.meta_model.specs.Loaded.{Loaded}
-use Rattle.meta_model.specs.Members.{IsClass}
-use Rattle.meta_model.specs.Root.{root_methods}
-use Rattle.meta_model.specs.Sound.{IsSound, IsSoundClass}
-use Rattle.meta_model.proofs.OneAnswer.{one_class}
-use Rattle.effect_scan.specs.declared.node.Node.{Node}
-use Rattle.effect_scan.specs.declared.node.Member.{Member}
+use Rattle.std.{proofs.Common.{◌≡◌, inl, inr, ℕ, zero, suc, ◌+◌, ◌<◌, List, [], ◌∷◌, length, map, take, slice_get, Option, Some, None, refl, sym, ap, ◌∙◌, subst, arith}, specs.Option.{option_map}, proofs.lemmas.List.{length-append}, proofs.lemmas.Option.{slice_get-map, same_Some, none-some}}
+use Rattle.meta_model.{specs.declared.object.MetaMethod.{MetaMethod}, specs.declared.object.MetaObject.{MetaObject}, specs.Loaded.{Loaded}, specs.Members.{IsClass}, specs.Root.{root_methods}, specs.Sound.{IsSound, IsSoundClass}, proofs.OneAnswer.{one_class}}
+use Rattle.effect_scan.{specs.declared.node.Node.{Node}, specs.declared.node.Member.{Member}, specs.declared.numbering.Shape.{Shape}, specs.Nodes.{node, shape_of, nodes_from, nodes_of, IsAt}, specs.Numbering.{IsPlaceIn}, specs.Laws.{IsNode}, proofs.Numbered.{stands_among, stands_only, one_place}, proofs.Whole.{made}}
 use Rattle.effect_scan.specs.declared.node.Member.TheVariants as member
-use Rattle.effect_scan.specs.declared.numbering.Shape.{Shape}
-use Rattle.effect_scan.specs.Nodes.{node, shape_of, nodes_from, nodes_of, IsAt}
-use Rattle.effect_scan.specs.Numbering.{IsPlaceIn}
-use Rattle.effect_scan.specs.Laws.{IsNode}
-use Rattle.effect_scan.proofs.Numbered.{stands_among, stands_only, one_place}
-use Rattle.effect_scan.proofs.Whole.{made}
 use Rattle.certificate_lang.specs.declared.certificate.NodeName.{NodeName}
-use Rattle.rank_check.specs.Names.{IsMemberNamed, IsNodeNamed}
-use Rattle.rank_check.proofs.Named.{one_member}
+use Rattle.rank_check.{specs.Names.{IsMemberNamed, IsNodeNamed}, proofs.Named.{one_member}}
 use Rattle.rank_make.specs.Solved.{HasMember}
 
 module _ (p : Loaded) where

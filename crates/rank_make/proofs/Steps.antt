@@ -1,25 +1,11 @@
 -- Rows, names and lines that are made element by element.
-use Rattle.std.proofs.Common.{◌≡◌, ◌↔◌, ◌⊎◌, inl, inr, Bool, false, ℕ, zero, suc, ◌+◌, ◌<◌, List, [], ◌∷◌, ◌++◌, length, map, get_or, take, slice_get, Some, replicate, refl, sym, ap, ◌∙◌, subst, arith}
-use Rattle.std.specs.List.{AllZip, Contains}
-use Rattle.std.proofs.lemmas.Bool.{cases_eq}
-use Rattle.std.proofs.lemmas.List.{length-append, length-replicate, take_more, map-append, get_or_default}
-use Rattle.std.proofs.lemmas.List.Elements.{Contains-append_left, Contains-push, Contains-push_cases}
-use Rattle.std.proofs.lemmas.Option.{slice_get-get_or, same_Some, none-some}
-use Rattle.meta_model.specs.Loaded.{Loaded}
-use Rattle.meta_model.proofs.Zips.{zip_append, zip_push}
-use Rattle.effect_scan.specs.declared.node.Node.{Node}
-use Rattle.effect_scan.specs.Nodes.{nodes_of, IsAt}
-use Rattle.effect_scan.specs.Destroying.{Closure}
+use Rattle.std.{proofs.Common.{◌≡◌, ◌↔◌, ◌⊎◌, inl, inr, Bool, false, ℕ, zero, suc, ◌+◌, ◌<◌, List, [], ◌∷◌, ◌++◌, length, map, get_or, take, slice_get, Some, replicate, refl, sym, ap, ◌∙◌, subst, arith}, specs.List.{AllZip, Contains}, proofs.lemmas.Bool.{cases_eq}, proofs.lemmas.List.{length-append, length-replicate, take_more, map-append, get_or_default}, proofs.lemmas.List.Elements.{Contains-append_left, Contains-push, Contains-push_cases}, proofs.lemmas.Option.{slice_get-get_or, same_Some, none-some}}
+use Rattle.meta_model.{specs.Loaded.{Loaded}, proofs.Zips.{zip_append, zip_push}}
+use Rattle.effect_scan.{specs.declared.node.Node.{Node}, specs.Nodes.{nodes_of, IsAt}, specs.Destroying.{Closure}, proofs.Adding.{no_members}, proofs.Listing.{increasing_none, increasing_more}, proofs.Numbered.{get_either}}
 use Rattle.class_sets.specs.Marks.{IsMarked, Marks}
-use Rattle.effect_scan.proofs.Adding.{no_members}
-use Rattle.effect_scan.proofs.Listing.{increasing_none, increasing_more}
-use Rattle.effect_scan.proofs.Numbered.{get_either}
-use Rattle.certificate_lang.specs.declared.certificate.SetItem.{SetItem}
-use Rattle.certificate_lang.specs.declared.certificate.Line.{Line}
+use Rattle.certificate_lang.specs.{declared.certificate.SetItem.{SetItem}, declared.certificate.Line.{Line}}
 use Rattle.rank_check.proofs.Listing.{unmarked}
-use Rattle.rank_make.specs.Least.{IsImplied, IsClosureOf}
-use Rattle.rank_make.specs.Solved.{own_of, AreItems, IsLineFor, AreLinesTo}
-use Rattle.rank_make.proofs.Placed.{one_at}
+use Rattle.rank_make.{specs.Least.{IsImplied, IsClosureOf}, specs.Solved.{own_of, AreItems, IsLineFor, AreLinesTo}, proofs.Placed.{one_at}}
 
 -- ---- rows
 pub own_more : (closures : List (List ℕ)) (items : List Node) (i : ℕ) (x : Node) (r : List ℕ) (rows more : List (List ℕ)) → i < length items → x ≡ get_or items i x → r ≡ own_of closures x

@@ -1,26 +1,10 @@
 -- Walks as they are reported, from their numbers.
-use Rattle.std.proofs.Common.{◌≡◌, ℕ, zero, suc, ◌<◌, ◌≤◌, List, [], ◌∷◌, length, get_or, slice_get, drop, Some, refl, sym, ap, ◌∙◌, subst, arith}
-use Rattle.std.specs.List.{Contains, AllZip}
-use Rattle.std.proofs.lemmas.Option.{slice_get_within, get_or_from_slice_get, same_Some, none-some}
-use Rattle.meta_model.specs.Loaded.{Loaded}
-use Rattle.meta_model.proofs.Zips.{zip_right}
-use Rattle.effect_scan.specs.declared.node.Node.{Node}
-use Rattle.effect_scan.specs.Nodes.{nodes_of, IsAt}
-use Rattle.effect_scan.specs.Rows.{Edge}
-use Rattle.effect_scan.specs.Destroying.{Closure}
-use Rattle.effect_scan.specs.Edges.{MayLead}
-use Rattle.effect_scan.specs.Scans.{Scanned, IsScan}
-use Rattle.effect_scan.proofs.Adding.{edge_inside}
-use Rattle.effect_scan.proofs.Relating.{zip_length}
-use Rattle.rank_check.specs.Valid.{HasBody, most_bound}
-use Rattle.rank_check.proofs.Conditions.{edges_inside}
-use Rattle.rank_check.proofs.Elements.{some_inside, place_of, element_at}
-use Rattle.rank_graph.specs.Graphs.{IsToldCycle as IsToldByNumber, IsPathTo}
-use Rattle.rank_graph.specs.Walks.{LeadsBy, IsWalk, AreDistinct, IsChain}
-use Rattle.rank_make.specs.Walks.{IsToldCycle, IsDestroyPath, IsHighChain}
-use Rattle.rank_make.specs.Solved.{own_rows}
-use Rattle.rank_make.proofs.Placed.{one_number, one_at}
-use Rattle.rank_make.proofs.Numbers.{lift, own_is}
+use Rattle.std.{proofs.Common.{◌≡◌, ℕ, zero, suc, ◌<◌, ◌≤◌, List, [], ◌∷◌, length, get_or, slice_get, drop, Some, refl, sym, ap, ◌∙◌, subst, arith}, specs.List.{Contains, AllZip}, proofs.lemmas.Option.{slice_get_within, get_or_from_slice_get, same_Some, none-some}}
+use Rattle.meta_model.{specs.Loaded.{Loaded}, proofs.Zips.{zip_right}}
+use Rattle.effect_scan.{specs.declared.node.Node.{Node}, specs.Nodes.{nodes_of, IsAt}, specs.Rows.{Edge}, specs.Destroying.{Closure}, specs.Edges.{MayLead}, specs.Scans.{Scanned, IsScan}, proofs.Adding.{edge_inside}, proofs.Relating.{zip_length}}
+use Rattle.rank_check.{specs.Valid.{HasBody, most_bound}, proofs.Conditions.{edges_inside}, proofs.Elements.{some_inside, place_of, element_at}}
+use Rattle.rank_graph.specs.{Graphs.{IsToldCycle as IsToldByNumber, IsPathTo}, Walks.{LeadsBy, IsWalk, AreDistinct, IsChain}}
+use Rattle.rank_make.{specs.Walks.{IsToldCycle, IsDestroyPath, IsHighChain}, specs.Solved.{own_rows}, proofs.Placed.{one_number, one_at}, proofs.Numbers.{lift, own_is}}
 
 -- the nodes of these numbers
 abbrev AreAt : List Node → List ℕ → List Node → Type 0

@@ -1,40 +1,15 @@
 -- How methods begin.
 use Rattle.std.proofs.Common.{◌≡◌, ℕ, suc, ◌+◌, ◌-◌, ◌<◌, ◌≤◌, inl, inr, Bool, true, false, List, [], ◌∷◌, ◌++◌, length, take, Result, Option, Some, refl, sym, ap, ◌∙◌, subst, arith, length-append, ◌≢◌}
 use Rattle.basic_types.specs.declared.value.Value.{Value}
-use Rattle.meta_model.specs.declared.object.MetaMethod.{MetaMethod}
-use Rattle.meta_model.specs.declared.object.Work.{Work}
-use Rattle.meta_model.specs.declared.object.Work.TheVariants.{Signal, Slot, Native}
-use Rattle.meta_model.specs.Loaded.{Loaded}
+use Rattle.meta_model.specs.{declared.object.MetaMethod.{MetaMethod}, declared.object.Work.{Work}, declared.object.Work.TheVariants.{Signal, Slot, Native}, Loaded.{Loaded}}
 use Rattle.connections.specs.declared.connection.Connection.{Connection}
 use Rattle.binding_graph.specs.declared.place.Place.{Place}
-use Rattle.trace_entries.specs.declared.entry.Entry.{Entry}
-use Rattle.trace_entries.specs.declared.fault.Fault.{Fault}
-use Rattle.trace_entries.specs.declared.fault.Fault.TheVariants.{BadType, TooDeep}
+use Rattle.trace_entries.specs.{declared.entry.Entry.{Entry}, declared.fault.Fault.{Fault}, declared.fault.Fault.TheVariants.{BadType, TooDeep}}
 use Rattle.event_loops.specs.declared.item.Item.TheVariants.{Call}
-use Rattle.object_tree.specs.Objects.{home_of}
-use Rattle.object_tree.specs.declared.object.Object.{Object}
-use Rattle.machine_state.specs.declared.world.World.{World}
-use Rattle.machine_state.specs.Objects.{all_shown}
-use Rattle.machine_state.specs.State.{State, Activation, Emit, Update}
-use Rattle.machine_state.specs.Turns.{running, reaches_at_once}
-use Rattle.machine_rules.specs.Rules.{Begins, begun, with_used, posted, EmitRule, Uses, Arrives, begin_entry, top_of}
-use Rattle.machine_state.specs.Connections.{next_used}
-use Rattle.machine_state.proofs.Due.{last-used}
-use Rattle.object_tree.specs.Typed.{ReadAs}
-use Rattle.machine_rules.specs.Good.{ArgumentsFit, EmissionFits, of_living, of_dead, TopFits, IsWell, shows}
-use Rattle.machine_rules.specs.code.Sound.{AgreeIn}
-use Rattle.machine_state.specs.Worlds.{at}
-use Rattle.machine_state.specs.code.Changing.{noted, having_used, posting}
-use Rattle.run_context.specs.code.Activating.{IsActivated, IsBarred}
-use Rattle.run_context.specs.code.Posting.{entry_of_post, PostsCall}
-use Rattle.machine_rules.specs.Reaches.{Reaches, StopsIn, RunsTo, CallsIn, Calls, OnlyCalls, DoesWork}
-use Rattle.machine_rules.proofs.Stacks.{high, shows-over}
-use Rattle.machine_rules.specs.There.{IsMember}
-use Rattle.machine_rules.proofs.Dying.{lives-not-dead}
-use Rattle.machine_rules.proofs.ReachedStates.{none-spared, same-spared, reaches-pushed, ends-after, ends-lifted, not-idle, ends-noted, stops-as, stops-memory, stops-deep, stops-ill, stops-stuck, no-update-fits}
-use Rattle.machine_rules.proofs.Fields.{member-method}
-use Rattle.machine_rules.specs.Operations.{Write, Begin, TakeAnswer}
-use Rattle.machine_rules.specs.Natives.{NativeAnswers}
+use Rattle.object_tree.specs.{Objects.{home_of}, declared.object.Object.{Object}, Typed.{ReadAs}}
+use Rattle.machine_state.{specs.declared.world.World.{World}, specs.Objects.{all_shown}, specs.State.{State, Activation, Emit, Update}, specs.Turns.{running, reaches_at_once}, specs.Connections.{next_used}, proofs.Due.{last-used}, specs.Worlds.{at}, specs.code.Changing.{noted, having_used, posting}}
+use Rattle.machine_rules.{specs.Rules.{Begins, begun, with_used, posted, EmitRule, Uses, Arrives, begin_entry, top_of}, specs.Good.{ArgumentsFit, EmissionFits, of_living, of_dead, TopFits, IsWell, shows}, specs.code.Sound.{AgreeIn}, specs.Reaches.{Reaches, StopsIn, RunsTo, CallsIn, Calls, OnlyCalls, DoesWork}, proofs.Stacks.{high, shows-over}, specs.There.{IsMember}, proofs.Dying.{lives-not-dead}, proofs.ReachedStates.{none-spared, same-spared, reaches-pushed, ends-after, ends-lifted, not-idle, ends-noted, stops-as, stops-memory, stops-deep, stops-ill, stops-stuck, no-update-fits}, proofs.Fields.{member-method}, specs.Operations.{Write, Begin, TakeAnswer}, specs.Natives.{NativeAnswers}}
+use Rattle.run_context.specs.{code.Activating.{IsActivated, IsBarred}, code.Posting.{entry_of_post, PostsCall}}
 
 -- the world after a method began
 abbrev pub begun_world : World → ℕ → Object → ℕ → MetaMethod → List Value → World

@@ -1,44 +1,17 @@
 -- What a body's steps do.
-use Rattle.machine_state.specs.Telling.{Assigning}
-use Rattle.std.proofs.Common.{◌≡◌, ◌≢◌, ℕ, suc, ◌+◌, ◌-◌, ◌<◌, List, [], ◌∷◌, ◌++◌, length, map, Result, Ok, Err, MatchResult, inl, inr, Option, Some, None, refl, sym, ap, ◌∙◌, subst, arith, append-nil}
-use Rattle.std.specs.Result.{IsErrAnd}
-use Rattle.std.proofs.lemmas.List.{map-append}
+use Rattle.machine_state.specs.{Telling.{Assigning}, declared.world.World.{World}, State.{Step, Run, Ask, Act, State, Activation, Body}, declared.endpoints.Endpoints.{Endpoints}, Worlds.{at}, code.Changing.{noted, Ticks, GoesTo}}
+use Rattle.std.{proofs.Common.{◌≡◌, ◌≢◌, ℕ, suc, ◌+◌, ◌-◌, ◌<◌, List, [], ◌∷◌, ◌++◌, length, map, Result, Ok, Err, MatchResult, inl, inr, Option, Some, None, refl, sym, ap, ◌∙◌, subst, arith, append-nil}, specs.Result.{IsErrAnd}, proofs.lemmas.List.{map-append}}
 use Rattle.basic_types.specs.declared.value.Value.{Value}
-use Rattle.meta_model.specs.declared.object.Statement.{Statement}
+use Rattle.meta_model.specs.{declared.object.Statement.{Statement}, declared.object.Statement.TheViews.{out-Statement}, Loaded.{Loaded}, declared.effects.MetaEffects.{MetaEffects}}
 use Rattle.meta_model.specs.declared.object.Statement.TheOpen as layer
-use Rattle.meta_model.specs.declared.object.Statement.TheViews.{out-Statement}
-use Rattle.meta_model.specs.Loaded.{Loaded}
 use Rattle.expressions.specs.declared.evaluation.EvalFault.{EvalFault}
 use Rattle.expressions.specs.declared.evaluation.EvalFault.TheVariants as eval
-use Rattle.trace_entries.specs.declared.entry.Entry.{Entry}
-use Rattle.trace_entries.specs.declared.entry.Entry.TheVariants.{At}
-use Rattle.trace_entries.specs.declared.entry.EntryKind.TheVariants.{OnNull, Answered}
+use Rattle.trace_entries.specs.{declared.entry.Entry.{Entry}, declared.entry.Entry.TheVariants.{At}, declared.entry.EntryKind.TheVariants.{OnNull, Answered}, declared.fault.Fault.{Fault}, Faults.{IsFaultOf}, declared.fault.Fault.TheVariants.{BadType}}
 use Rattle.native_slots.specs.declared.action.Action.{Action}
-use Rattle.trace_entries.specs.declared.fault.Fault.{Fault}
-use Rattle.trace_entries.specs.Faults.{IsFaultOf}
-use Rattle.trace_entries.specs.declared.fault.Fault.TheVariants.{BadType}
-use Rattle.object_tree.specs.declared.object.Object.{Object}
-use Rattle.machine_state.specs.declared.world.World.{World}
-use Rattle.machine_state.specs.State.{Step, Run, Ask, Act, State, Activation, Body}
+use Rattle.object_tree.specs.{declared.object.Object.{Object}, Objects.{life_of}}
 use Rattle.syntax_trees.specs.declared.connection.ConnectionType.{ConnectionType}
-use Rattle.machine_state.specs.declared.endpoints.Endpoints.{Endpoints}
-use Rattle.meta_model.specs.declared.effects.MetaEffects.{MetaEffects}
-use Rattle.machine_rules.specs.Operations.{Operation, Write, Begin, Choose, Connect, Disconnect, Delete, Schedule, TakeAnswer, Nothing, operation, operation_of_step}
-use Rattle.machine_rules.specs.Rules.{Rule, StepRule, Does, told, Connects, Disconnects}
-use Rattle.machine_rules.specs.Destroying.{Schedules}
-use Rattle.object_tree.specs.Objects.{life_of}
-use Rattle.machine_rules.specs.code.Sound.{AgreeIn}
-use Rattle.machine_rules.specs.Next.{DoesNext}
-use Rattle.machine_rules.specs.code.Going.{GoodRules, done, then}
-use Rattle.machine_state.specs.Worlds.{at}
-use Rattle.machine_state.specs.code.Changing.{noted, Ticks, GoesTo}
+use Rattle.machine_rules.{specs.Operations.{Operation, Write, Begin, Choose, Connect, Disconnect, Delete, Schedule, TakeAnswer, Nothing, operation, operation_of_step}, specs.Rules.{Rule, StepRule, Does, told, Connects, Disconnects}, specs.Destroying.{Schedules}, specs.code.Sound.{AgreeIn}, specs.Next.{DoesNext}, specs.code.Going.{GoodRules, done, then}, specs.Reaches.{StopsIn, RunsTo, Advances, Calls, OnlyCalls, Sets, Deletes}, proofs.ReachedStates.{not-idle, reaches-low, stops-as, stops-memory, stops-faulted, stops-stuck, ends-noted, ends-ticked}, proofs.Stacks.{high}, proofs.Keeps.{some-stack, rules-kept}, specs.Natives.{NativeAnswers, MayAnswer}, specs.code.Answering.{TellsAnswer}}
 use Rattle.run_context.specs.code.Statements.{Went, Stalls, ConnectsIn, DisconnectsIn, SchedulesIn}
-use Rattle.machine_rules.specs.Reaches.{StopsIn, RunsTo, Advances, Calls, OnlyCalls, Sets, Deletes}
-use Rattle.machine_rules.proofs.ReachedStates.{not-idle, reaches-low, stops-as, stops-memory, stops-faulted, stops-stuck, ends-noted, ends-ticked}
-use Rattle.machine_rules.proofs.Stacks.{high}
-use Rattle.machine_rules.proofs.Keeps.{some-stack, rules-kept}
-use Rattle.machine_rules.specs.Natives.{NativeAnswers, MayAnswer}
-use Rattle.machine_rules.specs.code.Answering.{TellsAnswer}
 
 -- ---- the rule of a body whose next step does this
 

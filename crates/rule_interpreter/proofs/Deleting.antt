@@ -1,48 +1,16 @@
 -- How deletions are carried out.
-use Rattle.std.proofs.Common.{◌≡◌, ◌≢◌, ⊎_elim, inl, inr, ℕ, zero, suc, ◌+◌, ◌-◌, ◌<◌, ◌≤◌, eqb, Bool, true, false, IsTrue, List, [], ◌∷◌, ◌++◌, length, take, reverse, cond, Result, Ok, Err, Option, Some, None, slice_get, refl, sym, ap, ◌∙◌, subst, arith, length-append}
-use Rattle.std.specs.Prelude.{is_some, MatchOption}
-use Rattle.std.specs.List.{find}
-use Rattle.std.specs.Option.{option_map}
-use Rattle.std.proofs.lemmas.Bool.{cases_eq, eqb-true}
-use Rattle.std.proofs.lemmas.List.{reverse-append}
+use Rattle.std.{proofs.Common.{◌≡◌, ◌≢◌, ⊎_elim, inl, inr, ℕ, zero, suc, ◌+◌, ◌-◌, ◌<◌, ◌≤◌, eqb, Bool, true, false, IsTrue, List, [], ◌∷◌, ◌++◌, length, take, reverse, cond, Result, Ok, Err, Option, Some, None, slice_get, refl, sym, ap, ◌∙◌, subst, arith, length-append}, specs.Prelude.{is_some, MatchOption}, specs.List.{find}, specs.Option.{option_map}, proofs.lemmas.Bool.{cases_eq, eqb-true}, proofs.lemmas.List.{reverse-append}}
 use Rattle.basic_types.specs.declared.value.Value.TheVariants as value
-use Rattle.meta_model.specs.declared.qobject.TheConstants.{DESTROYED}
-use Rattle.meta_model.specs.Loaded.{Loaded}
+use Rattle.meta_model.specs.{declared.qobject.TheConstants.{DESTROYED}, Loaded.{Loaded}, Sound.{IsSound}}
 use Rattle.basic_types.specs.Values.{null_has}
-use Rattle.object_tree.specs.declared.life.Life.{Life}
-use Rattle.object_tree.specs.declared.object.Object.{Object}
-use Rattle.object_tree.specs.Family.{children_of, IsChild, without_life}
-use Rattle.object_tree.specs.Objects.{life_of, name_of}
-use Rattle.machine_rules.specs.code.Sound.{AgreeIn, SendsThese}
-use Rattle.object_tree.proofs.Changing.{life-of-lives}
+use Rattle.object_tree.{specs.declared.life.Life.{Life}, specs.declared.object.Object.{Object}, specs.Family.{children_of, IsChild, without_life}, specs.Objects.{life_of, name_of}, proofs.Changing.{life-of-lives}}
+use Rattle.machine_rules.{specs.code.Sound.{AgreeIn, SendsThese}, specs.Destroying.{deleting, Dies, NextRule, ChildRule}, specs.Good.{EmissionFits, of_dead, has_body, IsWell, Spares, shows}, specs.code.Keeps.{KeepsWorld}, specs.Reaches.{Reaches, StopsIn, RunsTo, Deletes, Kills, Forgets}, specs.Rules.{Rule}, specs.There.{IsDead}, proofs.Dying.{dead-no-life, died-dead, other-seen}, proofs.Delivered.{has-life}, proofs.Declared.{emission-sends}, proofs.Stacks.{high}, proofs.ReachedStates.{none-spared, reaches-low, reaches-pushed, stops-as, stops-memory, stops-steps, stops-deep, stops-fatal, no-update-fits, ends-after, ends-lifted, not-idle}, specs.Natives.{NativeAnswers}}
 use Rattle.prop_bindings.proofs.Leaving.{left_agree}
 use Rattle.delete_later.specs.Ending.{last_of, next_in, first_child_of, IsNext, NoneIsNext}
-use Rattle.trace_entries.specs.declared.entry.Entry.{Entry}
-use Rattle.trace_entries.specs.declared.entry.Entry.TheVariants.{At}
-use Rattle.trace_entries.specs.declared.entry.EntryKind.TheVariants.{Died}
-use Rattle.trace_entries.specs.declared.fault.Fault.{Fault}
-use Rattle.trace_entries.specs.declared.fault.Fault.TheVariants.{TooDeep, InUse}
-use Rattle.machine_state.specs.declared.world.World.{World}
-use Rattle.machine_state.specs.Connections.{is_living}
-use Rattle.machine_state.specs.State.{State, Activation, Emit, Destroy}
-use Rattle.machine_state.specs.Worlds.{at}
-use Rattle.machine_state.specs.code.Changing.{ticked, dying, ending, Ticks}
-use Rattle.rule_interpreter.specs.code.Active.{shows_body}
-use Rattle.machine_rules.specs.Destroying.{deleting, Dies, NextRule, ChildRule}
-use Rattle.machine_rules.specs.Good.{EmissionFits, of_dead, has_body, IsWell, Spares, shows}
-use Rattle.machine_rules.specs.code.Keeps.{KeepsWorld}
+use Rattle.trace_entries.specs.{declared.entry.Entry.{Entry}, declared.entry.Entry.TheVariants.{At}, declared.entry.EntryKind.TheVariants.{Died}, declared.fault.Fault.{Fault}, declared.fault.Fault.TheVariants.{TooDeep, InUse}}
+use Rattle.machine_state.specs.{declared.world.World.{World}, Connections.{is_living}, State.{State, Activation, Emit, Destroy}, Worlds.{at}, code.Changing.{ticked, dying, ending, Ticks}}
+use Rattle.rule_interpreter.{specs.code.Active.{shows_body}, proofs.Beginning.{one-more}}
 use Rattle.run_context.specs.code.Activating.{entry_of_destroyed}
-use Rattle.machine_rules.specs.Reaches.{Reaches, StopsIn, RunsTo, Deletes, Kills, Forgets}
-use Rattle.machine_rules.specs.Rules.{Rule}
-use Rattle.machine_rules.specs.There.{IsDead}
-use Rattle.machine_rules.proofs.Dying.{dead-no-life, died-dead, other-seen}
-use Rattle.rule_interpreter.proofs.Beginning.{one-more}
-use Rattle.machine_rules.proofs.Delivered.{has-life}
-use Rattle.machine_rules.proofs.Declared.{emission-sends}
-use Rattle.meta_model.specs.Sound.{IsSound}
-use Rattle.machine_rules.proofs.Stacks.{high}
-use Rattle.machine_rules.proofs.ReachedStates.{none-spared, reaches-low, reaches-pushed, stops-as, stops-memory, stops-steps, stops-deep, stops-fatal, no-update-fits, ends-after, ends-lifted, not-idle}
-use Rattle.machine_rules.specs.Natives.{NativeAnswers}
 
 -- ---- a deletion begins
 

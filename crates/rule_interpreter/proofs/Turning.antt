@@ -1,40 +1,14 @@
 -- How turns of event loops are carried out.
-use Rattle.std.proofs.Common.{◌≡◌, ℕ, ◌+◌, ◌-◌, ◌<◌, List, [], ◌∷◌, Result, Ok, Err, Option, Some, None, inl, inr, refl, sym, ap, ◌∙◌, subst, arith}
-use Rattle.std.specs.Result.{IsErrAnd}
+use Rattle.std.{proofs.Common.{◌≡◌, ℕ, ◌+◌, ◌-◌, ◌<◌, List, [], ◌∷◌, Result, Ok, Err, Option, Some, None, inl, inr, refl, sym, ap, ◌∙◌, subst, arith}, specs.Result.{IsErrAnd}}
 use Rattle.basic_types.specs.declared.value.Value.{Value}
-use Rattle.meta_model.specs.declared.object.Work.{Work}
-use Rattle.meta_model.specs.Loaded.{Loaded}
-use Rattle.event_loops.specs.declared.item.Item.{Item}
-use Rattle.event_loops.specs.declared.item.Item.TheVariants.{Call, Deletion}
-use Rattle.object_tree.specs.declared.life.Life.{Life}
-use Rattle.object_tree.specs.Objects.{life_of}
-use Rattle.object_tree.proofs.Changing.{life-of-lives}
-use Rattle.event_loops.specs.declared.item.Posted.{Posted}
-use Rattle.event_loops.specs.Queues.{taken_before}
-use Rattle.trace_entries.specs.declared.entry.Entry.{Entry}
-use Rattle.trace_entries.specs.declared.fault.Fault.{Fault}
-use Rattle.trace_entries.specs.declared.fault.Fault.TheVariants.{Steps, Memory}
-use Rattle.machine_state.specs.declared.turn.Turn.{Turn}
-use Rattle.machine_state.specs.declared.world.World.{World}
-use Rattle.machine_state.specs.State.{State, Activation, Destroy, IsIdle}
-use Rattle.machine_state.specs.Worlds.{at}
-use Rattle.machine_state.specs.code.Changing.{with_queues, taking, taking_unwritten, turn_ended}
-use Rattle.machine_rules.specs.Good.{ArgumentsFit, shows}
+use Rattle.meta_model.specs.{declared.object.Work.{Work}, Loaded.{Loaded}}
+use Rattle.event_loops.specs.{declared.item.Item.{Item}, declared.item.Item.TheVariants.{Call, Deletion}, declared.item.Posted.{Posted}, Queues.{taken_before}}
+use Rattle.object_tree.{specs.declared.life.Life.{Life}, specs.Objects.{life_of}, proofs.Changing.{life-of-lives}}
+use Rattle.trace_entries.specs.{declared.entry.Entry.{Entry}, declared.fault.Fault.{Fault}, declared.fault.Fault.TheVariants.{Steps, Memory}}
+use Rattle.machine_state.specs.{declared.turn.Turn.{Turn}, declared.world.World.{World}, State.{State, Activation, Destroy, IsIdle}, Worlds.{at}, code.Changing.{with_queues, taking, taking_unwritten, turn_ended}, Connections.{is_living}}
+use Rattle.machine_rules.{specs.Good.{ArgumentsFit, shows}, specs.Reaches.{DoesWork, Reaches, StopsIn, RunsTo, Advances}, specs.Rules.{Rule, TurnRule, Serves, Delivers, Begins, BeginsIf, top_of}, specs.code.Going.{done}, specs.code.Sound.{Waits, IsSoundWorld, AgreeIn}, proofs.Keeps.{reaches-keeps}, proofs.ReachedStates.{none-spared, reaches-low, reaches-pushed, reaches-then, stops-after, ends-unchanged}, proofs.Delivered.{has-life}, proofs.Declared.{living-fits}, proofs.Waiting.{length-change, housed-same, all-taken, first-waits}, specs.Natives.{NativeAnswers}}
 use Rattle.run_context.specs.code.Activating.{IsActivated, IsBarred}
-use Rattle.machine_rules.specs.Reaches.{DoesWork, Reaches, StopsIn, RunsTo, Advances}
-use Rattle.rule_interpreter.specs.code.Delivering.{first_due, IsFirst, IsCalled}
-use Rattle.machine_rules.specs.Rules.{Rule, TurnRule, Serves, Delivers, Begins, BeginsIf, top_of}
-use Rattle.machine_rules.specs.code.Going.{done}
-use Rattle.machine_rules.specs.code.Sound.{Waits, IsSoundWorld, AgreeIn}
-use Rattle.rule_interpreter.proofs.Beginning.{begun_world, begins-there, top-fits, top-other}
-use Rattle.machine_rules.proofs.Keeps.{reaches-keeps}
-use Rattle.machine_rules.proofs.ReachedStates.{none-spared, reaches-low, reaches-pushed, reaches-then, stops-after, ends-unchanged}
-use Rattle.rule_interpreter.proofs.Bodies.{advances-left}
-use Rattle.machine_state.specs.Connections.{is_living}
-use Rattle.machine_rules.proofs.Delivered.{has-life}
-use Rattle.machine_rules.proofs.Declared.{living-fits}
-use Rattle.machine_rules.proofs.Waiting.{length-change, housed-same, all-taken, first-waits}
-use Rattle.machine_rules.specs.Natives.{NativeAnswers}
+use Rattle.rule_interpreter.{specs.code.Delivering.{first_due, IsFirst, IsCalled}, proofs.Beginning.{begun_world, begins-there, top-fits, top-other}, proofs.Bodies.{advances-left}}
 
 -- ---- while a turn goes on
 

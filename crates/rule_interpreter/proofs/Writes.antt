@@ -1,52 +1,15 @@
 -- How properties are written.
-use Rattle.std.proofs.Common.{◌≡◌, IsErrAnd, inl, inr, ℕ, zero, suc, ◌+◌, ◌-◌, ◌<◌, List, [], ◌∷◌, ◌++◌, length, take, drop, slice_get, Bool, true, false, Result, Ok, Err, Option, None, Some, refl, sym, ap, ◌∙◌, subst, arith, length-append}
-use Rattle.std.specs.Prelude.{◌↔◌, IfOk, IfErr, IfSome, IsTrue}
-use Rattle.std.specs.List.{AllByRecursion, Contains}
-use Rattle.std.proofs.lemmas.List.Elements.{All-contains, All-from_recursion, Contains-append_right}
+use Rattle.std.{proofs.Common.{◌≡◌, IsErrAnd, inl, inr, ℕ, zero, suc, ◌+◌, ◌-◌, ◌<◌, List, [], ◌∷◌, ◌++◌, length, take, drop, slice_get, Bool, true, false, Result, Ok, Err, Option, None, Some, refl, sym, ap, ◌∙◌, subst, arith, length-append}, specs.Prelude.{◌↔◌, IfOk, IfErr, IfSome, IsTrue}, specs.List.{AllByRecursion, Contains}, proofs.lemmas.List.Elements.{All-contains, All-from_recursion, Contains-append_right}, proofs.lemmas.Option.{same_Some}}
 use Rattle.basic_types.specs.declared.value.Value.{Value}
-use Rattle.meta_model.specs.declared.object.MetaObject.{MetaObject}
-use Rattle.meta_model.specs.declared.object.MetaProperty.{MetaProperty}
-use Rattle.meta_model.specs.Loaded.{Loaded}
-use Rattle.meta_model.specs.Members.{IsClass}
-use Rattle.object_tree.specs.declared.life.Life.{Life}
-use Rattle.object_tree.specs.declared.object.Object.{Object}
-use Rattle.object_tree.specs.Objects.{Lives, life_of}
-use Rattle.object_tree.proofs.Changing.{life-of-lives, lives-of-life}
-use Rattle.object_tree.specs.Typed.{ReadsAs}
-use Rattle.binding_graph.specs.declared.binding.Binding.{Binding}
-use Rattle.binding_graph.specs.declared.place.Place.{Place}
-use Rattle.prop_bindings.specs.declared.plans.assignment.Assignment.{Assignment}
-use Rattle.binding_graph.specs.Bindings.{without_all}
-use Rattle.prop_bindings.specs.Calls.{AllFit}
-use Rattle.prop_bindings.specs.Changes.{IsWritten, one, places_in}
-use Rattle.prop_bindings.specs.Fits.{FitsAt}
-use Rattle.trace_entries.specs.declared.fault.Fault.{Fault}
-use Rattle.trace_entries.specs.declared.fault.Fault.TheVariants.{BadType}
-use Rattle.machine_state.specs.code.Trying.{IsUnplanned}
-use Rattle.machine_state.specs.declared.world.World.{World}
-use Rattle.machine_state.specs.State.{Step, State, Activation, Body, Update}
-use Rattle.machine_state.specs.Telling.{Assigning, Alone, Grouped, IsAssigningTold, writes_of}
-use Rattle.std.proofs.lemmas.Option.{same_Some}
-use Rattle.machine_state.specs.Worlds.{at}
-use Rattle.machine_state.specs.code.Changing.{noted, HasWritten}
-use Rattle.machine_rules.specs.Operations.{Operation, Write, TakeAnswer, operation_of_step}
-use Rattle.run_context.specs.code.Activating.{MayNest}
-use Rattle.machine_rules.specs.Reaches.{Reaches, StopsIn, RunsTo, Sets}
-use Rattle.machine_rules.specs.Faults.{WritesDeep}
-use Rattle.machine_rules.specs.code.Lacking.{IsAfterFit, LacksFirst}
-use Rattle.machine_rules.specs.Next.{DoesNext, WritesIll}
-use Rattle.machine_rules.specs.Settling.{Settles, Writes, notified}
-use Rattle.machine_rules.specs.code.Sound.{AgreeIn}
-use Rattle.machine_rules.specs.There.{HasField, IsField, LacksField}
-use Rattle.machine_rules.specs.Writing.{MayWrite, IsUnfit, FitsOrNot, IsUnwritten, missing, ill, unfit, deep}
-use Rattle.run_context.proofs.Linking.{not-true}
-use Rattle.machine_rules.proofs.ReachingFitting.{fits-field, fits-read}
+use Rattle.meta_model.specs.{declared.object.MetaObject.{MetaObject}, declared.object.MetaProperty.{MetaProperty}, Loaded.{Loaded}, Members.{IsClass}}
+use Rattle.object_tree.{specs.declared.life.Life.{Life}, specs.declared.object.Object.{Object}, specs.Objects.{Lives, life_of}, proofs.Changing.{life-of-lives, lives-of-life}, specs.Typed.{ReadsAs}}
+use Rattle.binding_graph.specs.{declared.binding.Binding.{Binding}, declared.place.Place.{Place}, Bindings.{without_all}}
+use Rattle.prop_bindings.specs.{declared.plans.assignment.Assignment.{Assignment}, Calls.{AllFit}, Changes.{IsWritten, one, places_in}, Fits.{FitsAt}}
+use Rattle.trace_entries.specs.{declared.fault.Fault.{Fault}, declared.fault.Fault.TheVariants.{BadType}}
+use Rattle.machine_state.specs.{code.Trying.{IsUnplanned}, declared.world.World.{World}, State.{Step, State, Activation, Body, Update}, Telling.{Assigning, Alone, Grouped, IsAssigningTold, writes_of}, Worlds.{at}, code.Changing.{noted, HasWritten}}
+use Rattle.machine_rules.{specs.Operations.{Operation, Write, TakeAnswer, operation_of_step}, specs.Reaches.{Reaches, StopsIn, RunsTo, Sets}, specs.Faults.{WritesDeep}, specs.code.Lacking.{IsAfterFit, LacksFirst}, specs.Next.{DoesNext, WritesIll}, specs.Settling.{Settles, Writes, notified}, specs.code.Sound.{AgreeIn}, specs.There.{HasField, IsField, LacksField}, specs.Writing.{MayWrite, IsUnfit, FitsOrNot, IsUnwritten, missing, ill, unfit, deep}, proofs.ReachingFitting.{fits-field, fits-read}, proofs.Differing.{differ-spared}, proofs.Fields.{field-at, life-unique}, proofs.ReachedStates.{none-spared, reaches-high, ends-after, ends-left, ends-lifted, ends-unchanged, stops-as, stops-stuck, stops-ill-write, stops-deep-write}, specs.Natives.{NativeAnswers}, specs.Good.{shows}}
+use Rattle.run_context.{specs.code.Activating.{MayNest}, proofs.Linking.{not-true}}
 use Rattle.rule_interpreter.proofs.Beginning.{one-more}
-use Rattle.machine_rules.proofs.Differing.{differ-spared}
-use Rattle.machine_rules.proofs.Fields.{field-at, life-unique}
-use Rattle.machine_rules.proofs.ReachedStates.{none-spared, reaches-high, ends-after, ends-left, ends-lifted, ends-unchanged, stops-as, stops-stuck, stops-ill-write, stops-deep-write}
-use Rattle.machine_rules.specs.Natives.{NativeAnswers}
-use Rattle.machine_rules.specs.Good.{shows}
 
 -- ---- properties are written
 

@@ -1,44 +1,15 @@
 -- Connections that statements make and remove.
-use Rattle.std.proofs.Common.{◌≡◌, ◌&&◌, Bool, true, false, IsTrue, Option, Some, ℕ, ◌-◌, List, [], ◌∷◌, length, Result, Ok, Err, MatchResult, refl, sym, ap, ◌∙◌, subst, inr, None, ◌<◌, arith}
-use Rattle.syntax_trees.specs.declared.connection.ConnectionType.{ConnectionType}
-use Rattle.syntax_trees.specs.declared.connection.Endpoints.{Endpoints as Named}
-use Rattle.meta_model.specs.Loaded.{Loaded}
-use Rattle.meta_model.specs.declared.object.MetaMethod.{MetaMethod}
-use Rattle.meta_model.specs.Members.{IsMethod}
-use Rattle.object_tree.specs.declared.life.Life.{Life}
-use Rattle.object_tree.specs.declared.object.Object.{Object}
-use Rattle.object_tree.specs.Objects.{Lives, IsGone}
-use Rattle.machine_rules.specs.There.{IsDead, NoneDied}
-use Rattle.delete_later.specs.declared.store.Store.{Store}
-use Rattle.delete_later.specs.Scheduling.{deferred_to, scheduled_in}
-use Rattle.machine_state.proofs.Deferring.{scheduled-now}
+use Rattle.std.{proofs.Common.{◌≡◌, ◌&&◌, Bool, true, false, IsTrue, Option, Some, ℕ, ◌-◌, List, [], ◌∷◌, length, Result, Ok, Err, MatchResult, refl, sym, ap, ◌∙◌, subst, inr, None, ◌<◌, arith}, specs.Option.{option_map}}
+use Rattle.syntax_trees.specs.{declared.connection.ConnectionType.{ConnectionType}, declared.connection.Endpoints.{Endpoints as Named}}
+use Rattle.meta_model.specs.{Loaded.{Loaded}, declared.object.MetaMethod.{MetaMethod}, Members.{IsMethod}}
+use Rattle.object_tree.{specs.declared.life.Life.{Life}, specs.declared.object.Object.{Object}, specs.Objects.{Lives, IsGone, life_of}, proofs.Changing.{life-of-lives, lives-of-life}}
+use Rattle.machine_rules.{specs.There.{IsDead, NoneDied}, specs.code.Sound.{AgreeIn}, specs.Destroying.{Schedules, TellsSchedule, scheduled_now}, proofs.Dying.{scheduled-seen}, proofs.Differing.{scheduled-agree}, specs.Connecting.{AreThere, kept_ends, may_disconnect}, specs.Rules.{Connects, Disconnects}, proofs.Fields.{member-at}, proofs.Fitting.{named-there}, proofs.Scheduling.{schedules-none, schedules-before}}
+use Rattle.delete_later.specs.{declared.store.Store.{Store}, Scheduling.{deferred_to, scheduled_in}}
+use Rattle.machine_state.{proofs.Deferring.{scheduled-now}, specs.declared.endpoints.Endpoints.{Endpoints}, specs.declared.world.World.{World}, specs.State.{State, Activation}, specs.Worlds.{at}, specs.code.Changing.{noted, connecting, disconnecting, scheduling, GoesTo, ticked, Ticks}}
 use Rattle.event_loops.specs.Queues.{name_at}
 use Rattle.prop_bindings.specs.Fits.{Agree}
-use Rattle.machine_rules.specs.code.Sound.{AgreeIn}
-use Rattle.object_tree.specs.Objects.{life_of}
-use Rattle.object_tree.proofs.Changing.{life-of-lives, lives-of-life}
-use Rattle.std.specs.Option.{option_map}
-use Rattle.machine_rules.specs.Destroying.{Schedules, TellsSchedule, scheduled_now}
-use Rattle.machine_rules.proofs.Dying.{scheduled-seen}
-use Rattle.machine_rules.proofs.Differing.{scheduled-agree}
-use Rattle.machine_state.specs.declared.endpoints.Endpoints.{Endpoints}
-use Rattle.trace_entries.specs.declared.entry.Entry.{Entry}
-use Rattle.trace_entries.specs.declared.entry.Entry.TheVariants.{At}
-use Rattle.trace_entries.specs.declared.entry.EntryKind.TheVariants.{Connected, Disconnected, Refused, Scheduled}
-use Rattle.trace_entries.specs.declared.fault.Fault.{Fault}
-use Rattle.trace_entries.specs.declared.refusal.Refusal.{Refusal}
-use Rattle.trace_entries.specs.declared.refusal.Refusal.TheVariants.{NoConnection}
-use Rattle.machine_state.specs.declared.world.World.{World}
-use Rattle.trace_entries.specs.Refusals.{refusal_number}
-use Rattle.machine_state.specs.State.{State, Activation}
-use Rattle.machine_state.specs.Worlds.{at}
-use Rattle.machine_state.specs.code.Changing.{noted, connecting, disconnecting, scheduling, GoesTo, ticked, Ticks}
-use Rattle.machine_rules.specs.Connecting.{AreThere, kept_ends, may_disconnect}
+use Rattle.trace_entries.specs.{declared.entry.Entry.{Entry}, declared.entry.Entry.TheVariants.{At}, declared.entry.EntryKind.TheVariants.{Connected, Disconnected, Refused, Scheduled}, declared.fault.Fault.{Fault}, declared.refusal.Refusal.{Refusal}, declared.refusal.Refusal.TheVariants.{NoConnection}, Refusals.{refusal_number}}
 use Rattle.run_context.specs.code.Statements.{IsJudged, LacksEnds, NamesEnds, Went, Stalls, ConnectsIn, DisconnectsIn, SchedulesIn}
-use Rattle.machine_rules.specs.Rules.{Connects, Disconnects}
-use Rattle.machine_rules.proofs.Fields.{member-at}
-use Rattle.machine_rules.proofs.Fitting.{named-there}
-use Rattle.machine_rules.proofs.Scheduling.{schedules-none, schedules-before}
 
 -- where the ends that are spelled are there, those are that a connection keeps
 pub kept-there : {p : Loaded} {objects : List Object} {ends : Endpoints} → AreThere p objects ends → AreThere p objects (kept_ends ends)

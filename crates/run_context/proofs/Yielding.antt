@@ -1,25 +1,16 @@
 -- What a statement needs, from what the code found out.
-use Rattle.std.proofs.Common.{◌≡◌, ◌≢◌, ℕ, Bool, true, false, if◌then◌else◌, List, Result, Ok, Err, Option, Some, None, refl, sym, ap, ◌∙◌, subst}
-use Rattle.std.specs.Option.{option_map}
-use Rattle.std.specs.Result.{IsErrAnd}
+use Rattle.std.{proofs.Common.{◌≡◌, ◌≢◌, ℕ, Bool, true, false, if◌then◌else◌, List, Result, Ok, Err, Option, Some, None, refl, sym, ap, ◌∙◌, subst}, specs.Option.{option_map}, specs.Result.{IsErrAnd}}
 use Rattle.basic_types.specs.declared.value.Value.{Value}
 use Rattle.basic_types.specs.declared.value.Value.TheVariants as value
-use Rattle.expressions.specs.declared.evaluation.EvalFault.{EvalFault}
-use Rattle.expressions.specs.declared.evaluation.EvalFault.TheVariants.{BadType, Memory}
-use Rattle.expressions.specs.Evaluation.{Evaluates, EvaluatesAll}
+use Rattle.expressions.specs.{declared.evaluation.EvalFault.{EvalFault}, declared.evaluation.EvalFault.TheVariants.{BadType, Memory}, Evaluation.{Evaluates, EvaluatesAll}}
 use Rattle.syntax_trees.specs.declared.syntax.Expr.{Expr}
-use Rattle.meta_model.specs.declared.object.MetaPath.{MetaPath}
-use Rattle.meta_model.specs.declared.object.Statement.{Statement}
+use Rattle.meta_model.specs.{declared.object.MetaPath.{MetaPath}, declared.object.Statement.{Statement}, declared.object.MetaEndpoints.{MetaEndpoints}}
 use Rattle.object_tree.specs.declared.object.Object.{Object}
-use Rattle.meta_model.specs.declared.object.MetaEndpoints.{MetaEndpoints}
 use Rattle.machine_state.specs.declared.endpoints.Endpoints.{Endpoints}
-use Rattle.run_context.specs.declared.statements.paths.Scope.{Scope}
+use Rattle.run_context.specs.{declared.statements.paths.Scope.{Scope}, code.Coded.{Obtains, FindsBetween, Finds, FindsTruth}, code.Scope.{ends_in}}
 use Rattle.prop_bindings.specs.declared.plans.assignment.Assignment.{Assignment}
 use Rattle.binding_graph.specs.Places.{property_of}
-use Rattle.machine_rules.specs.Operations.{Operation, Choose, Nothing, led_to, on_object, on_ends, chosen_by, set_at}
-use Rattle.machine_rules.specs.Paths.{path_value, value_of}
-use Rattle.run_context.specs.code.Coded.{Obtains, FindsBetween, Finds, FindsTruth}
-use Rattle.run_context.specs.code.Scope.{ends_in}
+use Rattle.machine_rules.specs.{Operations.{Operation, Choose, Nothing, led_to, on_object, on_ends, chosen_by, set_at}, Paths.{path_value, value_of}}
 
 -- a path that leads to no object
 no-object : {X : Type 0} (null : X) (act : ℕ → Option X) (found : Option Value) → ((r : Option ℕ) → found ≢ Some (value.Ref r)) → led_to null act found ≡ None

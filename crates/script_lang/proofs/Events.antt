@@ -1,29 +1,12 @@
 -- Reading events from their parts.
 use Rattle.std.proofs.Common.{ℕ, ◌≡◌, Option, None as no_separator, Result, Ok, Err, List, ◌∷◌, map, refl, sym, ◌∙◌, ap, subst}
-use Rattle.token_reading.specs.Connections.{spell_connection_type}
-use Rattle.token_reading.specs.code.Connections.{EndsConnectionType, ReadsConnectionType}
-use Rattle.token_reading.specs.Lists.{spell_each, spell_listed}
-use Rattle.token_reading.specs.Literals.{spell_literal, tree_of_literal}
-use Rattle.token_reading.specs.Optional.{spell_optional_name}
-use Rattle.token_reading.specs.code.Optional.{EndsWithoutName}
-use Rattle.token_reading.specs.code.Reading.{Found, EndsAnywhere, IsAtEnd}
-use Rattle.token_reading.specs.Reading.{spell_name}
-use Rattle.syntax_trees.specs.declared.connection.ConnectionType.{ConnectionType}
-use Rattle.syntax_trees.specs.declared.connection.Endpoints.{Endpoints}
-use Rattle.token_reading.specs.declared.fault.ParseFault.{ParseFault}
-use Rattle.syntax_trees.specs.declared.syntax.Literal.{Literal}
+use Rattle.token_reading.{specs.Connections.{spell_connection_type}, specs.code.Connections.{EndsConnectionType, ReadsConnectionType}, specs.Lists.{spell_each, spell_listed}, specs.Literals.{spell_literal, tree_of_literal}, specs.Optional.{spell_optional_name}, specs.code.Optional.{EndsWithoutName}, specs.code.Reading.{Found, EndsAnywhere, IsAtEnd}, specs.Reading.{spell_name}, specs.declared.fault.ParseFault.{ParseFault}, proofs.Both.{both_found}, proofs.Underway.{None}}
+use Rattle.syntax_trees.specs.{declared.connection.ConnectionType.{ConnectionType}, declared.connection.Endpoints.{Endpoints}, declared.syntax.Literal.{Literal}}
 use Rattle.texts.specs.declared.token.Token.{Token}
 use Rattle.texts.specs.declared.token.Token.TheVariants as token
-use Rattle.token_reading.proofs.Both.{both_found}
-use Rattle.token_reading.proofs.Underway.{None}
-use Rattle.script_lang.specs.declared.event.Event.{Event}
+use Rattle.script_lang.{specs.declared.event.Event.{Event}, specs.declared.event.Input.{Input}, specs.declared.verb.Verb.{Verb}, specs.Grammar.{InputReading, literal, named, spell_input, tree_of_input, spell_verb, Member, spell_member, spell_invocation, spell_new, tree_of_new, spell_adopt, tree_of_adopt, spell_move, tree_of_move, spell_name_ends, tree_of_name_ends, spell_connect, tree_of_connect, spell_assignment, tree_of_assignment, spell_bind, tree_of_bind, Follow, spell_follow, Reading, spell_event}, specs.code.Grammar.{tree_of_invocation, ReadsFollow, ReadsEvent}, proofs.OneTree.{literal_unnamed, no_name_at_end, how_at_end, one_verb}}
 use Rattle.script_lang.specs.declared.event.Event.TheVariants as tree
-use Rattle.script_lang.specs.declared.event.Input.{Input}
 use Rattle.script_lang.specs.declared.event.Input.TheVariants as input
-use Rattle.script_lang.specs.declared.verb.Verb.{Verb}
-use Rattle.script_lang.specs.Grammar.{InputReading, literal, named, spell_input, tree_of_input, spell_verb, Member, spell_member, spell_invocation, spell_new, tree_of_new, spell_adopt, tree_of_adopt, spell_move, tree_of_move, spell_name_ends, tree_of_name_ends, spell_connect, tree_of_connect, spell_assignment, tree_of_assignment, spell_bind, tree_of_bind, Follow, spell_follow, Reading, spell_event}
-use Rattle.script_lang.specs.code.Grammar.{tree_of_invocation, ReadsFollow, ReadsEvent}
-use Rattle.script_lang.proofs.OneTree.{literal_unnamed, no_name_at_end, how_at_end, one_verb}
 
 -- the same reading of a whole line, whose tree is in another one
 pub within : {R A B : Type 0} {spell : R → List Token → List Token} {tree : R → A} {before after : List Token} {a : A} (outer : A → B) → Found spell tree EndsAnywhere before a after → Found spell (λ r. outer (tree r)) IsAtEnd before (outer a) after

@@ -1,26 +1,13 @@
 -- No two readings with the same tokens stand for different events.
 use Rattle.std.proofs.Common.{◌≡◌, ℕ, true, false, List, [], ◌∷◌, map, Option, Some, None, cond, nat_eq, sum, refl, sym, ◌∙◌, ap, subst}
 use Rattle.basic_types.specs.Words.{word_spelling}
-use Rattle.token_reading.specs.Connections.{spell_connection_type}
-use Rattle.token_reading.specs.code.Connections.{EndsConnectionType}
-use Rattle.token_reading.specs.Literals.{UnsignedReading, plain, truth, quoted, null, token_of_unsigned, LiteralReading, unsigned, negative, spell_literal}
-use Rattle.token_reading.specs.code.Optional.{EndsWithoutName}
-use Rattle.token_reading.specs.code.Reading.{EndsAnywhere, IsAtEnd}
-use Rattle.token_reading.specs.Reading.{spell_name}
-use Rattle.texts.specs.declared.symbol.Symbol.TheVariants.{Close}
-use Rattle.texts.specs.declared.token.Token.{Token}
+use Rattle.token_reading.{specs.Connections.{spell_connection_type}, specs.code.Connections.{EndsConnectionType}, specs.Literals.{UnsignedReading, plain, truth, quoted, null, token_of_unsigned, LiteralReading, unsigned, negative, spell_literal}, specs.code.Optional.{EndsWithoutName}, specs.code.Reading.{EndsAnywhere, IsAtEnd}, specs.Reading.{spell_name}, specs.code.Lists.{IsPart}, specs.Lists.{spell_each}, proofs.Both.{one_tree_of_both}, proofs.Connections.{one_tree_of_ends, one_tree_of_connection_type}, proofs.OneTree.{HasOneTree, one_tree_of_listed, one_tree_of_literal, one_tree_of_optional_name}}
+use Rattle.texts.specs.{declared.symbol.Symbol.TheVariants.{Close}, declared.token.Token.{Token}}
 use Rattle.texts.specs.declared.token.Token.TheVariants as token
-use Rattle.token_reading.specs.code.Lists.{IsPart}
-use Rattle.token_reading.specs.Lists.{spell_each}
-use Rattle.token_reading.proofs.Both.{one_tree_of_both}
-use Rattle.token_reading.proofs.Connections.{one_tree_of_ends, one_tree_of_connection_type}
-use Rattle.token_reading.proofs.OneTree.{HasOneTree, one_tree_of_listed, one_tree_of_literal, one_tree_of_optional_name}
 use Rattle.script_lang.specs.declared.event.Event.TheVariants as tree
 use Rattle.script_lang.specs.declared.event.Input.TheVariants as input
-use Rattle.script_lang.specs.declared.verb.Verb.{Verb}
+use Rattle.script_lang.specs.{declared.verb.Verb.{Verb}, Grammar.{InputReading, literal, named, spell_input, tree_of_input, verb_token, spell_invocation, spell_new, tree_of_new, spell_name_ends, tree_of_name_ends, spell_connect, tree_of_connect, tree_of_disconnect, spell_assignment, tree_of_assignment, spell_bind, tree_of_bind, Follow, spell_follow, tree_of_follow, Reading, spell_event, tree_of_event}, code.Grammar.{tree_of_invocation}}
 use Rattle.script_lang.specs.declared.verb.Verb.TheVariants as verb
-use Rattle.script_lang.specs.Grammar.{InputReading, literal, named, spell_input, tree_of_input, verb_token, spell_invocation, spell_new, tree_of_new, spell_name_ends, tree_of_name_ends, spell_connect, tree_of_connect, tree_of_disconnect, spell_assignment, tree_of_assignment, spell_bind, tree_of_bind, Follow, spell_follow, tree_of_follow, Reading, spell_event, tree_of_event}
-use Rattle.script_lang.specs.code.Grammar.{tree_of_invocation}
 
 -- ---- values
 

@@ -1,25 +1,11 @@
 -- The events of lines, and of a script.
-use Rattle.std.proofs.Common.{◌≡◌, ℕ, ◌≤◌, ◌+◌, List, [], ◌∷◌, ◌++◌, length, refl, sym, ◌∙◌, ap, Option, Some, None, Bool, true, false, IsTrue, ◌↔◌, All, arith}
-use Rattle.std.proofs.lemmas.List.{append-nil, length-append}
-use Rattle.texts.proofs.Cut.{same_tokens}
-use Rattle.texts.specs.Limits.{most_bytes}
-use Rattle.texts.specs.Pieces.{AreTokens}
-use Rattle.token_reading.specs.code.Reading.{Found, IsAtEnd}
+use Rattle.std.proofs.{Common.{◌≡◌, ℕ, ◌≤◌, ◌+◌, List, [], ◌∷◌, ◌++◌, length, refl, sym, ◌∙◌, ap, Option, Some, None, Bool, true, false, IsTrue, ◌↔◌, All, arith}, lemmas.List.{append-nil, length-append}}
+use Rattle.texts.{proofs.Cut.{same_tokens}, specs.Limits.{most_bytes}, specs.Pieces.{AreTokens}, specs.declared.lexer.LexFault.{LexFault}, specs.declared.token.Token.{Token}, specs.Lines.{IsFrontLine, AreFrontLines}, proofs.FrontLines.{one_more_line}}
+use Rattle.token_reading.specs.{code.Reading.{Found, IsAtEnd}, Signatures.{HasPlainReference}, declared.fault.ParseFault.{ParseFault}}
 use Rattle.syntax_trees.specs.Connections.{HasFewTypes}
-use Rattle.token_reading.specs.Signatures.{HasPlainReference}
-use Rattle.token_reading.specs.declared.fault.ParseFault.{ParseFault}
 use Rattle.token_reading.specs.declared.fault.ParseFault.TheVariants as parse
-use Rattle.texts.specs.declared.lexer.LexFault.{LexFault}
 use Rattle.texts.specs.declared.lexer.LexFault.TheVariants as lex
-use Rattle.texts.specs.declared.token.Token.{Token}
-use Rattle.script_lang.specs.declared.fault.LineFault.TheVariants.{NoEvent}
-use Rattle.script_lang.specs.declared.event.Event.{Event}
-use Rattle.script_lang.specs.Grammar.{Reading, signatures_in, spell_event, tree_of_event}
-use Rattle.texts.specs.Lines.{IsFrontLine, AreFrontLines}
-use Rattle.script_lang.specs.code.Lines.{fault_of_cutting, fault_of_parsing}
-use Rattle.script_lang.specs.Reads.{IsEmptyLine, IsEventLine, Holds, before, AreEvents, IsScript, IsBadLine}
-use Rattle.texts.proofs.FrontLines.{one_more_line}
-use Rattle.script_lang.proofs.OneTree.{one_event}
+use Rattle.script_lang.{specs.declared.fault.LineFault.TheVariants.{NoEvent}, specs.declared.event.Event.{Event}, specs.Grammar.{Reading, signatures_in, spell_event, tree_of_event}, specs.code.Lines.{fault_of_cutting, fault_of_parsing}, specs.Reads.{IsEmptyLine, IsEventLine, Holds, before, AreEvents, IsScript, IsBadLine}, proofs.OneTree.{one_event}}
 
 -- ---- one line
 

@@ -24,24 +24,13 @@
 use Rattle.std.specs.Prelude.{ℕ, ◌≡◌, List, [], ◌∷◌, map, codes, Option, None, All}
 use Rattle.basic_types.specs.declared.sig.Sig.{Sig}
 use Rattle.basic_types.specs.declared.word.Word.TheVariants as word
-use Rattle.token_reading.specs.Connections.{BothEnds, spell_ends, tree_of_ends, spell_connection_type}
-use Rattle.syntax_trees.specs.Connections.{signatures_at}
-use Rattle.token_reading.specs.Lists.{spell_each, spell_listed}
-use Rattle.token_reading.specs.Literals.{LiteralReading, spell_literal, tree_of_literal}
-use Rattle.token_reading.specs.Optional.{spell_optional_name}
-use Rattle.token_reading.specs.Reading.{spell_name}
-use Rattle.syntax_trees.specs.Connections.{HasFewTypes}
-use Rattle.token_reading.specs.Signatures.{HasPlainReference}
-use Rattle.syntax_trees.specs.declared.connection.ConnectionType.{ConnectionType}
-use Rattle.syntax_trees.specs.declared.connection.Endpoints.{Endpoints}
-use Rattle.texts.specs.declared.symbol.Symbol.TheVariants.{Dot}
-use Rattle.texts.specs.declared.token.Token.{Token}
+use Rattle.token_reading.specs.{Connections.{BothEnds, spell_ends, tree_of_ends, spell_connection_type}, Lists.{spell_each, spell_listed}, Literals.{LiteralReading, spell_literal, tree_of_literal}, Optional.{spell_optional_name}, Reading.{spell_name}, Signatures.{HasPlainReference}}
+use Rattle.syntax_trees.specs.{Connections.{signatures_at, HasFewTypes}, declared.connection.ConnectionType.{ConnectionType}, declared.connection.Endpoints.{Endpoints}}
+use Rattle.texts.specs.{declared.symbol.Symbol.TheVariants.{Dot}, declared.token.Token.{Token}}
 use Rattle.texts.specs.declared.token.Token.TheVariants as token
-use Rattle.script_lang.specs.declared.event.Event.{Event}
+use Rattle.script_lang.specs.{declared.event.Event.{Event}, declared.event.Input.{Input}, declared.verb.Verb.{Verb}}
 use Rattle.script_lang.specs.declared.event.Event.TheVariants as tree
-use Rattle.script_lang.specs.declared.event.Input.{Input}
 use Rattle.script_lang.specs.declared.event.Input.TheVariants as input
-use Rattle.script_lang.specs.declared.verb.Verb.{Verb}
 use Rattle.script_lang.specs.declared.verb.Verb.TheVariants as verb
 
 -- ---- values

@@ -1,25 +1,10 @@
 -- Whether each way between two nodes hands on.
-use Rattle.std.proofs.Common.{◌≡◌, inl, inr, ℕ, zero, suc, false, List, [], ◌∷◌, Some, slice_get, sym, ap, ◌∙◌, subst}
-use Rattle.std.proofs.lemmas.Option.{none-some, same_Some}
-use Rattle.meta_model.specs.declared.effects.MetaEffects.{MetaEffects}
-use Rattle.meta_model.specs.declared.object.MetaMethod.{MetaMethod}
-use Rattle.meta_model.specs.declared.object.MetaObject.{MetaObject}
-use Rattle.meta_model.specs.declared.object.Statement.{Statement}
-use Rattle.meta_model.specs.declared.object.ValueType.{ValueType}
-use Rattle.meta_model.specs.declared.object.Work.{Work}
-use Rattle.meta_model.specs.declared.object.Work.TheVariants.{Signal, Slot, Native}
-use Rattle.meta_model.specs.Loaded.{Loaded}
-use Rattle.meta_model.specs.Members.{IsMethod, IsIn}
+use Rattle.std.proofs.{Common.{◌≡◌, inl, inr, ℕ, zero, suc, false, List, [], ◌∷◌, Some, slice_get, sym, ap, ◌∙◌, subst}, lemmas.Option.{none-some, same_Some}}
+use Rattle.meta_model.specs.{declared.effects.MetaEffects.{MetaEffects}, declared.object.MetaMethod.{MetaMethod}, declared.object.MetaObject.{MetaObject}, declared.object.Statement.{Statement}, declared.object.ValueType.{ValueType}, declared.object.Work.{Work}, declared.object.Work.TheVariants.{Signal, Slot, Native}, Loaded.{Loaded}, Members.{IsMethod, IsIn}}
 use Rattle.name_indexes.specs.Places.{StandsFirst}
-use Rattle.effect_scan.specs.declared.effect.Effect.{Effect}
-use Rattle.effect_scan.specs.declared.node.Member.{Member}
-use Rattle.effect_scan.specs.declared.node.Member.TheVariants.{Method, Property, Destruction}
-use Rattle.effect_scan.specs.declared.node.Node.{Node}
-use Rattle.effect_scan.specs.Effects.{WorkHas}
-use Rattle.effect_scan.specs.Edges.{Reaches, ByWork, MayLead, by_work, by_site, by_destruction}
+use Rattle.effect_scan.specs.{declared.effect.Effect.{Effect}, declared.node.Member.{Member}, declared.node.Member.TheVariants.{Method, Property, Destruction}, declared.node.Node.{Node}, Effects.{WorkHas}, Edges.{Reaches, ByWork, MayLead, by_work, by_site, by_destruction}}
 use Rattle.edge_reasons.specs.Reasons.{IsNative, SiteBinds, IsAnnounced}
-use Rattle.settling.specs.Hands.{WorkHands, HandOn}
-use Rattle.settling.specs.code.Bodies.{BodyHands, WorksHand}
+use Rattle.settling.specs.{Hands.{WorkHands, HandOn}, code.Bodies.{BodyHands, WorksHand}}
 
 one_method : (p : Loaded) (c m : ℕ) (a b : MetaMethod) → IsMethod p c m a → IsMethod p c m b → a ≡ b
 one_method p c m a b x y =

@@ -1,32 +1,14 @@
 -- Factors.
 use Rattle.std.proofs.Common.{◌≡◌, ◌∙◌, ℕ, List, [], ◌∷◌, Result, Ok, Err, MatchResult, true, false, refl, sym, ap}
 use Rattle.basic_types.specs.declared.word.Word.TheVariants as word
-use Rattle.token_reading.specs.code.Cursor.{NotAt, NotAtWord}
-use Rattle.slot_lang.specs.Expressions.{Expression, Factor, prefixed, literal, path, grouped, spell_expression, spell_factor, spell_group, spell_names, spell_root, tree_of_expression, tree_of_factor}
-use Rattle.slot_lang.specs.code.Expressions.{EndsExpression, EndsFactor}
-use Rattle.token_reading.specs.Literals.{UnsignedReading, plain, truth, quoted, null, token_of_unsigned}
-use Rattle.syntax_trees.specs.Literals.{literal_value}
-use Rattle.token_reading.specs.code.Literals.{IsUnsigned}
-use Rattle.slot_lang.specs.Precedence.{prefix_symbol_of}
-use Rattle.token_reading.specs.code.Reading.{EndsAnywhere, Found, Reads}
-use Rattle.token_reading.specs.declared.fault.ParseFault.{ParseFault}
-use Rattle.token_reading.specs.declared.fault.ParseFault.TheVariants.{Syntax}
-use Rattle.texts.specs.declared.symbol.Symbol.{Symbol}
-use Rattle.texts.specs.declared.symbol.Symbol.TheVariants.{Not, Minus, Open, Close}
-use Rattle.syntax_trees.specs.declared.syntax.Expr.{Expr}
+use Rattle.token_reading.{specs.code.Cursor.{NotAt, NotAtWord}, specs.Literals.{UnsignedReading, plain, truth, quoted, null, token_of_unsigned}, specs.code.Literals.{IsUnsigned}, specs.code.Reading.{EndsAnywhere, Found, Reads}, specs.declared.fault.ParseFault.{ParseFault}, specs.declared.fault.ParseFault.TheVariants.{Syntax}, proofs.Literals.{no_symbol}, proofs.Underway.{None}}
+use Rattle.slot_lang.{specs.Expressions.{Expression, Factor, prefixed, literal, path, grouped, spell_expression, spell_factor, spell_group, spell_names, spell_root, tree_of_expression, tree_of_factor}, specs.code.Expressions.{EndsExpression, EndsFactor}, specs.Precedence.{prefix_symbol_of}, proofs.Paths.{root_no_symbol, same_root}, proofs.Precedences.{expression_ends}}
+use Rattle.syntax_trees.specs.{Literals.{literal_value}, declared.syntax.Expr.{Expr}, declared.syntax.Path.{Path}, declared.syntax.Root.{Root}, declared.syntax.Unary.{Unary}, declared.syntax.Literal.{Literal}}
+use Rattle.texts.specs.{declared.symbol.Symbol.{Symbol}, declared.symbol.Symbol.TheVariants.{Not, Minus, Open, Close}, declared.token.Token.{Token}}
 use Rattle.syntax_trees.specs.declared.syntax.Expr.TheVariants as tree
-use Rattle.syntax_trees.specs.declared.syntax.Path.{Path}
-use Rattle.syntax_trees.specs.declared.syntax.Root.{Root}
 use Rattle.syntax_trees.specs.declared.syntax.Root.TheVariants as root
-use Rattle.syntax_trees.specs.declared.syntax.Unary.{Unary}
 use Rattle.syntax_trees.specs.declared.syntax.Unary.TheVariants as unary
-use Rattle.syntax_trees.specs.declared.syntax.Literal.{Literal}
-use Rattle.texts.specs.declared.token.Token.{Token}
 use Rattle.texts.specs.declared.token.Token.TheVariants as token
-use Rattle.token_reading.proofs.Literals.{no_symbol}
-use Rattle.slot_lang.proofs.Paths.{root_no_symbol, same_root}
-use Rattle.slot_lang.proofs.Precedences.{expression_ends}
-use Rattle.token_reading.proofs.Underway.{None}
 
 -- ---- what other tokens than a factor's first one begin no such factor
 

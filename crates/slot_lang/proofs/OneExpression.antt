@@ -1,25 +1,12 @@
 -- No two readings of an expression with the same tokens stand for different trees.
 use Rattle.std.proofs.Common.{◌≡◌, ◌∙◌, ℕ, List, [], ◌∷◌, refl, sym, ap}
-use Rattle.syntax_trees.specs.Literals.{literal_value}
-use Rattle.token_reading.specs.code.Cursor.{NotAt}
-use Rattle.slot_lang.specs.Expressions.{Expression, expression, Conjunctions, no_conjunction, or_else, Conjunction, conjunction, Comparisons, no_comparison, and_also, Comparison, alone, compared, Sum, sum, Terms, no_term, signed, Term, term, Factors, no_factor, times, Factor, prefixed, literal, path, grouped, spell_root, spell_names, spell_path, spell_expression, spell_conjunctions, spell_conjunction, spell_comparisons, spell_comparison, spell_sum, spell_terms, spell_term, spell_factors, spell_factor, spell_group, tree_of_expression, tree_of_conjunctions, tree_of_conjunction, tree_of_comparisons, tree_of_comparison, tree_of_sum, tree_of_terms, tree_of_term, tree_of_factors, tree_of_factor, IsExpr}
-use Rattle.slot_lang.specs.code.Expressions.{EndsFactor, EndsTerm, EndsSum, EndsComparison, EndsConjunction, EndsExpression}
-use Rattle.slot_lang.specs.Precedence.{symbol_of, prefix_symbol_of}
-use Rattle.texts.specs.declared.symbol.Symbol.TheVariants.{Dot, Open, Close}
-use Rattle.syntax_trees.specs.declared.syntax.Expr.{Expr}
+use Rattle.syntax_trees.specs.{Literals.{literal_value}, declared.syntax.Expr.{Expr}, declared.syntax.Path.{Path}, declared.syntax.Root.{Root}}
+use Rattle.token_reading.{specs.code.Cursor.{NotAt}, proofs.Literals.{no_symbol}, proofs.OneTree.{one_unsigned}}
+use Rattle.slot_lang.{specs.Expressions.{Expression, expression, Conjunctions, no_conjunction, or_else, Conjunction, conjunction, Comparisons, no_comparison, and_also, Comparison, alone, compared, Sum, sum, Terms, no_term, signed, Term, term, Factors, no_factor, times, Factor, prefixed, literal, path, grouped, spell_root, spell_names, spell_path, spell_expression, spell_conjunctions, spell_conjunction, spell_comparisons, spell_comparison, spell_sum, spell_terms, spell_term, spell_factors, spell_factor, spell_group, tree_of_expression, tree_of_conjunctions, tree_of_conjunction, tree_of_comparisons, tree_of_comparison, tree_of_sum, tree_of_terms, tree_of_term, tree_of_factors, tree_of_factor, IsExpr}, specs.code.Expressions.{EndsFactor, EndsTerm, EndsSum, EndsComparison, EndsConjunction, EndsExpression}, specs.Precedence.{symbol_of, prefix_symbol_of}, proofs.Chains.{ends_more}, proofs.Factors.{one_prefix, prefix_not_open, root_no_unsigned, ends_at_close}, proofs.Levels.{terms_chain, sums_chain, conjunctions_chain, expressions_chain, sum_ends_at}, proofs.Paths.{root_no_symbol}, proofs.Precedences.{one_operator, expression_ends_at_end}}
+use Rattle.texts.specs.{declared.symbol.Symbol.TheVariants.{Dot, Open, Close}, declared.token.Token.{Token}}
 use Rattle.syntax_trees.specs.declared.syntax.Expr.TheVariants as tree
-use Rattle.syntax_trees.specs.declared.syntax.Path.{Path}
-use Rattle.syntax_trees.specs.declared.syntax.Root.{Root}
 use Rattle.syntax_trees.specs.declared.syntax.Root.TheVariants as root
-use Rattle.texts.specs.declared.token.Token.{Token}
 use Rattle.texts.specs.declared.token.Token.TheVariants as token
-use Rattle.slot_lang.proofs.Chains.{ends_more}
-use Rattle.slot_lang.proofs.Factors.{one_prefix, prefix_not_open, root_no_unsigned, ends_at_close}
-use Rattle.slot_lang.proofs.Levels.{terms_chain, sums_chain, conjunctions_chain, expressions_chain, sum_ends_at}
-use Rattle.token_reading.proofs.Literals.{no_symbol}
-use Rattle.token_reading.proofs.OneTree.{one_unsigned}
-use Rattle.slot_lang.proofs.Paths.{root_no_symbol}
-use Rattle.slot_lang.proofs.Precedences.{one_operator, expression_ends_at_end}
 
 pub one_names : (a b : List (List ℕ)) (r s : List Token) → NotAt Dot r → NotAt Dot s → spell_names a r ≡ spell_names b s → (a ≡ b) × (r ≡ s)
 one_names [] [] r s er es e = (refl, e)

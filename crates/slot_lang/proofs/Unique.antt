@@ -1,27 +1,11 @@
 -- No two readings of a block with the same tokens stand for different trees.
 use Rattle.std.proofs.Common.{◌≡◌, ◌∙◌, ℕ, List, [], ◌∷◌, ◌++◌, map, Some, refl, sym, ap}
-use Rattle.slot_lang.specs.Expressions.{Expression, spell_expression, spell_path, tree_of_expression}
-use Rattle.slot_lang.specs.code.Expressions.{EndsFactor}
-use Rattle.slot_lang.specs.Grammar.{Target, spell_target, spell_value, spell_arguments, Assignment, spell_assignment, tree_of_assignment, spell_set, Sets, spell_sets, trees_of_sets, Emission, spell_emission, tree_of_emission, Call, spell_call, tree_of_call, spell_condition, spell_path_ends, tree_of_path_ends, spell_how, spell_connection, tree_of_connection, spell_disconnection, tree_of_disconnection, spell_object, Body, no_more, more, Statement, set, emit, call, choice, connect, disconnect, delete, later, group, Else, no_else, else_block, spell_statements, spell_statement, spell_else, spell_block, tree_of_block, tree_of_statement, tree_of_else, IsBody}
-use Rattle.slot_lang.specs.code.Grammar.{EndsStatement}
-use Rattle.token_reading.specs.code.Connections.{EndsAtSig, EndsConnectionType}
-use Rattle.token_reading.specs.code.Reading.{EndsAnywhere}
-use Rattle.texts.specs.declared.symbol.Symbol.TheVariants.{Comma, Semicolon, CloseBrace}
-use Rattle.syntax_trees.specs.declared.syntax.Path.{Path}
-use Rattle.syntax_trees.specs.declared.syntax.Stmt.{Stmt}
+use Rattle.slot_lang.{specs.Expressions.{Expression, spell_expression, spell_path, tree_of_expression}, specs.code.Expressions.{EndsFactor}, specs.Grammar.{Target, spell_target, spell_value, spell_arguments, Assignment, spell_assignment, tree_of_assignment, spell_set, Sets, spell_sets, trees_of_sets, Emission, spell_emission, tree_of_emission, Call, spell_call, tree_of_call, spell_condition, spell_path_ends, tree_of_path_ends, spell_how, spell_connection, tree_of_connection, spell_disconnection, tree_of_disconnection, spell_object, Body, no_more, more, Statement, set, emit, call, choice, connect, disconnect, delete, later, group, Else, no_else, else_block, spell_statements, spell_statement, spell_else, spell_block, tree_of_block, tree_of_statement, tree_of_else, IsBody}, specs.code.Grammar.{EndsStatement}, proofs.Arguments.{expressions_are_parts}, proofs.Bodies.{begins_with_no_symbol, ends_in_body, value_meets, arguments_meet}, proofs.Factors.{ends_at_close}, proofs.OneExpression.{one_path, one_tree_of_expression}, proofs.Paths.{whole_path, spelled_whole}, proofs.Sets.{spell_left}, proofs.Precedences.{expression_ends}}
+use Rattle.token_reading.{specs.code.Connections.{EndsAtSig, EndsConnectionType}, specs.code.Reading.{EndsAnywhere}, proofs.Both.{one_tree_of_both}, proofs.Connections.{one_tree_of_ends, one_tree_of_connection_type}, proofs.OneTree.{HasOneTree, one_tree_of_listed}}
+use Rattle.texts.specs.{declared.symbol.Symbol.TheVariants.{Comma, Semicolon, CloseBrace}, declared.token.Token.{Token}}
+use Rattle.syntax_trees.specs.{declared.syntax.Path.{Path}, declared.syntax.Stmt.{Stmt}}
 use Rattle.syntax_trees.specs.declared.syntax.Stmt.TheVariants as stmt
-use Rattle.texts.specs.declared.token.Token.{Token}
 use Rattle.texts.specs.declared.token.Token.TheVariants as token
-use Rattle.slot_lang.proofs.Arguments.{expressions_are_parts}
-use Rattle.token_reading.proofs.Both.{one_tree_of_both}
-use Rattle.token_reading.proofs.Connections.{one_tree_of_ends, one_tree_of_connection_type}
-use Rattle.slot_lang.proofs.Bodies.{begins_with_no_symbol, ends_in_body, value_meets, arguments_meet}
-use Rattle.slot_lang.proofs.Factors.{ends_at_close}
-use Rattle.slot_lang.proofs.OneExpression.{one_path, one_tree_of_expression}
-use Rattle.token_reading.proofs.OneTree.{HasOneTree, one_tree_of_listed}
-use Rattle.slot_lang.proofs.Paths.{whole_path, spelled_whole}
-use Rattle.slot_lang.proofs.Sets.{spell_left}
-use Rattle.slot_lang.proofs.Precedences.{expression_ends}
 
 -- ---- the parts of statements
 

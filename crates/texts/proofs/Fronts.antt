@@ -1,26 +1,11 @@
 -- What is at the front of a text, by its first byte.
-use Rattle.std.proofs.Common.{◌≡◌, ℕ, Bool, true, false, nat_eq, List, [], ◌∷◌, ◌++◌, length, inl, inr, Option, Some, None, refl, sym, ◌∙◌, ap, arith}
-use Rattle.std.proofs.lemmas.Bool.Decides.{nat_tests}
-use Rattle.std.proofs.lemmas.Bool.{eqb-true}
-use Rattle.std.specs.List.{AllByRecursion}
-use Rattle.texts.specs.declared.bytes.Class.{Class}
-use Rattle.texts.specs.declared.bytes.Class.TheVariants.{Blank, Slash, Letter, Digit, Quote, Other}
+use Rattle.std.{proofs.Common.{◌≡◌, ℕ, Bool, true, false, nat_eq, List, [], ◌∷◌, ◌++◌, length, inl, inr, Option, Some, None, refl, sym, ◌∙◌, ap, arith}, proofs.lemmas.Bool.Decides.{nat_tests}, proofs.lemmas.Bool.{eqb-true}, specs.List.{AllByRecursion}, proofs.lemmas.List.Elements.{All-from_recursion}}
+use Rattle.texts.specs.{declared.bytes.Class.{Class}, declared.bytes.Class.TheVariants.{Blank, Slash, Letter, Digit, Quote, Other}, declared.symbol.Symbol.{Symbol}, code.Bytes.{class_by, class_of}, Bytes.{belongs, IsRun}, declared.token.Token.{Token}, Symbols.{spelling, IsSymbolAt, Begins}, Pieces.{Piece, blank, comment, name, reserved, number, text, symbol, IsFront, IsComment, StartsWithLetter, IsNotEmpty}, code.Splitting.{IsWordOrName, Cuts}}
 use Rattle.texts.specs.declared.bytes.Run.TheVariants as run
-use Rattle.texts.specs.declared.symbol.Symbol.{Symbol}
 use Rattle.texts.specs.declared.symbol.Symbol.TheVariants as s
 use Rattle.texts.specs.declared.token.Token.TheVariants as token
-use Rattle.basic_types.specs.Tokens.{is_blank}
-use Rattle.texts.specs.code.Bytes.{class_by, class_of}
-use Rattle.texts.specs.Bytes.{belongs, IsRun}
-use Rattle.basic_types.specs.Name.{is_letter, is_digit, is_name_byte, IsName}
-use Rattle.texts.specs.declared.token.Token.{Token}
-use Rattle.basic_types.specs.declared.word.Word.{Word}
+use Rattle.basic_types.specs.{Tokens.{is_blank}, Name.{is_letter, is_digit, is_name_byte, IsName}, declared.word.Word.{Word}, Words.{word_spelling}}
 use Rattle.basic_types.specs.declared.word.Word.TheVariants as w
-use Rattle.std.proofs.lemmas.List.Elements.{All-from_recursion}
-use Rattle.basic_types.specs.Words.{word_spelling}
-use Rattle.texts.specs.Symbols.{spelling, IsSymbolAt, Begins}
-use Rattle.texts.specs.Pieces.{Piece, blank, comment, name, reserved, number, text, symbol, IsFront, IsComment, StartsWithLetter, IsNotEmpty}
-use Rattle.texts.specs.code.Splitting.{IsWordOrName, Cuts}
 
 abbrev class_at : List ℕ → Option Class
 class_at [] = None

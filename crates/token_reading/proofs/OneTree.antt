@@ -1,27 +1,10 @@
 -- No two readings with the same tokens stand for different trees: lists, types, signatures, kinds and literals.
 use Rattle.std.proofs.Common.{◌≡◌, ℕ, List, [], ◌∷◌, true, false, Some, None, pos, ◌-ℤ◌, map, refl, sym, ap}
-use Rattle.basic_types.specs.declared.kind.Kind.TheVariants.{Auto, Direct, Queued}
-use Rattle.basic_types.specs.declared.normal.ConstPlace.{ConstPlace}
-use Rattle.basic_types.specs.declared.normal.ConstPlace.TheVariants.{Nowhere, Before, After}
-use Rattle.basic_types.specs.declared.normal.TypeEnding.{TypeEnding}
-use Rattle.basic_types.specs.declared.normal.TypeEnding.TheVariants.{Bare, Reference, Pointer}
+use Rattle.basic_types.specs.{declared.kind.Kind.TheVariants.{Auto, Direct, Queued}, declared.normal.ConstPlace.{ConstPlace}, declared.normal.ConstPlace.TheVariants.{Nowhere, Before, After}, declared.normal.TypeEnding.{TypeEnding}, declared.normal.TypeEnding.TheVariants.{Bare, Reference, Pointer}, declared.word.Word.{Word}}
 use Rattle.syntax_trees.specs.declared.syntax.Literal.TheVariants as literal
-use Rattle.token_reading.specs.code.Lists.{IsPart, EndsAtComma, EndsParts, EndsAfter}
-use Rattle.token_reading.specs.Lists.{spell_further, spell_parts, trees_of_parts, spell_after, spell_others, spell_listed}
-use Rattle.token_reading.specs.Literals.{UnsignedReading, plain, truth, quoted, null, token_of_unsigned, tree_of_unsigned, unsigned, negative, spell_literal, tree_of_literal}
-use Rattle.texts.specs.Numerals.{value_of}
-use Rattle.token_reading.specs.Optional.{spell_optional_name}
-use Rattle.token_reading.specs.code.Optional.{EndsWithoutName}
-use Rattle.token_reading.specs.code.Reading.{EndsAnywhere}
-use Rattle.token_reading.specs.Signatures.{spelled_type, spell_ending, spell_type, tree_of_type, sig, spell_sig, tree_of_sig, spell_kind}
-use Rattle.token_reading.specs.code.Signatures.{Named, spell_place, EndsNamed, EndsType}
-use Rattle.texts.specs.declared.symbol.Symbol.TheVariants.{Close, Minus}
-use Rattle.basic_types.specs.declared.word.Word.{Word}
-use Rattle.texts.specs.declared.token.Token.{Token}
+use Rattle.token_reading.{specs.code.Lists.{IsPart, EndsAtComma, EndsParts, EndsAfter}, specs.Lists.{spell_further, spell_parts, trees_of_parts, spell_after, spell_others, spell_listed}, specs.Literals.{UnsignedReading, plain, truth, quoted, null, token_of_unsigned, tree_of_unsigned, unsigned, negative, spell_literal, tree_of_literal}, specs.Optional.{spell_optional_name}, specs.code.Optional.{EndsWithoutName}, specs.code.Reading.{EndsAnywhere}, specs.Signatures.{spelled_type, spell_ending, spell_type, tree_of_type, sig, spell_sig, tree_of_sig, spell_kind}, specs.code.Signatures.{Named, spell_place, EndsNamed, EndsType}, proofs.Listed.{ends_further, ends_at_close}, proofs.Literals.{no_symbol}, proofs.Signatures.{types_are_parts, ends_at_ending}}
+use Rattle.texts.specs.{Numerals.{value_of}, declared.symbol.Symbol.TheVariants.{Close, Minus}, declared.token.Token.{Token}}
 use Rattle.texts.specs.declared.token.Token.TheVariants as token
-use Rattle.token_reading.proofs.Listed.{ends_further, ends_at_close}
-use Rattle.token_reading.proofs.Literals.{no_symbol}
-use Rattle.token_reading.proofs.Signatures.{types_are_parts, ends_at_ending}
 
 -- the tokens up to where the rule may end settle its tree, and where it ends
 abbrev pub HasOneTree : {R A : Type 0} → (R → List Token → List Token) → (R → A) → (List Token → Type 0) → Type 0

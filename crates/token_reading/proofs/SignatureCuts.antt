@@ -1,38 +1,16 @@
 -- A text that is scanned as a signature is cut into that signature's tokens.
-use Rattle.std.proofs.Common.{◌≡◌, ◌⊎◌, ◌∙◌, ℕ, zero, suc, ◌≤◌, Bool, true, false, if◌then◌else◌, nat_eq, List, [], ◌∷◌, ◌++◌, length, map, refl, sym, ap, inl, inr, arith}
-use Rattle.std.proofs.lemmas.Bool.{eqb-true}
-use Rattle.std.proofs.lemmas.List.{length-append}
-use Rattle.std.specs.List.{AllByRecursion, AllZip}
-use Rattle.std.specs.Prelude.{◌≢◌}
-use Rattle.basic_types.specs.Name.{is_name_byte}
-use Rattle.basic_types.specs.Signatures.{IsFreeName, IsTypeOf, Normal}
+use Rattle.std.{proofs.Common.{◌≡◌, ◌⊎◌, ◌∙◌, ℕ, zero, suc, ◌≤◌, Bool, true, false, if◌then◌else◌, nat_eq, List, [], ◌∷◌, ◌++◌, length, map, refl, sym, ap, inl, inr, arith}, proofs.lemmas.Bool.{eqb-true}, proofs.lemmas.List.{length-append}, specs.List.{AllByRecursion, AllZip}, specs.Prelude.{◌≢◌}}
+use Rattle.basic_types.specs.{Name.{is_name_byte}, Signatures.{IsFreeName, IsTypeOf, Normal}, Tokens.{is_blank, mark_of}, Words.{word_spelling}, declared.normal.ConstPlace.{ConstPlace}, declared.normal.ConstPlace.TheVariants.{Nowhere, Before, After}, declared.normal.TypeEnding.{TypeEnding}, declared.normal.TypeEnding.TheVariants.{Bare, Reference, Pointer}, declared.qtype.QType.{QType}, declared.mark.Mark.{Mark}}
 use Rattle.basic_types.specs.Signatures as scanned
-use Rattle.basic_types.specs.Tokens.{is_blank, mark_of}
 use Rattle.basic_types.specs.Tokens as scanner
-use Rattle.basic_types.specs.Words.{word_spelling}
-use Rattle.basic_types.specs.declared.normal.ConstPlace.{ConstPlace}
-use Rattle.basic_types.specs.declared.normal.ConstPlace.TheVariants.{Nowhere, Before, After}
-use Rattle.basic_types.specs.declared.normal.TypeEnding.{TypeEnding}
-use Rattle.basic_types.specs.declared.normal.TypeEnding.TheVariants.{Bare, Reference, Pointer}
-use Rattle.basic_types.specs.declared.qtype.QType.{QType}
-use Rattle.basic_types.specs.declared.mark.Mark.{Mark}
 use Rattle.basic_types.specs.declared.mark.Mark.TheVariants as mark
 use Rattle.basic_types.specs.declared.word.Word.TheVariants as reserved_word
-use Rattle.texts.specs.Bytes.{IsRun}
-use Rattle.token_reading.specs.code.Cursor.{NotAt}
-use Rattle.token_reading.specs.Lists.{spell_others, spell_listed}
-use Rattle.texts.specs.Pieces.{AreTokens, Piece, IsFront, StartsWithLetter, token_of, before}
+use Rattle.texts.{specs.Bytes.{IsRun}, specs.Pieces.{AreTokens, Piece, IsFront, StartsWithLetter, token_of, before}, specs.Symbols.{spelling}, specs.declared.symbol.Symbol.{Symbol}, specs.declared.token.Token.{Token}, proofs.Table.{NoneBegins, doubles, is_longest_single}}
+use Rattle.token_reading.{specs.code.Cursor.{NotAt}, specs.Lists.{spell_others, spell_listed}, specs.Signatures.{TypeReading, spelled_type, spell_ending, spell_named, spell_type, sig, spell_sig}, specs.SignatureTexts.{IsNormalFormOf, NormalFormsAreInTokens}, proofs.SignatureTexts.{scan_of, IsSigToken, blank_next, word_next, as_scanned, scan_list, sig_ending, sig_named}}
 use Rattle.texts.specs.Pieces as piece
-use Rattle.token_reading.specs.Signatures.{TypeReading, spelled_type, spell_ending, spell_named, spell_type, sig, spell_sig}
-use Rattle.token_reading.specs.SignatureTexts.{IsNormalFormOf, NormalFormsAreInTokens}
-use Rattle.texts.specs.Symbols.{spelling}
 use Rattle.texts.specs.declared.bytes.Run.TheVariants as run
-use Rattle.texts.specs.declared.symbol.Symbol.{Symbol}
 use Rattle.texts.specs.declared.symbol.Symbol.TheVariants as s
-use Rattle.texts.specs.declared.token.Token.{Token}
 use Rattle.texts.specs.declared.token.Token.TheVariants as token
-use Rattle.token_reading.proofs.SignatureTexts.{scan_of, IsSigToken, blank_next, word_next, as_scanned, scan_list, sig_ending, sig_named}
-use Rattle.texts.proofs.Table.{NoneBegins, doubles, is_longest_single}
 
 sure : (x : Bool) → (x ≡ true) ⊎ (x ≡ false)
 sure true = inl refl

@@ -1,35 +1,16 @@
 -- A text that has a signature's bytes alone is cut into tokens as it is scanned as a signature.
-use Rattle.std.proofs.Common.{◌≡◌, ◌⊎◌, ◌∙◌, ℕ, Bool, true, false, ◌||◌, nat_eq, List, [], ◌∷◌, ◌++◌, map, refl, ap, inl, inr}
-use Rattle.std.proofs.lemmas.Bool.{eqb-true}
-use Rattle.std.specs.List.{AllByRecursion, AllZip}
-use Rattle.basic_types.specs.Name.{is_name_byte}
-use Rattle.basic_types.specs.Signatures.{IsFreeName, IsTypeOf, Normal}
+use Rattle.std.{proofs.Common.{◌≡◌, ◌⊎◌, ◌∙◌, ℕ, Bool, true, false, ◌||◌, nat_eq, List, [], ◌∷◌, ◌++◌, map, refl, ap, inl, inr}, proofs.lemmas.Bool.{eqb-true}, specs.List.{AllByRecursion, AllZip}}
+use Rattle.basic_types.{specs.Name.{is_name_byte}, specs.Signatures.{IsFreeName, IsTypeOf, Normal}, specs.Tokens.{is_blank}, specs.Words.{word_spelling}, specs.declared.normal.ConstPlace.{ConstPlace}, specs.declared.normal.ConstPlace.TheVariants.{Nowhere, Before, After}, specs.declared.normal.TypeEnding.{TypeEnding}, specs.declared.normal.TypeEnding.TheVariants.{Bare, Reference, Pointer}, specs.declared.qtype.QType.{QType}, specs.declared.word.Word.{Word}, proofs.Tokens.{taken, stopped}}
 use Rattle.basic_types.specs.Signatures as scanned
-use Rattle.basic_types.specs.Tokens.{is_blank}
 use Rattle.basic_types.specs.Tokens as scanner
-use Rattle.basic_types.specs.Words.{word_spelling}
-use Rattle.basic_types.specs.declared.normal.ConstPlace.{ConstPlace}
-use Rattle.basic_types.specs.declared.normal.ConstPlace.TheVariants.{Nowhere, Before, After}
-use Rattle.basic_types.specs.declared.normal.TypeEnding.{TypeEnding}
-use Rattle.basic_types.specs.declared.normal.TypeEnding.TheVariants.{Bare, Reference, Pointer}
-use Rattle.basic_types.specs.declared.qtype.QType.{QType}
 use Rattle.basic_types.specs.declared.mark.Mark.TheVariants as mark
-use Rattle.basic_types.specs.declared.word.Word.{Word}
 use Rattle.basic_types.specs.declared.word.Word.TheVariants as reserved_word
-use Rattle.basic_types.proofs.Tokens.{taken, stopped}
-use Rattle.texts.specs.Bytes.{IsRun}
-use Rattle.token_reading.specs.Lists.{spell_others, spell_listed}
-use Rattle.texts.specs.Pieces.{AreTokens, Piece, IsNotEmpty, IsCut, tokens_of}
+use Rattle.texts.{specs.Bytes.{IsRun}, specs.Pieces.{AreTokens, Piece, IsNotEmpty, IsCut, tokens_of}, specs.Symbols.{spelling}, specs.declared.symbol.Symbol.{Symbol}, specs.declared.token.Token.{Token}, proofs.Fronts.{named}}
+use Rattle.token_reading.specs.{Lists.{spell_others, spell_listed}, Signatures.{TypeReading, spelled_type, spell_ending, spell_named, spell_type, sig, spell_sig}, SignatureTexts.{IsSigByte, IsNormalFormOf, TokensGiveNormalForms}}
 use Rattle.texts.specs.Pieces as piece
-use Rattle.token_reading.specs.Signatures.{TypeReading, spelled_type, spell_ending, spell_named, spell_type, sig, spell_sig}
-use Rattle.token_reading.specs.SignatureTexts.{IsSigByte, IsNormalFormOf, TokensGiveNormalForms}
-use Rattle.texts.specs.Symbols.{spelling}
 use Rattle.texts.specs.declared.bytes.Run.TheVariants as run
-use Rattle.texts.specs.declared.symbol.Symbol.{Symbol}
 use Rattle.texts.specs.declared.symbol.Symbol.TheVariants as s
-use Rattle.texts.specs.declared.token.Token.{Token}
 use Rattle.texts.specs.declared.token.Token.TheVariants as token
-use Rattle.texts.proofs.Fronts.{named}
 
 -- ---- one token
 

@@ -2,25 +2,15 @@
 use Rattle.std.proofs.Common.{◌≡◌, ◌≢◌, ℕ, ◌⊎◌, inl, inr, List, None, Result, Ok, Err, refl, ap}
 use Rattle.certificate_lang.specs.declared.certificate.Certificate.{Certificate}
 use Rattle.meta_model.specs.Loaded.{Loaded}
-use Rattle.native_slots.specs.declared.head.NativeHead.{NativeHead}
-use Rattle.native_slots.specs.declared.misfit.Misfit.{Misfit}
-use Rattle.native_slots.specs.Misfits.{Fits}
-use Rattle.native_slots.proofs.Telling.{one_misfit}
+use Rattle.native_slots.{specs.declared.head.NativeHead.{NativeHead}, specs.declared.misfit.Misfit.{Misfit}, specs.Misfits.{Fits}, proofs.Telling.{one_misfit}}
 use Rattle.rank_check.specs.Checks.{Checking}
-use Rattle.script_lang.specs.Reads.{ReadsScript}
-use Rattle.script_lang.specs.declared.event.Event.{Event}
-use Rattle.script_lang.specs.declared.fault.ScriptFault.{ScriptFault}
+use Rattle.script_lang.{specs.Reads.{ReadsScript}, specs.declared.event.Event.{Event}, specs.declared.fault.ScriptFault.{ScriptFault}, proofs.OneAnswer.{one_result}}
 use Rattle.script_lang.specs.declared.fault.ScriptFault.TheVariants as of_script
-use Rattle.script_lang.proofs.OneAnswer.{one_result}
 use Rattle.machine_rules.specs.Natives.{NativeAnswers}
-use Rattle.program_commands.specs.declared.refusal.Refusal.{Refusal}
+use Rattle.program_commands.{specs.declared.refusal.Refusal.{Refusal}, specs.Refusals.{refusal_number, script_number}, proofs.Once.{OneOf, one_first, one_is, goes_with, loads_once, certified_once, check_once, check_short, never_denied, IsShortCheck, IsShortResult, never_short, same_short, short_refusal}}
 use Rattle.program_commands.specs.declared.refusal.Refusal.TheVariants as refusal
-use Rattle.program_commands.specs.Refusals.{refusal_number, script_number}
-use Rattle.program_commands.proofs.Once.{OneOf, one_first, one_is, goes_with, loads_once, certified_once, check_once, check_short, never_denied, IsShortCheck, IsShortResult, never_short, same_short, short_refusal}
 use Rattle.class_lang.specs.declared.size.Limits.{Limits}
-use Rattle.trace_tool.specs.declared.any_machine.outcome.Outcome.{Outcome}
-use Rattle.trace_tool.specs.Outcomes.{IsShort}
-use Rattle.trace_tool.specs.Commands.{Accepting, Accepts, AcceptedComesTo, MayRun, RunComesTo, refused}
+use Rattle.trace_tool.specs.{declared.any_machine.outcome.Outcome.{Outcome}, Outcomes.{IsShort}, Commands.{Accepting, Accepts, AcceptedComesTo, MayRun, RunComesTo, refused}}
 use Rattle.object_machine.specs.Seen.{Seen}
 
 -- ---- each step comes to one thing

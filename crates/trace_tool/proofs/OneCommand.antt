@@ -3,27 +3,11 @@ use Rattle.std.proofs.Common.{◌≡◌, ◌⊎◌, inl, inr, ℕ, Bool, true, f
 use Rattle.native_slots.specs.declared.head.NativeHead.{NativeHead}
 use Rattle.machine_rules.specs.Natives.{NativeAnswers, AnswersOnce}
 use Rattle.rank_make.specs.declared.why.Why.TheVariants as why
-use Rattle.program_commands.specs.Commands.{IsSameOutcome as IsSameOfProgram}
-use Rattle.program_commands.specs.Outcomes.{IsShort as IsShortOfProgram}
-use Rattle.program_commands.specs.declared.outcome.Outcome.{Outcome as ProgramOutcome}
+use Rattle.program_commands.{specs.Commands.{IsSameOutcome as IsSameOfProgram}, specs.Outcomes.{IsShort as IsShortOfProgram}, specs.declared.outcome.Outcome.{Outcome as ProgramOutcome}, specs.Steps.{Is}, proofs.Once.{OneOf, one_description, one_certifying, one_check}}
 use Rattle.program_commands.specs.declared.outcome.Outcome.TheVariants as of_program
-use Rattle.program_commands.specs.Steps.{Is}
-use Rattle.program_commands.proofs.Once.{OneOf, one_description, one_certifying, one_check}
 use Rattle.class_lang.specs.declared.size.Limits.{Limits}
-use Rattle.command_lines.specs.Words.{IsNumber, IsLimit, IsCommand, IsLineOf}
-use Rattle.command_lines.specs.declared.input.InputFault.{InputFault}
-use Rattle.command_lines.specs.declared.usage.UsageFault.TheVariants.{Words, TooLarge, Texts}
-use Rattle.command_lines.specs.declared.words.Command.{Command}
-use Rattle.command_lines.specs.declared.words.Command.TheVariants.{Meta, Certify, Check, Run, RunUnchecked}
-use Rattle.command_lines.specs.declared.words.CommandLine.{CommandLine}
-use Rattle.command_lines.proofs.Saying.{after_first, not_wide}
-use Rattle.command_lines.proofs.Partings.{texts_once}
-use Rattle.trace_tool.specs.Outcomes.{IsShort}
-use Rattle.trace_tool.specs.declared.any_machine.outcome.Outcome.{Outcome}
-use Rattle.trace_tool.specs.declared.any_machine.outcome.Outcome.TheVariants.{Program}
-use Rattle.trace_tool.specs.Commands.{Says, Cuts, Does, IsOfProgram, limits_of}
-use Rattle.trace_tool.specs.Laws.{IsSameOutcome, OneCommandOutcome}
-use Rattle.trace_tool.proofs.OneRun.{OneAs, same_first, one_run_outcome, one_unchecked_outcome}
+use Rattle.command_lines.{specs.Words.{IsNumber, IsLimit, IsCommand, IsLineOf}, specs.declared.input.InputFault.{InputFault}, specs.declared.usage.UsageFault.TheVariants.{Words, TooLarge, Texts}, specs.declared.words.Command.{Command}, specs.declared.words.Command.TheVariants.{Meta, Certify, Check, Run, RunUnchecked}, specs.declared.words.CommandLine.{CommandLine}, proofs.Saying.{after_first, not_wide}, proofs.Partings.{texts_once}}
+use Rattle.trace_tool.{specs.Outcomes.{IsShort}, specs.declared.any_machine.outcome.Outcome.{Outcome}, specs.declared.any_machine.outcome.Outcome.TheVariants.{Program}, specs.Commands.{Says, Cuts, Does, IsOfProgram, limits_of}, specs.Laws.{IsSameOutcome, OneCommandOutcome}, proofs.OneRun.{OneAs, same_first, one_run_outcome, one_unchecked_outcome}}
 use Rattle.texts.specs.Numerals.{value_of}
 use Rattle.object_machine.specs.Seen.{Seen}
 

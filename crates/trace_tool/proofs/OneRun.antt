@@ -1,34 +1,17 @@
 -- For natives with one answer a run is one; and a run that stopped is a front of the whole one.
 use Rattle.std.proofs.Common.{◌≡◌, ◌≢◌, ◌⊎◌, inl, inr, ℕ, true, false, List, [], ◌∷◌, ◌++◌, Result, Ok, Err, refl, sym, ap, ◌∙◌, subst, append-nil}
 use Rattle.certificate_lang.specs.declared.certificate.Certificate.{Certificate}
-use Rattle.meta_model.specs.Loaded.{Loaded}
-use Rattle.meta_model.specs.Sound.{IsSound}
+use Rattle.meta_model.specs.{Loaded.{Loaded}, Sound.{IsSound}}
 use Rattle.native_slots.specs.declared.head.NativeHead.{NativeHead}
 use Rattle.rank_check.specs.Checks.{Checking}
 use Rattle.script_lang.specs.declared.event.Event.{Event}
-use Rattle.trace_entries.specs.declared.fault.Answer.{Answer}
-use Rattle.trace_entries.specs.declared.fault.Fault.{Fault}
-use Rattle.trace_entries.specs.declared.fault.Fault.TheVariants.{Steps}
-use Rattle.machine_state.specs.State.{State, Activation, IsIdle}
-use Rattle.machine_state.specs.Worlds.{at, untouched}
-use Rattle.machine_rules.specs.Natives.{NativeAnswers, AnswersOnce}
-use Rattle.machine_rules.specs.code.Keeps.{Grows}
-use Rattle.object_machine.specs.Causes.{Brings, StopsFor, spent, short as of_memory, brings, lacks_value, writes_ill, binds_ill, goes_ill, goes_fatal, binds_loop, writes_deep, goes_deep}
-use Rattle.object_machine.specs.Runs.{Run, done, goes, takes, RunsWhole, RunsFront, IsDue, goes_on as is_under_way, is_next}
-use Rattle.object_machine.proofs.OneRun.{no-rule, one_run, one_front, one_front_of_answers}
-use Rattle.object_machine.proofs.CheckedRuns.Kept.{start-invariant}
-use Rattle.object_machine.specs.Seen.{Seen, RunsAll, Halts, begun}
+use Rattle.trace_entries.specs.{declared.fault.Answer.{Answer}, declared.fault.Fault.{Fault}, declared.fault.Fault.TheVariants.{Steps}}
+use Rattle.machine_state.specs.{State.{State, Activation, IsIdle}, Worlds.{at, untouched}}
+use Rattle.machine_rules.specs.{Natives.{NativeAnswers, AnswersOnce}, code.Keeps.{Grows}}
+use Rattle.object_machine.{specs.Causes.{Brings, StopsFor, spent, short as of_memory, brings, lacks_value, writes_ill, binds_ill, goes_ill, goes_fatal, binds_loop, writes_deep, goes_deep}, specs.Runs.{Run, done, goes, takes, RunsWhole, RunsFront, IsDue, goes_on as is_under_way, is_next}, proofs.OneRun.{no-rule, one_run, one_front, one_front_of_answers}, proofs.CheckedRuns.Kept.{start-invariant}, specs.Seen.{Seen, RunsAll, Halts, begun}}
 use Rattle.class_lang.specs.declared.size.Limits.{Limits}
-use Rattle.program_commands.specs.Loading.{LoadsCertified}
-use Rattle.program_commands.specs.Steps.{First, fails, goes_on}
-use Rattle.program_commands.proofs.Once.{OneOf, both_fail, one_fails, same_found, IsShortResult, never_short, loaded_sound}
-use Rattle.program_commands.proofs.Stepping.{went}
-use Rattle.trace_tool.specs.declared.any_machine.outcome.Outcome.{Outcome}
-use Rattle.trace_tool.specs.declared.any_machine.outcome.Ran.{Ran}
-use Rattle.trace_tool.specs.Outcomes.{IsShort}
-use Rattle.trace_tool.specs.Commands.{Accepting, MayRun, Runs, RunsFaultless, ran, short, ran_faultless, short_of_memory}
-use Rattle.trace_tool.specs.Laws.{AreOneRun, IsSameOutcome, OneRunOutcome, OneUncheckedOutcome, StoppedIsFront}
-use Rattle.trace_tool.proofs.Accepted.{accepting_once, may_run_once, short_refused}
+use Rattle.program_commands.{specs.Loading.{LoadsCertified}, specs.Steps.{First, fails, goes_on}, proofs.Once.{OneOf, both_fail, one_fails, same_found, IsShortResult, never_short, loaded_sound}, proofs.Stepping.{went}}
+use Rattle.trace_tool.{specs.declared.any_machine.outcome.Outcome.{Outcome}, specs.declared.any_machine.outcome.Ran.{Ran}, specs.Outcomes.{IsShort}, specs.Commands.{Accepting, MayRun, Runs, RunsFaultless, ran, short, ran_faultless, short_of_memory}, specs.Laws.{AreOneRun, IsSameOutcome, OneRunOutcome, OneUncheckedOutcome, StoppedIsFront}, proofs.Accepted.{accepting_once, may_run_once, short_refused}}
 
 -- ---- where a run ends for good
 

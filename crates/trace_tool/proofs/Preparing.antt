@@ -1,36 +1,14 @@
 -- What is prepared, done and written.
-use Rattle.std.proofs.Common.{◌≡◌, ℕ, List, [], ◌++◌, Option, Result, Ok, Err, refl, sym, ap, ◌∙◌, subst, append_assoc}
-use Rattle.std.specs.Prelude.{IfErr, OnErr}
-use Rattle.std.proofs.lemmas.List.Concat.{flat_map-append}
+use Rattle.std.{proofs.Common.{◌≡◌, ℕ, List, [], ◌++◌, Option, Result, Ok, Err, refl, sym, ap, ◌∙◌, subst, append_assoc}, specs.Prelude.{IfErr, OnErr}, proofs.lemmas.List.Concat.{flat_map-append}}
 use Rattle.script_lang.specs.declared.event.Event.{Event}
 use Rattle.meta_model.specs.Loaded.{Loaded}
 use Rattle.native_slots.specs.Promises.{Takes}
-use Rattle.trace_entries.specs.Faults.{number_of as fault_number}
-use Rattle.trace_entries.specs.declared.entry.Entry.{Entry}
-use Rattle.trace_entries.specs.declared.fault.Fault.{Fault}
+use Rattle.trace_entries.specs.{Faults.{number_of as fault_number}, declared.entry.Entry.{Entry}, declared.fault.Fault.{Fault}}
 use Rattle.machine_rules.specs.Natives.{NativeAnswers}
-use Rattle.object_machine.specs.Claims.{HasItsArguments, IsEverAcyclic, SparesActive, IsEverShallow, IsEverTyped, IsEverSettled}
-use Rattle.object_machine.specs.Checked.{IsChecked, Claims, StopsAtLimit}
-use Rattle.object_machine.specs.Seen.{Seen, AreKept, RunsAll, begun, with_front}
+use Rattle.object_machine.specs.{Claims.{HasItsArguments, IsEverAcyclic, SparesActive, IsEverShallow, IsEverTyped, IsEverSettled}, Checked.{IsChecked, Claims, StopsAtLimit}, Seen.{Seen, AreKept, RunsAll, begun, with_front}}
 use Rattle.program_commands.specs.Refusals.{fault_line}
-use Rattle.command_lines.specs.Failing.{HasFailed}
-use Rattle.command_lines.specs.Lines.{entry_line, trace_text}
-use Rattle.command_lines.specs.Sent.{TakesWith}
-use Rattle.command_lines.specs.declared.output.Output.{Output}
-use Rattle.command_lines.specs.declared.usage.UsageFault.TheVariants.{Words}
-use Rattle.command_lines.specs.declared.watched.Failing.{Failing}
-use Rattle.trace_tool.specs.Failed.{IfUnread}
-use Rattle.trace_tool.specs.Outcomes.{Writes, outcome_text, outcome_status, run_text, run_status, seen_outcome}
-use Rattle.trace_tool.specs.declared.any_machine.outcome.Outcome.{Outcome}
-use Rattle.trace_tool.specs.declared.any_machine.outcome.Outcome.TheVariants.{Usage, NoInput, Program, Ran as OfRun, Memory}
-use Rattle.trace_tool.specs.declared.any_machine.outcome.Ran.{Ran}
-use Rattle.trace_tool.specs.Commands.{Runs, RunsFaultless, ran, ran_faultless}
-use Rattle.trace_tool.specs.Prepared.{RunsSo, Prepares, ComesOf, ComesOfRun, CarriesOut, seen_prepared, with_gone}
-use Rattle.trace_tool.specs.code.Streaming.{Streams}
-use Rattle.trace_tool.specs.declared.any_machine.prepared.Prepared.{Prepared}
-use Rattle.trace_tool.specs.declared.any_machine.prepared.Prepared.TheVariants.{Done, Ready as OfReady}
-use Rattle.trace_tool.specs.declared.any_machine.prepared.Ready.{Ready}
-use Rattle.trace_tool.proofs.Answering.{ends_at_limit, claims_of}
+use Rattle.command_lines.specs.{Failing.{HasFailed}, Lines.{entry_line, trace_text}, Sent.{TakesWith}, declared.output.Output.{Output}, declared.usage.UsageFault.TheVariants.{Words}, declared.watched.Failing.{Failing}}
+use Rattle.trace_tool.{specs.Failed.{IfUnread}, specs.Outcomes.{Writes, outcome_text, outcome_status, run_text, run_status, seen_outcome}, specs.declared.any_machine.outcome.Outcome.{Outcome}, specs.declared.any_machine.outcome.Outcome.TheVariants.{Usage, NoInput, Program, Ran as OfRun, Memory}, specs.declared.any_machine.outcome.Ran.{Ran}, specs.Commands.{Runs, RunsFaultless, ran, ran_faultless}, specs.Prepared.{RunsSo, Prepares, ComesOf, ComesOfRun, CarriesOut, seen_prepared, with_gone}, specs.code.Streaming.{Streams}, specs.declared.any_machine.prepared.Prepared.{Prepared}, specs.declared.any_machine.prepared.Prepared.TheVariants.{Done, Ready as OfReady}, specs.declared.any_machine.prepared.Ready.{Ready}, proofs.Answering.{ends_at_limit, claims_of}}
 
 -- ---- what is prepared
 

@@ -1,39 +1,17 @@
 -- What runs and command lines come to (docs/commands.md). Memory may run out outside a run at any time before the run;
 -- that it comes only where a growth of memory was refused is not stated here.
-use Rattle.std.specs.Prelude.{◌≡◌, ℕ, ◌<◌, ◌≤◌, ◌⊎◌, Bool, true, false, List, [], ◌∷◌, length, take, Option, Result, Ok, Err, IfErr, IfSome}
-use Rattle.std.specs.Borrow.{Bor}
+use Rattle.std.specs.{Prelude.{◌≡◌, ℕ, ◌<◌, ◌≤◌, ◌⊎◌, Bool, true, false, List, [], ◌∷◌, length, take, Option, Result, Ok, Err, IfErr, IfSome}, Borrow.{Bor}}
 use Rattle.certificate_lang.specs.declared.certificate.Certificate.{Certificate}
-use Rattle.class_lang.specs.Limits.{standard, wide}
-use Rattle.class_lang.specs.declared.size.Limits.{Limits}
+use Rattle.class_lang.specs.{Limits.{standard, wide}, declared.size.Limits.{Limits}}
 use Rattle.meta_model.specs.Loaded.{Loaded}
-use Rattle.native_slots.specs.declared.head.NativeHead.{NativeHead}
-use Rattle.native_slots.specs.Misfits.{Fits}
+use Rattle.native_slots.specs.{declared.head.NativeHead.{NativeHead}, Misfits.{Fits}}
 use Rattle.rank_check.specs.Checks.{Checking, Examines}
-use Rattle.script_lang.specs.Reads.{ReadsScript}
-use Rattle.script_lang.specs.declared.event.Event.{Event}
+use Rattle.script_lang.specs.{Reads.{ReadsScript}, declared.event.Event.{Event}}
 use Rattle.machine_rules.specs.Natives.{NativeAnswers}
-use Rattle.object_machine.specs.Checked.{Claims, IsLimit}
-use Rattle.object_machine.specs.Seen.{Seen, RunsAll, begun}
-use Rattle.program_commands.specs.declared.outcome.Outcome.{Outcome as ProgramOutcome}
-use Rattle.program_commands.specs.declared.outcome.Outcome.TheVariants.{Refused}
-use Rattle.program_commands.specs.declared.refusal.Refusal.{Refusal}
-use Rattle.program_commands.specs.declared.refusal.Refusal.TheVariants.{Script, Check as OfCheck, Natives as OfNatives}
-use Rattle.program_commands.specs.Commands.{CheckComesTo, CertifyComesTo, MetaComesTo}
-use Rattle.program_commands.specs.Loading.{LoadsProgram, LoadsCertified}
-use Rattle.program_commands.specs.Outcomes.{IsShortAs}
-use Rattle.program_commands.specs.Steps.{First, Is, Gives}
-use Rattle.command_lines.specs.Cut.{AreTexts}
-use Rattle.command_lines.specs.Words.{IsLine, IsNoLine}
-use Rattle.command_lines.specs.declared.input.InputFault.{InputFault}
-use Rattle.command_lines.specs.declared.usage.UsageFault.{UsageFault}
-use Rattle.command_lines.specs.declared.usage.UsageFault.TheVariants.{Words, TooLarge, Texts}
-use Rattle.command_lines.specs.declared.words.Command.{Command}
-use Rattle.command_lines.specs.declared.words.Command.TheVariants.{Meta, Certify, Check, Run, RunUnchecked}
-use Rattle.command_lines.specs.declared.words.CommandLine.{CommandLine}
-use Rattle.trace_tool.specs.Outcomes.{Writes, outcome_status, outcome_text}
-use Rattle.trace_tool.specs.declared.any_machine.outcome.Outcome.{Outcome}
-use Rattle.trace_tool.specs.declared.any_machine.outcome.Outcome.TheVariants.{Usage, NoInput, Program, Ran as OfRun, Memory}
-use Rattle.trace_tool.specs.declared.any_machine.outcome.Ran.{Ran}
+use Rattle.object_machine.specs.{Checked.{Claims, IsLimit}, Seen.{Seen, RunsAll, begun}}
+use Rattle.program_commands.specs.{declared.outcome.Outcome.{Outcome as ProgramOutcome}, declared.outcome.Outcome.TheVariants.{Refused}, declared.refusal.Refusal.{Refusal}, declared.refusal.Refusal.TheVariants.{Script, Check as OfCheck, Natives as OfNatives}, Commands.{CheckComesTo, CertifyComesTo, MetaComesTo}, Loading.{LoadsProgram, LoadsCertified}, Outcomes.{IsShortAs}, Steps.{First, Is, Gives}}
+use Rattle.command_lines.specs.{Cut.{AreTexts}, Words.{IsLine, IsNoLine}, declared.input.InputFault.{InputFault}, declared.usage.UsageFault.{UsageFault}, declared.usage.UsageFault.TheVariants.{Words, TooLarge, Texts}, declared.words.Command.{Command}, declared.words.Command.TheVariants.{Meta, Certify, Check, Run, RunUnchecked}, declared.words.CommandLine.{CommandLine}}
+use Rattle.trace_tool.specs.{Outcomes.{Writes, outcome_status, outcome_text}, declared.any_machine.outcome.Outcome.{Outcome}, declared.any_machine.outcome.Outcome.TheVariants.{Usage, NoInput, Program, Ran as OfRun, Memory}, declared.any_machine.outcome.Ran.{Ran}}
 
 -- a program is refused, and doesn't run
 abbrev pub refused : {M : Type 0} → Refusal → Outcome M

@@ -1,29 +1,16 @@
 -- Laws on what runs and command lines come to (docs/commands.md, "Exit status"; docs/machine.md, "Runs").
 use Rattle.std.specs.Prelude.{◌≡◌, ◌≢◌, ◌⊎◌, ℕ, List, [], Result, Ok, Err}
-use Rattle.meta_model.specs.Loaded.{Loaded}
-use Rattle.meta_model.specs.Sound.{IsSound}
-use Rattle.native_slots.specs.declared.action.Action.{Action}
-use Rattle.native_slots.specs.declared.head.NativeHead.{NativeHead}
+use Rattle.meta_model.specs.{Loaded.{Loaded}, Sound.{IsSound}}
+use Rattle.native_slots.specs.{declared.action.Action.{Action}, declared.head.NativeHead.{NativeHead}}
 use Rattle.script_lang.specs.declared.event.Event.{Event}
-use Rattle.trace_entries.specs.declared.fault.Answer.{Answer}
-use Rattle.trace_entries.specs.declared.fault.Fault.{Fault}
-use Rattle.trace_entries.specs.declared.fault.Fault.TheVariants.{Steps}
-use Rattle.machine_state.specs.State.{State}
-use Rattle.machine_state.specs.Worlds.{at, untouched}
-use Rattle.machine_rules.specs.Natives.{NativeAnswers, AnswersOnce}
-use Rattle.machine_rules.specs.code.Keeps.{Grows}
-use Rattle.object_machine.specs.Laws.{AnswersAre}
-use Rattle.object_machine.specs.Runs.{RunsWhole}
-use Rattle.object_machine.specs.Seen.{Seen, Halts, begun}
-use Rattle.program_commands.specs.Commands.{IsSameOutcome as IsSameOfProgram}
-use Rattle.program_commands.specs.Refusals.{usage_line, memory_line}
+use Rattle.trace_entries.specs.{declared.fault.Answer.{Answer}, declared.fault.Fault.{Fault}, declared.fault.Fault.TheVariants.{Steps}}
+use Rattle.machine_state.specs.{State.{State}, Worlds.{at, untouched}}
+use Rattle.machine_rules.specs.{Natives.{NativeAnswers, AnswersOnce}, code.Keeps.{Grows}}
+use Rattle.object_machine.specs.{Laws.{AnswersAre}, Runs.{RunsWhole}, Seen.{Seen, Halts, begun}}
+use Rattle.program_commands.specs.{Commands.{IsSameOutcome as IsSameOfProgram}, Refusals.{usage_line, memory_line}}
 use Rattle.command_lines.specs.declared.input.InputFault.{InputFault}
-use Rattle.trace_tool.specs.declared.any_machine.outcome.Outcome.{Outcome}
-use Rattle.trace_tool.specs.declared.any_machine.outcome.Outcome.TheVariants.{Program, Ran as OfRun}
-use Rattle.trace_tool.specs.declared.any_machine.outcome.Ran.{Ran}
-use Rattle.trace_tool.specs.Outcomes.{outcome_text, outcome_status, IsShort}
+use Rattle.trace_tool.specs.{declared.any_machine.outcome.Outcome.{Outcome}, declared.any_machine.outcome.Outcome.TheVariants.{Program, Ran as OfRun}, declared.any_machine.outcome.Ran.{Ran}, Outcomes.{outcome_text, outcome_status, IsShort}, Commands.{RunComesTo, UncheckedRunComesTo, CommandComesTo}}
 use Rattle.class_lang.specs.declared.size.Limits.{Limits}
-use Rattle.trace_tool.specs.Commands.{RunComesTo, UncheckedRunComesTo, CommandComesTo}
 
 -- Where nothing was done nothing comes before `usage` or `memory`, nor after it; after a read that failed nothing is
 -- written at all.

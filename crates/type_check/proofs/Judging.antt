@@ -1,27 +1,12 @@
 -- Bodies that are judged one statement after another.
-use Rattle.std.proofs.Common.{◌≡◌, ℕ, ◌+◌, ◌^◌, ◌<◌, ◌≤◌, List, [], ◌∷◌, length, get_or, take, Option, Some, refl, sym, ap, ◌∙◌, subst, arith}
-use Rattle.std.specs.declared.ops.ControlFlow.{ControlFlow}
-use Rattle.std.specs.declared.ops.ControlFlow.TheVariants.{Continue, Break}
+use Rattle.std.{proofs.Common.{◌≡◌, ℕ, ◌+◌, ◌^◌, ◌<◌, ◌≤◌, List, [], ◌∷◌, length, get_or, take, Option, Some, refl, sym, ap, ◌∙◌, subst, arith}, specs.declared.ops.ControlFlow.{ControlFlow}, specs.declared.ops.ControlFlow.TheVariants.{Continue, Break}}
 use Rattle.syntax_trees.specs.declared.syntax.Expr.{Expr}
-use Rattle.meta_model.specs.declared.object.ValueType.{ValueType}
-use Rattle.meta_model.specs.declared.object.MetaPath.{MetaPath}
-use Rattle.meta_model.specs.declared.object.MetaMethod.{MetaMethod}
-use Rattle.meta_model.specs.declared.object.Statement.{Statement}
-use Rattle.meta_model.specs.declared.object.Statement.TheViews.{out-Statement}
+use Rattle.meta_model.specs.{declared.object.ValueType.{ValueType}, declared.object.MetaPath.{MetaPath}, declared.object.MetaMethod.{MetaMethod}, declared.object.Statement.{Statement}, declared.object.Statement.TheViews.{out-Statement}, declared.object.Work.TheVariants.{Slot}, Loaded.{Loaded}, Members.{IsMethod}}
 use Rattle.meta_model.specs.declared.object.Statement.TheVariants as whole
-use Rattle.meta_model.specs.declared.object.Work.TheVariants.{Slot}
-use Rattle.meta_model.specs.Loaded.{Loaded}
-use Rattle.meta_model.specs.Members.{IsMethod}
 use Rattle.name_indexes.specs.Places.{StandsFirst}
 use Rattle.effect_scan.proofs.Occurring.{IsPlain}
-use Rattle.edge_reasons.specs.Order.{in_order, capped}
-use Rattle.edge_reasons.specs.Searches.{FirstFrom}
-use Rattle.edge_reasons.proofs.Walking.{first_here, none_here, none_in_all, first_itself, none_plain, first_in_group, none_in_group, first_in_chosen, first_in_other, none_in_if}
-use Rattle.type_check.specs.declared.flaws.Flaw.{Flaw}
-use Rattle.type_check.specs.Bodies.{IsTypedStatement, IsUntyped, IsTypedBody}
-use Rattle.type_check.specs.Typed.{IsUntypedStatement}
-use Rattle.type_check.specs.code.Judging.{IsFirstFlaw, Judges}
-use Rattle.type_check.proofs.Blocks.{body_more, body_all, body_at, whole_of, plain, first_block, second_block, both_blocks, its_sets, in_group}
+use Rattle.edge_reasons.{specs.Order.{in_order, capped}, specs.Searches.{FirstFrom}, proofs.Walking.{first_here, none_here, none_in_all, first_itself, none_plain, first_in_group, none_in_group, first_in_chosen, first_in_other, none_in_if}}
+use Rattle.type_check.{specs.declared.flaws.Flaw.{Flaw}, specs.Bodies.{IsTypedStatement, IsUntyped, IsTypedBody}, specs.Typed.{IsUntypedStatement}, specs.code.Judging.{IsFirstFlaw, Judges}, proofs.Blocks.{body_more, body_all, body_at, whole_of, plain, first_block, second_block, both_blocks, its_sets, in_group}}
 
 module _ (p : Loaded) (me : ℕ) (kinds : List ValueType) where
   abbrev Untyped : Statement → Type 0

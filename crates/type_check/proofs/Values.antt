@@ -1,47 +1,15 @@
 -- A typed expression has a value, of the type of what it is given to: from the types by name to those by number.
-use Rattle.std.proofs.Common.{◌≡◌, ℕ, suc, ◌-◌, arith, Bool, List, [], ◌∷◌, length, slice_get, Option, None, Some, codes, refl, sym, ap, ◌∙◌, subst}
-use Rattle.std.specs.List.{AllZip}
-use Rattle.std.specs.Option.{option_and_then, option_map}
-use Rattle.std.proofs.lemmas.Option.{none-some, same_Some}
-use Rattle.basic_types.specs.declared.value.Value.{Value}
+use Rattle.std.{proofs.Common.{◌≡◌, ℕ, suc, ◌-◌, arith, Bool, List, [], ◌∷◌, length, slice_get, Option, None, Some, codes, refl, sym, ap, ◌∙◌, subst}, specs.List.{AllZip}, specs.Option.{option_and_then, option_map}, proofs.lemmas.Option.{none-some, same_Some}}
+use Rattle.basic_types.specs.{declared.value.Value.{Value}, declared.qtype.QType.{QType}, Normal.{pointer_type}, Types.{value_type}, Values.{Has as AnyHas, number_has, truth_has, text_has, null_has, object_has}}
 use Rattle.basic_types.specs.declared.value.Value.TheVariants as value
-use Rattle.basic_types.specs.declared.qtype.QType.{QType}
-use Rattle.basic_types.specs.Normal.{pointer_type}
-use Rattle.basic_types.specs.Types.{value_type}
-use Rattle.basic_types.specs.Values.{Has as AnyHas, number_has, truth_has, text_has, null_has, object_has}
-use Rattle.syntax_trees.specs.declared.syntax.Expr.{Expr}
+use Rattle.syntax_trees.specs.{declared.syntax.Expr.{Expr}, declared.syntax.Expr.TheViews.{out-Expr, roll-Expr, roll-out-Expr}}
 use Rattle.syntax_trees.specs.declared.syntax.Expr.TheVariants as whole
 use Rattle.syntax_trees.specs.declared.syntax.Expr.TheOpen as expr
-use Rattle.syntax_trees.specs.declared.syntax.Expr.TheViews.{out-Expr, roll-Expr, roll-out-Expr}
 use Rattle.expressions.specs.declared.sort.Sort.TheVariants as sort
-use Rattle.expressions.specs.declared.typing.ExprType.{ExprType}
-use Rattle.expressions.specs.declared.typing.ExprType.TheVariants.{Of}
-use Rattle.expressions.specs.Evaluation.{value as value_of, values}
-use Rattle.expressions.specs.Typing.{value_sort, declared_sort, declared_types, type_of, HasValueOf as NamedValueOf}
-use Rattle.expressions.proofs.Evaluating.{value-Literal, value-Path, value-Unary, value-Binary}
-use Rattle.expressions.proofs.Typed.{type_of-Literal, type_of-Path, type_of-Unary, type_of-Binary, literal_typed, path_typed, unary_typed, binary_typed, typed_has_value, accepted_has}
-use Rattle.meta_model.specs.declared.object.ValueType.{ValueType}
+use Rattle.expressions.{specs.declared.typing.ExprType.{ExprType}, specs.declared.typing.ExprType.TheVariants.{Of}, specs.Evaluation.{value as value_of, values}, specs.Typing.{value_sort, declared_sort, declared_types, type_of, HasValueOf as NamedValueOf}, proofs.Evaluating.{value-Literal, value-Path, value-Unary, value-Binary}, proofs.Typed.{type_of-Literal, type_of-Path, type_of-Unary, type_of-Binary, literal_typed, path_typed, unary_typed, binary_typed, typed_has_value, accepted_has}}
+use Rattle.meta_model.{specs.declared.object.ValueType.{ValueType}, specs.declared.object.MetaRoot.{MetaRoot}, specs.declared.object.Step.{Step}, specs.declared.object.MetaPath.{MetaPath}, specs.declared.object.MetaObject.{MetaObject}, specs.declared.object.MetaProperty.{MetaProperty}, specs.declared.site.SourceProperty.{SourceProperty}, specs.declared.site.MetaSite.{MetaSite}, specs.Loaded.{Loaded}, specs.Members.{IsClassNamed, IsProperty, Below, same, under}, specs.Sound.{IsSound, HasRoot, this_has, parameter_has, Leads, here, on, LeadsTo, IsSoundExpr, literal_sound, path_sound, unary_sound, binary_sound, AreSoundExprs}, specs.Values.{Has, HaveTypes}, proofs.OneAnswer.{one_class}}
 use Rattle.meta_model.specs.declared.object.ValueType.TheVariants as type
-use Rattle.meta_model.specs.declared.object.MetaRoot.{MetaRoot}
-use Rattle.meta_model.specs.declared.object.Step.{Step}
-use Rattle.meta_model.specs.declared.object.MetaPath.{MetaPath}
-use Rattle.meta_model.specs.declared.object.MetaObject.{MetaObject}
-use Rattle.meta_model.specs.declared.object.MetaProperty.{MetaProperty}
-use Rattle.meta_model.specs.declared.site.SourceProperty.{SourceProperty}
-use Rattle.meta_model.specs.declared.site.MetaSite.{MetaSite}
-use Rattle.meta_model.specs.Loaded.{Loaded}
-use Rattle.meta_model.specs.Members.{IsClassNamed, IsProperty, Below, same, under}
-use Rattle.meta_model.specs.Sound.{IsSound, HasRoot, this_has, parameter_has, Leads, here, on, LeadsTo, IsSoundExpr, literal_sound, path_sound, unary_sound, binary_sound, AreSoundExprs}
-use Rattle.meta_model.specs.Values.{Has, HaveTypes}
-use Rattle.meta_model.proofs.OneAnswer.{one_class}
-use Rattle.type_check.specs.Naming.{IsTheClass, BelowNamed, spelled}
-use Rattle.type_check.specs.Along.{along}
-use Rattle.type_check.specs.Accepting.{Takes, spelled_kinds}
-use Rattle.type_check.specs.Bodies.{kind_of_root, kind_after, kind_of_path, IsGivenIn}
-use Rattle.type_check.specs.Typed.{kind_of_source, IsTypedSite}
-use Rattle.type_check.specs.Laws.{HasValueOf, PathsAreTyped, SourcesAreTyped}
-use Rattle.type_check.proofs.Methods.{based}
-use Rattle.type_check.proofs.Properties.{same_property}
+use Rattle.type_check.{specs.Naming.{IsTheClass, BelowNamed, spelled}, specs.Along.{along}, specs.Accepting.{Takes, spelled_kinds}, specs.Bodies.{kind_of_root, kind_after, kind_of_path, IsGivenIn}, specs.Typed.{kind_of_source, IsTypedSite}, specs.Laws.{HasValueOf, PathsAreTyped, SourcesAreTyped}, proofs.Methods.{based}, proofs.Properties.{same_property}}
 
 rolled : {P : Type 0} (x : Expr P) (l : expr.Expr-F P (Expr P)) → out-Expr P x ≡ l → x ≡ roll-Expr P l
 rolled {P} x l is = sym (roll-out-Expr P x) ∙ ap (λ y. roll-Expr P y) is

@@ -1,28 +1,11 @@
 -- Typed programs (docs/certificate.md, "Typing").
-use Rattle.std.specs.Prelude.{◌≡◌, ℕ, List, Option, None, Some, slice_get}
-use Rattle.std.specs.Option.{option_and_then, option_map}
-use Rattle.meta_model.specs.declared.object.ValueType.{ValueType}
-use Rattle.meta_model.specs.declared.object.Statement.{Statement}
-use Rattle.meta_model.specs.declared.object.Work.{Work}
-use Rattle.meta_model.specs.declared.object.Work.TheVariants.{Slot}
-use Rattle.meta_model.specs.declared.object.MetaMethod.{MetaMethod}
-use Rattle.meta_model.specs.declared.object.MetaProperty.{MetaProperty}
-use Rattle.meta_model.specs.declared.site.SourceProperty.{SourceProperty}
-use Rattle.meta_model.specs.declared.site.MetaSite.{MetaSite}
-use Rattle.meta_model.specs.Loaded.{Loaded}
-use Rattle.meta_model.specs.Members.{IsMethod, IsProperty, property_at, Below, Declares}
-use Rattle.meta_model.specs.Values.{Has}
+use Rattle.std.specs.{Prelude.{◌≡◌, ℕ, List, Option, None, Some, slice_get}, Option.{option_and_then, option_map}}
+use Rattle.meta_model.specs.{declared.object.ValueType.{ValueType}, declared.object.Statement.{Statement}, declared.object.Work.{Work}, declared.object.Work.TheVariants.{Slot}, declared.object.MetaMethod.{MetaMethod}, declared.object.MetaProperty.{MetaProperty}, declared.site.SourceProperty.{SourceProperty}, declared.site.MetaSite.{MetaSite}, Loaded.{Loaded}, Members.{IsMethod, IsProperty, property_at, Below, Declares}, Values.{Has}}
 use Rattle.name_indexes.specs.Places.{StandsFirst}
-use Rattle.effect_scan.specs.declared.node.Node.{Node}
-use Rattle.effect_scan.specs.declared.node.Member.{Member}
-use Rattle.effect_scan.specs.declared.node.Member.TheVariants.{Method, Property, Destruction}
-use Rattle.effect_scan.specs.Nodes.{nodes_of}
+use Rattle.effect_scan.specs.{declared.node.Node.{Node}, declared.node.Member.{Member}, declared.node.Member.TheVariants.{Method, Property, Destruction}, Nodes.{nodes_of}}
 use Rattle.edge_reasons.specs.Order.{in_order, capped}
-use Rattle.type_check.specs.declared.spot.Spot.{Spot}
+use Rattle.type_check.specs.{declared.spot.Spot.{Spot}, Firsts.{AllHave, LacksFirst, IsFirstWithout}, Accepting.{IsGiven}, Bodies.{IsUntyped, IsTypedBody}}
 use Rattle.type_check.specs.declared.spot.Spot.TheVariants as spot
-use Rattle.type_check.specs.Firsts.{AllHave, LacksFirst, IsFirstWithout}
-use Rattle.type_check.specs.Accepting.{IsGiven}
-use Rattle.type_check.specs.Bodies.{IsUntyped, IsTypedBody}
 
 -- ---- members
 -- a slot's body is typed, where class d declares the slot; nothing else of a method needs a type

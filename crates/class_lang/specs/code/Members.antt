@@ -1,26 +1,11 @@
 -- What the readers of members do, where a parameter may end, and what a class with some members more is.
 use Rattle.std.specs.Prelude.{List, Option, Result, ◌++◌, option_map}
-use Rattle.token_reading.specs.code.Reading.{Reads, EndsAnywhere}
-use Rattle.token_reading.specs.code.Signatures.{EndsType}
-use Rattle.token_reading.specs.Signatures.{tree_of_sig}
-use Rattle.token_reading.specs.declared.fault.ParseFault.{ParseFault}
-use Rattle.texts.specs.declared.token.Token.{Token}
-use Rattle.token_reading.specs.code.Optional.{EndsWithoutName}
-use Rattle.syntax_trees.specs.declared.program.Parameter.{Parameter}
-use Rattle.class_lang.specs.Parameters.{spell_signal_parameter, tree_of_signal_parameter, spell_slot_parameter, tree_of_slot_parameter}
+use Rattle.token_reading.specs.{code.Reading.{Reads, EndsAnywhere}, code.Signatures.{EndsType}, Signatures.{tree_of_sig}, declared.fault.ParseFault.{ParseFault}, code.Optional.{EndsWithoutName}, code.Cursor.{NotAt, NotAtWord}, Literals.{tree_of_literal}}
+use Rattle.texts.specs.{declared.token.Token.{Token}, declared.symbol.Symbol.TheVariants.{Assign}}
+use Rattle.syntax_trees.specs.{declared.program.Parameter.{Parameter}, declared.program.EffectNames.{EffectNames}, declared.program.Slot.{Slot}, declared.syntax.Literal.{Literal}, declared.program.Property.{Property}, declared.program.Class.{Class}}
+use Rattle.class_lang.specs.{Parameters.{spell_signal_parameter, tree_of_signal_parameter, spell_slot_parameter, tree_of_slot_parameter}, Natives.{spell_effects, tree_of_effects, spell_native, tree_of_native}, declared.members.Member.{Member}, Members.{spell_initial, spell_notify, spell_property, tree_of_property, properties_in, signals_in, slots_in}}
 use Rattle.basic_types.specs.declared.word.Word.TheVariants as word
-use Rattle.syntax_trees.specs.declared.program.EffectNames.{EffectNames}
-use Rattle.syntax_trees.specs.declared.program.Slot.{Slot}
-use Rattle.class_lang.specs.Natives.{spell_effects, tree_of_effects, spell_native, tree_of_native}
-use Rattle.token_reading.specs.code.Cursor.{NotAt, NotAtWord}
-use Rattle.token_reading.specs.Literals.{tree_of_literal}
-use Rattle.texts.specs.declared.symbol.Symbol.TheVariants.{Assign}
 use Rattle.basic_types.specs.declared.sig.Sig.{Sig}
-use Rattle.syntax_trees.specs.declared.syntax.Literal.{Literal}
-use Rattle.class_lang.specs.declared.members.Member.{Member}
-use Rattle.syntax_trees.specs.declared.program.Property.{Property}
-use Rattle.syntax_trees.specs.declared.program.Class.{Class}
-use Rattle.class_lang.specs.Members.{spell_initial, spell_notify, spell_property, tree_of_property, properties_in, signals_in, slots_in}
 
 -- nothing comes next with which its type or its name would go on
 pub record EndsSignalParameter (after : List Token) : Type 0 where

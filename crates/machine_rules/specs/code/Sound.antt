@@ -1,28 +1,16 @@
 -- What every machine keeps: properties have values of their types, bound ones those of their expressions, connections join
 -- methods that their objects have or had, what a connection calls takes the first arguments of its signal, each object
 -- lives in a loop that is there, and what waits in the loops may begin (docs/machine.md, "What every run keeps").
-use Rattle.std.specs.Prelude.{◌≡◌, ℕ, ◌+◌, ◌^◌, ◌<◌, List, ◌++◌, length, take, Some, ◌≢◌, ◌⊎◌}
-use Rattle.std.specs.List.{AllByRecursion}
-use Rattle.meta_model.specs.declared.object.MetaMethod.{MetaMethod}
-use Rattle.meta_model.specs.declared.object.ValueType.{ValueType}
-use Rattle.meta_model.specs.Loaded.{Loaded}
-use Rattle.meta_model.specs.Members.{IsMethod}
-use Rattle.meta_model.specs.declared.qobject.TheConstants.{DESTROYED}
-use Rattle.meta_model.specs.Sound.{IsSound}
+use Rattle.std.specs.{Prelude.{◌≡◌, ℕ, ◌+◌, ◌^◌, ◌<◌, List, ◌++◌, length, take, Some, ◌≢◌, ◌⊎◌}, List.{AllByRecursion}}
+use Rattle.meta_model.specs.{declared.object.MetaMethod.{MetaMethod}, declared.object.ValueType.{ValueType}, Loaded.{Loaded}, Members.{IsMethod}, declared.qobject.TheConstants.{DESTROYED}, Sound.{IsSound}}
 use Rattle.connections.specs.declared.connection.Connection.{Connection}
-use Rattle.event_loops.specs.declared.item.Item.{Item}
-use Rattle.event_loops.specs.declared.item.Item.TheVariants.{Call, Deletion}
-use Rattle.event_loops.specs.Queues.{Loop}
+use Rattle.event_loops.specs.{declared.item.Item.{Item}, declared.item.Item.TheVariants.{Call, Deletion}, Queues.{Loop}}
 use Rattle.machine_state.specs.declared.world.World.{World}
-use Rattle.object_tree.specs.declared.life.Life.{Life}
-use Rattle.object_tree.specs.declared.object.Object.{Object}
-use Rattle.object_tree.specs.Objects.{Lives, home_of}
-use Rattle.object_tree.specs.Typed.{ReadAs}
+use Rattle.object_tree.specs.{declared.life.Life.{Life}, declared.object.Object.{Object}, Objects.{Lives, home_of}, Typed.{ReadAs}}
 use Rattle.binding_graph.specs.declared.binding.Binding.{Binding}
 use Rattle.prop_bindings.specs.Fits.{Agree}
 use Rattle.basic_types.specs.declared.value.Value.{Value}
-use Rattle.machine_rules.specs.There.{IsMember, IsDead}
-use Rattle.machine_rules.specs.Good.{destroyed_kinds}
+use Rattle.machine_rules.specs.{There.{IsMember, IsDead}, Good.{destroyed_kinds}}
 
 -- ---- methods of objects that may be dead by now
 

@@ -1,39 +1,16 @@
 -- What the world's functions do (docs/machine.md, "The state").
-use Rattle.std.specs.Prelude.{◌≡◌, ℕ, Bool, false, ◌+◌, ◌-◌, ◌<◌, List, [], ◌++◌, Option, None, Some, Result, Ok, Err}
-use Rattle.std.specs.List.{find}
+use Rattle.std.specs.{Prelude.{◌≡◌, ℕ, Bool, false, ◌+◌, ◌-◌, ◌<◌, List, [], ◌++◌, Option, None, Some, Result, Ok, Err}, List.{find}}
 use Rattle.syntax_trees.specs.declared.connection.ConnectionType.{ConnectionType}
-use Rattle.connections.specs.declared.connection.Connection.{Connection}
-use Rattle.connections.specs.Connected.{Connected}
-use Rattle.event_loops.specs.declared.item.Item.{Item}
-use Rattle.event_loops.specs.declared.item.Posted.{Posted}
-use Rattle.event_loops.specs.Queues.{Queues, items_at, is_before, posted_to, taken_before, with_loop}
+use Rattle.connections.specs.{declared.connection.Connection.{Connection}, Connected.{Connected}}
+use Rattle.event_loops.specs.{declared.item.Item.{Item}, declared.item.Posted.{Posted}, Queues.{Queues, items_at, is_before, posted_to, taken_before, with_loop}}
 use Rattle.meta_model.specs.Loaded.{Loaded}
-use Rattle.object_tree.specs.declared.life.Life.{Life}
-use Rattle.object_tree.specs.declared.object.Object.{Object}
-use Rattle.object_tree.specs.Objects.{life_of, change_life, blocked}
-use Rattle.binding_graph.specs.declared.binding.Binding.{Binding}
-use Rattle.prop_bindings.specs.declared.plans.fault.BindFault.{BindFault}
-use Rattle.binding_graph.specs.declared.place.Place.{Place}
-use Rattle.prop_bindings.specs.Calls.{IsBound, IsNotBound, new_binding}
-use Rattle.prop_bindings.specs.Changes.{IsWritten}
-use Rattle.delete_later.specs.declared.store.Store.{Store}
-use Rattle.delete_later.specs.Ending.{died_in, ended_in}
-use Rattle.delete_later.specs.Scheduling.{scheduled_in}
-use Rattle.trace_entries.specs.declared.entry.Entry.{Entry}
-use Rattle.trace_entries.specs.declared.fault.Answer.{Answer}
+use Rattle.object_tree.specs.{declared.life.Life.{Life}, declared.object.Object.{Object}, Objects.{life_of, change_life, blocked}}
+use Rattle.binding_graph.specs.{declared.binding.Binding.{Binding}, declared.place.Place.{Place}}
+use Rattle.prop_bindings.specs.{declared.plans.fault.BindFault.{BindFault}, Calls.{IsBound, IsNotBound, new_binding}, Changes.{IsWritten}}
+use Rattle.delete_later.specs.{declared.store.Store.{Store}, Ending.{died_in, ended_in}, Scheduling.{scheduled_in}}
+use Rattle.trace_entries.specs.{declared.entry.Entry.{Entry}, declared.fault.Answer.{Answer}, declared.fault.Fault.{Fault}, declared.fault.Fault.TheVariants.{Steps, Memory}, declared.refusal.Refusal.{Refusal}, Refusals.{refusal_number}}
 use Rattle.trace_entries.specs.declared.fault.Answer.TheVariants as answer
-use Rattle.trace_entries.specs.declared.fault.Fault.{Fault}
-use Rattle.trace_entries.specs.declared.fault.Fault.TheVariants.{Steps, Memory}
-use Rattle.trace_entries.specs.declared.refusal.Refusal.{Refusal}
-use Rattle.machine_state.specs.declared.changes.telling.Cause.TheVariants.{Bind}
-use Rattle.machine_state.specs.declared.world.World.{World}
-use Rattle.trace_entries.specs.Refusals.{refusal_number}
-use Rattle.machine_state.specs.Connections.{after_use, newly_joined, parted}
-use Rattle.machine_state.specs.Accepting.{accepted, refused, with_entries}
-use Rattle.machine_state.specs.declared.endpoints.Endpoints.{Endpoints}
-use Rattle.machine_state.specs.State.{State}
-use Rattle.machine_state.specs.Telling.{AreTold, Assigning, IsAssigningTold, writes_of}
-use Rattle.machine_state.specs.Worlds.{at, store_of, with_store, after, with_connection, without_connections, begun_turn}
+use Rattle.machine_state.specs.{declared.changes.telling.Cause.TheVariants.{Bind}, declared.world.World.{World}, Connections.{after_use, newly_joined, parted}, Accepting.{accepted, refused, with_entries}, declared.endpoints.Endpoints.{Endpoints}, State.{State}, Telling.{AreTold, Assigning, IsAssigningTold, writes_of}, Worlds.{at, store_of, with_store, after, with_connection, without_connections, begun_turn}}
 
 -- the world was changed so, or memory was refused and nothing changed
 abbrev pub GoesTo : World → World → World → Result (Unit {0}) Fault → Type 0

@@ -1,51 +1,21 @@
 -- How the names in slot bodies and natives are resolved: where a part has no resolved form, one of its names isn't there
 -- (docs/language.md, "Names").
-use Rattle.std.specs.Prelude.{◌≡◌, ◌≢◌, ℕ, ◌<◌, true, false, List, [], ◌∷◌, length, Some}
-use Rattle.std.specs.List.{AllZip}
-use Rattle.basic_types.specs.declared.qtype.QType.{QType}
-use Rattle.basic_types.specs.Normal.{pointer_type}
-use Rattle.basic_types.specs.declared.value.Value.{Value}
-use Rattle.syntax_trees.specs.declared.syntax.Unary.{Unary}
-use Rattle.syntax_trees.specs.declared.syntax.Binary.{Binary}
-use Rattle.syntax_trees.specs.declared.syntax.Expr.{Expr}
+use Rattle.std.specs.{Prelude.{◌≡◌, ◌≢◌, ℕ, ◌<◌, true, false, List, [], ◌∷◌, length, Some}, List.{AllZip}}
+use Rattle.basic_types.specs.{declared.qtype.QType.{QType}, Normal.{pointer_type}, declared.value.Value.{Value}}
+use Rattle.syntax_trees.specs.{declared.syntax.Unary.{Unary}, declared.syntax.Binary.{Binary}, declared.syntax.Expr.{Expr}, declared.syntax.Expr.TheViews.{out-Expr}, declared.syntax.Root.{Root}, declared.syntax.Path.{Path}, declared.connection.ConnectionType.{ConnectionType}, declared.connection.Endpoints.{Endpoints}, declared.syntax.Stmt.{Stmt}, declared.syntax.Stmt.TheViews.{out-Stmt}, declared.program.Parameter.{Parameter}, declared.program.Property.{Property}, declared.program.SlotWork.{SlotWork}, declared.program.Slot.{Slot}, declared.program.Class.{Class}}
 use Rattle.syntax_trees.specs.declared.syntax.Expr.TheOpen as expr
-use Rattle.syntax_trees.specs.declared.syntax.Expr.TheViews.{out-Expr}
-use Rattle.syntax_trees.specs.declared.syntax.Root.{Root}
 use Rattle.syntax_trees.specs.declared.syntax.Root.TheVariants as root
-use Rattle.syntax_trees.specs.declared.syntax.Path.{Path}
-use Rattle.syntax_trees.specs.declared.connection.ConnectionType.{ConnectionType}
-use Rattle.syntax_trees.specs.declared.connection.Endpoints.{Endpoints}
-use Rattle.syntax_trees.specs.declared.syntax.Stmt.{Stmt}
 use Rattle.syntax_trees.specs.declared.syntax.Stmt.TheOpen as stmt
-use Rattle.syntax_trees.specs.declared.syntax.Stmt.TheViews.{out-Stmt}
-use Rattle.syntax_trees.specs.declared.program.Parameter.{Parameter}
-use Rattle.syntax_trees.specs.declared.program.Property.{Property}
-use Rattle.syntax_trees.specs.declared.program.SlotWork.{SlotWork}
 use Rattle.syntax_trees.specs.declared.program.SlotWork.TheVariants as declared
-use Rattle.syntax_trees.specs.declared.program.Slot.{Slot}
-use Rattle.syntax_trees.specs.declared.program.Class.{Class}
-use Rattle.meta_model.specs.declared.object.MetaRoot.{MetaRoot}
+use Rattle.meta_model.specs.{declared.object.MetaRoot.{MetaRoot}, declared.object.Step.{Step}, declared.object.MetaPath.{MetaPath}, declared.object.MetaEndpoints.{MetaEndpoints}, declared.object.Statement.{Statement}, declared.object.Statement.TheViews.{out-Statement}, declared.qobject.TheConstants.{OBJECT_NAME_CHANGED}, Literals.{literal}, Sound.{AreSets}}
 use Rattle.meta_model.specs.declared.object.MetaRoot.TheVariants as resolved
-use Rattle.meta_model.specs.declared.object.Step.{Step}
-use Rattle.meta_model.specs.declared.object.MetaPath.{MetaPath}
-use Rattle.meta_model.specs.declared.object.MetaEndpoints.{MetaEndpoints}
-use Rattle.meta_model.specs.declared.object.Statement.{Statement}
 use Rattle.meta_model.specs.declared.object.Statement.TheOpen as statement
-use Rattle.meta_model.specs.declared.object.Statement.TheViews.{out-Statement}
-use Rattle.class_outlines.specs.declared.outline.Outline.{Outline}
+use Rattle.class_outlines.specs.{declared.outline.Outline.{Outline}, Outlines.{IsOutlineNamed}, code.ReadTypes.{IsReadAs}, Notifiers.{IsSignalOf}, Ends.{IsSigned}}
 use Rattle.class_outlines.specs.declared.outline.Sort.TheVariants as sort
 use Rattle.name_indexes.specs.Places.{StandsFirst}
 pub use Rattle.class_outlines.specs.Indexed.{IsCallOf, IsPropertyOfName}
-use Rattle.class_outlines.specs.Outlines.{IsOutlineNamed}
-use Rattle.meta_model.specs.declared.qobject.TheConstants.{OBJECT_NAME_CHANGED}
-use Rattle.meta_model.specs.Literals.{literal}
-use Rattle.meta_model.specs.Sound.{AreSets}
-use Rattle.class_outlines.specs.code.ReadTypes.{IsReadAs}
-use Rattle.class_outlines.specs.Notifiers.{IsSignalOf}
-use Rattle.class_outlines.specs.Ends.{IsSigned}
-use Rattle.name_resolution.specs.declared.body_resolution.work.ResolvedWork.{ResolvedWork}
+use Rattle.name_resolution.specs.{declared.body_resolution.work.ResolvedWork.{ResolvedWork}, code.Natives.{AreEffects}}
 use Rattle.name_resolution.specs.declared.body_resolution.work.ResolvedWork.TheVariants as loads
-use Rattle.name_resolution.specs.code.Natives.{AreEffects}
 
 -- where a body stands: the classes, the name of its own, and its slot's parameters
 pub record Scope : Type 0 where

@@ -1,34 +1,15 @@
 -- The meta-objects that are made of outlines, part by part, before it is known that types are there: one that isn't is read
 -- as `int`, and the program is refused in the end.
-use Rattle.std.specs.Prelude.{◌≡◌, ℕ, List, [], Option, None, Some, slice_get}
-use Rattle.std.specs.List.{AllZip}
-use Rattle.std.specs.Option.{option_and_then}
+use Rattle.std.specs.{Prelude.{◌≡◌, ℕ, List, [], Option, None, Some, slice_get}, List.{AllZip}, Option.{option_and_then}}
 use Rattle.basic_types.specs.declared.sig.Sig.{Sig}
-use Rattle.syntax_trees.specs.declared.program.Property.{Property}
-use Rattle.syntax_trees.specs.declared.program.Program.{Program}
-use Rattle.meta_model.specs.declared.object.Work.{Work}
+use Rattle.syntax_trees.specs.{declared.program.Property.{Property}, declared.program.Program.{Program}}
+use Rattle.meta_model.specs.{declared.object.Work.{Work}, declared.object.MetaMethod.{MetaMethod}, declared.object.MetaProperty.{MetaProperty}, declared.object.MetaObject.{MetaObject}, declared.object.MetaWire.{MetaWire}, declared.object.MetaOwns.{MetaOwns}, Loaded.{Loaded}, Root.{delete_later_body}, declared.site.MetaSite.{MetaSite}}
 use Rattle.meta_model.specs.declared.object.Work.TheVariants as work
-use Rattle.meta_model.specs.declared.object.MetaMethod.{MetaMethod}
-use Rattle.meta_model.specs.declared.object.MetaProperty.{MetaProperty}
-use Rattle.meta_model.specs.declared.object.MetaObject.{MetaObject}
-use Rattle.meta_model.specs.declared.object.MetaWire.{MetaWire}
-use Rattle.meta_model.specs.declared.object.MetaOwns.{MetaOwns}
-use Rattle.class_outlines.specs.declared.outline.Sort.{Sort}
+use Rattle.class_outlines.specs.{declared.outline.Sort.{Sort}, declared.outline.Heading.{Heading}, declared.outline.Outline.{Outline}, code.ReadTypes.{IsReadAs}, Notifiers.{IsSignalOf}}
 use Rattle.class_outlines.specs.declared.outline.Sort.TheVariants as sort
-use Rattle.class_outlines.specs.declared.outline.Heading.{Heading}
-use Rattle.class_outlines.specs.declared.outline.Outline.{Outline}
-use Rattle.meta_model.specs.Loaded.{Loaded}
 use Rattle.name_indexes.specs.Places.{IsPlace}
-use Rattle.meta_model.specs.Root.{delete_later_body}
-use Rattle.class_outlines.specs.code.ReadTypes.{IsReadAs}
-use Rattle.class_outlines.specs.Notifiers.{IsSignalOf}
-use Rattle.meta_model.specs.declared.site.MetaSite.{MetaSite}
-use Rattle.name_resolution.specs.declared.body_resolution.work.ResolvedWork.{ResolvedWork}
+use Rattle.name_resolution.specs.{declared.body_resolution.work.ResolvedWork.{ResolvedWork}, code.Sites.{IsSite}, code.Bodies.{AllWorks}, InitialValues.{initial_of}, code.Wires.{IsWire, IsOwns}}
 use Rattle.name_resolution.specs.declared.body_resolution.work.ResolvedWork.TheVariants as resolved
-use Rattle.name_resolution.specs.code.Sites.{IsSite}
-use Rattle.name_resolution.specs.code.Bodies.{AllWorks}
-use Rattle.name_resolution.specs.InitialValues.{initial_of}
-use Rattle.name_resolution.specs.code.Wires.{IsWire, IsOwns}
 
 -- ---- methods
 -- what slot or native j of class i does

@@ -1,32 +1,12 @@
 -- What looking up the names in a part of a program answers: the part with numbers in their place; or `NoMember`, where one
 -- of its names isn't there (docs/machine.md, "Loading").
-use Rattle.std.specs.Borrow.{Bor}
-use Rattle.std.specs.Prelude.{◌≡◌, ℕ, List, Option, Result, MatchOption, Any}
-use Rattle.std.specs.List.{AllZip}
+use Rattle.std.specs.{Borrow.{Bor}, Prelude.{◌≡◌, ℕ, List, Option, Result, MatchOption, Any}, List.{AllZip}}
 use Rattle.basic_types.specs.declared.qtype.QType.{QType}
-use Rattle.syntax_trees.specs.declared.syntax.Path.{Path}
-use Rattle.syntax_trees.specs.declared.program.Property.{Property}
-use Rattle.syntax_trees.specs.declared.program.Class.{Class}
-use Rattle.syntax_trees.specs.declared.program.Program.{Program}
+use Rattle.syntax_trees.specs.{declared.syntax.Path.{Path}, declared.program.Property.{Property}, declared.program.Class.{Class}, declared.program.Program.{Program}}
 use Rattle.class_outlines.specs.declared.fault.MetaFault.TheVariants as fault
-use Rattle.meta_model.specs.declared.object.MetaRoot.{MetaRoot}
-use Rattle.class_outlines.specs.declared.offence.LoadFault.{LoadFault}
-use Rattle.class_outlines.specs.declared.offence.PartFault.{PartFault}
-use Rattle.meta_model.specs.declared.object.MetaPath.{MetaPath}
-use Rattle.meta_model.specs.declared.object.Step.{Step}
-use Rattle.class_outlines.specs.declared.outline.Heading.{Heading}
-use Rattle.class_outlines.specs.declared.outline.Outline.{Outline}
-use Rattle.class_outlines.specs.Ends.{IsEnd}
-use Rattle.class_outlines.specs.Offences.{LoadsPart, LoadsIn, LoadsOf}
-use Rattle.name_resolution.specs.declared.body_resolution.path.Led.{Led}
-use Rattle.name_resolution.specs.declared.body_resolution.path.Target.{Target}
-use Rattle.name_resolution.specs.declared.body_resolution.scope.Scope.{Scope as ScopeGiven}
-use Rattle.name_resolution.specs.declared.body_resolution.work.ResolvedWork.{ResolvedWork}
-use Rattle.name_resolution.specs.declared.uses.Uses.{Uses}
-use Rattle.name_resolution.specs.code.Bodies.{Scope, PointsTo, PointsToThis, HasMember, AreSteps, IsPath, IsObjectPath, AreWorks, AllWorks}
-use Rattle.name_resolution.specs.LackedNames.{LacksInClass}
-use Rattle.name_resolution.specs.LackedNames.{LacksMember}
-use Rattle.name_resolution.specs.code.Loading.{HasUses}
+use Rattle.meta_model.specs.{declared.object.MetaRoot.{MetaRoot}, declared.object.MetaPath.{MetaPath}, declared.object.Step.{Step}}
+use Rattle.class_outlines.specs.{declared.offence.LoadFault.{LoadFault}, declared.offence.PartFault.{PartFault}, declared.outline.Heading.{Heading}, declared.outline.Outline.{Outline}, Ends.{IsEnd}, Offences.{LoadsPart, LoadsIn, LoadsOf}}
+use Rattle.name_resolution.specs.{declared.body_resolution.path.Led.{Led}, declared.body_resolution.path.Target.{Target}, declared.body_resolution.scope.Scope.{Scope as ScopeGiven}, declared.body_resolution.work.ResolvedWork.{ResolvedWork}, declared.uses.Uses.{Uses}, code.Bodies.{Scope, PointsTo, PointsToThis, HasMember, AreSteps, IsPath, IsObjectPath, AreWorks, AllWorks}, LackedNames.{LacksInClass, LacksMember}, code.Loading.{HasUses}}
 
 -- what the names in a body mean there
 abbrev pub scope : ScopeGiven → Scope

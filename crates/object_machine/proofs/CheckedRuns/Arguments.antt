@@ -1,73 +1,22 @@
 -- What a rule or an event pushes has the arguments that its method declares.
-use Rattle.std.proofs.Common.{◌≡◌, ℕ, suc, ◌<◌, ◌≤◌, Bool, true, false, List, [], ◌∷◌, map, take, length, Ok, Err, Result, Option, Some, None, refl, sym, ap, subst, arith, inl, inr}
-use Rattle.std.specs.List.{AllByRecursion, find}
-use Rattle.basic_types.specs.declared.value.Value.{Value}
-use Rattle.script_lang.specs.declared.event.Event.{Event}
-use Rattle.script_lang.specs.declared.event.Event.TheVariants.{Loop, Turn as TurnEvent, New, Adopt, Move, Connect as ConnectEvent, Disconnect as DisconnectEvent, Set, Bind, Emit as EmitEvent, Call as CallEvent, Block, Unblock, Delete as DeleteEvent, Later as LaterEvent}
-use Rattle.script_lang.specs.declared.event.Input.{Input}
-use Rattle.syntax_trees.specs.declared.connection.ConnectionType.{ConnectionType}
-use Rattle.syntax_trees.specs.declared.connection.Endpoints.{Endpoints as Named}
-use Rattle.meta_model.specs.declared.object.MetaMethod.{MetaMethod}
-use Rattle.meta_model.specs.declared.object.Statement.{Statement}
-use Rattle.meta_model.specs.declared.object.Work.{Work}
-use Rattle.meta_model.specs.declared.object.Work.TheVariants.{Signal, Slot, Native}
-use Rattle.meta_model.specs.Loaded.{Loaded}
-use Rattle.meta_model.specs.Sound.{IsSound}
-use Rattle.basic_types.specs.Values.{null_has}
+use Rattle.std.{proofs.Common.{◌≡◌, ℕ, suc, ◌<◌, ◌≤◌, Bool, true, false, List, [], ◌∷◌, map, take, length, Ok, Err, Result, Option, Some, None, refl, sym, ap, subst, arith, inl, inr}, specs.List.{AllByRecursion, find}}
+use Rattle.basic_types.specs.{declared.value.Value.{Value}, Values.{null_has}}
+use Rattle.script_lang.specs.{declared.event.Event.{Event}, declared.event.Event.TheVariants.{Loop, Turn as TurnEvent, New, Adopt, Move, Connect as ConnectEvent, Disconnect as DisconnectEvent, Set, Bind, Emit as EmitEvent, Call as CallEvent, Block, Unblock, Delete as DeleteEvent, Later as LaterEvent}, declared.event.Input.{Input}}
+use Rattle.syntax_trees.specs.{declared.connection.ConnectionType.{ConnectionType}, declared.connection.Endpoints.{Endpoints as Named}}
+use Rattle.meta_model.specs.{declared.object.MetaMethod.{MetaMethod}, declared.object.Statement.{Statement}, declared.object.Work.{Work}, declared.object.Work.TheVariants.{Signal, Slot, Native}, Loaded.{Loaded}, Sound.{IsSound}}
 use Rattle.connections.specs.declared.connection.Connection.{Connection}
-use Rattle.event_loops.specs.declared.item.Item.{Item}
-use Rattle.event_loops.specs.declared.item.Item.TheVariants.{Call, Deletion}
-use Rattle.event_loops.specs.declared.item.Posted.{Posted}
-use Rattle.event_loops.specs.Queues.{Queues, items_at, is_before, taken_before}
+use Rattle.event_loops.specs.{declared.item.Item.{Item}, declared.item.Item.TheVariants.{Call, Deletion}, declared.item.Posted.{Posted}, Queues.{Queues, items_at, is_before, taken_before}}
 use Rattle.native_slots.specs.Promises.{Takes, Promises}
-use Rattle.object_tree.specs.declared.life.Life.{Life}
-use Rattle.object_tree.specs.declared.object.Object.{Object}
-use Rattle.object_tree.specs.Objects.{class_of, life_of}
-use Rattle.object_tree.specs.Typed.{ReadAs}
+use Rattle.object_tree.specs.{declared.life.Life.{Life}, declared.object.Object.{Object}, Objects.{class_of, life_of}, Typed.{ReadAs}}
 use Rattle.binding_graph.specs.declared.place.Place.{Place}
 use Rattle.prop_bindings.specs.Fits.{Agree}
 use Rattle.effect_scan.specs.declared.node.Node.{Node}
 use Rattle.certificate_lang.specs.declared.certificate.Certificate.{Certificate}
 use Rattle.rank_check.specs.Valid.{IsValid}
-use Rattle.machine_state.specs.declared.endpoints.Endpoints.{Endpoints}
-use Rattle.trace_entries.specs.declared.refusal.Refusal.{Refusal}
-use Rattle.machine_state.specs.declared.turn.Turn.{Turn}
-use Rattle.machine_state.specs.Accepting.{accepted}
-use Rattle.machine_state.specs.Connections.{is_living, next_used}
-use Rattle.machine_state.specs.State.{Step, Run, Act, State, IsIdle, Activation, Body, Emit, Update, Destroy}
-use Rattle.machine_state.specs.Turns.{running, reaches_at_once}
-use Rattle.machine_rules.specs.Connecting.{kept_ends, names_of}
-use Rattle.machine_rules.specs.Destroying.{Dies, NextRule, ChildRule, DestroyRule, living_child, Schedules}
-use Rattle.machine_rules.specs.Operations.{Operation, Write, Begin, Choose, Connect, Disconnect, Delete, Schedule, TakeAnswer, Nothing, operation_of_step}
-use Rattle.machine_rules.specs.Good.{ArgumentsFit, of_living, of_dead, TopFits}
-use Rattle.machine_rules.specs.Judgement.{found as finds, holds as so, becomes, goes_on}
-use Rattle.machine_rules.specs.Natives.{NativeAnswers}
-use Rattle.machine_rules.specs.Rules.{Rule, RuleAt, BodyRule, Does, EmitRule, UpdateRule, NotifiesIf, TurnRule, Serves, Delivers, Arrives, Begins, BeginsIf, begun, with_used, linked, unlinked}
-use Rattle.machine_rules.specs.code.Sound.{Waits, SendsThese, MayBeHeard}
-use Rattle.machine_rules.specs.There.{IsMember}
-use Rattle.machine_rules.specs.Writing.{Announces}
-use Rattle.machine_rules.proofs.Delivered.{fit-of, next-delivered, delivered-fits}
-use Rattle.machine_rules.proofs.Declared.{living-fits}
-use Rattle.machine_rules.proofs.Dying.{died-dead}
-use Rattle.machine_rules.proofs.Fields.{member-at, method-unique}
-use Rattle.machine_rules.proofs.Lists.{all-append}
-use Rattle.machine_rules.proofs.Notifying.{announced-fits}
-use Rattle.machine_rules.proofs.Soundness.{AllFit}
-use Rattle.machine_rules.proofs.Waiting.{first-waits}
-use Rattle.object_machine.specs.declared.invoking.Invocation.{Invocation}
-use Rattle.object_machine.specs.declared.invoking.Invocation.TheVariants.{Emit as EmitIt, Call as CallIt}
-use Rattle.trace_entries.specs.declared.fault.Answer.{Answer}
-use Rattle.object_machine.specs.Takes.{judged, Takes as Taking, accepts, refuses}
-use Rattle.object_machine.specs.Events.{block, invoke}
-use Rattle.object_machine.proofs.Standing.{Invariant}
-use Rattle.object_machine.proofs.CheckedRuns.Invariant.{Level, BodyStands, Stacked, Holds}
-use Rattle.object_machine.proofs.CheckedRuns.Promised.{StepIsPromised, AllIsPromised}
-use Rattle.object_machine.proofs.CheckedRuns.Giving.{does-give, answer-promised}
-use Rattle.object_machine.proofs.Judged.{given-is}
-use Rattle.object_machine.proofs.Judging.Naming.{living-is, living-object}
-use Rattle.object_machine.proofs.CheckedRuns.Leading.{does-led}
-use Rattle.machine_rules.proofs.Scheduling.{schedule-cases}
-use Rattle.machine_rules.proofs.Hearing.{AllHeard, nobody, may-be-heard}
+use Rattle.machine_state.specs.{declared.endpoints.Endpoints.{Endpoints}, declared.turn.Turn.{Turn}, Accepting.{accepted}, Connections.{is_living, next_used}, State.{Step, Run, Act, State, IsIdle, Activation, Body, Emit, Update, Destroy}, Turns.{running, reaches_at_once}}
+use Rattle.trace_entries.specs.{declared.refusal.Refusal.{Refusal}, declared.fault.Answer.{Answer}}
+use Rattle.machine_rules.{specs.Connecting.{kept_ends, names_of}, specs.Destroying.{Dies, NextRule, ChildRule, DestroyRule, living_child, Schedules}, specs.Operations.{Operation, Write, Begin, Choose, Connect, Disconnect, Delete, Schedule, TakeAnswer, Nothing, operation_of_step}, specs.Good.{ArgumentsFit, of_living, of_dead, TopFits}, specs.Judgement.{found as finds, holds as so, becomes, goes_on}, specs.Natives.{NativeAnswers}, specs.Rules.{Rule, RuleAt, BodyRule, Does, EmitRule, UpdateRule, NotifiesIf, TurnRule, Serves, Delivers, Arrives, Begins, BeginsIf, begun, with_used, linked, unlinked}, specs.code.Sound.{Waits, SendsThese, MayBeHeard}, specs.There.{IsMember}, specs.Writing.{Announces}, proofs.Delivered.{fit-of, next-delivered, delivered-fits}, proofs.Declared.{living-fits}, proofs.Dying.{died-dead}, proofs.Fields.{member-at, method-unique}, proofs.Lists.{all-append}, proofs.Notifying.{announced-fits}, proofs.Soundness.{AllFit}, proofs.Waiting.{first-waits}, proofs.Scheduling.{schedule-cases}, proofs.Hearing.{AllHeard, nobody, may-be-heard}}
+use Rattle.object_machine.{specs.declared.invoking.Invocation.{Invocation}, specs.declared.invoking.Invocation.TheVariants.{Emit as EmitIt, Call as CallIt}, specs.Takes.{judged, Takes as Taking, accepts, refuses}, specs.Events.{block, invoke}, proofs.Standing.{Invariant}, proofs.CheckedRuns.Invariant.{Level, BodyStands, Stacked, Holds}, proofs.CheckedRuns.Promised.{StepIsPromised, AllIsPromised}, proofs.CheckedRuns.Giving.{does-give, answer-promised}, proofs.Judged.{given-is}, proofs.Judging.Naming.{living-is, living-object}, proofs.CheckedRuns.Leading.{does-led}}
 
 -- What was pushed over so many activations has its arguments, and what is left of natives' answers keeps to their effects.
 pub record Pushes (p : Loaded) (classes : ℕ → Option ℕ) (high : ℕ) (t : State) : Type 0 where

@@ -1,48 +1,19 @@
 -- A binding that may be installed has a value of its target's type: its site is typed, and what it reads is there.
-use Rattle.std.proofs.Common.{◌≡◌, ℕ, zero, suc, List, [], ◌∷◌, Ok, Option, Some, None, slice_get, refl, sym, ap, ◌∙◌, subst}
-use Rattle.std.specs.List.{AllZip}
-use Rattle.std.specs.Option.{option_map, option_and_then}
-use Rattle.std.proofs.lemmas.Option.{same_Some, none-some}
+use Rattle.std.{proofs.Common.{◌≡◌, ℕ, zero, suc, List, [], ◌∷◌, Ok, Option, Some, None, slice_get, refl, sym, ap, ◌∙◌, subst}, specs.List.{AllZip}, specs.Option.{option_map, option_and_then}, proofs.lemmas.Option.{same_Some, none-some}}
 use Rattle.basic_types.specs.declared.value.Value.{Value}
 use Rattle.basic_types.specs.declared.value.Value.TheVariants as variant
 use Rattle.expressions.specs.Evaluation.{value as value_in}
-use Rattle.meta_model.specs.declared.object.MetaProperty.{MetaProperty}
-use Rattle.meta_model.specs.declared.object.ValueType.{ValueType}
-use Rattle.meta_model.specs.declared.site.MetaSite.{MetaSite}
-use Rattle.meta_model.specs.declared.site.SourceProperty.{SourceProperty}
-use Rattle.meta_model.specs.Loaded.{Loaded}
-use Rattle.meta_model.specs.Members.{IsProperty}
-use Rattle.meta_model.specs.Sound.{IsSound, IsSoundSite}
-use Rattle.meta_model.specs.Values.{Has}
-use Rattle.object_tree.specs.declared.object.Object.{Object}
-use Rattle.object_tree.specs.Objects.{class_of}
-use Rattle.object_tree.specs.Seen.{seen}
-use Rattle.object_tree.specs.Typed.{AreTyped}
-use Rattle.object_tree.proofs.TypedObjects.{has-reads}
-use Rattle.binding_graph.specs.declared.binding.Binding.{Binding}
-use Rattle.binding_graph.specs.declared.place.Place.{Place}
-use Rattle.binding_graph.specs.Bindings.{source_place}
-use Rattle.prop_bindings.specs.Calls.{IsOf, CoversBinding, binding_of}
-use Rattle.prop_bindings.specs.Fits.{IsFit, Agree}
-use Rattle.binding_graph.specs.Places.{property_of}
-use Rattle.prop_bindings.specs.Values.{values_in}
-use Rattle.prop_bindings.proofs.Alike.{sort_of, BothAlike, values-alike, reads-sort, plain-has}
-use Rattle.type_check.specs.Laws.{HasValueOf, SourcesAreTyped}
-use Rattle.type_check.specs.Typed.{kind_in, IsTypedSite}
-use Rattle.type_check.proofs.Properties.{has_kind}
-use Rattle.type_check.proofs.Values.{site_has}
+use Rattle.meta_model.specs.{declared.object.MetaProperty.{MetaProperty}, declared.object.ValueType.{ValueType}, declared.site.MetaSite.{MetaSite}, declared.site.SourceProperty.{SourceProperty}, Loaded.{Loaded}, Members.{IsProperty}, Sound.{IsSound, IsSoundSite}, Values.{Has}}
+use Rattle.object_tree.{specs.declared.object.Object.{Object}, specs.Objects.{class_of}, specs.Seen.{seen}, specs.Typed.{AreTyped}, proofs.TypedObjects.{has-reads}}
+use Rattle.binding_graph.specs.{declared.binding.Binding.{Binding}, declared.place.Place.{Place}, Bindings.{source_place}, Places.{property_of}}
+use Rattle.prop_bindings.{specs.Calls.{IsOf, CoversBinding, binding_of}, specs.Fits.{IsFit, Agree}, specs.Values.{values_in}, proofs.Alike.{sort_of, BothAlike, values-alike, reads-sort, plain-has}}
+use Rattle.type_check.{specs.Laws.{HasValueOf, SourcesAreTyped}, specs.Typed.{kind_in, IsTypedSite}, proofs.Properties.{has_kind}, proofs.Values.{site_has}}
 use Rattle.certificate_lang.specs.declared.certificate.Certificate.{Certificate}
 use Rattle.rank_check.specs.Valid.{IsValid}
 use Rattle.script_lang.specs.declared.event.Event.{Event}
 use Rattle.machine_state.specs.State.{State}
-use Rattle.machine_rules.specs.Judgement.{found as finds, holds as so, goes_on}
-use Rattle.machine_rules.specs.There.{IsField}
-use Rattle.machine_rules.proofs.Fields.{old-there, stored-reads}
-use Rattle.machine_rules.proofs.Keeps.{lives-of-class}
-use Rattle.object_machine.specs.Causes.{BindsNext}
-use Rattle.object_machine.specs.Events.{may_bind}
-use Rattle.machine_rules.proofs.Inherited.{property-below}
-use Rattle.object_machine.proofs.Judged.{given-is}
+use Rattle.machine_rules.{specs.Judgement.{found as finds, holds as so, goes_on}, specs.There.{IsField}, proofs.Fields.{old-there, stored-reads}, proofs.Keeps.{lives-of-class}, proofs.Inherited.{property-below}}
+use Rattle.object_machine.{specs.Causes.{BindsNext}, specs.Events.{may_bind}, proofs.Judged.{given-is}}
 
 -- a value as it reads is of the sort that it is of
 seen-sort : (objects : List Object) (v : Value) → sort_of (seen objects v) ≡ sort_of v

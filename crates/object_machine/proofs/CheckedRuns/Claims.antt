@@ -1,25 +1,14 @@
 -- What runs of checked programs never come to.
 use Rattle.std.proofs.Common.{◌≢◌, ℕ, List, refl}
 use Rattle.script_lang.specs.declared.event.Event.{Event}
-use Rattle.meta_model.specs.Loaded.{Loaded}
-use Rattle.meta_model.specs.Sound.{IsSound}
+use Rattle.meta_model.specs.{Loaded.{Loaded}, Sound.{IsSound}}
 use Rattle.certificate_lang.specs.declared.certificate.Certificate.{Certificate}
 use Rattle.rank_check.specs.Valid.{IsValid}
 use Rattle.native_slots.specs.Promises.{Takes}
-use Rattle.trace_entries.specs.declared.fault.Fault.{Fault}
-use Rattle.trace_entries.specs.declared.fault.Fault.TheVariants.{BadType, TooDeep, BindingLoop, InUse, Steps, Memory}
+use Rattle.trace_entries.specs.{declared.fault.Fault.{Fault}, declared.fault.Fault.TheVariants.{BadType, TooDeep, BindingLoop, InUse, Steps, Memory}}
 use Rattle.machine_state.specs.State.{State}
-use Rattle.machine_rules.specs.Natives.{NativeAnswers}
-use Rattle.machine_rules.specs.Faults.{GoesIll}
-use Rattle.machine_rules.specs.Next.{WritesIll}
-use Rattle.object_machine.specs.Causes.{Brings, StopsFor, BindsIll, spent, short, brings, lacks_value, writes_ill, binds_ill, goes_ill, goes_fatal, binds_loop, writes_deep, goes_deep}
-use Rattle.object_machine.specs.Runs.{Follows}
-use Rattle.object_machine.proofs.Progress.{stuck-lacks}
-use Rattle.object_machine.specs.Checked.{IsLimit, no_rule, no_memory}
-use Rattle.object_machine.specs.CheckedLaws.{NeverStops, NeverLacksValue, NeverStuck, IsReached, EachRunIsFaultless, EachIsFaultless, StopsAtLimits}
-use Rattle.object_machine.proofs.CheckedRuns.Binding.{binds-fit}
-use Rattle.object_machine.proofs.CheckedRuns.Kept.{Kept, run-kept, writes-low, deep-not, fatal-not, loops-not, lacks-not}
-use Rattle.object_machine.proofs.CheckedRuns.Steps.{Stood, come-stood, as-kept, writes-none, follows-good, follows-faultless, run-faultless}
+use Rattle.machine_rules.specs.{Natives.{NativeAnswers}, Faults.{GoesIll}, Next.{WritesIll}}
+use Rattle.object_machine.{specs.Causes.{Brings, StopsFor, BindsIll, spent, short, brings, lacks_value, writes_ill, binds_ill, goes_ill, goes_fatal, binds_loop, writes_deep, goes_deep}, specs.Runs.{Follows}, proofs.Progress.{stuck-lacks}, specs.Checked.{IsLimit, no_rule, no_memory}, specs.CheckedLaws.{NeverStops, NeverLacksValue, NeverStuck, IsReached, EachRunIsFaultless, EachIsFaultless, StopsAtLimits}, proofs.CheckedRuns.Binding.{binds-fit}, proofs.CheckedRuns.Kept.{Kept, run-kept, writes-low, deep-not, fatal-not, loops-not, lacks-not}, proofs.CheckedRuns.Steps.{Stood, come-stood, as-kept, writes-none, follows-good, follows-faultless, run-faultless}}
 
 module _ {natives : NativeAnswers} {p : Loaded} {certificate : Certificate} (valid : IsValid p certificate) (sound : IsSound p) {s : State} (kept : Kept valid sound natives s) {next : List Event} where
   -- nothing is brought but 60

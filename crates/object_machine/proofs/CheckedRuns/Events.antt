@@ -1,70 +1,22 @@
 -- Each event keeps what a run of a checked program keeps; a new object gets its class.
-use Rattle.std.proofs.Common.{◌≡◌, ◌≢◌, inl, inr, ℕ, ◌+◌, ◌<◌, eqb, cond, Bool, true, false, List, [], ◌∷◌, ◌++◌, length, length-append, Ok, Option, Some, None, slice_get, refl, sym, ap, ◌∙◌, subst, arith}
-use Rattle.std.specs.List.{AllByRecursion, AllZip}
-use Rattle.std.specs.Option.{option_map, option_and_then}
-use Rattle.std.proofs.lemmas.Bool.{cases_eq, eq-eqb, ne_eqb}
-use Rattle.std.proofs.lemmas.Option.{none-some, slice_get_within}
+use Rattle.std.{proofs.Common.{◌≡◌, ◌≢◌, inl, inr, ℕ, ◌+◌, ◌<◌, eqb, cond, Bool, true, false, List, [], ◌∷◌, ◌++◌, length, length-append, Ok, Option, Some, None, slice_get, refl, sym, ap, ◌∙◌, subst, arith}, specs.List.{AllByRecursion, AllZip}, specs.Option.{option_map, option_and_then}, proofs.lemmas.Bool.{cases_eq, eq-eqb, ne_eqb}, proofs.lemmas.Option.{none-some, slice_get_within}}
 use Rattle.basic_types.specs.declared.sig.Sig.{Sig}
-use Rattle.syntax_trees.specs.declared.connection.ConnectionType.{ConnectionType}
-use Rattle.syntax_trees.specs.declared.connection.Endpoints.{Endpoints as Named}
-use Rattle.script_lang.specs.declared.event.Event.{Event}
-use Rattle.script_lang.specs.declared.event.Event.TheVariants.{Loop, Turn, New, Adopt, Move, Connect, Disconnect, Set, Bind, Emit as EmitEvent, Call as CallEvent, Block, Unblock, Delete as DeleteEvent, Later as LaterEvent}
-use Rattle.script_lang.specs.declared.event.Input.{Input}
-use Rattle.meta_model.specs.Loaded.{Loaded}
-use Rattle.meta_model.specs.Members.{Covers}
-use Rattle.meta_model.specs.Sound.{IsSound}
+use Rattle.syntax_trees.specs.{declared.connection.ConnectionType.{ConnectionType}, declared.connection.Endpoints.{Endpoints as Named}}
+use Rattle.script_lang.specs.{declared.event.Event.{Event}, declared.event.Event.TheVariants.{Loop, Turn, New, Adopt, Move, Connect, Disconnect, Set, Bind, Emit as EmitEvent, Call as CallEvent, Block, Unblock, Delete as DeleteEvent, Later as LaterEvent}, declared.event.Input.{Input}}
+use Rattle.meta_model.specs.{Loaded.{Loaded}, Members.{Covers}, Sound.{IsSound}}
 use Rattle.connections.specs.declared.connection.Connection.{Connection}
-use Rattle.object_tree.specs.declared.life.Life.{Life}
-use Rattle.object_tree.specs.declared.object.Object.{Object}
-use Rattle.object_tree.specs.Creating.{begun as begun_life, fresh, initial_values}
-use Rattle.object_tree.specs.Family.{children_in, parent_of, leaves, joined_by, put_under, moved}
-use Rattle.object_tree.specs.Moving.{in_loop, all_in_loop}
-use Rattle.object_tree.specs.Objects.{change, change_life, with_life, blocked}
-use Rattle.object_tree.proofs.Changing.{part-change, life-part, length-change, get-change_other}
-use Rattle.object_tree.proofs.TypedObjects.{get-appended, class-same, shape-moved}
+use Rattle.object_tree.{specs.declared.life.Life.{Life}, specs.declared.object.Object.{Object}, specs.Creating.{begun as begun_life, fresh, initial_values}, specs.Family.{children_in, parent_of, leaves, joined_by, put_under, moved}, specs.Moving.{in_loop, all_in_loop}, specs.Objects.{change, change_life, with_life, blocked}, proofs.Changing.{part-change, life-part, length-change, get-change_other}, proofs.TypedObjects.{get-appended, class-same, shape-moved}}
 use Rattle.event_loops.specs.Queues.{Queues, rehomed}
 use Rattle.delete_later.specs.declared.store.Store.{Store}
-use Rattle.binding_graph.specs.declared.binding.Binding.{Binding}
-use Rattle.binding_graph.specs.declared.place.Place.{Place}
-use Rattle.binding_graph.specs.Bindings.{binding_at, without, replaced}
-use Rattle.prop_bindings.specs.Calls.{IsOf as IsLivingOf}
-use Rattle.prop_bindings.specs.Fits.{Agree}
-use Rattle.binding_graph.proofs.Replaced.{installed-is}
-use Rattle.binding_graph.proofs.Places.{decide_place}
-use Rattle.binding_graph.proofs.Walks.{bound-other}
-use Rattle.effect_scan.specs.declared.node.Member.TheVariants.{Method, Property, Destruction}
-use Rattle.effect_scan.specs.Nodes.{node, named}
-use Rattle.effect_scan.specs.Destroying.{itself}
+use Rattle.binding_graph.{specs.declared.binding.Binding.{Binding}, specs.declared.place.Place.{Place}, specs.Bindings.{binding_at, without, replaced}, proofs.Replaced.{installed-is}, proofs.Places.{decide_place}, proofs.Walks.{bound-other}, specs.Places.{property_of}}
+use Rattle.prop_bindings.specs.{Calls.{IsOf as IsLivingOf}, Fits.{Agree}}
+use Rattle.effect_scan.specs.{declared.node.Member.TheVariants.{Method, Property, Destruction}, Nodes.{node, named}, Destroying.{itself}}
 use Rattle.certificate_lang.specs.declared.certificate.Certificate.{Certificate}
 use Rattle.rank_check.specs.Valid.{IsValid}
-use Rattle.machine_state.specs.Accepting.{accepted}
-use Rattle.machine_state.specs.Connections.{joins_these}
-use Rattle.machine_state.specs.State.{State, IsIdle, Activation}
-use Rattle.machine_state.specs.Worlds.{with_store}
-use Rattle.machine_state.proofs.Due.{all-removed}
-use Rattle.machine_state.specs.Telling.{Alone}
-use Rattle.binding_graph.specs.Places.{property_of}
-use Rattle.machine_rules.specs.declared.ends.FoundEnds.{FoundEnds}
-use Rattle.machine_rules.specs.Good.{IsWell}
-use Rattle.machine_rules.specs.Judgement.{Numbered, found as finds, holds as so, becomes, goes_on}
-use Rattle.machine_rules.specs.Settling.{Installs}
-use Rattle.machine_rules.proofs.Keeps.{class-of-lives}
-use Rattle.machine_rules.proofs.Lists.{all-filtered, all-snoc, all-weaken}
-use Rattle.object_machine.specs.declared.invoking.Invocation.{Invocation}
-use Rattle.object_machine.specs.declared.invoking.Invocation.TheVariants.{Emit as EmitIt, Call as CallIt}
+use Rattle.machine_state.{specs.Accepting.{accepted}, specs.Connections.{joins_these}, specs.State.{State, IsIdle, Activation}, specs.Worlds.{with_store}, proofs.Due.{all-removed}, specs.Telling.{Alone}}
+use Rattle.machine_rules.{specs.declared.ends.FoundEnds.{FoundEnds}, specs.Good.{IsWell}, specs.Judgement.{Numbered, found as finds, holds as so, becomes, goes_on}, specs.Settling.{Installs}, proofs.Keeps.{class-of-lives}, proofs.Lists.{all-filtered, all-snoc, all-weaken}}
+use Rattle.object_machine.{specs.declared.invoking.Invocation.{Invocation}, specs.declared.invoking.Invocation.TheVariants.{Emit as EmitIt, Call as CallIt}, specs.Takes.{judged, Takes, accepts, refuses}, specs.Events.{may_bind, block, find_ends, invoke}, specs.code.Judgement.{IsLiving}, proofs.CheckedRuns.Invariant.{Stacked, AreClasses, AreOwned, IsOwned, IsWired, IsOf, IsSited, IsCovered, Holds}, proofs.CheckedRuns.Nodes.{named-node, property-node, end-node}, proofs.CheckedRuns.Ladder.{level-at, level-of}, proofs.Changes.{adopted-by, length-moved}, proofs.Judged.{given-is}, proofs.Judging.Naming.{living-is, living-object}, proofs.Moving.{moved-by}, proofs.CheckedRuns.Worlds.{Leaves, classes-left, all-changed, all-left}, proofs.CheckedRuns.Rules.{writes-held, settles-held, alone-low, begun-held, wired-by, deletes-held, schedules-held}}
 use Rattle.trace_entries.specs.declared.fault.Answer.{Answer}
-use Rattle.object_machine.specs.Takes.{judged, Takes, accepts, refuses}
-use Rattle.object_machine.specs.Events.{may_bind, block, find_ends, invoke}
-use Rattle.object_machine.specs.code.Judgement.{IsLiving}
-use Rattle.object_machine.proofs.CheckedRuns.Invariant.{Stacked, AreClasses, AreOwned, IsOwned, IsWired, IsOf, IsSited, IsCovered, Holds}
-use Rattle.object_machine.proofs.CheckedRuns.Nodes.{named-node, property-node, end-node}
-use Rattle.object_machine.proofs.CheckedRuns.Ladder.{level-at, level-of}
-use Rattle.object_machine.proofs.Changes.{adopted-by, length-moved}
-use Rattle.object_machine.proofs.Judged.{given-is}
-use Rattle.object_machine.proofs.Judging.Naming.{living-is, living-object}
-use Rattle.object_machine.proofs.Moving.{moved-by}
-use Rattle.object_machine.proofs.CheckedRuns.Worlds.{Leaves, classes-left, all-changed, all-left}
-use Rattle.object_machine.proofs.CheckedRuns.Rules.{writes-held, settles-held, alone-low, begun-held, wired-by, deletes-held, schedules-held}
 
 -- ---- objects change
 

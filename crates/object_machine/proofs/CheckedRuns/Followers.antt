@@ -1,32 +1,15 @@
 -- A write or a bind notifies only properties that are no higher than the one that is written or bound.
-use Rattle.std.proofs.Common.{◌≡◌, inl, inr, ℕ, ◌<◌, List, [], ◌∷◌, Option, Some, None, is_some, refl, sym, ap, ◌∙◌, subst, arith}
-use Rattle.std.specs.List.{AllByRecursion}
-use Rattle.std.specs.Option.{option_map}
-use Rattle.std.proofs.lemmas.Bool.{cases_lt}
+use Rattle.std.{proofs.Common.{◌≡◌, inl, inr, ℕ, ◌<◌, List, [], ◌∷◌, Option, Some, None, is_some, refl, sym, ap, ◌∙◌, subst, arith}, specs.List.{AllByRecursion}, specs.Option.{option_map}, proofs.lemmas.Bool.{cases_lt}, proofs.lemmas.Option.{same_Some}}
 use Rattle.basic_types.specs.declared.value.Value.{Value}
-use Rattle.meta_model.specs.Loaded.{Loaded}
-use Rattle.meta_model.specs.Sound.{IsSound}
-use Rattle.object_tree.specs.declared.object.Object.{Object}
-use Rattle.object_tree.specs.Seen.{seen}
-use Rattle.binding_graph.specs.declared.binding.Binding.{Binding}
-use Rattle.binding_graph.specs.declared.place.Place.{Place}
-use Rattle.binding_graph.specs.Bindings.{Settled}
-use Rattle.prop_bindings.specs.Changes.{DifferInValues, ReadsAlike, AreChanged, none_changed, one_changed, one_stayed}
-use Rattle.binding_graph.specs.Places.{In}
-use Rattle.prop_bindings.specs.Values.{values_in}
-use Rattle.std.proofs.lemmas.Option.{same_Some}
-use Rattle.prop_bindings.proofs.Alive.{seen-same}
-use Rattle.effect_scan.specs.declared.node.Node.{Node}
-use Rattle.effect_scan.specs.declared.node.Member.TheVariants.{Property}
-use Rattle.effect_scan.specs.Edges.{MayLead}
-use Rattle.effect_scan.specs.Nodes.{node}
-use Rattle.certificate_lang.specs.declared.certificate.Line.{Line}
-use Rattle.certificate_lang.specs.declared.certificate.Certificate.{Certificate}
+use Rattle.meta_model.specs.{Loaded.{Loaded}, Sound.{IsSound}}
+use Rattle.object_tree.specs.{declared.object.Object.{Object}, Seen.{seen}}
+use Rattle.binding_graph.specs.{declared.binding.Binding.{Binding}, declared.place.Place.{Place}, Bindings.{Settled}, Places.{In}}
+use Rattle.prop_bindings.{specs.Changes.{DifferInValues, ReadsAlike, AreChanged, none_changed, one_changed, one_stayed}, specs.Values.{values_in}, proofs.Alive.{seen-same}}
+use Rattle.effect_scan.specs.{declared.node.Node.{Node}, declared.node.Member.TheVariants.{Property}, Edges.{MayLead}, Nodes.{node}}
+use Rattle.certificate_lang.specs.{declared.certificate.Line.{Line}, declared.certificate.Certificate.{Certificate}}
 use Rattle.rank_check.specs.Valid.{IsLineOf, Destroys, IsValid}
-use Rattle.machine_rules.proofs.Lists.{all-weaken, all-filtered}
-use Rattle.machine_rules.specs.Settling.{notified, signal_at}
-use Rattle.object_machine.proofs.CheckedRuns.Invariant.{IsFollower, IsNoHigher, IsSited}
-use Rattle.object_machine.proofs.CheckedRuns.Sites.{unchanged}
+use Rattle.machine_rules.{proofs.Lists.{all-weaken, all-filtered}, specs.Settling.{notified, signal_at}}
+use Rattle.object_machine.proofs.{CheckedRuns.Invariant.{IsFollower, IsNoHigher, IsSited}, CheckedRuns.Sites.{unchanged}}
 
 map-alike : (f g : Value → Value) → ((v : Value) → f v ≡ g v) → (found : Option Value) → option_map f found ≡ option_map g found
 map-alike f g same None = refl

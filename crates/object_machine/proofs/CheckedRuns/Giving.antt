@@ -1,67 +1,21 @@
 -- What a step of a body gives is of the types that are asked.
-use Rattle.std.proofs.Common.{◌≡◌, ℕ, ◌-◌, ◌&&◌, Bool, true, false, IsTrue, List, [], ◌∷◌, length, map, Option, Some, None, slice_get, refl, sym, ◌∙◌, subst}
-use Rattle.std.specs.Prelude.{IfSome, nat_le}
-use Rattle.std.specs.List.{AllByRecursion, list_all}
-use Rattle.std.specs.Option.{option_and_then, option_map, option_map_or}
-use Rattle.std.proofs.lemmas.Option.{same_Some}
+use Rattle.std.{proofs.Common.{◌≡◌, ℕ, ◌-◌, ◌&&◌, Bool, true, false, IsTrue, List, [], ◌∷◌, length, map, Option, Some, None, slice_get, refl, sym, ◌∙◌, subst}, specs.Prelude.{IfSome, nat_le}, specs.List.{AllByRecursion, list_all}, specs.Option.{option_and_then, option_map, option_map_or}, proofs.lemmas.Option.{same_Some}, proofs.lemmas.List.Elements.{recursion_from_All}}
 use Rattle.basic_types.specs.declared.value.Value.{Value}
 use Rattle.basic_types.specs.declared.value.Value.TheVariants as value
-use Rattle.meta_model.specs.declared.effects.MetaEffects.{MetaEffects}
-use Rattle.meta_model.specs.declared.object.MetaMethod.{MetaMethod}
-use Rattle.meta_model.specs.declared.object.MetaObject.{MetaObject}
-use Rattle.meta_model.specs.declared.object.MetaProperty.{MetaProperty}
-use Rattle.meta_model.specs.declared.object.Statement.{Statement}
+use Rattle.meta_model.specs.{declared.effects.MetaEffects.{MetaEffects}, declared.object.MetaMethod.{MetaMethod}, declared.object.MetaObject.{MetaObject}, declared.object.MetaProperty.{MetaProperty}, declared.object.Statement.{Statement}, declared.object.Statement.TheViews.{out-Statement}, declared.object.ValueType.{ValueType}, declared.object.Work.{Work}, declared.object.Work.TheVariants.{Native}, Loaded.{Loaded}, Members.{IsMethod, IsProperty, Below}, Sound.{IsSound, IsSet, IsSoundStatement, set_sound, emit_sound, call_sound, if_sound, connect_sound, disconnect_sound, delete_sound, later_sound, group_sound, IsSoundWork}, Values.{HaveTypes}}
 use Rattle.meta_model.specs.declared.object.Statement.TheOpen as layer
-use Rattle.meta_model.specs.declared.object.Statement.TheViews.{out-Statement}
-use Rattle.meta_model.specs.declared.object.ValueType.{ValueType}
-use Rattle.meta_model.specs.declared.object.Work.{Work}
-use Rattle.meta_model.specs.declared.object.Work.TheVariants.{Native}
-use Rattle.meta_model.specs.Loaded.{Loaded}
-use Rattle.meta_model.specs.Members.{IsMethod, IsProperty, Below}
-use Rattle.meta_model.specs.Sound.{IsSound, IsSet, IsSoundStatement, set_sound, emit_sound, call_sound, if_sound, connect_sound, disconnect_sound, delete_sound, later_sound, group_sound, IsSoundWork}
-use Rattle.meta_model.specs.Values.{HaveTypes}
-use Rattle.native_slots.specs.declared.action.Action.{Action}
+use Rattle.native_slots.{specs.declared.action.Action.{Action}, specs.declared.action.TheConstants.{MOST_ACTIONS}, specs.Plain.{is_of, are_of}, specs.Promises.{Takes, Promises, is_declared}, proofs.PlainValues.{has_of}}
 use Rattle.native_slots.specs.declared.action.Action.TheVariants as action
-use Rattle.native_slots.specs.declared.action.TheConstants.{MOST_ACTIONS}
-use Rattle.native_slots.specs.Plain.{is_of, are_of}
-use Rattle.native_slots.specs.Promises.{Takes, Promises, is_declared}
-use Rattle.native_slots.proofs.PlainValues.{has_of}
-use Rattle.object_tree.specs.declared.life.Life.{Life}
-use Rattle.object_tree.specs.declared.object.Object.{Object}
-use Rattle.object_tree.specs.Objects.{Lives, class_of}
-use Rattle.object_tree.specs.Typed.{AreTyped, ReadsAs, ReadAs}
-use Rattle.object_tree.proofs.TypedObjects.{has-reads}
-use Rattle.type_check.specs.Bodies.{IsTypedStatement}
-use Rattle.type_check.specs.Typed.{IsTypedWork}
-use Rattle.type_check.proofs.Values.{arguments_have}
+use Rattle.object_tree.{specs.declared.life.Life.{Life}, specs.declared.object.Object.{Object}, specs.Objects.{Lives, class_of}, specs.Typed.{AreTyped, ReadsAs, ReadAs}, proofs.TypedObjects.{has-reads}}
+use Rattle.type_check.{specs.Bodies.{IsTypedStatement}, specs.Typed.{IsTypedWork}, proofs.Values.{arguments_have}}
 use Rattle.effect_scan.specs.declared.node.Node.{Node}
 use Rattle.certificate_lang.specs.declared.certificate.Certificate.{Certificate}
 use Rattle.rank_check.specs.Valid.{IsValid}
-use Rattle.machine_state.specs.State.{State, Step, Run, Ask, Act, Activation}
-use Rattle.machine_rules.specs.Operations.{Operation, Write, Begin, Choose, Connect, Disconnect, Delete, Schedule, TakeAnswer, Nothing, on_object, chosen_by, operation, operation_of_set, set_at, sets_in, operation_of_action, operation_of_step}
-use Rattle.machine_rules.specs.Natives.{NativeAnswers}
-use Rattle.machine_rules.specs.Paths.{path_value, value_of, values_of}
-use Rattle.machine_rules.specs.Rules.{Answers}
-use Rattle.machine_rules.specs.There.{IsMember}
-use Rattle.machine_rules.proofs.Delivered.{fit-of}
-use Rattle.machine_rules.proofs.Fields.{member-method}
-use Rattle.machine_rules.proofs.Inherited.{method-below, property-below}
-use Rattle.machine_rules.proofs.Keeps.{lives-of-class, class-of-lives}
-use Rattle.machine_rules.proofs.Promised.{declared-at, promised}
-use Rattle.object_machine.proofs.TypedPaths.{Reaches, to_null, to_object}
-use Rattle.object_machine.proofs.CheckedRuns.Invariant.{BodyStands, IsStepOf, runs}
-use Rattle.object_machine.proofs.CheckedRuns.Promised.{SetsWithin, EmitsWithin, IsWithin, IsPromised, StepIsPromised}
-use Rattle.object_machine.proofs.CheckedRuns.PathClasses.{same-class}
-use Rattle.object_machine.proofs.CheckedRuns.Lacking.{SetsAreTyped, paths-typed, reached, body-typed, typed-set, sets-done}
-use Rattle.object_machine.proofs.CheckedRuns.Leading.{occurs-sound, occurs-in}
-use Rattle.object_machine.proofs.Grouped.{IfWrites, within-first}
-use Rattle.machine_state.specs.Telling.{Alone, Grouped, writes_of}
-use Rattle.prop_bindings.specs.declared.plans.assignment.Assignment.{Assignment}
-use Rattle.prop_bindings.specs.Calls.{AllFit}
-use Rattle.prop_bindings.specs.Fits.{FitsAt}
+use Rattle.machine_state.specs.{State.{State, Step, Run, Ask, Act, Activation}, Telling.{Alone, Grouped, writes_of}}
+use Rattle.machine_rules.{specs.Operations.{Operation, Write, Begin, Choose, Connect, Disconnect, Delete, Schedule, TakeAnswer, Nothing, on_object, chosen_by, operation, operation_of_set, set_at, sets_in, operation_of_action, operation_of_step}, specs.Natives.{NativeAnswers}, specs.Paths.{path_value, value_of, values_of}, specs.Rules.{Answers}, specs.There.{IsMember}, proofs.Delivered.{fit-of}, proofs.Fields.{member-method}, proofs.Inherited.{method-below, property-below}, proofs.Keeps.{lives-of-class, class-of-lives}, proofs.Promised.{declared-at, promised}}
+use Rattle.object_machine.proofs.{TypedPaths.{Reaches, to_null, to_object}, CheckedRuns.Invariant.{BodyStands, IsStepOf, runs}, CheckedRuns.Promised.{SetsWithin, EmitsWithin, IsWithin, IsPromised, StepIsPromised}, CheckedRuns.PathClasses.{same-class}, CheckedRuns.Lacking.{SetsAreTyped, paths-typed, reached, body-typed, typed-set, sets-done}, CheckedRuns.Leading.{occurs-sound, occurs-in}, Grouped.{IfWrites, within-first}, CheckedRuns.Nodes.{body-named}}
+use Rattle.prop_bindings.specs.{declared.plans.assignment.Assignment.{Assignment}, Calls.{AllFit}, Fits.{FitsAt}}
 use Rattle.binding_graph.specs.Places.{property_of}
-use Rattle.std.proofs.lemmas.List.Elements.{recursion_from_All}
-use Rattle.object_machine.proofs.CheckedRuns.Nodes.{body-named}
 
 -- ---- values of types
 

@@ -1,32 +1,14 @@
 -- What a run of a checked program keeps (docs/certificate.md, "The check"): each activation but an update is at a node,
 -- and rank and destroy set fall from each to the one above it; connections are covered by wires, bindings by sites, adoptions by `owns`.
-use Rattle.std.specs.Prelude.{◌≡◌, ◌≢◌, ℕ, ◌<◌, ◌≤◌, List, [], ◌∷◌, length, Option, None, Some, slice_get}
-use Rattle.std.specs.List.{AllByRecursion, AllZip}
+use Rattle.std.specs.{Prelude.{◌≡◌, ◌≢◌, ℕ, ◌<◌, ◌≤◌, List, [], ◌∷◌, length, Option, None, Some, slice_get}, List.{AllByRecursion, AllZip}}
 use Rattle.basic_types.specs.declared.value.Value.{Value}
-use Rattle.meta_model.specs.declared.effects.MetaEffects.{MetaEffects}
-use Rattle.meta_model.specs.declared.object.MetaMethod.{MetaMethod}
-use Rattle.meta_model.specs.declared.object.MetaWire.{MetaWire}
-use Rattle.meta_model.specs.declared.object.Statement.{Statement}
-use Rattle.meta_model.specs.declared.object.Work.{Work}
-use Rattle.meta_model.specs.declared.object.Work.TheVariants.{Signal, Slot, Native}
-use Rattle.meta_model.specs.declared.site.MetaSite.{MetaSite}
-use Rattle.meta_model.specs.Loaded.{Loaded}
-use Rattle.meta_model.specs.Members.{IsMethod, Below, IsIn, Owns}
+use Rattle.meta_model.specs.{declared.effects.MetaEffects.{MetaEffects}, declared.object.MetaMethod.{MetaMethod}, declared.object.MetaWire.{MetaWire}, declared.object.Statement.{Statement}, declared.object.Work.{Work}, declared.object.Work.TheVariants.{Signal, Slot, Native}, declared.site.MetaSite.{MetaSite}, Loaded.{Loaded}, Members.{IsMethod, Below, IsIn, Owns}}
 use Rattle.native_slots.specs.declared.action.Action.{Action}
-use Rattle.object_tree.specs.declared.object.Object.{Object}
-use Rattle.object_tree.specs.Family.{children_of}
-use Rattle.object_tree.specs.Objects.{class_of}
-use Rattle.object_tree.specs.Typed.{ReadAs}
+use Rattle.object_tree.specs.{declared.object.Object.{Object}, Family.{children_of}, Objects.{class_of}, Typed.{ReadAs}}
 use Rattle.connections.specs.declared.connection.Connection.{Connection}
-use Rattle.binding_graph.specs.declared.binding.Binding.{Binding}
-use Rattle.binding_graph.specs.declared.place.Place.{Place}
-use Rattle.effect_scan.specs.declared.node.Node.{Node}
-use Rattle.effect_scan.specs.declared.node.Member.TheVariants.{Method, Property, Destruction}
-use Rattle.effect_scan.specs.Nodes.{node, named}
-use Rattle.effect_scan.specs.Effects.{Occurs}
-use Rattle.effect_scan.specs.Destroying.{Closure}
-use Rattle.certificate_lang.specs.declared.certificate.Line.{Line}
-use Rattle.certificate_lang.specs.declared.certificate.Certificate.{Certificate}
+use Rattle.binding_graph.specs.{declared.binding.Binding.{Binding}, declared.place.Place.{Place}}
+use Rattle.effect_scan.specs.{declared.node.Node.{Node}, declared.node.Member.TheVariants.{Method, Property, Destruction}, Nodes.{node, named}, Effects.{Occurs}, Destroying.{Closure}}
+use Rattle.certificate_lang.specs.{declared.certificate.Line.{Line}, declared.certificate.Certificate.{Certificate}}
 use Rattle.rank_check.specs.Valid.{IsLineOf, Destroys}
 use Rattle.machine_state.specs.State.{Step, Run, Ask, Act, State, Activation, Body, Emit, Update, Destroy}
 

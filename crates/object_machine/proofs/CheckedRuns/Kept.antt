@@ -2,48 +2,18 @@
 use Rattle.std.proofs.Common.{◌≡◌, ℕ, suc, ◌≤◌, IsTrue, List, [], ◌∷◌, length, None, refl, sym, subst, arith}
 use Rattle.basic_types.specs.declared.value.Value.{Value}
 use Rattle.script_lang.specs.declared.event.Event.{Event}
-use Rattle.meta_model.specs.Loaded.{Loaded}
-use Rattle.meta_model.specs.Sound.{IsSound}
+use Rattle.meta_model.specs.{Loaded.{Loaded}, Sound.{IsSound, IsSoundWork}, declared.object.Work.{Work}, declared.object.Statement.{Statement}, declared.object.Statement.TheViews.{out-Statement}, Members.{Below}}
 use Rattle.binding_graph.specs.Bindings.{binding_at, without, replaced}
 use Rattle.prop_bindings.proofs.Agreeing.{unbound_agree}
 use Rattle.effect_scan.specs.declared.node.Node.{Node}
 use Rattle.certificate_lang.specs.declared.certificate.Certificate.{Certificate}
 use Rattle.rank_check.specs.Valid.{IsValid}
 use Rattle.trace_entries.specs.declared.fault.Answer.{Answer}
-use Rattle.machine_state.specs.State.{Step, Run, State, Activation, Body}
-use Rattle.machine_state.specs.Worlds.{at, untouched}
-use Rattle.machine_rules.specs.Operations.{Write}
-use Rattle.machine_rules.specs.Good.{IsWell, IsGood, Spares, has_body}
-use Rattle.machine_rules.specs.Natives.{NativeAnswers}
-use Rattle.machine_rules.specs.Rules.{Rule}
-use Rattle.machine_rules.specs.Faults.{WritesDeep, GoesDeep, GoesFatal}
-use Rattle.machine_rules.specs.Next.{LacksValue}
-use Rattle.machine_rules.proofs.Lists.{all-filtered, all-snoc}
-use Rattle.object_machine.specs.Causes.{BindsLoop}
-use Rattle.object_machine.specs.Runs.{Run as ARun, done, goes, takes, Each, GoodRun, Follows, by_rule, by_event}
-use Rattle.object_machine.specs.Takes.{Takes, accepts, refuses}
-use Rattle.object_machine.proofs.Standing.{Invariant}
-use Rattle.object_machine.proofs.Preservation.{after-rule, after-event}
-use Rattle.object_machine.proofs.CheckedRuns.Invariant.{BodyStands, Level, Stacked, IsSited, Holds}
-use Rattle.object_machine.proofs.CheckedRuns.Ladder.{falls-to, climbs, no-deeper}
-use Rattle.object_machine.proofs.CheckedRuns.Leading.{does-led}
-use Rattle.object_machine.proofs.CheckedRuns.Rules.{rule-held, bound-by}
-use Rattle.object_machine.proofs.CheckedRuns.Events.{HoldsSome, takes-held, binding-sited}
-use Rattle.object_machine.proofs.CheckedRuns.Sites.{no-loop}
-use Rattle.object_machine.proofs.CheckedRuns.Lacking.{body-typed, typed-does}
-use Rattle.object_machine.proofs.CheckedRuns.Nodes.{body-named}
-use Rattle.machine_rules.proofs.Keeps.{lives-of-class}
-use Rattle.meta_model.specs.declared.object.Work.{Work}
-use Rattle.meta_model.specs.declared.object.Statement.{Statement}
-use Rattle.meta_model.specs.declared.object.Statement.TheViews.{out-Statement}
-use Rattle.meta_model.specs.Members.{Below}
-use Rattle.meta_model.specs.Sound.{IsSoundWork}
+use Rattle.machine_state.specs.{State.{Step, Run, State, Activation, Body}, Worlds.{at, untouched}}
+use Rattle.machine_rules.{specs.Operations.{Write, operation}, specs.Good.{IsWell, IsGood, Spares, has_body}, specs.Natives.{NativeAnswers}, specs.Rules.{Rule}, specs.Faults.{WritesDeep, GoesDeep, GoesFatal}, specs.Next.{LacksValue}, proofs.Lists.{all-filtered, all-snoc}, proofs.Keeps.{lives-of-class}}
+use Rattle.object_machine.{specs.Causes.{BindsLoop}, specs.Runs.{Run as ARun, done, goes, takes, Each, GoodRun, Follows, by_rule, by_event}, specs.Takes.{Takes, accepts, refuses}, proofs.Standing.{Invariant}, proofs.Preservation.{after-rule, after-event}, proofs.CheckedRuns.Invariant.{BodyStands, Level, Stacked, IsSited, Holds, IsStepOf, runs}, proofs.CheckedRuns.Ladder.{falls-to, climbs, no-deeper}, proofs.CheckedRuns.Leading.{does-led, occurs-sound, occurs-in}, proofs.CheckedRuns.Rules.{rule-held, bound-by}, proofs.CheckedRuns.Events.{HoldsSome, takes-held, binding-sited}, proofs.CheckedRuns.Sites.{no-loop}, proofs.CheckedRuns.Lacking.{body-typed, typed-does}, proofs.CheckedRuns.Nodes.{body-named}}
 use Rattle.type_check.specs.Typed.{IsTypedWork}
-use Rattle.object_tree.specs.declared.object.Object.{Object}
-use Rattle.object_tree.specs.Typed.{AreTyped}
-use Rattle.machine_rules.specs.Operations.{operation}
-use Rattle.object_machine.proofs.CheckedRuns.Invariant.{IsStepOf, runs}
-use Rattle.object_machine.proofs.CheckedRuns.Leading.{occurs-sound, occurs-in}
+use Rattle.object_tree.specs.{declared.object.Object.{Object}, Typed.{AreTyped}}
 
 -- ---- the start
 

@@ -1,57 +1,21 @@
 -- A body of a typed program never lacks a value.
-use Rattle.std.proofs.Common.{◌≡◌, ◌<◌, ℕ, true, false, List, [], ◌∷◌, Option, Some, None, slice_get, refl, ap, ◌∙◌, sym, subst, arith}
-use Rattle.std.specs.List.{AllByRecursion, AllZip}
-use Rattle.std.proofs.lemmas.List.Elements.{recursion_from_All}
-use Rattle.std.specs.Option.{option_and_then, option_map}
-use Rattle.basic_types.specs.declared.value.Value.{Value}
+use Rattle.std.{proofs.Common.{◌≡◌, ◌<◌, ℕ, true, false, List, [], ◌∷◌, Option, Some, None, slice_get, refl, ap, ◌∙◌, sym, subst, arith}, specs.List.{AllByRecursion, AllZip}, proofs.lemmas.List.Elements.{recursion_from_All}, specs.Option.{option_and_then, option_map}}
+use Rattle.basic_types.specs.{declared.value.Value.{Value}, Values.{truth_has}}
 use Rattle.basic_types.specs.declared.value.Value.TheVariants as value
 use Rattle.syntax_trees.specs.declared.syntax.Expr.{Expr}
-use Rattle.meta_model.specs.declared.object.MetaPath.{MetaPath}
-use Rattle.meta_model.specs.declared.object.MetaMethod.{MetaMethod}
-use Rattle.meta_model.specs.declared.object.Statement.{Statement}
+use Rattle.meta_model.specs.{declared.object.MetaPath.{MetaPath}, declared.object.MetaMethod.{MetaMethod}, declared.object.Statement.{Statement}, declared.object.Statement.TheViews.{out-Statement}, declared.object.ValueType.{ValueType}, Loaded.{Loaded}, Members.{IsMethod, Below, Declares, methods_in, method_count}, Sound.{IsSound, LeadsToClass, IsSoundExpr, AreSoundExprs, IsSet, IsSoundSet, AreSound, next_sound, IsSoundStatement, set_sound, emit_sound, call_sound, if_sound, connect_sound, disconnect_sound, delete_sound, later_sound, group_sound}, Values.{Has}, declared.object.MetaObject.{MetaObject}}
 use Rattle.meta_model.specs.declared.object.Statement.TheOpen as layer
-use Rattle.meta_model.specs.declared.object.Statement.TheViews.{out-Statement}
-use Rattle.meta_model.specs.declared.object.ValueType.{ValueType}
 use Rattle.meta_model.specs.declared.object.ValueType.TheVariants as type
-use Rattle.meta_model.specs.Loaded.{Loaded}
-use Rattle.meta_model.specs.Members.{IsMethod, Below, Declares, methods_in, method_count}
-use Rattle.meta_model.specs.Sound.{IsSound, LeadsToClass, IsSoundExpr, AreSoundExprs, IsSet, IsSoundSet, AreSound, next_sound, IsSoundStatement, set_sound, emit_sound, call_sound, if_sound, connect_sound, disconnect_sound, delete_sound, later_sound, group_sound}
-use Rattle.meta_model.specs.Values.{Has}
-use Rattle.basic_types.specs.Values.{truth_has}
-use Rattle.object_tree.specs.declared.life.Life.{Life}
-use Rattle.object_tree.specs.declared.object.Object.{Object}
-use Rattle.object_tree.specs.Objects.{Lives, class_of}
-use Rattle.object_tree.specs.Typed.{AreTyped, ReadAs, ReadsAs}
-use Rattle.object_tree.proofs.TypedObjects.{has-reads, reads-still}
-use Rattle.type_check.specs.Bodies.{IsGivenIn, IsTypedSet, IsTypedStatement}
-use Rattle.type_check.specs.Laws.{PathsAreTyped}
-use Rattle.type_check.specs.Typed.{IsTypedWork}
-use Rattle.type_check.proofs.Values.{body_has, arguments_have}
-use Rattle.effect_scan.specs.declared.node.Member.TheVariants.{Method}
-use Rattle.effect_scan.specs.Nodes.{node, named}
+use Rattle.object_tree.{specs.declared.life.Life.{Life}, specs.declared.object.Object.{Object}, specs.Objects.{Lives, class_of}, specs.Typed.{AreTyped, ReadAs, ReadsAs}, proofs.TypedObjects.{has-reads, reads-still}, proofs.Changing.{life-of-lives}}
+use Rattle.type_check.{specs.Bodies.{IsGivenIn, IsTypedSet, IsTypedStatement}, specs.Laws.{PathsAreTyped}, specs.Typed.{IsTypedWork}, proofs.Values.{body_has, arguments_have}}
+use Rattle.effect_scan.specs.{declared.node.Member.TheVariants.{Method}, Nodes.{node, named}, Laws.{IsNode}, Effects.{Occurs, after, here as at_first}}
 use Rattle.certificate_lang.specs.declared.certificate.Certificate.{Certificate}
-use Rattle.rank_check.specs.Valid.{IsValid}
-use Rattle.machine_rules.specs.Operations.{Operation, Write, Begin, led_to, on_object, chosen_by, operation, operation_of_set, set_at, set_in, sets_in, after_set}
-use Rattle.machine_rules.specs.Paths.{path_value, value_of, values_of}
-use Rattle.machine_rules.proofs.Fields.{method-unique}
-use Rattle.rank_check.proofs.Elements.{some_inside}
-use Rattle.effect_scan.specs.Laws.{IsNode}
-use Rattle.meta_model.specs.declared.object.MetaObject.{MetaObject}
-use Rattle.object_machine.proofs.CheckedRuns.Nodes.{named-node}
-use Rattle.machine_rules.proofs.Inherited.{method-below, property-below}
-use Rattle.object_machine.proofs.TypedPaths.{Reaches, to_null, to_object, path-has, path-reaches}
-use Rattle.object_machine.proofs.Grouped.{IfWrites, Within, within-first, within-next, reaches-within, set-act, values-still}
-use Rattle.machine_rules.proofs.Differing.{differ-stay}
+use Rattle.rank_check.{specs.Valid.{IsValid}, proofs.Elements.{some_inside}}
+use Rattle.machine_rules.{specs.Operations.{Operation, Write, Begin, led_to, on_object, chosen_by, operation, operation_of_set, set_at, set_in, sets_in, after_set}, specs.Paths.{path_value, value_of, values_of}, proofs.Fields.{method-unique}, proofs.Inherited.{method-below, property-below}, proofs.Differing.{differ-stay}}
+use Rattle.object_machine.proofs.{CheckedRuns.Nodes.{named-node}, TypedPaths.{Reaches, to_null, to_object, path-has, path-reaches}, Grouped.{IfWrites, Within, within-first, within-next, reaches-within, set-act, values-still}, CheckedRuns.PathClasses.{same-class}}
 use Rattle.machine_state.specs.Telling.{Grouped, writes_of}
-use Rattle.prop_bindings.specs.declared.plans.assignment.Assignment.{Assignment}
-use Rattle.prop_bindings.specs.Calls.{AllFit}
-use Rattle.prop_bindings.specs.Changes.{DifferInValues}
-use Rattle.prop_bindings.specs.Fits.{FitsAt}
+use Rattle.prop_bindings.{specs.declared.plans.assignment.Assignment.{Assignment}, specs.Calls.{AllFit}, specs.Changes.{DifferInValues}, specs.Fits.{FitsAt}, proofs.Alive.{LivesOn, lives-on}}
 use Rattle.binding_graph.specs.Places.{property_of}
-use Rattle.prop_bindings.proofs.Alive.{LivesOn, lives-on}
-use Rattle.object_tree.proofs.Changing.{life-of-lives}
-use Rattle.effect_scan.specs.Effects.{Occurs, after, here as at_first}
-use Rattle.object_machine.proofs.CheckedRuns.PathClasses.{same-class}
 
 -- ---- statements
 

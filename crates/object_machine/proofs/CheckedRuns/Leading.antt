@@ -1,68 +1,24 @@
 -- What a step of a body does, its method may lead to.
-use Rattle.std.proofs.Common.{◌≡◌, ◌≢◌, ◌⊎◌, inl, inr, ℕ, suc, ◌-◌, Bool, true, false, List, [], ◌∷◌, length, Option, Some, None, slice_get, refl, sym, ap, ◌∙◌, subst, arith}
-use Rattle.std.specs.Prelude.{IfSome}
-use Rattle.std.specs.List.{AllByRecursion}
-use Rattle.std.specs.Option.{option_and_then, option_map}
-use Rattle.std.proofs.lemmas.Option.{same_Some, none-some}
-use Rattle.std.proofs.lemmas.List.Elements.{All-contains}
+use Rattle.std.{proofs.Common.{◌≡◌, ◌≢◌, ◌⊎◌, inl, inr, ℕ, suc, ◌-◌, Bool, true, false, List, [], ◌∷◌, length, Option, Some, None, slice_get, refl, sym, ap, ◌∙◌, subst, arith}, specs.Prelude.{IfSome}, specs.List.{AllByRecursion}, specs.Option.{option_and_then, option_map}, proofs.lemmas.Option.{same_Some, none-some}, proofs.lemmas.List.Elements.{All-contains, recursion_from_All}}
 use Rattle.basic_types.specs.declared.value.Value.{Value}
 use Rattle.basic_types.specs.declared.value.Value.TheVariants as value
 use Rattle.syntax_trees.specs.declared.syntax.Expr.{Expr}
-use Rattle.meta_model.specs.declared.effects.MetaEffects.{MetaEffects}
-use Rattle.meta_model.specs.declared.object.MetaPath.{MetaPath}
-use Rattle.meta_model.specs.declared.object.MetaRoot.{MetaRoot}
-use Rattle.meta_model.specs.declared.object.MetaRoot.TheVariants.{This, Parameter}
-use Rattle.meta_model.specs.declared.object.Step.{Step as PathStep}
-use Rattle.meta_model.specs.declared.object.Statement.{Statement}
+use Rattle.meta_model.specs.{declared.effects.MetaEffects.{MetaEffects}, declared.object.MetaPath.{MetaPath}, declared.object.MetaRoot.{MetaRoot}, declared.object.MetaRoot.TheVariants.{This, Parameter}, declared.object.Step.{Step as PathStep}, declared.object.Statement.{Statement}, declared.object.Statement.TheViews.{out-Statement}, declared.object.ValueType.{ValueType}, declared.object.Work.{Work}, declared.object.Work.TheVariants.{Slot, Native}, Loaded.{Loaded}, Members.{Below, same as below-itself}, Sound.{IsSound, HasRoot, this_has, parameter_has, Leads, here, on, LeadsToClass, IsSet, AreSets, IsSoundSet, IsSoundStatement, set_sound, emit_sound, call_sound, if_sound, connect_sound, disconnect_sound, delete_sound, later_sound, group_sound, AreSound, next_sound, IsSoundWork, IsPlainSignal}}
 use Rattle.meta_model.specs.declared.object.Statement.TheOpen as layer
-use Rattle.meta_model.specs.declared.object.Statement.TheViews.{out-Statement}
-use Rattle.meta_model.specs.declared.object.ValueType.{ValueType}
 use Rattle.meta_model.specs.declared.object.ValueType.TheVariants as type
-use Rattle.meta_model.specs.declared.object.Work.{Work}
-use Rattle.meta_model.specs.declared.object.Work.TheVariants.{Slot, Native}
-use Rattle.meta_model.specs.Loaded.{Loaded}
-use Rattle.meta_model.specs.Members.{Below, same as below-itself}
-use Rattle.meta_model.specs.Sound.{IsSound, HasRoot, this_has, parameter_has, Leads, here, on, LeadsToClass, IsSet, AreSets, IsSoundSet, IsSoundStatement, set_sound, emit_sound, call_sound, if_sound, connect_sound, disconnect_sound, delete_sound, later_sound, group_sound, AreSound, next_sound, IsSoundWork, IsPlainSignal}
 use Rattle.native_slots.specs.declared.action.Action.{Action}
 use Rattle.native_slots.specs.declared.action.Action.TheVariants as action
-use Rattle.object_tree.specs.declared.life.Life.{Life}
-use Rattle.object_tree.specs.declared.object.Object.{Object}
-use Rattle.object_tree.specs.Objects.{Lives}
-use Rattle.object_tree.specs.Seen.{seen, seen_object, seen_reference}
-use Rattle.object_tree.specs.Typed.{AreTyped}
-use Rattle.effect_scan.specs.declared.node.Node.{Node}
-use Rattle.effect_scan.specs.declared.node.Member.{Member}
-use Rattle.effect_scan.specs.declared.node.Member.TheVariants.{Method, Property, Destruction}
-use Rattle.effect_scan.specs.declared.effect.Reach.{Reach}
+use Rattle.object_tree.{specs.declared.life.Life.{Life}, specs.declared.object.Object.{Object}, specs.Objects.{Lives}, specs.Seen.{seen, seen_object, seen_reference}, specs.Typed.{AreTyped}, proofs.Changing.{life-of-lives}}
+use Rattle.effect_scan.specs.{declared.node.Node.{Node}, declared.node.Member.{Member}, declared.node.Member.TheVariants.{Method, Property, Destruction}, declared.effect.Reach.{Reach}, declared.effect.Effect.{Effect}, Nodes.{node, named}, Effects.{reach_of_type, reach_of_root, reach_after, reach_of, effect_of, Occurs, here as first, after, chosen, otherwise, grouped, WorkHas}, Edges.{ReachedAs, MayLead, by_work}}
 use Rattle.effect_scan.specs.declared.effect.Reach.TheVariants as reach
-use Rattle.effect_scan.specs.declared.effect.Effect.{Effect}
-use Rattle.effect_scan.specs.Nodes.{node, named}
-use Rattle.effect_scan.specs.Effects.{reach_of_type, reach_of_root, reach_after, reach_of, effect_of, Occurs, here as first, after, chosen, otherwise, grouped, WorkHas}
-use Rattle.effect_scan.specs.Edges.{ReachedAs, MayLead, by_work}
-use Rattle.rank_check.proofs.Elements.{element_at}
-use Rattle.machine_state.specs.State.{Step, Run, Ask, Act}
-use Rattle.machine_rules.specs.Operations.{Operation, Write, Begin, Choose, Connect, Disconnect, Delete, Schedule, TakeAnswer, Nothing, led_to, on_object, operation_of_set, set_at, set_in, sets_in, after_set, chosen_by, operation, operation_of_action, operation_of_step}
-use Rattle.machine_rules.specs.Paths.{path_value, steps_value, root_value, value_of, values_of}
-use Rattle.machine_rules.proofs.Fields.{life-unique}
-use Rattle.machine_rules.proofs.Keeps.{lives-of-class}
-use Rattle.object_machine.proofs.TypedPaths.{Reaches, to_null, to_object, path-reaches}
-use Rattle.object_machine.proofs.CheckedRuns.Lacking.{body-typed, sets-done}
-use Rattle.object_machine.proofs.Grouped.{IfWrites, Within, within-first, within-next, mapped-so, values-still}
-use Rattle.machine_rules.proofs.Differing.{differ-class}
-use Rattle.machine_state.specs.Telling.{Alone, Grouped, writes_of}
-use Rattle.prop_bindings.specs.declared.plans.assignment.Assignment.{Assignment}
-use Rattle.prop_bindings.specs.Calls.{AllFit}
-use Rattle.prop_bindings.specs.Changes.{DifferInValues}
+use Rattle.rank_check.{proofs.Elements.{element_at}, specs.Valid.{IsValid}}
+use Rattle.machine_state.specs.{State.{Step, Run, Ask, Act}, Telling.{Alone, Grouped, writes_of}}
+use Rattle.machine_rules.{specs.Operations.{Operation, Write, Begin, Choose, Connect, Disconnect, Delete, Schedule, TakeAnswer, Nothing, led_to, on_object, operation_of_set, set_at, set_in, sets_in, after_set, chosen_by, operation, operation_of_action, operation_of_step}, specs.Paths.{path_value, steps_value, root_value, value_of, values_of}, proofs.Fields.{life-unique}, proofs.Keeps.{lives-of-class}, proofs.Differing.{differ-class}}
+use Rattle.object_machine.proofs.{TypedPaths.{Reaches, to_null, to_object, path-reaches}, CheckedRuns.Lacking.{body-typed, sets-done}, Grouped.{IfWrites, Within, within-first, within-next, mapped-so, values-still}, CheckedRuns.Invariant.{BodyStands, IsStepOf, runs, asks, acts}, CheckedRuns.Nodes.{body-named, late-named}}
+use Rattle.prop_bindings.{specs.declared.plans.assignment.Assignment.{Assignment}, specs.Calls.{AllFit}, specs.Changes.{DifferInValues}, proofs.Alive.{lives-on}}
 use Rattle.binding_graph.specs.Places.{property_of}
-use Rattle.prop_bindings.proofs.Alive.{lives-on}
-use Rattle.object_tree.proofs.Changing.{life-of-lives}
-use Rattle.std.proofs.lemmas.List.Elements.{recursion_from_All}
-use Rattle.type_check.specs.Bodies.{IsTypedStatement}
-use Rattle.type_check.specs.Typed.{IsTypedWork}
+use Rattle.type_check.specs.{Bodies.{IsTypedStatement}, Typed.{IsTypedWork}}
 use Rattle.certificate_lang.specs.declared.certificate.Certificate.{Certificate}
-use Rattle.rank_check.specs.Valid.{IsValid}
-use Rattle.object_machine.proofs.CheckedRuns.Invariant.{BodyStands, IsStepOf, runs, asks, acts}
-use Rattle.object_machine.proofs.CheckedRuns.Nodes.{body-named, late-named}
 
 -- ---- the objects that paths lead to
 

@@ -1,86 +1,21 @@
 -- Each rule keeps what a run of a checked program keeps, and spares every object that has a body.
-use Rattle.std.proofs.Common.{◌≡◌, ◌≢◌, ◌⊎◌, inl, inr, ℕ, suc, ◌+◌, ◌-◌, ◌<◌, ◌||◌, eqb, cond, Bool, true, false, IsTrue, List, [], ◌∷◌, ◌++◌, map, not, take, length, Result, Ok, Err, Option, Some, None, slice_get, refl, sym, ap, ◌∙◌, subst, arith}
-use Rattle.std.specs.List.{AllByRecursion, find}
-use Rattle.std.proofs.lemmas.Bool.{cases_eq, eqb-true, cases_Bool}
-use Rattle.std.proofs.lemmas.Option.{same_Some, none-some}
-use Rattle.basic_types.specs.declared.kind.Kind.{Kind}
-use Rattle.basic_types.specs.declared.kind.Kind.TheVariants.{Auto, Direct, Queued}
-use Rattle.basic_types.specs.declared.value.Value.{Value}
+use Rattle.std.{proofs.Common.{◌≡◌, ◌≢◌, ◌⊎◌, inl, inr, ℕ, suc, ◌+◌, ◌-◌, ◌<◌, ◌||◌, eqb, cond, Bool, true, false, IsTrue, List, [], ◌∷◌, ◌++◌, map, not, take, length, Result, Ok, Err, Option, Some, None, slice_get, refl, sym, ap, ◌∙◌, subst, arith}, specs.List.{AllByRecursion, find}, proofs.lemmas.Bool.{cases_eq, eqb-true, cases_Bool}, proofs.lemmas.Option.{same_Some, none-some}}
+use Rattle.basic_types.specs.{declared.kind.Kind.{Kind}, declared.kind.Kind.TheVariants.{Auto, Direct, Queued}, declared.value.Value.{Value}}
 use Rattle.syntax_trees.specs.declared.connection.ConnectionType.{ConnectionType}
-use Rattle.meta_model.specs.declared.effects.MetaEffects.{MetaEffects}
-use Rattle.meta_model.specs.declared.object.MetaMethod.{MetaMethod}
-use Rattle.meta_model.specs.declared.object.Statement.{Statement}
-use Rattle.meta_model.specs.declared.object.Work.{Work}
-use Rattle.meta_model.specs.declared.object.Work.TheVariants.{Signal, Slot, Native}
-use Rattle.meta_model.specs.declared.qobject.TheConstants.{DESTROYED}
-use Rattle.meta_model.specs.Loaded.{Loaded}
-use Rattle.meta_model.specs.Members.{IsMethod, Below, Covers}
-use Rattle.meta_model.specs.Sound.{IsSound}
-use Rattle.connections.specs.declared.connection.Connection.{Connection}
-use Rattle.connections.specs.Connected.{touches}
-use Rattle.event_loops.specs.declared.item.Item.{Item}
-use Rattle.event_loops.specs.declared.item.Item.TheVariants.{Call, Deletion}
-use Rattle.event_loops.specs.declared.item.Posted.{Posted}
-use Rattle.event_loops.specs.Queues.{Queues, items_at, is_before, taken_before}
+use Rattle.meta_model.specs.{declared.effects.MetaEffects.{MetaEffects}, declared.object.MetaMethod.{MetaMethod}, declared.object.Statement.{Statement}, declared.object.Work.{Work}, declared.object.Work.TheVariants.{Signal, Slot, Native}, declared.qobject.TheConstants.{DESTROYED}, Loaded.{Loaded}, Members.{IsMethod, Below, Covers}, Sound.{IsSound}}
+use Rattle.connections.specs.{declared.connection.Connection.{Connection}, Connected.{touches}}
+use Rattle.event_loops.specs.{declared.item.Item.{Item}, declared.item.Item.TheVariants.{Call, Deletion}, declared.item.Posted.{Posted}, Queues.{Queues, items_at, is_before, taken_before}}
 use Rattle.native_slots.specs.declared.action.Action.{Action}
-use Rattle.object_tree.specs.declared.life.Life.{Life}
-use Rattle.object_tree.specs.declared.object.Object.{Object}
-use Rattle.object_tree.specs.Family.{children_of, without_life}
-use Rattle.object_tree.specs.Objects.{Lives, class_of, life_of, change_life, scheduled}
-use Rattle.object_tree.specs.Typed.{ReadAs}
-use Rattle.binding_graph.specs.declared.binding.Binding.{Binding}
-use Rattle.binding_graph.specs.declared.place.Place.{Place}
-use Rattle.prop_bindings.specs.declared.plans.assignment.Assignment.{Assignment}
-use Rattle.binding_graph.specs.Bindings.{binding_at, without, without_all, Settled}
-use Rattle.prop_bindings.specs.Changes.{DifferInValues, AreChanged, in_order, once, places_in}
-use Rattle.prop_bindings.specs.Fits.{Agree}
-use Rattle.binding_graph.specs.Places.{In, same_place}
-use Rattle.prop_bindings.specs.Values.{values_in}
-use Rattle.binding_graph.proofs.Replaced.{without-fewer}
-use Rattle.effect_scan.specs.declared.node.Node.{Node}
-use Rattle.effect_scan.specs.declared.node.Member.TheVariants.{Method, Property, Destruction}
-use Rattle.effect_scan.specs.Nodes.{node, named}
-use Rattle.effect_scan.specs.Effects.{Occurs, here as first, after}
-use Rattle.effect_scan.specs.Destroying.{Closure, itself, child}
-use Rattle.effect_scan.specs.Edges.{MayLead, by_wire, by_notify, by_destruction}
-use Rattle.effect_scan.proofs.Relating.{is_class}
-use Rattle.certificate_lang.specs.declared.certificate.Line.{Line}
-use Rattle.certificate_lang.specs.declared.certificate.Certificate.{Certificate}
+use Rattle.object_tree.specs.{declared.life.Life.{Life}, declared.object.Object.{Object}, Family.{children_of, without_life}, Objects.{Lives, class_of, life_of, change_life, scheduled}, Typed.{ReadAs}}
+use Rattle.binding_graph.{specs.declared.binding.Binding.{Binding}, specs.declared.place.Place.{Place}, specs.Bindings.{binding_at, without, without_all, Settled}, specs.Places.{In, same_place}, proofs.Replaced.{without-fewer}, proofs.Places.{decide_place, same_place-refl}}
+use Rattle.prop_bindings.specs.{declared.plans.assignment.Assignment.{Assignment}, Changes.{DifferInValues, AreChanged, in_order, once, places_in}, Fits.{Agree}, Values.{values_in}}
+use Rattle.effect_scan.{specs.declared.node.Node.{Node}, specs.declared.node.Member.TheVariants.{Method, Property, Destruction}, specs.Nodes.{node, named}, specs.Effects.{Occurs, here as first, after}, specs.Destroying.{Closure, itself, child}, specs.Edges.{MayLead, by_wire, by_notify, by_destruction}, proofs.Relating.{is_class}}
+use Rattle.certificate_lang.specs.{declared.certificate.Line.{Line}, declared.certificate.Certificate.{Certificate}}
 use Rattle.rank_check.specs.Valid.{IsLineOf, Destroys, IsValid}
-use Rattle.machine_state.specs.declared.endpoints.Endpoints.{Endpoints}
-use Rattle.trace_entries.specs.declared.refusal.Refusal.{Refusal}
-use Rattle.trace_entries.specs.declared.entry.Entry.{Entry}
-use Rattle.machine_state.specs.Telling.{Assigning, writes_of}
-use Rattle.machine_state.specs.declared.turn.Turn.{Turn}
-use Rattle.machine_state.specs.Connections.{is_living, next_used, joins_these}
-use Rattle.machine_state.specs.State.{Step, Run, Act, State, Activation, Body, Emit, Update, Destroy}
-use Rattle.machine_state.specs.Turns.{running, reaches_at_once}
-use Rattle.machine_state.proofs.Due.{found-among, all-removed, all-used, used-due, used-among}
-use Rattle.machine_rules.specs.Connecting.{kept_ends, names_of, named_signal, found_ends, may_connect}
-use Rattle.machine_rules.specs.Destroying.{Dies, NextRule, ChildRule, DestroyRule, living_child, Schedules, deleting}
-use Rattle.machine_rules.specs.Operations.{Operation, Write, Begin, Choose, Connect, Disconnect, Delete, Schedule, TakeAnswer, Nothing, operation_of_step}
-use Rattle.machine_rules.specs.Good.{ArgumentsFit, TopFits, IsWell, Spares, has_body}
-use Rattle.machine_rules.specs.Judgement.{holds as so, goes_on}
-use Rattle.machine_rules.specs.Natives.{NativeAnswers}
-use Rattle.machine_rules.specs.Rules.{Rule, RuleAt, BodyRule, Does, EmitRule, UpdateRule, NotifiesIf, TurnRule, Serves, Delivers, Arrives, BeginsIf, begun, with_used, linked, unlinked, Connects, Disconnects}
-use Rattle.machine_rules.specs.Settling.{Settles, Writes}
-use Rattle.machine_rules.specs.code.Sound.{AllWait, Waits}
-use Rattle.machine_rules.specs.There.{HasField, IsDead, IsMember}
-use Rattle.machine_rules.proofs.Differing.{differ-stay, differ-spared}
-use Rattle.machine_rules.proofs.Dying.{died-stay, scheduled-stay, scheduled-seen, other-seen}
-use Rattle.machine_rules.proofs.Fields.{member-method}
-use Rattle.machine_rules.proofs.Inherited.{method-below}
-use Rattle.machine_rules.proofs.Keeps.{class-of-lives}
-use Rattle.machine_rules.proofs.Lists.{all-append, all-filtered, all-snoc}
-use Rattle.machine_rules.proofs.Waiting.{first-waits}
-use Rattle.object_machine.proofs.CheckedRuns.Invariant.{Falls, IsNoHigher, Level, NodeLevel, FallsTo, IsStepOf, runs, asks, acts, BodyStands, EmitStands, IsFollower, IsTorn, DestroyStands, Stacked, IsOwned, IsWired, IsSited, IsCovered, Holds}
-use Rattle.object_machine.proofs.CheckedRuns.Nodes.{named-node, end-node, body-named, late-named, named-again}
-use Rattle.object_machine.proofs.CheckedRuns.Ladder.{higher-none, no-higher-self, level-at, level-of, at-node, falls-along, falls-to, line-from, line-unique}
-use Rattle.object_machine.proofs.CheckedRuns.Worlds.{Leaves, classes-left, differ-leaves, scheduled-leaves, died-leaves, SparedIn, stacked-still}
-use Rattle.object_machine.proofs.CheckedRuns.Followers.{IsKnown, followers}
-use Rattle.binding_graph.proofs.Places.{decide_place, same_place-refl}
-use Rattle.object_machine.proofs.CheckedRuns.Leading.{does-led}
-use Rattle.machine_rules.proofs.Scheduling.{schedule-cases}
+use Rattle.machine_state.{specs.declared.endpoints.Endpoints.{Endpoints}, specs.Telling.{Assigning, writes_of}, specs.declared.turn.Turn.{Turn}, specs.Connections.{is_living, next_used, joins_these}, specs.State.{Step, Run, Act, State, Activation, Body, Emit, Update, Destroy}, specs.Turns.{running, reaches_at_once}, proofs.Due.{found-among, all-removed, all-used, used-due, used-among}}
+use Rattle.trace_entries.specs.{declared.refusal.Refusal.{Refusal}, declared.entry.Entry.{Entry}}
+use Rattle.machine_rules.{specs.Connecting.{kept_ends, names_of, named_signal, found_ends, may_connect}, specs.Destroying.{Dies, NextRule, ChildRule, DestroyRule, living_child, Schedules, deleting}, specs.Operations.{Operation, Write, Begin, Choose, Connect, Disconnect, Delete, Schedule, TakeAnswer, Nothing, operation_of_step}, specs.Good.{ArgumentsFit, TopFits, IsWell, Spares, has_body}, specs.Judgement.{holds as so, goes_on}, specs.Natives.{NativeAnswers}, specs.Rules.{Rule, RuleAt, BodyRule, Does, EmitRule, UpdateRule, NotifiesIf, TurnRule, Serves, Delivers, Arrives, BeginsIf, begun, with_used, linked, unlinked, Connects, Disconnects}, specs.Settling.{Settles, Writes}, specs.code.Sound.{AllWait, Waits}, specs.There.{HasField, IsDead, IsMember}, proofs.Differing.{differ-stay, differ-spared}, proofs.Dying.{died-stay, scheduled-stay, scheduled-seen, other-seen}, proofs.Fields.{member-method}, proofs.Inherited.{method-below}, proofs.Keeps.{class-of-lives}, proofs.Lists.{all-append, all-filtered, all-snoc}, proofs.Waiting.{first-waits}, proofs.Scheduling.{schedule-cases}}
+use Rattle.object_machine.proofs.{CheckedRuns.Invariant.{Falls, IsNoHigher, Level, NodeLevel, FallsTo, IsStepOf, runs, asks, acts, BodyStands, EmitStands, IsFollower, IsTorn, DestroyStands, Stacked, IsOwned, IsWired, IsSited, IsCovered, Holds}, CheckedRuns.Nodes.{named-node, end-node, body-named, late-named, named-again}, CheckedRuns.Ladder.{higher-none, no-higher-self, level-at, level-of, at-node, falls-along, falls-to, line-from, line-unique}, CheckedRuns.Worlds.{Leaves, classes-left, differ-leaves, scheduled-leaves, died-leaves, SparedIn, stacked-still}, CheckedRuns.Followers.{IsKnown, followers}, CheckedRuns.Leading.{does-led}}
 
 -- the binding of a property is one of the list, and the property is its target
 pub bound-by : (P : Binding → Type 0) (bs : List Binding) → AllByRecursion P bs → (q : Place) (b : Binding) → binding_at bs q ≡ Some b → P b × (b.target ≡ q)

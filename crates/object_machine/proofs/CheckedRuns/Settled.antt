@@ -1,48 +1,13 @@
 -- A write of a value of the property's type, and a bind that fits, leave each property with a value of its type: what
 -- follows is settled, and of what sort an expression's value is, is a matter of the sorts of what it reads.
-use Rattle.std.proofs.Common.{◌≡◌, inl, inr, ℕ, zero, suc, cond, not, Bool, true, false, List, [], ◌∷◌, map, All, Option, None, Some, slice_get, refl, sym, ap, ◌∙◌, subst}
-use Rattle.std.specs.Option.{option_map, option_and_then}
-use Rattle.std.proofs.lemmas.Bool.{cases_Bool}
-use Rattle.std.proofs.lemmas.List.Elements.{All-push}
-use Rattle.std.proofs.lemmas.Option.{same_Some}
+use Rattle.std.{proofs.Common.{◌≡◌, inl, inr, ℕ, zero, suc, cond, not, Bool, true, false, List, [], ◌∷◌, map, All, Option, None, Some, slice_get, refl, sym, ap, ◌∙◌, subst}, specs.Option.{option_map, option_and_then}, proofs.lemmas.Bool.{cases_Bool}, proofs.lemmas.List.Elements.{All-push}, proofs.lemmas.Option.{same_Some}, specs.List.{AllByRecursion}}
 use Rattle.basic_types.specs.declared.value.Value.{Value}
-use Rattle.meta_model.specs.declared.object.MetaProperty.{MetaProperty}
-use Rattle.meta_model.specs.declared.object.ValueType.{ValueType}
-use Rattle.meta_model.specs.declared.site.SourceProperty.{SourceProperty}
-use Rattle.meta_model.specs.Loaded.{Loaded}
-use Rattle.meta_model.specs.Members.{IsClass}
-use Rattle.meta_model.specs.Sound.{IsPlain}
-use Rattle.object_tree.specs.declared.object.Object.{Object}
-use Rattle.object_tree.specs.Typed.{AreTyped, ReadsAs, ReadAs}
-use Rattle.object_tree.proofs.Changing.{life-of-lives}
-use Rattle.object_tree.proofs.TypedObjects.{reads-still}
-use Rattle.binding_graph.specs.declared.binding.Binding.{Binding}
-use Rattle.binding_graph.specs.declared.place.Place.{Place}
-use Rattle.prop_bindings.specs.declared.plans.assignment.Assignment.{Assignment}
-use Rattle.prop_bindings.specs.Calls.{AllFit}
-use Rattle.binding_graph.specs.Bindings.{source_place, read_by, Reads, value_of, binding_at, AreApart, without, without_all, replaced, Settled, Loop}
-use Rattle.prop_bindings.specs.Changes.{DifferInValues, lasting, places_in}
-use Rattle.prop_bindings.specs.Fits.{IsFit, IsInOneLoop, Agree}
-use Rattle.binding_graph.specs.code.Orders.{Free, Ordered, IsOrder}
-use Rattle.binding_graph.specs.Places.{property_of, same_place, is_in, In}
-use Rattle.prop_bindings.specs.Values.{values_in}
-use Rattle.binding_graph.proofs.Acyclic.{order-of}
-use Rattle.prop_bindings.proofs.Alike.{sort_of, BothAlike, values-alike, reads-sort, plain-has}
-use Rattle.binding_graph.proofs.Apart.{apart-replaced}
-use Rattle.prop_bindings.proofs.Fitting.{all-stay}
-use Rattle.prop_bindings.proofs.Alive.{lives-on}
-use Rattle.prop_bindings.proofs.Homes.{all-joined}
-use Rattle.prop_bindings.proofs.Leaving.{agree-fewer}
-use Rattle.binding_graph.proofs.Naming.{value-agree}
-use Rattle.binding_graph.proofs.Places.{decide_in, is_in-true, is_in-false}
-use Rattle.prop_bindings.proofs.There.{bound-has}
-use Rattle.machine_state.specs.State.{State, Activation}
-use Rattle.machine_state.specs.Telling.{Assigning, writes_of}
-use Rattle.std.specs.List.{AllByRecursion}
-use Rattle.machine_rules.specs.Settling.{Writes, Installs}
-use Rattle.machine_rules.specs.There.{IsField}
-use Rattle.machine_rules.proofs.Differing.{differ-stay}
-use Rattle.machine_rules.proofs.Fields.{field-property, old-there, stored-is, stored-reads}
+use Rattle.meta_model.specs.{declared.object.MetaProperty.{MetaProperty}, declared.object.ValueType.{ValueType}, declared.site.SourceProperty.{SourceProperty}, Loaded.{Loaded}, Members.{IsClass}, Sound.{IsPlain}}
+use Rattle.object_tree.{specs.declared.object.Object.{Object}, specs.Typed.{AreTyped, ReadsAs, ReadAs}, proofs.Changing.{life-of-lives}, proofs.TypedObjects.{reads-still}}
+use Rattle.binding_graph.{specs.declared.binding.Binding.{Binding}, specs.declared.place.Place.{Place}, specs.Bindings.{source_place, read_by, Reads, value_of, binding_at, AreApart, without, without_all, replaced, Settled, Loop}, specs.code.Orders.{Free, Ordered, IsOrder}, specs.Places.{property_of, same_place, is_in, In}, proofs.Acyclic.{order-of}, proofs.Apart.{apart-replaced}, proofs.Naming.{value-agree}, proofs.Places.{decide_in, is_in-true, is_in-false}}
+use Rattle.prop_bindings.{specs.declared.plans.assignment.Assignment.{Assignment}, specs.Calls.{AllFit}, specs.Changes.{DifferInValues, lasting, places_in}, specs.Fits.{IsFit, IsInOneLoop, Agree}, specs.Values.{values_in}, proofs.Alike.{sort_of, BothAlike, values-alike, reads-sort, plain-has}, proofs.Fitting.{all-stay}, proofs.Alive.{lives-on}, proofs.Homes.{all-joined}, proofs.Leaving.{agree-fewer}, proofs.There.{bound-has}}
+use Rattle.machine_state.specs.{State.{State, Activation}, Telling.{Assigning, writes_of}}
+use Rattle.machine_rules.{specs.Settling.{Writes, Installs}, specs.There.{IsField}, proofs.Differing.{differ-stay}, proofs.Fields.{field-property, old-there, stored-is, stored-reads}}
 
 -- ---- sorts along an order of evaluation
 

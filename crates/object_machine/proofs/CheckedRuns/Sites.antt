@@ -1,36 +1,15 @@
 -- What bindings read leads to what they bind: so values change only where ranks and sets are no higher than those of the
 -- property that is written or bound, and no chain of bindings leads back.
-use Rattle.std.proofs.Common.{◌≡◌, ◌⊎◌, inl, inr, ℕ, zero, suc, ◌+◌, ◌<◌, ◌≤◌, List, [], ◌∷◌, ◌++◌, filter_map, Option, Some, None, slice_get, refl, sym, ap, ◌∙◌, subst, arith}
-use Rattle.std.specs.List.{AllZip}
-use Rattle.std.specs.Option.{option_map}
-use Rattle.std.proofs.lemmas.Option.{same_Some, none-some}
+use Rattle.std.{proofs.Common.{◌≡◌, ◌⊎◌, inl, inr, ℕ, zero, suc, ◌+◌, ◌<◌, ◌≤◌, List, [], ◌∷◌, ◌++◌, filter_map, Option, Some, None, slice_get, refl, sym, ap, ◌∙◌, subst, arith}, specs.List.{AllZip}, specs.Option.{option_map}, proofs.lemmas.Option.{same_Some, none-some}}
 use Rattle.basic_types.specs.declared.value.Value.{Value}
-use Rattle.syntax_trees.specs.declared.syntax.Expr.{Expr}
+use Rattle.syntax_trees.specs.{declared.syntax.Expr.{Expr}, declared.syntax.Expr.TheViews.{roll-Expr}, declared.syntax.Expr.TheFolds.{fold-roll-Expr, ind-Expr, map-Expr}}
 use Rattle.syntax_trees.specs.declared.syntax.Expr.TheOpen as layer
-use Rattle.syntax_trees.specs.declared.syntax.Expr.TheViews.{roll-Expr}
-use Rattle.syntax_trees.specs.declared.syntax.Expr.TheFolds.{fold-roll-Expr, ind-Expr, map-Expr}
-use Rattle.meta_model.specs.declared.site.SourceProperty.{SourceProperty}
-use Rattle.meta_model.specs.Loaded.{Loaded}
-use Rattle.meta_model.specs.Sites.{paths_in, paths_step}
-use Rattle.meta_model.specs.Sound.{IsSound}
-use Rattle.binding_graph.specs.declared.binding.Binding.{Binding}
-use Rattle.binding_graph.specs.declared.place.Place.{Place}
-use Rattle.binding_graph.specs.Bindings.{named_in, named_step, source_place, Reads, Settled, Chain, direct, further, Loop}
-use Rattle.binding_graph.specs.Places.{property_of, In}
-use Rattle.binding_graph.proofs.Naming.{value-agree}
-use Rattle.binding_graph.proofs.Places.{decide_in}
-use Rattle.rank_check.proofs.Elements.{element_at}
-use Rattle.effect_scan.specs.declared.node.Node.{Node}
-use Rattle.effect_scan.specs.declared.node.Member.TheVariants.{Property}
-use Rattle.effect_scan.specs.Edges.{MayLead, by_site}
-use Rattle.effect_scan.specs.Nodes.{node}
-use Rattle.certificate_lang.specs.declared.certificate.Line.{Line}
-use Rattle.certificate_lang.specs.declared.certificate.Certificate.{Certificate}
-use Rattle.rank_check.specs.Valid.{IsLineOf, IsValid}
-use Rattle.object_machine.proofs.CheckedRuns.Invariant.{IsOf, IsSited}
-use Rattle.object_machine.proofs.CheckedRuns.Nodes.{found-in}
-use Rattle.effect_scan.proofs.Standing.{join_nodes}
-use Rattle.object_machine.proofs.CheckedRuns.Ladder.{line-from, line-unique, level-at}
+use Rattle.meta_model.specs.{declared.site.SourceProperty.{SourceProperty}, Loaded.{Loaded}, Sites.{paths_in, paths_step}, Sound.{IsSound}}
+use Rattle.binding_graph.{specs.declared.binding.Binding.{Binding}, specs.declared.place.Place.{Place}, specs.Bindings.{named_in, named_step, source_place, Reads, Settled, Chain, direct, further, Loop}, specs.Places.{property_of, In}, proofs.Naming.{value-agree}, proofs.Places.{decide_in}}
+use Rattle.rank_check.{proofs.Elements.{element_at}, specs.Valid.{IsLineOf, IsValid}}
+use Rattle.effect_scan.{specs.declared.node.Node.{Node}, specs.declared.node.Member.TheVariants.{Property}, specs.Edges.{MayLead, by_site}, specs.Nodes.{node}, proofs.Standing.{join_nodes}}
+use Rattle.certificate_lang.specs.{declared.certificate.Line.{Line}, declared.certificate.Certificate.{Certificate}}
+use Rattle.object_machine.proofs.{CheckedRuns.Invariant.{IsOf, IsSited}, CheckedRuns.Nodes.{found-in}, CheckedRuns.Ladder.{line-from, line-unique, level-at}}
 
 -- ---- the names in an expression are its paths
 

@@ -1,36 +1,15 @@
 -- What every state of a run keeps where natives keep their promise, and that every step is good.
 use Rattle.std.proofs.Common.{ℕ, List, [], ◌∷◌, Option, None, subst}
 use Rattle.script_lang.specs.declared.event.Event.{Event}
-use Rattle.meta_model.specs.Loaded.{Loaded}
-use Rattle.meta_model.specs.Sound.{IsSound}
+use Rattle.meta_model.specs.{Loaded.{Loaded}, Sound.{IsSound}}
 use Rattle.native_slots.specs.Promises.{Takes, Promises}
 use Rattle.certificate_lang.specs.declared.certificate.Certificate.{Certificate}
 use Rattle.rank_check.specs.Valid.{IsValid}
 use Rattle.trace_entries.specs.declared.fault.Answer.{Answer}
-use Rattle.machine_state.specs.State.{State, Activation, Body}
-use Rattle.machine_state.specs.Worlds.{at, untouched}
-use Rattle.machine_state.specs.Telling.{Assigning, writes_of}
+use Rattle.machine_state.specs.{State.{State, Activation, Body}, Worlds.{at, untouched}, Telling.{Assigning, writes_of}}
 use Rattle.prop_bindings.specs.Calls.{AllFit}
-use Rattle.machine_rules.specs.Operations.{Write}
-use Rattle.machine_rules.specs.Good.{IsWell, IsGood}
-use Rattle.machine_rules.specs.Natives.{NativeAnswers}
-use Rattle.machine_rules.specs.Rules.{Rule}
-use Rattle.machine_rules.specs.Next.{WritesNext, WritesIll}
-use Rattle.machine_rules.proofs.ReachingFitting.{fits-read}
-use Rattle.object_machine.specs.Runs.{Run, done, goes, takes, Each, Follows, by_rule, by_event}
-use Rattle.object_machine.specs.Takes.{Takes as Taking}
-use Rattle.object_machine.proofs.Preservation.{after-rule, after-event}
-use Rattle.object_machine.proofs.Standing.{Invariant}
-use Rattle.object_machine.specs.CheckedLaws.{IsFaultless}
-use Rattle.object_machine.proofs.CheckedRuns.Invariant.{Level, Stacked, Holds}
-use Rattle.object_machine.proofs.CheckedRuns.Promised.{AllIsPromised}
-use Rattle.object_machine.proofs.CheckedRuns.Arguments.{rule-pushes, takes-pushes}
-use Rattle.object_machine.proofs.CheckedRuns.Events.{takes-held}
-use Rattle.object_machine.proofs.CheckedRuns.Giving.{does-give}
-use Rattle.object_machine.proofs.CheckedRuns.Kept.{Kept, start-holds, start-invariant, follows-held, lacks-not}
-use Rattle.object_machine.proofs.CheckedRuns.Ladder.{no-deeper}
-use Rattle.object_machine.proofs.CheckedRuns.Rules.{rule-held}
-use Rattle.object_machine.proofs.CheckedRuns.TypedSteps.{rule-agrees, takes-agrees}
+use Rattle.machine_rules.{specs.Operations.{Write}, specs.Good.{IsWell, IsGood}, specs.Natives.{NativeAnswers}, specs.Rules.{Rule}, specs.Next.{WritesNext, WritesIll}, proofs.ReachingFitting.{fits-read}}
+use Rattle.object_machine.{specs.Runs.{Run, done, goes, takes, Each, Follows, by_rule, by_event}, specs.Takes.{Takes as Taking}, proofs.Preservation.{after-rule, after-event}, proofs.Standing.{Invariant}, specs.CheckedLaws.{IsFaultless}, proofs.CheckedRuns.Invariant.{Level, Stacked, Holds}, proofs.CheckedRuns.Promised.{AllIsPromised}, proofs.CheckedRuns.Arguments.{rule-pushes, takes-pushes}, proofs.CheckedRuns.Events.{takes-held}, proofs.CheckedRuns.Giving.{does-give}, proofs.CheckedRuns.Kept.{Kept, start-holds, start-invariant, follows-held, lacks-not}, proofs.CheckedRuns.Ladder.{no-deeper}, proofs.CheckedRuns.Rules.{rule-held}, proofs.CheckedRuns.TypedSteps.{rule-agrees, takes-agrees}}
 
 -- what a state of a run keeps
 pub record Stood (p : Loaded) (certificate : Certificate) (s : State) : Type 0 where

@@ -1,80 +1,23 @@
 -- Whatever step a run takes, each property has a value of its type, and values agree with bindings: a rule keeps this if
 -- what it writes is of the property's type, and each event keeps it.
-use Rattle.std.proofs.Common.{◌≡◌, ℕ, suc, Bool, true, false, List, [], ◌∷◌, ◌++◌, length, take, Result, Ok, Err, Option, Some, None, slice_get, refl, sym, subst, inl, inr}
-use Rattle.std.specs.List.{AllByRecursion, find}
-use Rattle.std.proofs.lemmas.List.Elements.{All-from_recursion}
+use Rattle.std.{proofs.Common.{◌≡◌, ℕ, suc, Bool, true, false, List, [], ◌∷◌, ◌++◌, length, take, Result, Ok, Err, Option, Some, None, slice_get, refl, sym, subst, inl, inr}, specs.List.{AllByRecursion, find}, proofs.lemmas.List.Elements.{All-from_recursion}}
 use Rattle.basic_types.specs.declared.value.Value.{Value}
 use Rattle.basic_types.specs.declared.value.Value.TheVariants as variant
-use Rattle.syntax_trees.specs.declared.connection.ConnectionType.{ConnectionType}
-use Rattle.syntax_trees.specs.declared.connection.Endpoints.{Endpoints as Named}
-use Rattle.script_lang.specs.declared.event.Event.{Event}
-use Rattle.script_lang.specs.declared.event.Event.TheVariants.{Loop, Turn as TurnEvent, New, Adopt, Move, Connect as ConnectEvent, Disconnect as DisconnectEvent, Set, Bind, Emit as EmitEvent, Call as CallEvent, Block, Unblock, Delete as DeleteEvent, Later as LaterEvent}
-use Rattle.script_lang.specs.declared.event.Input.{Input}
-use Rattle.meta_model.specs.declared.object.MetaMethod.{MetaMethod}
-use Rattle.meta_model.specs.declared.object.MetaObject.{MetaObject}
-use Rattle.meta_model.specs.declared.object.Work.{Work}
-use Rattle.meta_model.specs.declared.object.Work.TheVariants.{Signal, Slot, Native}
-use Rattle.meta_model.specs.Literals.{HoldsNoObject}
-use Rattle.meta_model.specs.Loaded.{Loaded}
-use Rattle.meta_model.specs.Members.{IsClass}
-use Rattle.meta_model.specs.Sound.{IsSound}
-use Rattle.meta_model.specs.Values.{Has}
+use Rattle.syntax_trees.specs.{declared.connection.ConnectionType.{ConnectionType}, declared.connection.Endpoints.{Endpoints as Named}}
+use Rattle.script_lang.specs.{declared.event.Event.{Event}, declared.event.Event.TheVariants.{Loop, Turn as TurnEvent, New, Adopt, Move, Connect as ConnectEvent, Disconnect as DisconnectEvent, Set, Bind, Emit as EmitEvent, Call as CallEvent, Block, Unblock, Delete as DeleteEvent, Later as LaterEvent}, declared.event.Input.{Input}}
+use Rattle.meta_model.specs.{declared.object.MetaMethod.{MetaMethod}, declared.object.MetaObject.{MetaObject}, declared.object.Work.{Work}, declared.object.Work.TheVariants.{Signal, Slot, Native}, Literals.{HoldsNoObject}, Loaded.{Loaded}, Members.{IsClass}, Sound.{IsSound}, Values.{Has}}
 use Rattle.connections.specs.declared.connection.Connection.{Connection}
-use Rattle.event_loops.specs.declared.item.Item.{Item}
-use Rattle.event_loops.specs.declared.item.Item.TheVariants.{Call, Deletion}
-use Rattle.event_loops.specs.declared.item.Posted.{Posted}
-use Rattle.event_loops.specs.Queues.{items_at, is_before, taken_before}
-use Rattle.object_tree.specs.declared.life.Life.{Life}
-use Rattle.object_tree.specs.declared.object.Object.{Object}
-use Rattle.object_tree.specs.Creating.{BeginsAs, BeginsWell, fresh, initial_values}
-use Rattle.object_tree.specs.Objects.{life_of, class_with}
-use Rattle.object_tree.specs.Seen.{seen}
-use Rattle.object_tree.proofs.TypedObjects.{typed-created}
-use Rattle.binding_graph.specs.declared.binding.Binding.{Binding}
-use Rattle.binding_graph.specs.declared.place.Place.{Place}
-use Rattle.binding_graph.specs.Bindings.{binding_at, without, replaced, Loop as Closed}
-use Rattle.prop_bindings.specs.Fits.{Agree}
-use Rattle.prop_bindings.proofs.Leaving.{agree-living, left_agree}
-use Rattle.effect_scan.specs.declared.node.Member.TheVariants.{Property}
-use Rattle.effect_scan.specs.Nodes.{node}
+use Rattle.event_loops.specs.{declared.item.Item.{Item}, declared.item.Item.TheVariants.{Call, Deletion}, declared.item.Posted.{Posted}, Queues.{items_at, is_before, taken_before}}
+use Rattle.object_tree.{specs.declared.life.Life.{Life}, specs.declared.object.Object.{Object}, specs.Creating.{BeginsAs, BeginsWell, fresh, initial_values}, specs.Objects.{life_of, class_with}, specs.Seen.{seen}, proofs.TypedObjects.{typed-created}}
+use Rattle.binding_graph.specs.{declared.binding.Binding.{Binding}, declared.place.Place.{Place}, Bindings.{binding_at, without, replaced, Loop as Closed}}
+use Rattle.prop_bindings.{specs.Fits.{Agree}, proofs.Leaving.{agree-living, left_agree}, proofs.Agreeing.{adopted_agree, blocked_agree, live-created}, specs.Calls.{AllFit}}
+use Rattle.effect_scan.specs.{declared.node.Member.TheVariants.{Property}, Nodes.{node}}
 use Rattle.certificate_lang.specs.declared.certificate.Certificate.{Certificate}
 use Rattle.rank_check.specs.Valid.{IsValid}
-use Rattle.prop_bindings.proofs.Agreeing.{adopted_agree, blocked_agree, live-created}
-use Rattle.machine_state.specs.declared.endpoints.Endpoints.{Endpoints}
-use Rattle.trace_entries.specs.declared.refusal.Refusal.{Refusal}
-use Rattle.machine_state.specs.declared.turn.Turn.{Turn}
-use Rattle.machine_state.specs.Accepting.{accepted}
-use Rattle.machine_state.specs.Connections.{is_living, next_used}
-use Rattle.machine_state.specs.State.{Step, State, IsIdle, Activation, Body, Emit, Update, Destroy}
-use Rattle.machine_state.specs.Turns.{running, reaches_at_once}
-use Rattle.machine_state.specs.Telling.{Assigning, writes_of}
-use Rattle.prop_bindings.specs.Calls.{AllFit}
-use Rattle.machine_rules.specs.Connecting.{kept_ends, names_of}
-use Rattle.machine_rules.specs.Destroying.{Dies, NextRule, ChildRule, DestroyRule, living_child, Schedules}
-use Rattle.machine_rules.specs.Operations.{Operation, Write, Begin, Choose, Connect, Disconnect, Delete, Schedule, TakeAnswer, Nothing, operation_of_step}
-use Rattle.machine_rules.specs.Judgement.{found as finds, holds as so, becomes, goes_on}
-use Rattle.machine_rules.specs.Natives.{NativeAnswers}
-use Rattle.machine_rules.specs.Rules.{Rule, RuleAt, BodyRule, Does, EmitRule, UpdateRule, NotifiesIf, TurnRule, Serves, Delivers, Arrives, BeginsIf, begun, with_used, linked, unlinked}
-use Rattle.machine_rules.specs.Next.{WritesNext}
-use Rattle.machine_rules.proofs.Differing.{scheduled-agree}
-use Rattle.machine_rules.proofs.Lists.{all-filtered, all-snoc}
-use Rattle.object_machine.specs.declared.invoking.Invocation.{Invocation}
-use Rattle.object_machine.specs.declared.invoking.Invocation.TheVariants.{Emit as EmitIt, Call as CallIt}
-use Rattle.trace_entries.specs.declared.fault.Answer.{Answer}
-use Rattle.object_machine.specs.Takes.{judged, Takes, accepts, refuses}
-use Rattle.object_machine.specs.Events.{block, invoke}
-use Rattle.object_machine.proofs.Settling.{bound-within}
-use Rattle.object_machine.proofs.CheckedRuns.Invariant.{IsSited, IsCovered}
-use Rattle.object_machine.proofs.CheckedRuns.Binding.{may-fit}
-use Rattle.object_machine.proofs.CheckedRuns.Events.{HoldsSome, binding-sited}
-use Rattle.object_machine.proofs.Judged.{given-is}
-use Rattle.object_machine.proofs.Moving.{stores-agree}
-use Rattle.object_machine.proofs.Judging.Naming.{living-is, living-object}
-use Rattle.object_machine.proofs.CheckedRuns.Nodes.{property-node}
-use Rattle.object_machine.proofs.CheckedRuns.Rules.{bound-by}
-use Rattle.object_machine.proofs.CheckedRuns.Settled.{agree-at, writes-agree, installs-agree}
-use Rattle.object_machine.proofs.CheckedRuns.Sites.{no-loop}
-use Rattle.machine_rules.proofs.Scheduling.{schedule-cases}
+use Rattle.machine_state.specs.{declared.endpoints.Endpoints.{Endpoints}, declared.turn.Turn.{Turn}, Accepting.{accepted}, Connections.{is_living, next_used}, State.{Step, State, IsIdle, Activation, Body, Emit, Update, Destroy}, Turns.{running, reaches_at_once}, Telling.{Assigning, writes_of}}
+use Rattle.trace_entries.specs.{declared.refusal.Refusal.{Refusal}, declared.fault.Answer.{Answer}}
+use Rattle.machine_rules.{specs.Connecting.{kept_ends, names_of}, specs.Destroying.{Dies, NextRule, ChildRule, DestroyRule, living_child, Schedules}, specs.Operations.{Operation, Write, Begin, Choose, Connect, Disconnect, Delete, Schedule, TakeAnswer, Nothing, operation_of_step}, specs.Judgement.{found as finds, holds as so, becomes, goes_on}, specs.Natives.{NativeAnswers}, specs.Rules.{Rule, RuleAt, BodyRule, Does, EmitRule, UpdateRule, NotifiesIf, TurnRule, Serves, Delivers, Arrives, BeginsIf, begun, with_used, linked, unlinked}, specs.Next.{WritesNext}, proofs.Differing.{scheduled-agree}, proofs.Lists.{all-filtered, all-snoc}, proofs.Scheduling.{schedule-cases}}
+use Rattle.object_machine.{specs.declared.invoking.Invocation.{Invocation}, specs.declared.invoking.Invocation.TheVariants.{Emit as EmitIt, Call as CallIt}, specs.Takes.{judged, Takes, accepts, refuses}, specs.Events.{block, invoke}, proofs.Settling.{bound-within}, proofs.CheckedRuns.Invariant.{IsSited, IsCovered}, proofs.CheckedRuns.Binding.{may-fit}, proofs.CheckedRuns.Events.{HoldsSome, binding-sited}, proofs.Judged.{given-is}, proofs.Moving.{stores-agree}, proofs.Judging.Naming.{living-is, living-object}, proofs.CheckedRuns.Nodes.{property-node}, proofs.CheckedRuns.Rules.{bound-by}, proofs.CheckedRuns.Settled.{agree-at, writes-agree, installs-agree}, proofs.CheckedRuns.Sites.{no-loop}}
 
 -- every value that the next step writes fits its property
 abbrev pub WritesFit : Loaded → State → Type 0

@@ -1,28 +1,13 @@
 -- What changes of objects leave: their classes, their children and what stands.
-use Rattle.std.proofs.Common.{◌≡◌, inl, inr, ℕ, zero, suc, ◌||◌, eqb, cond, Bool, true, false, IsTrue, List, [], ◌∷◌, map, length, Option, Some, None, slice_get, refl, sym, ap, ◌∙◌, subst, arith}
-use Rattle.std.specs.List.{AllByRecursion}
-use Rattle.std.specs.Option.{option_map, option_and_then}
-use Rattle.std.proofs.lemmas.Bool.{cases_eq, eq-eqb}
-use Rattle.std.proofs.lemmas.List.{length-map}
+use Rattle.std.{proofs.Common.{◌≡◌, inl, inr, ℕ, zero, suc, ◌||◌, eqb, cond, Bool, true, false, IsTrue, List, [], ◌∷◌, map, length, Option, Some, None, slice_get, refl, sym, ap, ◌∙◌, subst, arith}, specs.List.{AllByRecursion}, specs.Option.{option_map, option_and_then}, proofs.lemmas.Bool.{cases_eq, eq-eqb}, proofs.lemmas.List.{length-map}}
 use Rattle.basic_types.specs.declared.value.Value.{Value}
 use Rattle.meta_model.specs.Loaded.{Loaded}
-use Rattle.object_tree.specs.declared.life.Life.{Life}
-use Rattle.object_tree.specs.declared.object.Object.{Object}
-use Rattle.object_tree.specs.Children.{without}
-use Rattle.object_tree.specs.Family.{children_in, children_of, parent_of, leaves, left_by, dead, without_life}
-use Rattle.object_tree.specs.Objects.{class_of, life_of, change, change_life, with_life, scheduled}
-use Rattle.object_tree.proofs.Changing.{part-change, life-part, length-change, get-change_same, get-change_other}
-use Rattle.object_tree.proofs.Families.{leaves-part}
-use Rattle.prop_bindings.specs.Changes.{DifferInValues, valueless}
-use Rattle.prop_bindings.proofs.Alive.{lives-alike}
+use Rattle.object_tree.{specs.declared.life.Life.{Life}, specs.declared.object.Object.{Object}, specs.Children.{without}, specs.Family.{children_in, children_of, parent_of, leaves, left_by, dead, without_life}, specs.Objects.{class_of, life_of, change, change_life, with_life, scheduled}, proofs.Changing.{part-change, life-part, length-change, get-change_same, get-change_other}, proofs.Families.{leaves-part}}
+use Rattle.prop_bindings.{specs.Changes.{DifferInValues, valueless}, proofs.Alive.{lives-alike}}
 use Rattle.effect_scan.specs.declared.node.Node.{Node}
 use Rattle.certificate_lang.specs.declared.certificate.Certificate.{Certificate}
 use Rattle.machine_state.specs.State.{Step, Activation, Body, Emit, Update, Destroy}
-use Rattle.machine_rules.specs.Good.{has_body}
-use Rattle.machine_rules.specs.code.Keeps.{StayThere}
-use Rattle.machine_rules.specs.There.{IsDead}
-use Rattle.machine_rules.proofs.Dying.{lives-not-dead}
-use Rattle.machine_rules.proofs.Keeps.{lives-of-class, values-stay}
+use Rattle.machine_rules.{specs.Good.{has_body}, specs.code.Keeps.{StayThere}, specs.There.{IsDead}, proofs.Dying.{lives-not-dead}, proofs.Keeps.{lives-of-class, values-stay}}
 use Rattle.object_machine.proofs.CheckedRuns.Invariant.{Level, BodyStands, Stands, Stacked, AreClasses, AreOwned, IsOwned}
 
 -- ---- what a change of objects leaves

@@ -1,27 +1,15 @@
 -- `set`.
 use Rattle.std.proofs.Common.{ℕ, List, [], Ok, Err}
 use Rattle.basic_types.specs.declared.value.Value.{Value}
-use Rattle.meta_model.specs.declared.object.MetaProperty.{MetaProperty}
-use Rattle.meta_model.specs.Loaded.{Loaded}
-use Rattle.object_tree.specs.declared.life.Life.{Life}
-use Rattle.object_tree.specs.declared.object.Object.{Object}
-use Rattle.object_tree.specs.Typed.{ReadsAs}
-use Rattle.binding_graph.specs.declared.place.Place.{Place}
+use Rattle.meta_model.specs.{declared.object.MetaProperty.{MetaProperty}, Loaded.{Loaded}}
+use Rattle.object_tree.specs.{declared.life.Life.{Life}, declared.object.Object.{Object}, Typed.{ReadsAs}}
+use Rattle.binding_graph.specs.{declared.place.Place.{Place}, Places.{property_of}}
 use Rattle.prop_bindings.specs.Fits.{FitsAt}
-use Rattle.binding_graph.specs.Places.{property_of}
-use Rattle.script_lang.specs.declared.event.Event.TheVariants.{Set}
-use Rattle.script_lang.specs.declared.event.Input.{Input}
+use Rattle.script_lang.specs.{declared.event.Event.TheVariants.{Set}, declared.event.Input.{Input}}
 use Rattle.trace_entries.specs.declared.refusal.Refusal.TheVariants.{NoMember, BadArgs}
-use Rattle.machine_state.specs.declared.world.World.{World}
-use Rattle.machine_state.specs.Worlds.{at}
-use Rattle.machine_rules.specs.There.{IsField}
-use Rattle.object_machine.specs.declared.not_accepted.NotAccepted.{NotAccepted}
-use Rattle.machine_rules.specs.Judgement.{Numbered, found, missing, holds, fails, becomes, goes_on, ends}
-use Rattle.object_machine.specs.code.Judgement.{IsNotAccepted, IsLiving}
-use Rattle.object_machine.specs.code.Accepted.{WritesTo}
-use Rattle.object_machine.specs.Events.{assign, IsPropertyOf, value}
-use Rattle.object_machine.proofs.Judged.{then-ends, then-on}
-use Rattle.object_machine.proofs.Judging.Naming.{living-ok}
+use Rattle.machine_state.specs.{declared.world.World.{World}, Worlds.{at}}
+use Rattle.machine_rules.specs.{There.{IsField}, Judgement.{Numbered, found, missing, holds, fails, becomes, goes_on, ends}}
+use Rattle.object_machine.{specs.declared.not_accepted.NotAccepted.{NotAccepted}, specs.code.Judgement.{IsNotAccepted, IsLiving}, specs.code.Accepted.{WritesTo}, specs.Events.{assign, IsPropertyOf, value}, proofs.Judged.{then-ends, then-on}, proofs.Judging.Naming.{living-ok}}
 
 -- a property that a value fits is there
 pub field-of : {p : Loaded} {objects : List Object} {at : Place} {v : Value} (fits : FitsAt p objects at v) → IsField p objects at.object at.property fits.object fits.property

@@ -1,28 +1,13 @@
 -- `emit` and `call`.
 use Rattle.std.proofs.Common.{◌≡◌, ℕ, List, [], length, Result, Ok, Err, subst}
 use Rattle.basic_types.specs.declared.value.Value.{Value}
-use Rattle.meta_model.specs.declared.object.MetaMethod.{MetaMethod}
-use Rattle.meta_model.specs.Loaded.{Loaded}
-use Rattle.meta_model.specs.Members.{IsMethod, IsMethodNamed}
-use Rattle.object_tree.specs.declared.life.Life.{Life}
-use Rattle.object_tree.specs.Typed.{ReadAs}
+use Rattle.meta_model.specs.{declared.object.MetaMethod.{MetaMethod}, Loaded.{Loaded}, Members.{IsMethod, IsMethodNamed}}
+use Rattle.object_tree.specs.{declared.life.Life.{Life}, Typed.{ReadAs}}
 use Rattle.script_lang.specs.declared.event.Input.{Input}
-use Rattle.trace_entries.specs.declared.refusal.Refusal.{Refusal}
-use Rattle.trace_entries.specs.declared.refusal.Refusal.TheVariants.{NoMember, BadArgs}
-use Rattle.machine_state.specs.declared.world.World.{World}
-use Rattle.machine_state.specs.State.{State}
-use Rattle.machine_state.specs.Worlds.{at}
-use Rattle.machine_rules.proofs.Fields.{method-unique}
-use Rattle.object_machine.specs.declared.invoking.Invocation.{Invocation}
-use Rattle.object_machine.specs.declared.invoking.Invocation.TheVariants.{Emit, Call}
-use Rattle.object_machine.specs.declared.not_accepted.NotAccepted.{NotAccepted}
-use Rattle.machine_rules.specs.Judgement.{Numbered, found, missing, holds, fails, becomes, goes_on, ends}
-use Rattle.object_machine.specs.code.Judgement.{IsNotAccepted, refused, short, IsLiving}
-use Rattle.object_machine.specs.Takes.{judged}
-use Rattle.object_machine.specs.code.Accepted.{AsksFor, invoking}
-use Rattle.object_machine.specs.Events.{invoke, May, IsAskedOf, values}
-use Rattle.object_machine.proofs.Judged.{then-ends, then-on}
-use Rattle.object_machine.proofs.Judging.Naming.{living-ok}
+use Rattle.trace_entries.specs.{declared.refusal.Refusal.{Refusal}, declared.refusal.Refusal.TheVariants.{NoMember, BadArgs}}
+use Rattle.machine_state.specs.{declared.world.World.{World}, State.{State}, Worlds.{at}}
+use Rattle.machine_rules.{proofs.Fields.{method-unique}, specs.Judgement.{Numbered, found, missing, holds, fails, becomes, goes_on, ends}}
+use Rattle.object_machine.{specs.declared.invoking.Invocation.{Invocation}, specs.declared.invoking.Invocation.TheVariants.{Emit, Call}, specs.declared.not_accepted.NotAccepted.{NotAccepted}, specs.code.Judgement.{IsNotAccepted, refused, short, IsLiving}, specs.Takes.{judged}, specs.code.Accepted.{AsksFor, invoking}, specs.Events.{invoke, May, IsAskedOf, values}, proofs.Judged.{then-ends, then-on}, proofs.Judging.Naming.{living-ok}}
 
 -- an event that asks something is judged as what it asks
 pub judged-invoking : (p : Loaded) (s : State) {r : Result State Refusal} (a : Invocation) (name called : List ℕ) (inputs : List Input) → invoke p s a name called inputs r → judged p s (invoking a name called inputs) r

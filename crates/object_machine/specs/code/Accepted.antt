@@ -1,29 +1,15 @@
 -- What the code finds of an event that is accepted (docs/machine.md, "Events").
 use Rattle.std.specs.Prelude.{◌≡◌, ℕ, List, [], length, Ok}
 use Rattle.basic_types.specs.declared.value.Value.{Value}
-use Rattle.meta_model.specs.declared.site.MetaSite.{MetaSite}
-use Rattle.meta_model.specs.Loaded.{Loaded}
+use Rattle.meta_model.specs.{declared.site.MetaSite.{MetaSite}, Loaded.{Loaded}}
 use Rattle.object_tree.specs.declared.life.Life.{Life}
-use Rattle.syntax_trees.specs.declared.connection.ConnectionType.{ConnectionType}
-use Rattle.syntax_trees.specs.declared.connection.Endpoints.{Endpoints as Named}
-use Rattle.script_lang.specs.declared.event.Event.{Event}
+use Rattle.syntax_trees.specs.{declared.connection.ConnectionType.{ConnectionType}, declared.connection.Endpoints.{Endpoints as Named}}
+use Rattle.script_lang.specs.{declared.event.Event.{Event}, declared.event.Input.{Input}}
 use Rattle.script_lang.specs.declared.event.Event.TheVariants as event
-use Rattle.script_lang.specs.declared.event.Input.{Input}
 use Rattle.binding_graph.specs.declared.place.Place.{Place}
-use Rattle.machine_state.specs.declared.endpoints.Endpoints.{Endpoints}
-use Rattle.machine_state.specs.declared.world.World.{World}
-use Rattle.machine_state.specs.Accepting.{accepted}
-use Rattle.machine_state.specs.State.{State}
-use Rattle.machine_state.specs.Telling.{Alone}
-use Rattle.machine_state.specs.Worlds.{at, with_connection, without_connections}
-use Rattle.machine_rules.specs.Judgement.{numbered}
-use Rattle.machine_rules.specs.Rules.{Begins}
-use Rattle.machine_rules.specs.Settling.{Writes}
-use Rattle.object_machine.specs.declared.invoking.Invocation.{Invocation}
-use Rattle.object_machine.specs.declared.invoking.Invocation.TheVariants.{Emit, Call}
-use Rattle.object_machine.specs.Takes.{judged}
-use Rattle.object_machine.specs.Events.{IsSiteOf, connect, disconnect, all_living}
-use Rattle.object_machine.specs.code.Judgement.{IsLiving}
+use Rattle.machine_state.specs.{declared.endpoints.Endpoints.{Endpoints}, declared.world.World.{World}, Accepting.{accepted}, State.{State}, Telling.{Alone}, Worlds.{at, with_connection, without_connections}}
+use Rattle.machine_rules.specs.{Judgement.{numbered}, Rules.{Begins}, Settling.{Writes}}
+use Rattle.object_machine.specs.{declared.invoking.Invocation.{Invocation}, declared.invoking.Invocation.TheVariants.{Emit, Call}, Takes.{judged}, Events.{IsSiteOf, connect, disconnect, all_living}, code.Judgement.{IsLiving}}
 
 -- the event is accepted, and its effect is that the method begins
 pub record AsksFor (p : Loaded) (w : World) (o m : ℕ) (values : List Value) (e : Event) : Type 0 where

@@ -1,30 +1,12 @@
 -- The parts of a write and a bind.
-use Rattle.std.specs.Prelude.{◌≡◌, ℕ, List, [], ◌∷◌, ◌++◌, All, Option, Some, Result, Ok, Err}
-use Rattle.std.specs.Option.{is_some, option_map, unwrap_or}
+use Rattle.std.specs.{Prelude.{◌≡◌, ℕ, List, [], ◌∷◌, ◌++◌, All, Option, Some, Result, Ok, Err}, Option.{is_some, option_map, unwrap_or}}
 use Rattle.basic_types.specs.declared.value.Value.{Value}
 use Rattle.indexmap.specs.IndexMap.{IndexMap, get}
 use Rattle.meta_model.specs.Loaded.{Loaded}
-use Rattle.object_tree.specs.declared.object.Object.{Object}
-use Rattle.object_tree.specs.Objects.{change_life, written}
-use Rattle.object_tree.specs.Typed.{AreTyped}
-use Rattle.binding_graph.specs.declared.place.Place.{Place}
-use Rattle.prop_bindings.specs.declared.plans.assignment.Assignment.{Assignment}
-use Rattle.binding_graph.specs.declared.binding.Binding.{Binding}
-use Rattle.prop_bindings.specs.declared.plans.fault.BindFault.{BindFault}
+use Rattle.object_tree.specs.{declared.object.Object.{Object}, Objects.{change_life, written}, Typed.{AreTyped}}
+use Rattle.binding_graph.specs.{declared.place.Place.{Place}, declared.binding.Binding.{Binding}, Places.{In, is_in}, Bindings.{binding_at, replaced, without_all, value_of, Loop}, code.Keys.{key_of, same_key}, code.Orders.{IsLater}}
+use Rattle.prop_bindings.specs.{declared.plans.assignment.Assignment.{Assignment}, declared.plans.fault.BindFault.{BindFault}, declared.plans.planned.Planned.{Planned}, declared.plans.planned.PlannedBind.{PlannedBind}, declared.preparing.Prepared.{Prepared}, Values.{values_in}, Calls.{AllFit, MayBind, IsNotBound, new_binding}, Changes.{AreChanged, IsInstalled, IsWritten, once, one, places_in}, Counts.{CountsReached}, Fits.{FitsAt, IsFit, IsInOneLoop, Agree}, Plans.{assigned, after}}
 use Rattle.prop_bindings.specs.declared.plans.fault.BindFault.TheVariants as bind
-use Rattle.prop_bindings.specs.declared.plans.planned.Planned.{Planned}
-use Rattle.prop_bindings.specs.declared.plans.planned.PlannedBind.{PlannedBind}
-use Rattle.prop_bindings.specs.declared.preparing.Prepared.{Prepared}
-use Rattle.binding_graph.specs.Places.{In, is_in}
-use Rattle.prop_bindings.specs.Values.{values_in}
-use Rattle.binding_graph.specs.Bindings.{binding_at, replaced, without_all, value_of, Loop}
-use Rattle.prop_bindings.specs.Calls.{AllFit, MayBind, IsNotBound, new_binding}
-use Rattle.prop_bindings.specs.Changes.{AreChanged, IsInstalled, IsWritten, once, one, places_in}
-use Rattle.prop_bindings.specs.Counts.{CountsReached}
-use Rattle.prop_bindings.specs.Fits.{FitsAt, IsFit, IsInOneLoop, Agree}
-use Rattle.prop_bindings.specs.Plans.{assigned, after}
-use Rattle.binding_graph.specs.code.Keys.{key_of, same_key}
-use Rattle.binding_graph.specs.code.Orders.{IsLater}
 
 -- ---- values to come
 -- the objects once these properties have their values

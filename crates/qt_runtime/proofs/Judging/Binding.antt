@@ -1,31 +1,14 @@
 -- `bind`.
 use Rattle.std.proofs.Common.{◌≡◌, ℕ, List, [], ◌∷◌, length, Some, Result, Ok, Err, MatchResult, refl, sym, ◌∙◌, subst, slice_get}
-use Rattle.meta_model.specs.declared.site.MetaSite.{MetaSite}
-use Rattle.meta_model.specs.Loaded.{Loaded}
+use Rattle.meta_model.specs.{declared.site.MetaSite.{MetaSite}, Loaded.{Loaded}}
 use Rattle.binding_graph.specs.declared.binding.Binding.{Binding}
-use Rattle.prop_bindings.specs.declared.plans.fault.BindFault.{BindFault}
-use Rattle.prop_bindings.specs.Fits.{InOneLoop}
-use Rattle.prop_bindings.specs.Calls.{CoversBinding, IsNotBound, MayBind, binding_of, new_binding, bad_source, other_loop, bad_type, closes, no_memory}
-use Rattle.script_lang.specs.declared.event.Event.{Event}
-use Rattle.script_lang.specs.declared.event.Event.TheVariants.{Bind}
-use Rattle.trace_entries.specs.declared.fault.Fault.{Fault}
-use Rattle.trace_entries.specs.declared.refusal.Refusal.{Refusal}
-use Rattle.trace_entries.specs.declared.refusal.Refusal.TheVariants.{BadSource, OtherLoop}
-use Rattle.machine_state.specs.declared.world.World.{World}
-use Rattle.machine_state.specs.Accepting.{accepted}
-use Rattle.machine_state.specs.State.{State}
-use Rattle.machine_state.specs.Worlds.{at}
-use Rattle.machine_rules.specs.Natives.{NativeAnswers}
-use Rattle.machine_rules.specs.Judgement.{numbered, Check, Gives, ◌>>=◌, found, holds, fails, gives, becomes, goes_on, ends}
-use Rattle.machine_rules.specs.Settling.{Installs}
-use Rattle.object_machine.specs.Causes.{BindsNext, Halts, StopsFor, short, brings, binds_ill, binds_loop}
-use Rattle.object_machine.specs.Runs.{is_next}
-use Rattle.object_machine.specs.Takes.{judged}
-use Rattle.object_machine.specs.code.Accepted.{AsksToBind}
-use Rattle.qt_runtime.specs.code.Taking.{binding_reason}
-use Rattle.object_machine.specs.Events.{IsSiteOf, may_bind}
-use Rattle.object_machine.proofs.Judging.Naming.{living-ok}
-use Rattle.qt_runtime.proofs.Taken.{idle, no_natives, none-yet, Ready}
+use Rattle.prop_bindings.specs.{declared.plans.fault.BindFault.{BindFault}, Fits.{InOneLoop}, Calls.{CoversBinding, IsNotBound, MayBind, binding_of, new_binding, bad_source, other_loop, bad_type, closes, no_memory}}
+use Rattle.script_lang.specs.{declared.event.Event.{Event}, declared.event.Event.TheVariants.{Bind}}
+use Rattle.trace_entries.specs.{declared.fault.Fault.{Fault}, declared.refusal.Refusal.{Refusal}, declared.refusal.Refusal.TheVariants.{BadSource, OtherLoop}}
+use Rattle.machine_state.specs.{declared.world.World.{World}, Accepting.{accepted}, State.{State}, Worlds.{at}}
+use Rattle.machine_rules.specs.{Natives.{NativeAnswers}, Judgement.{numbered, Check, Gives, ◌>>=◌, found, holds, fails, gives, becomes, goes_on, ends}, Settling.{Installs}}
+use Rattle.object_machine.{specs.Causes.{BindsNext, Halts, StopsFor, short, brings, binds_ill, binds_loop}, specs.Runs.{is_next}, specs.Takes.{judged}, specs.code.Accepted.{AsksToBind}, specs.Events.{IsSiteOf, may_bind}, proofs.Judging.Naming.{living-ok}}
+use Rattle.qt_runtime.{specs.code.Taking.{binding_reason}, proofs.Taken.{idle, no_natives, none-yet, Ready}}
 
 module _ {p : Loaded} {w : World} {name target : List ℕ} {sources : List (List ℕ)} {number o : ℕ} {objects : List ℕ}
     (asks : AsksToBind p w name target sources number o objects) where

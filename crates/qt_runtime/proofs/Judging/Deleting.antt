@@ -6,25 +6,10 @@ use Rattle.prop_bindings.specs.Fits.{Agree}
 use Rattle.script_lang.specs.declared.event.Event.TheVariants.{Delete}
 use Rattle.trace_entries.specs.declared.fault.Answer.TheVariants as answer
 use Rattle.trace_entries.specs.declared.fault.Fault.{Fault}
-use Rattle.machine_state.specs.declared.world.World.{World}
-use Rattle.machine_state.specs.Accepting.{accepted}
-use Rattle.machine_state.specs.State.{Activation, Destroy}
-use Rattle.machine_state.specs.Worlds.{at}
-use Rattle.machine_state.specs.code.Changing.{accepting}
-use Rattle.machine_rules.specs.Natives.{NativeAnswers}
-use Rattle.machine_rules.specs.Judgement.{Numbered, gives, goes_on}
-use Rattle.machine_rules.specs.Reaches.{RunsTo}
-use Rattle.machine_rules.specs.code.Sound.{IsSoundWorld}
-use Rattle.object_machine.specs.declared.not_accepted.NotAccepted.{NotAccepted}
-use Rattle.object_machine.specs.code.Judgement.{IsNotAccepted, IsLiving}
-use Rattle.object_machine.specs.Takes.{judged, accepts}
-use Rattle.qt_runtime.specs.code.Taking.{Took}
-use Rattle.object_machine.specs.Events.{living}
-use Rattle.object_machine.proofs.Judged.{then-ends}
-use Rattle.object_machine.proofs.Judging.Naming.{living-ok}
-use Rattle.qt_runtime.proofs.Taken.{idle, Ready, good-pushed}
-use Rattle.object_machine.specs.Causes.{Halts}
-use Rattle.qt_runtime.proofs.Stopping.{took-run}
+use Rattle.machine_state.specs.{declared.world.World.{World}, Accepting.{accepted}, State.{Activation, Destroy}, Worlds.{at}, code.Changing.{accepting}}
+use Rattle.machine_rules.specs.{Natives.{NativeAnswers}, Judgement.{Numbered, gives, goes_on}, Reaches.{RunsTo}, code.Sound.{IsSoundWorld}}
+use Rattle.object_machine.{specs.declared.not_accepted.NotAccepted.{NotAccepted}, specs.code.Judgement.{IsNotAccepted, IsLiving}, specs.Takes.{judged, accepts}, specs.Events.{living}, proofs.Judged.{then-ends}, proofs.Judging.Naming.{living-ok}, specs.Causes.{Halts}}
+use Rattle.qt_runtime.{specs.code.Taking.{Took}, proofs.Taken.{idle, Ready, good-pushed}, proofs.Stopping.{took-run}}
 
 -- what an event that is accepted leaves is sound
 pub sound-accepted : {p : Loaded} {v : World} (w : World) → IsSoundWorld p w → v ≡ accepting w → IsSoundWorld p v

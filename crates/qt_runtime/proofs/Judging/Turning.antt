@@ -4,23 +4,12 @@ use Rattle.meta_model.specs.Loaded.{Loaded}
 use Rattle.event_loops.specs.Queues.{IsNamed, IsTaken}
 use Rattle.script_lang.specs.declared.event.Event.TheVariants.{Turn}
 use Rattle.trace_entries.specs.declared.fault.Answer.TheVariants as answer
-use Rattle.trace_entries.specs.declared.fault.Fault.{Fault}
-use Rattle.trace_entries.specs.declared.refusal.Refusal.TheVariants.{NoLoop}
-use Rattle.machine_state.specs.declared.world.World.{World}
-use Rattle.machine_state.specs.Accepting.{accepted}
-use Rattle.machine_state.specs.State.{State}
-use Rattle.machine_state.specs.Worlds.{at, begun_turn}
-use Rattle.machine_state.specs.code.Changing.{accepting_turn}
+use Rattle.trace_entries.specs.{declared.fault.Fault.{Fault}, declared.refusal.Refusal.TheVariants.{NoLoop}}
+use Rattle.machine_state.specs.{declared.world.World.{World}, Accepting.{accepted}, State.{State}, Worlds.{at, begun_turn}, code.Changing.{accepting_turn}}
 use Rattle.prop_bindings.specs.Fits.{Agree}
-use Rattle.machine_rules.specs.Natives.{NativeAnswers}
-use Rattle.machine_rules.specs.Reaches.{RunsTo}
-use Rattle.machine_rules.specs.Judgement.{found, missing, gives, goes_on, ends}
-use Rattle.object_machine.specs.Takes.{judged, accepts}
-use Rattle.qt_runtime.specs.code.Taking.{Took}
-use Rattle.qt_runtime.proofs.Taken.{idle, Ready, good-quiet}
-use Rattle.object_machine.specs.Causes.{Halts}
-use Rattle.qt_runtime.proofs.Stopping.{took-turn}
-use Rattle.machine_rules.specs.code.Sound.{IsSoundWorld}
+use Rattle.machine_rules.specs.{Natives.{NativeAnswers}, Reaches.{RunsTo}, Judgement.{found, missing, gives, goes_on, ends}, code.Sound.{IsSoundWorld}}
+use Rattle.object_machine.specs.{Takes.{judged, accepts}, Causes.{Halts}}
+use Rattle.qt_runtime.{specs.code.Taking.{Took}, proofs.Taken.{idle, Ready, good-quiet}, proofs.Stopping.{took-turn}}
 
 module _ (p : Loaded) (w : World) (name : List ℕ) where
   pub no-loop : (¬ IsTaken w.store.loops.loops name) → judged p (at w []) (Turn name) (Err NoLoop)

@@ -1,25 +1,11 @@
 -- `new`.
 use Rattle.std.proofs.Common.{◌≡◌, ℕ, ◌<◌, List, [], ◌∷◌, ◌++◌, length, Option, Result, Ok, Err, MatchResult, refl, sym, ap, ◌∙◌, subst, arith}
-use Rattle.meta_model.specs.declared.object.MetaObject.{MetaObject}
-use Rattle.meta_model.specs.Loaded.{Loaded}
-use Rattle.meta_model.specs.Members.{IsClass, IsClassNamed}
-use Rattle.object_tree.specs.declared.fault.CreateFault.{CreateFault}
-use Rattle.object_tree.specs.declared.object.Object.{Object}
-use Rattle.object_tree.specs.Creating.{IsCreated, IsNotCreated, BeginsWell, name_used, no_class, too_many, bad_type, no_memory, begun, fresh, initial_values, most_objects}
-use Rattle.object_tree.specs.Objects.{IsFree, IsNamed}
-use Rattle.object_tree.proofs.TypedObjects.{typed-fresh, get-last}
+use Rattle.meta_model.specs.{declared.object.MetaObject.{MetaObject}, Loaded.{Loaded}, Members.{IsClass, IsClassNamed}}
+use Rattle.object_tree.{specs.declared.fault.CreateFault.{CreateFault}, specs.declared.object.Object.{Object}, specs.Creating.{IsCreated, IsNotCreated, BeginsWell, name_used, no_class, too_many, bad_type, no_memory, begun, fresh, initial_values, most_objects}, specs.Objects.{IsFree, IsNamed}, proofs.TypedObjects.{typed-fresh, get-last}}
 use Rattle.script_lang.specs.declared.event.Event.TheVariants.{New}
-use Rattle.trace_entries.specs.declared.fault.Fault.{Fault}
-use Rattle.trace_entries.specs.declared.fault.Fault.TheVariants.{BadType}
-use Rattle.trace_entries.specs.declared.refusal.Refusal.{Refusal}
-use Rattle.trace_entries.specs.declared.refusal.Refusal.TheVariants.{NameUsed, NoClass, NoLoop}
-use Rattle.machine_state.specs.declared.world.World.{World}
-use Rattle.machine_state.specs.Accepting.{accepted}
-use Rattle.machine_state.specs.State.{State}
-use Rattle.machine_state.specs.Worlds.{at}
-use Rattle.machine_rules.specs.Good.{IsWell}
-use Rattle.machine_rules.proofs.Fields.{class-unique}
-use Rattle.machine_rules.specs.Judgement.{NothingIs, found, missing, holds, fails, gives, goes_on, ends}
+use Rattle.trace_entries.specs.{declared.fault.Fault.{Fault}, declared.fault.Fault.TheVariants.{BadType}, declared.refusal.Refusal.{Refusal}, declared.refusal.Refusal.TheVariants.{NameUsed, NoClass, NoLoop}}
+use Rattle.machine_state.specs.{declared.world.World.{World}, Accepting.{accepted}, State.{State}, Worlds.{at}}
+use Rattle.machine_rules.{specs.Good.{IsWell}, proofs.Fields.{class-unique}, specs.Judgement.{NothingIs, found, missing, holds, fails, gives, goes_on, ends}}
 use Rattle.qt_runtime.specs.code.Quiet.{creation_reason, Stops, ill as ill_typed, short}
 use Rattle.object_machine.specs.Events.{create, IsClassOf, IsHome}
 

@@ -1,35 +1,17 @@
 -- `later`.
 use Rattle.std.proofs.Common.{None, ◌≡◌, ℕ, true, false, List, [], ◌∷◌, Ok, refl, sym, ap, subst, Option}
 use Rattle.meta_model.specs.Loaded.{Loaded}
-use Rattle.delete_later.specs.declared.store.Store.{Store}
-use Rattle.delete_later.specs.Scheduling.{deferred_to, scheduled_in, scheduled_with}
+use Rattle.delete_later.specs.{declared.store.Store.{Store}, Scheduling.{deferred_to, scheduled_in, scheduled_with}}
 use Rattle.event_loops.specs.Queues.{HasName}
-use Rattle.object_tree.specs.declared.life.Life.{Life}
-use Rattle.object_tree.specs.Objects.{scheduled}
-use Rattle.prop_bindings.specs.Fits.{Agree}
-use Rattle.prop_bindings.proofs.Agreeing.{scheduled_agree}
+use Rattle.object_tree.specs.{declared.life.Life.{Life}, Objects.{scheduled}}
+use Rattle.prop_bindings.{specs.Fits.{Agree}, proofs.Agreeing.{scheduled_agree}}
 use Rattle.script_lang.specs.declared.event.Event.TheVariants.{Later}
-use Rattle.trace_entries.specs.declared.entry.Entry.{Entry}
-use Rattle.trace_entries.specs.declared.entry.Entry.TheVariants.{At}
-use Rattle.trace_entries.specs.declared.entry.EntryKind.TheVariants.{Scheduled}
+use Rattle.trace_entries.specs.{declared.entry.Entry.{Entry}, declared.entry.Entry.TheVariants.{At}, declared.entry.EntryKind.TheVariants.{Scheduled}}
 use Rattle.trace_entries.specs.declared.fault.Answer.TheVariants as answer
-use Rattle.machine_state.specs.declared.world.World.{World}
-use Rattle.machine_state.specs.Accepting.{accepted, with_entries}
-use Rattle.machine_state.specs.State.{State}
-use Rattle.machine_state.specs.Worlds.{at, store_of, with_store}
-use Rattle.machine_state.specs.code.Changing.{with_scheduled, accepting, accepting_schedule}
-use Rattle.machine_state.proofs.Deferring.{scheduled-now}
-use Rattle.machine_rules.specs.Destroying.{scheduled_now}
-use Rattle.machine_rules.specs.Judgement.{Numbered, becomes, gives, goes_on}
-use Rattle.object_machine.specs.declared.not_accepted.NotAccepted.{NotAccepted}
-use Rattle.object_machine.specs.code.Judgement.{IsNotAccepted, IsLiving}
-use Rattle.object_machine.specs.Takes.{judged}
-use Rattle.qt_runtime.specs.code.Quiet.{TookQuietly}
-use Rattle.object_machine.specs.Events.{living}
-use Rattle.object_machine.proofs.Judged.{then-ends}
-use Rattle.object_machine.proofs.Judging.Naming.{living-ok}
-use Rattle.qt_runtime.proofs.QuietWorlds.{quietly-done}
-use Rattle.machine_rules.proofs.Scheduling.{schedules-before}
+use Rattle.machine_state.{specs.declared.world.World.{World}, specs.Accepting.{accepted, with_entries}, specs.State.{State}, specs.Worlds.{at, store_of, with_store}, specs.code.Changing.{with_scheduled, accepting, accepting_schedule}, proofs.Deferring.{scheduled-now}}
+use Rattle.machine_rules.{specs.Destroying.{scheduled_now}, specs.Judgement.{Numbered, becomes, gives, goes_on}, proofs.Scheduling.{schedules-before}}
+use Rattle.object_machine.{specs.declared.not_accepted.NotAccepted.{NotAccepted}, specs.code.Judgement.{IsNotAccepted, IsLiving}, specs.Takes.{judged}, specs.Events.{living}, proofs.Judged.{then-ends}, proofs.Judging.Naming.{living-ok}}
+use Rattle.qt_runtime.{specs.code.Quiet.{TookQuietly}, proofs.QuietWorlds.{quietly-done}}
 
 module _ (p : Loaded) (w : World) (name : List ℕ) where
   -- the name isn't accepted

@@ -1,33 +1,15 @@
 -- `move`.
-use Rattle.std.proofs.Common.{◌≡◌, ◌≢◌, ℕ, true, false, List, [], Option, Some, Result, Ok, Err, MatchResult, refl, sym, ap, ◌∙◌, subst, arith}
-use Rattle.std.specs.Prelude.{IsSome}
-use Rattle.std.specs.Option.{option_map, option_and_then}
-use Rattle.std.proofs.lemmas.Bool.{false≢true}
-use Rattle.std.proofs.lemmas.Option.{same_Some}
+use Rattle.std.{proofs.Common.{◌≡◌, ◌≢◌, ℕ, true, false, List, [], Option, Some, Result, Ok, Err, MatchResult, refl, sym, ap, ◌∙◌, subst, arith}, specs.Prelude.{IsSome}, specs.Option.{option_map, option_and_then}, proofs.lemmas.Bool.{false≢true}, proofs.lemmas.Option.{same_Some}}
 use Rattle.meta_model.specs.Loaded.{Loaded}
-use Rattle.object_tree.specs.declared.life.Life.{Life}
-use Rattle.object_tree.specs.Family.{parent_of}
-use Rattle.object_tree.specs.Objects.{home_of}
+use Rattle.object_tree.specs.{declared.life.Life.{Life}, Family.{parent_of}, Objects.{home_of}}
 use Rattle.event_loops.specs.Queues.{IsTaken, IsNamed as IsLoop}
-use Rattle.delete_later.specs.declared.fault.MoveFault.{MoveFault}
-use Rattle.delete_later.specs.declared.store.Store.{Store}
-use Rattle.delete_later.specs.Moving.{IsMoved, IsNotMoved, no_loop, has_parent, bound, no_memory}
+use Rattle.delete_later.{specs.declared.fault.MoveFault.{MoveFault}, specs.declared.store.Store.{Store}, specs.Moving.{IsMoved, IsNotMoved, no_loop, has_parent, bound, no_memory}, proofs.Moving.{below-alike, lead_out-alike}}
 use Rattle.script_lang.specs.declared.event.Event.TheVariants.{Move}
-use Rattle.trace_entries.specs.declared.fault.Fault.{Fault}
-use Rattle.trace_entries.specs.declared.refusal.Refusal.{Refusal}
-use Rattle.trace_entries.specs.declared.refusal.Refusal.TheVariants.{NoLoop}
-use Rattle.machine_state.specs.declared.world.World.{World}
-use Rattle.machine_state.specs.Accepting.{accepted}
-use Rattle.machine_state.specs.Worlds.{at, with_store}
+use Rattle.trace_entries.specs.{declared.fault.Fault.{Fault}, declared.refusal.Refusal.{Refusal}, declared.refusal.Refusal.TheVariants.{NoLoop}}
+use Rattle.machine_state.specs.{declared.world.World.{World}, Accepting.{accepted}, Worlds.{at, with_store}}
 use Rattle.machine_rules.specs.Judgement.{Numbered, found, missing, holds, fails, becomes, goes_on, ends}
-use Rattle.object_machine.specs.code.Judgement.{IsNotAccepted, IsLiving}
-use Rattle.object_machine.specs.declared.not_accepted.NotAccepted.{NotAccepted}
+use Rattle.object_machine.{specs.code.Judgement.{IsNotAccepted, IsLiving}, specs.declared.not_accepted.NotAccepted.{NotAccepted}, specs.Events.{living, move, WouldPart}, proofs.Homes.{named-within}, proofs.Judged.{then-ends}, proofs.Judging.Naming.{living-ok}}
 use Rattle.qt_runtime.specs.code.Quiet.{moving_reason, Stops, short}
-use Rattle.object_machine.specs.Events.{living, move, WouldPart}
-use Rattle.object_machine.proofs.Homes.{named-within}
-use Rattle.object_machine.proofs.Judged.{then-ends}
-use Rattle.object_machine.proofs.Judging.Naming.{living-ok}
-use Rattle.delete_later.proofs.Moving.{below-alike, lead_out-alike}
 
 -- the name isn't accepted
 pub not-mover : (p : Loaded) (w : World) (name loop : List ℕ) {n : NotAccepted} → IsNotAccepted (living w.store.tree name) n → IsNotAccepted (move (at w []) name loop) n

@@ -1,30 +1,20 @@
 -- What the code comes to with an event after which nothing is going on (docs/machine.md, "Events").
 use Rattle.std.specs.Prelude.{◌≡◌, ℕ, ◌+◌, ◌<◌, ◌^◌, Bool, true, false, None, List, [], Result, Ok, Err}
 use Rattle.meta_model.specs.Loaded.{Loaded}
-use Rattle.object_tree.specs.declared.fault.AdoptFault.{AdoptFault}
+use Rattle.object_tree.specs.{declared.fault.AdoptFault.{AdoptFault}, declared.fault.CreateFault.{CreateFault}}
 use Rattle.object_tree.specs.declared.fault.AdoptFault.TheVariants as adopt
-use Rattle.object_tree.specs.declared.fault.CreateFault.{CreateFault}
 use Rattle.object_tree.specs.declared.fault.CreateFault.TheVariants as create
 use Rattle.delete_later.specs.declared.fault.MoveFault.{MoveFault}
 use Rattle.delete_later.specs.declared.fault.MoveFault.TheVariants as move
 use Rattle.prop_bindings.specs.Fits.{Agree}
 use Rattle.script_lang.specs.declared.event.Event.{Event}
 use Rattle.script_lang.specs.declared.event.Event.TheVariants as event
-use Rattle.trace_entries.specs.declared.fault.Answer.{Answer}
+use Rattle.trace_entries.specs.{declared.fault.Answer.{Answer}, declared.fault.Fault.{Fault}, declared.fault.Fault.TheVariants.{BadType, Memory}, declared.refusal.Refusal.{Refusal}, declared.refusal.Refusal.TheVariants.{NameUsed, NoClass, TooManyObjects, NotOwned, Cycle, OtherLoop, NoLoop, HasParent, Bound}}
 use Rattle.trace_entries.specs.declared.fault.Answer.TheVariants as answer
-use Rattle.trace_entries.specs.declared.fault.Fault.{Fault}
-use Rattle.trace_entries.specs.declared.fault.Fault.TheVariants.{BadType, Memory}
-use Rattle.trace_entries.specs.declared.refusal.Refusal.{Refusal}
-use Rattle.trace_entries.specs.declared.refusal.Refusal.TheVariants.{NameUsed, NoClass, TooManyObjects, NotOwned, Cycle, OtherLoop, NoLoop, HasParent, Bound}
-use Rattle.machine_state.specs.declared.world.World.{World}
-use Rattle.machine_state.specs.State.{State}
-use Rattle.machine_state.specs.Worlds.{at, after}
-use Rattle.machine_state.specs.code.Changing.{Rejects}
-use Rattle.machine_rules.specs.Good.{IsWell}
-use Rattle.machine_rules.specs.code.Sound.{IsSoundWorld}
-use Rattle.object_machine.specs.declared.not_accepted.NotAccepted.{NotAccepted}
+use Rattle.machine_state.specs.{declared.world.World.{World}, State.{State}, Worlds.{at, after}, code.Changing.{Rejects}}
+use Rattle.machine_rules.specs.{Good.{IsWell}, code.Sound.{IsSoundWorld}}
+use Rattle.object_machine.specs.{declared.not_accepted.NotAccepted.{NotAccepted}, Takes.{judged, IsRefusedAs}}
 use Rattle.object_machine.specs.declared.not_accepted.NotAccepted.TheVariants as reason
-use Rattle.object_machine.specs.Takes.{judged, IsRefusedAs}
 
 -- what every machine's world keeps: the program is sound, its parts fit together, and no count is near its limit
 pub record WorldInvariant (p : Loaded) (w : World) : Type 0 where

@@ -1,23 +1,8 @@
-use Rattle.std.proofs.Common.{◌≡◌, ◌++◌, ℕ, List, ap, sym, subst, rules}
-use Rattle.std.specs.List.Sorted.{IsNonDecreasingBy}
-use Rattle.std.proofs.lemmas.List.Sorted.{IsNonDecreasingBy-from_sort_by_key}
+use Rattle.std.{proofs.Common.{◌≡◌, ◌++◌, ℕ, List, ap, sym, subst, rules}, specs.List.Sorted.{IsNonDecreasingBy}, proofs.lemmas.List.Sorted.{IsNonDecreasingBy-from_sort_by_key}}
 use Rattle.basic_types.specs.declared.value.Value.{Value}
 use Rattle.object_tree.specs.declared.object.Object.{Object}
-use Rattle.binding_graph.specs.declared.numbering.Numbered.{Numbered}
-use Rattle.binding_graph.specs.declared.place.Place.{Place}
-use Rattle.prop_bindings.specs.Values.{values_in}
-use Rattle.binding_graph.specs.Bindings.{binding_at}
-use Rattle.prop_bindings.specs.Changes.{AreChanged}
-use Rattle.prop_bindings.specs.Plans.{assigned}
-use Rattle.binding_graph.specs.code.Graph.{bindings_in, slot_of}
-use Rattle.binding_graph.specs.code.Numbering.{places_of}
-use Rattle.binding_graph.specs.code.Orders.{pass}
-use Rattle.prop_bindings.specs.code.Parts.{IsSoundBySome, StaySound, ahead}
-use Rattle.binding_graph.proofs.Noted.{slots-apart}
-use Rattle.binding_graph.proofs.Sorting.{sorted-numbering, sorted-same}
-use Rattle.prop_bindings.proofs.AssignedValues.{assigned-differs}
-use Rattle.prop_bindings.proofs.Evaluating.{rest-alike}
-use Rattle.prop_bindings.proofs.InOrder.{changes-in-slots}
+use Rattle.binding_graph.{specs.declared.numbering.Numbered.{Numbered}, specs.declared.place.Place.{Place}, specs.Bindings.{binding_at}, specs.code.Graph.{bindings_in, slot_of}, specs.code.Numbering.{places_of}, specs.code.Orders.{pass}, proofs.Noted.{slots-apart}, proofs.Sorting.{sorted-numbering, sorted-same}}
+use Rattle.prop_bindings.{specs.Values.{values_in}, specs.Changes.{AreChanged}, specs.Plans.{assigned}, specs.code.Parts.{IsSoundBySome, StaySound, ahead}, proofs.AssignedValues.{assigned-differs}, proofs.Evaluating.{rest-alike}, proofs.InOrder.{changes-in-slots}}
 use Rattle.prop_bindings.proofs.changes.plan.Goals as goal
 
 pub evaluate_all-requires-clause-sound : goal.evaluate_all-requires-clause-sound

@@ -1,24 +1,8 @@
-use Rattle.std.proofs.Common.{◌≡◌, ◌∙◌, ◌∷◌, ◌++◌, [], None, Some, List, Option, map, ap, refl, sym, subst, arith}
-use Rattle.std.specs.List.{All}
-use Rattle.std.proofs.lemmas.List.Elements.{All-nil, All-push}
+use Rattle.std.{proofs.Common.{◌≡◌, ◌∙◌, ◌∷◌, ◌++◌, [], None, Some, List, Option, map, ap, refl, sym, subst, arith}, specs.List.{All}, proofs.lemmas.List.Elements.{All-nil, All-push}}
 use Rattle.basic_types.specs.declared.value.Value.{Value}
-use Rattle.object_tree.specs.declared.object.Object.{Object}
-use Rattle.object_tree.specs.Objects.{change_life, written}
-use Rattle.binding_graph.specs.declared.binding.Binding.{Binding}
-use Rattle.binding_graph.specs.declared.numbering.Numbered.{Numbered}
-use Rattle.binding_graph.specs.declared.place.Place.{Place}
-use Rattle.prop_bindings.specs.Values.{values_in}
-use Rattle.binding_graph.specs.Bindings.{binding_at, value_of}
-use Rattle.prop_bindings.specs.Changes.{valueless}
-use Rattle.binding_graph.specs.code.Graph.{bindings_in, slot_of}
-use Rattle.binding_graph.specs.code.Numbering.{AreNumbered, places_of}
-use Rattle.prop_bindings.specs.code.Parts.{StaySound, ahead, value_ahead}
-use Rattle.prop_bindings.proofs.Assigned.{ahead-env, ahead-more}
-use Rattle.prop_bindings.proofs.Evaluating.{evaluated-there, evaluated-values, evaluated-sound}
-use Rattle.binding_graph.proofs.Passes.{pass-step}
-use Rattle.binding_graph.proofs.Ranked.{in-at, next-is, next-taken, taken-places}
-use Rattle.binding_graph.proofs.Sorting.{places-push}
-use Rattle.prop_bindings.proofs.Values.{written-differs}
+use Rattle.object_tree.specs.{declared.object.Object.{Object}, Objects.{change_life, written}}
+use Rattle.binding_graph.{specs.declared.binding.Binding.{Binding}, specs.declared.numbering.Numbered.{Numbered}, specs.declared.place.Place.{Place}, specs.Bindings.{binding_at, value_of}, specs.code.Graph.{bindings_in, slot_of}, specs.code.Numbering.{AreNumbered, places_of}, proofs.Passes.{pass-step}, proofs.Ranked.{in-at, next-is, next-taken, taken-places}, proofs.Sorting.{places-push}}
+use Rattle.prop_bindings.{specs.Values.{values_in}, specs.Changes.{valueless}, specs.code.Parts.{StaySound, ahead, value_ahead}, proofs.Assigned.{ahead-env, ahead-more}, proofs.Evaluating.{evaluated-there, evaluated-values, evaluated-sound}, proofs.Values.{written-differs}}
 use Rattle.prop_bindings.proofs.evaluation.evaluate_all.Goals as goal
 
 pub unreachable-requires : goal.unreachable-requires

@@ -1,25 +1,7 @@
 use Rattle.std.proofs.Common.{◌≡◌, ◌∙◌, ◌-◌, ◌∷◌, [], ◌⊎◌, Option, Some, false, suc, List, length, take, drop, ap, sym, subst, arith}
 use Rattle.basic_types.specs.declared.value.Value.{Value}
-use Rattle.binding_graph.specs.declared.place.Place.{Place}
-use Rattle.binding_graph.specs.declared.binding.Binding.{Binding}
-use Rattle.prop_bindings.specs.declared.plans.fault.BindFault.TheVariants.{BindingLoop}
-use Rattle.binding_graph.specs.Places.{Distinct, In}
-use Rattle.prop_bindings.specs.Values.{values_in}
-use Rattle.binding_graph.specs.Bindings.{binding_at, Loop, replaced, reads_any, without}
-use Rattle.prop_bindings.specs.Changes.{in_order, one, IsInstalled}
-use Rattle.prop_bindings.specs.Counts.{Kept, CountsFrom}
-use Rattle.prop_bindings.specs.Fits.{Agree}
-use Rattle.prop_bindings.specs.Plans.{after}
-use Rattle.binding_graph.specs.code.Graph.{bindings_of}
-use Rattle.binding_graph.specs.code.Orders.{AreBound, IsAffected, IsLater, bound, pass, update}
-use Rattle.prop_bindings.specs.code.Parts.{IsNotInstalled, IsSoundBySome, ahead, loops}
-use Rattle.prop_bindings.proofs.Calling.{tail-is, install_loops, is_moved, is_installed, is_later, closes_none, agree_installed, fits-of}
-use Rattle.prop_bindings.proofs.Counting.{changed-among, counts-later}
-use Rattle.prop_bindings.proofs.Evaluating.{rest-alike}
-use Rattle.prop_bindings.proofs.Giving.{given-only, given-update, sound-ahead}
-use Rattle.binding_graph.proofs.Replaced.{installed-is}
-use Rattle.prop_bindings.proofs.Settling.{affected-away, affected-bound}
-use Rattle.prop_bindings.proofs.Short.{installs-short}
+use Rattle.binding_graph.{specs.declared.place.Place.{Place}, specs.declared.binding.Binding.{Binding}, specs.Places.{Distinct, In}, specs.Bindings.{binding_at, Loop, replaced, reads_any, without}, specs.code.Graph.{bindings_of}, specs.code.Orders.{AreBound, IsAffected, IsLater, bound, pass, update}, proofs.Replaced.{installed-is}}
+use Rattle.prop_bindings.{specs.declared.plans.fault.BindFault.TheVariants.{BindingLoop}, specs.Values.{values_in}, specs.Changes.{in_order, one, IsInstalled}, specs.Counts.{Kept, CountsFrom}, specs.Fits.{Agree}, specs.Plans.{after}, specs.code.Parts.{IsNotInstalled, IsSoundBySome, ahead, loops}, proofs.Calling.{tail-is, install_loops, is_moved, is_installed, is_later, closes_none, agree_installed, fits-of}, proofs.Counting.{changed-among, counts-later}, proofs.Evaluating.{rest-alike}, proofs.Giving.{given-only, given-update, sound-ahead}, proofs.Settling.{affected-away, affected-bound}, proofs.Short.{installs-short}}
 use Rattle.prop_bindings.proofs.bindings.Bindings.plan_install.Goals as goal
 
 pub returns-in_err-reader-clause-value : goal.returns-in_err-reader-clause-value

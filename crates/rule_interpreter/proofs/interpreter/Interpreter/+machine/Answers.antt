@@ -1,38 +1,13 @@
-use Rattle.std.proofs.Common.{map, ◌≡◌, ◌∙◌, ℕ, false, List, [], ◌∷◌, length, refl, sym, ap, subst, arith, Option, Some, Ok, inl, inr}
-use Rattle.std.proofs.lemmas.Grind.{common_steps}
+use Rattle.std.{proofs.Common.{map, ◌≡◌, ◌∙◌, ℕ, false, List, [], ◌∷◌, length, refl, sym, ap, subst, arith, Option, Some, Ok, inl, inr}, proofs.lemmas.Grind.{common_steps}, specs.Option.{option_map}}
 use Rattle.basic_types.specs.declared.value.Value.{Value}
-use Rattle.machine_state.specs.declared.world.World.{World}
-use Rattle.machine_rules.proofs.ReachedStates.{not-idle, reaches-same, reaches-then, stops-after, stops-as, ends-after, ends-lifted, ends-left, ends-undue, ends-short, ends-unchanged, ends-faulted, ends-ticked, stops-ticked, ok-err, ok-map}
-use Rattle.machine_state.specs.Connections.{is_living}
-use Rattle.machine_state.specs.State.{Run, Act}
-use Rattle.machine_state.specs.Telling.{Alone, Grouped}
+use Rattle.machine_state.specs.{declared.world.World.{World}, Connections.{is_living}, State.{Run, Act}, Telling.{Alone, Grouped}}
+use Rattle.machine_rules.{proofs.ReachedStates.{not-idle, reaches-same, reaches-then, stops-after, stops-as, ends-after, ends-lifted, ends-left, ends-undue, ends-short, ends-unchanged, ends-faulted, ends-ticked, stops-ticked, ok-err, ok-map}, specs.Operations.{Write, Begin, Delete, Nothing, operation_of_action, operation_of_set}, specs.Good.{ArgumentsFit}, specs.code.Keeps.{KeepsWorld}, specs.code.Sound.{IsSoundWorld}, proofs.Keeps.{keeps-same, keeps-then, reaches-keeps}, proofs.Declared.{fit-sends}, proofs.Soundness.{emitted-still, reaches-sound, sound-used, sound-noted, sound-set}, proofs.Delivered.{fit-of, next-delivered, delivered-fits}, proofs.Notifying.{no-places, all-notified, all-may-still, announces-signal, dead-rule, announced-member, announced-value, announced-fits, announcement-calls}, proofs.Dying.{copied-living, lives-not-dead}, proofs.Promised.{all-placed}, proofs.Hearing.{heard-top, reaches-heard}}
 use Rattle.binding_graph.specs.Places.{property_of}
-use Rattle.std.specs.Option.{option_map}
-use Rattle.machine_rules.specs.Operations.{Write, Begin, Delete, Nothing, operation_of_action, operation_of_set}
-use Rattle.meta_model.specs.declared.object.Statement.{Statement}
-use Rattle.meta_model.specs.declared.object.Statement.TheVariants.{outs-Set, outs-Emit, outs-Call, outs-If, outs-Connect, outs-Disconnect, outs-Delete, outs-Later, outs-Group}
-use Rattle.meta_model.specs.declared.object.Statement.TheViews.{out-Statement}
+use Rattle.meta_model.specs.{declared.object.Statement.{Statement}, declared.object.Statement.TheVariants.{outs-Set, outs-Emit, outs-Call, outs-If, outs-Connect, outs-Disconnect, outs-Delete, outs-Later, outs-Group}, declared.object.Statement.TheViews.{out-Statement}}
 use Rattle.prop_bindings.specs.declared.plans.assignment.Assignment.{Assignment}
-use Rattle.run_context.specs.code.Scope.{path_in, value_in, values_in}
-use Rattle.run_context.proofs.Yielding.{obtains-none, evaluates-none, finds-none, truth-none, at-null, at-object, if-chooses}
-use Rattle.machine_rules.specs.Good.{ArgumentsFit}
-use Rattle.machine_rules.specs.code.Keeps.{KeepsWorld}
-use Rattle.machine_rules.specs.code.Sound.{IsSoundWorld}
-use Rattle.machine_rules.proofs.Keeps.{keeps-same, keeps-then, reaches-keeps}
-use Rattle.machine_rules.proofs.Declared.{fit-sends}
-use Rattle.machine_rules.proofs.Soundness.{emitted-still, reaches-sound, sound-used, sound-noted, sound-set}
-use Rattle.rule_interpreter.proofs.Beginning.{begun-work, work-at, ends-begun, stops-barred, stops-no-member, stops-ill-typed, delivery-calls, begun-used, ends-posted}
-use Rattle.machine_rules.proofs.Delivered.{fit-of, next-delivered, delivered-fits}
-use Rattle.run_context.proofs.Posts.{no-home}
-use Rattle.run_context.proofs.Linking.{not-true}
-use Rattle.rule_interpreter.proofs.Writes.{ends-written, ends-unplanned, stops-unwritten}
-use Rattle.machine_rules.proofs.Notifying.{no-places, all-notified, all-may-still, announces-signal, dead-rule, announced-member, announced-value, announced-fits, announcement-calls}
-use Rattle.rule_interpreter.proofs.Bodies.{does-call, does-call-alone, does-set, does-answer, does-nothing, does-delete, does-choose, of-layer, lacks-value, advances-one, advances-ticked, advances-left}
-use Rattle.rule_interpreter.proofs.Deleting.{ends-deleting, stops-deleting, reaches-died, stops-in-use, stops-announcing, living-name, died-as, died-emits, died-gone, dead-after, kills-first, kills-next, reaches-latest, reaches-next, stops-forgetting, forgets-fewer, nonempty, none-left}
-use Rattle.machine_rules.proofs.Dying.{copied-living, lives-not-dead}
-use Rattle.machine_rules.proofs.Promised.{all-placed}
+use Rattle.run_context.{specs.code.Scope.{path_in, value_in, values_in}, proofs.Yielding.{obtains-none, evaluates-none, finds-none, truth-none, at-null, at-object, if-chooses}, proofs.Posts.{no-home}, proofs.Linking.{not-true}}
+use Rattle.rule_interpreter.proofs.{Beginning.{begun-work, work-at, ends-begun, stops-barred, stops-no-member, stops-ill-typed, delivery-calls, begun-used, ends-posted}, Writes.{ends-written, ends-unplanned, stops-unwritten}, Bodies.{does-call, does-call-alone, does-set, does-answer, does-nothing, does-delete, does-choose, of-layer, lacks-value, advances-one, advances-ticked, advances-left}, Deleting.{ends-deleting, stops-deleting, reaches-died, stops-in-use, stops-announcing, living-name, died-as, died-emits, died-gone, dead-after, kills-first, kills-next, reaches-latest, reaches-next, stops-forgetting, forgets-fewer, nonempty, none-left}}
 use Rattle.rule_interpreter.proofs.interpreter.Interpreter.+machine.Goals as goal
-use Rattle.machine_rules.proofs.Hearing.{heard-top, reaches-heard}
 
 -- ---- emissions
 
