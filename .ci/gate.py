@@ -12,7 +12,7 @@ sys.dont_write_bytecode = True
 sys.path.insert(0, f"{ROOT}/bin")
 from build import checks_at_once
 
-DRIVERS = [".ci/edits_fit.py", ".ci/commits.py", ".ci/crate_list.py"] + [f"tests/{it}" for it in ("wrong_bodies/since.py", "build/run.py", "editors/run.py", "tools/run.py", "wrapper/run.py", "pages/run.py", "memory/sweep.py", "hostile/attack.py")] + ["cpp/tests/run.py"]
+DRIVERS = [".ci/edits_fit.py", ".ci/commits.py", ".ci/crate_list.py", ".ci/imports.py"] + [f"tests/{it}" for it in ("wrong_bodies/since.py", "build/run.py", "editors/run.py", "tools/run.py", "wrapper/run.py", "pages/run.py", "memory/sweep.py", "hostile/attack.py")] + ["cpp/tests/run.py"]
 NUMBERS = re.compile(r"(\d+) passed, (\d+) failed")
 
 

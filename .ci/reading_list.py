@@ -13,6 +13,8 @@ the code (`specs.declared`) and words of the standard library are met by their n
 leads to specs/code, which a reader needn't know."""
 import os, re, sys
 
+from imports import spread
+
 BESIDE = ['program_commands/specs/Loading: LoadsCertified', 'script_lang/specs/Reads: ReadsScript',  # when `run` accepts
           'rank_check/specs/Checks: Examines', 'native_slots/specs/Misfits: Fits',
           'object_machine/specs/Checked: IsChecked', 'object_machine/specs/Seen: AreKept',  # what natives promise
@@ -54,15 +56,10 @@ class Page:
         return self
 
     def use(self, text):
-        text = re.sub(r'^(?:pub |ghost )?use ', '', text).rstrip(';')
-        listed = re.match(r'(\S+)\.\{(.*)\}$', text)
-        if listed:
-            for part in listed[2].split(','):
-                name, _, other = part.strip().partition(' as ')
-                self.names[other or name] = (listed[1], name)
-        else:
-            module, _, other = text.partition(' as ')
-            self.modules[other or module.split('.')[-1]] = module
+        for module, part in spread(re.sub(r'^(?:pub |ghost )?use ', '', text).rstrip(';')):
+            name, _, other = (part or module).partition(' as ')
+            if part: self.names[other or name] = (module, name)
+            else: self.modules[other or name.split('.')[-1]] = name
 
 class Item:
     """A definition: its lines, with the comment above it."""
