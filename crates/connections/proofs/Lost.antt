@@ -1,8 +1,10 @@
 -- What is left of the connections, where some are gone.
-use Rattle.std.proofs.Common.{◌≡◌, ℕ, Bool, true, false, cond, List, [], ◌∷◌, Option, None, Some, option_map, refl, arith, ◌&&◌, ap, sym, ◌∙◌, not, eqb, filter, count_by}
+use Rattle.std.proofs.Common.{◌≡◌, ℕ, Bool, true, false, cond, List, [], ◌∷◌, Option, None, Some, option_map, refl, arith, ◌&&◌, ap, sym, ◌∙◌, not, eqb, filter, count_by, length}
 use Rattle.std.specs.List.{cons_option}
 use Rattle.std.specs.Global.{Vec}
-use Rattle.std.proofs.lemmas.List.Sums.{sum_by-cons}
+use Rattle.std.proofs.Math.Bool.{and_comm}
+use Rattle.std.proofs.lemmas.List.Elements.{filter_agree}
+use Rattle.std.proofs.lemmas.List.Sums.{length-filter}
 use Rattle.slab.specs.Slab.{Slab, get}
 use Rattle.connections.specs.declared.connection.Connection.{Connection}
 use Rattle.connections.specs.declared.cell.Cell.{Cell}
@@ -14,6 +16,7 @@ use Rattle.connections.specs.code.Cells.{fits, retired, swept, counted, Retires,
 use Rattle.connections.specs.code.Places.{connection_in, live_at, live, Indexes}
 use Rattle.connections.specs.code.Lists.{all_of, of_signal, of_object, any_connection, shown_in, Tied}
 use Rattle.connections.proofs.Counts.{count_same}
+use Rattle.connections.proofs.Stale.{filter-filter}
 
 -- a connection, unless it passes a test
 abbrev pub kept : (Connection → Bool) → Option Connection → Option Connection
@@ -30,26 +33,10 @@ kept-cons test (Some c) cs = by_test (test c)
 
 -- two filters commute
 filter_both : (p q : Connection → Bool) (cs : List Connection) → filter p (filter q cs) ≡ filter q (filter p cs)
-filter_both p q [] = refl
-filter_both p q (c ∷ cs) = by_tests (p c) (q c) refl refl (filter_both p q cs)
-  where
-    by_tests : (a b : Bool) → p c ≡ a → q c ≡ b → filter p (filter q cs) ≡ filter q (filter p cs) → filter p (filter q (c ∷ cs)) ≡ filter q (filter p (c ∷ cs))
-    by_tests true true e f h = grind (arith, h)
-    by_tests true false e f h = grind (arith, h)
-    by_tests false true e f h = grind (arith, h)
-    by_tests false false e f h = grind (arith, h)
+filter_both p q cs = filter-filter p q cs ∙ filter_agree (λ c. q c && p c) (λ c. p c && q c) (λ c. and_comm (q c) (p c)) cs ∙ sym (filter-filter q p cs)
 
 count_filter : (p q : Connection → Bool) (cs : List Connection) → count_by p (filter q cs) ≡ count_by (λ c. q c && p c) cs
-count_filter p q [] = refl
-count_filter p q (c ∷ cs) = by_test (q c) refl (count_filter p q cs)
-  where
-    by_test : (b : Bool) → q c ≡ b → count_by p (filter q cs) ≡ count_by (λ d. q d && p d) cs → count_by p (cond b (c ∷ filter q cs) (filter q cs)) ≡ count_by (λ d. q d && p d) (c ∷ cs)
-    by_test true e h =
-        let one : (cond {A = ℕ} (q c && p c) 1 0) ≡ (cond {A = ℕ} (p c) 1 0) = ap (λ b. cond {A = ℕ} (b && p c) 1 0) e in
-        omega (arith, one, h, sum_by-cons (λ z. cond (p z) 1 0) c (filter q cs), sum_by-cons (λ d. cond (q d && p d) 1 0) c cs)
-    by_test false e h =
-        let one : (cond {A = ℕ} (q c && p c) 1 0) ≡ 0 = ap (λ b. cond {A = ℕ} (b && p c) 1 0) e in
-        omega (arith, one, h, sum_by-cons (λ d. cond (q d && p d) 1 0) c cs)
+count_filter p q cs = sym (length-filter p (filter q cs)) ∙ ap length (filter-filter p q cs) ∙ length-filter (λ c. q c && p c) cs
 
 -- each cell shows what it showed, unless that is gone
 pub record Loses (gone : Connection → Bool) (old new : Slab Cell) : Type 0 where

@@ -3,6 +3,7 @@ use Rattle.std.proofs.Common.{◌≡◌, ⊎_elim, ℕ, zero, suc, ◌<◌, ◌�
 use Rattle.std.specs.List.{Contains, find, cons_option}
 use Rattle.std.specs.List.Sorted.{IsNonDecreasingBy}
 use Rattle.std.proofs.lemmas.Bool.{cases_lt, le-ltb, eqb-true}
+use Rattle.std.proofs.lemmas.List.{get_or_default}
 use Rattle.connections.specs.declared.connection.Connection.{Connection}
 use Rattle.connections.specs.declared.cell.Cell.{Cell}
 use Rattle.connections.specs.declared.place.CellPlace.{CellPlace}
@@ -68,16 +69,10 @@ take_one [] zero e = refl
 take_one [] (suc n) e = refl
 take_one (p ∷ places) n e = let one : n ≡ 1 = omega arith in rw one refl
 
--- what is at a place doesn't depend on what would be past the end
-any_default : (places : List CellPlace) (i : ℕ) (d e : CellPlace) → i < length places → get_or places i d ≡ get_or places i e
-any_default [] i d e h = absurd (omega (arith, h))
-any_default (q ∷ places) zero d e h = refl
-any_default (q ∷ places) (suc i) d e h = any_default places i d e (omega arith)
-
 -- the numbers before a place are below its number, and those from it on aren't
 pub splits_at : (last : ℕ) (places : List CellPlace) (number i : ℕ) (e : CellPlace) → Rising 0 places last → i < length places → (get_or places i e).number ≡ number → SplitsAt places number i
 splits_at last places number i e r h same =
-    let here : (d : CellPlace) → (get_or places i d).number ≡ number = λ d. ap (λ (q : CellPlace). q.number) (any_default places i d e h) ∙ same in
+    let here : (d : CellPlace) → (get_or places i d).number ≡ number = λ d. ap (λ (q : CellPlace). q.number) (get_or_default places i d e h) ∙ same in
     record {
       below = λ k d w. omega (arith, here d, Rising-order 0 last places k i d r w h);
       above = λ k d w g. omega (arith, here d, Rising-sorted last places r i k d w g);

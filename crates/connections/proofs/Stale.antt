@@ -1,8 +1,10 @@
 -- A list without the places that lead nowhere leads to the same connections.
-use Rattle.std.proofs.Common.{◌≡◌, ⊎_elim, inr, ℕ, zero, suc, ◌≤◌, Bool, true, false, cond, List, [], ◌∷◌, Option, None, Some, is_some, refl, arith, ap, sym, ◌∙◌, filter, count_by}
+use Rattle.std.proofs.Common.{◌≡◌, ⊎_elim, inr, ℕ, zero, suc, ◌≤◌, Bool, true, false, cond, List, [], ◌∷◌, Option, None, Some, is_some, refl, arith, ap, sym, ◌∙◌, filter, count_by, ◌&&◌}
 use Rattle.std.specs.List.{Contains, cons_option}
 use Rattle.std.specs.Global.{Vec}
+use Rattle.std.proofs.Math.Bool.{and_self}
 use Rattle.std.proofs.lemmas.Bool.{eq-eqb, false≢true}
+use Rattle.std.proofs.lemmas.List.Elements.{filter_agree}
 use Rattle.slab.specs.Slab.{Slab}
 use Rattle.connections.specs.declared.connection.Connection.{Connection}
 use Rattle.connections.specs.declared.cell.Cell.{Cell}
@@ -11,6 +13,15 @@ use Rattle.connections.specs.declared.lists.Lists.{Lists}
 use Rattle.connections.specs.Connected.{is_of, touches}
 use Rattle.connections.specs.code.Places.{connection_in, live_at, live, Rising, Indexes, leads, Tidies}
 use Rattle.connections.specs.code.Lists.{all_of, any_connection, shown_in, ListsLead, Tied, TidiesLists}
+
+-- what passes the one test, of what passes the other
+pub filter-filter : {X : Type 0} (p q : X → Bool) (xs : List X) → filter p (filter q xs) ≡ filter (λ x. q x && p x) xs
+filter-filter p q [] = refl
+filter-filter p q (x ∷ xs) = by_test (q x) (filter-filter p q xs)
+  where
+    by_test : (b : Bool) → filter p (filter q xs) ≡ filter (λ y. q y && p y) xs → filter p (cond b (x ∷ filter q xs) (filter q xs)) ≡ cond (b && p x) (x ∷ filter (λ y. q y && p y) xs) (filter (λ y. q y && p y) xs)
+    by_test true h = ap (λ ys. cond (p x) (x ∷ ys) ys) h
+    by_test false h = h
 
 none-there : {X : Type 0} (x : Option X) → is_some x ≡ false → x ≡ None
 none-there None h = refl
@@ -83,12 +94,7 @@ module _ (cells : Slab Cell) where
     }
 
   filter-again : (test : CellPlace → Bool) (xs : List CellPlace) → filter test (filter test xs) ≡ filter test xs
-  filter-again test [] = refl
-  filter-again test (x ∷ xs) = by_test (test x) refl (filter-again test xs)
-    where
-      by_test : (b : Bool) → test x ≡ b → filter test (filter test xs) ≡ filter test xs → filter test (cond b (x ∷ filter test xs) (filter test xs)) ≡ cond b (x ∷ filter test xs) (filter test xs)
-      by_test true e h = grind (arith, e, h)
-      by_test false e h = h
+  filter-again test xs = filter-filter test test xs ∙ filter_agree (λ x. test x && test x) test (λ x. and_self (test x)) xs
 
   -- dropping such places twice
   pub Tidies-again : (a b c : List CellPlace) → Tidies cells a b → Tidies cells b c → Tidies cells a c

@@ -1,5 +1,5 @@
 -- Keys that stand at an index, and what a write there changes.
-use Rattle.std.proofs.Common.{◌≡◌, ℕ, ◌<◌, Bool, true, false, cond, [], ◌∷◌, ◌++◌, Option, Some, refl, sym, ap, subst, ◌∙◌, slice_get, Result, Ok, Err, OnOk, OnErr, IsSomeAnd, inl}
+use Rattle.std.proofs.Common.{◌≡◌, ℕ, ◌<◌, Bool, true, false, cond, [], ◌∷◌, ◌++◌, Option, Some, refl, sym, ap, subst, ◌∙◌, slice_get, Result, Ok, Err, OnErr, IsSomeAnd, inl}
 use Rattle.std.specs.Cmp.{IsEquivalence}
 use Rattle.std.specs.Option.{option_map}
 use Rattle.std.specs.Vec.{vec_len, vec_capacity}
@@ -79,10 +79,6 @@ module _ {K S : Type 0} (eq : K → K → Bool) (m : IndexMap K Places S) (i : �
         by_key : (b : Bool) → eq key q ≡ b → Tidies cells (list_of eq m q) (items_of (cond b (Some w) (get eq m q)))
         by_key true e = let Q : Option Places → Type 0 = λ x. Tidies cells (items_of x) w.items.items in subst Q (sym (list-there q k v e at)) t
         by_key false e = inl refl
-
-pub on_ok_then : {X E P Q : Type 0} (r : Result X E) → (P → Q) → OnOk r P → OnOk r Q
-on_ok_then (Ok x) f p = f p
-on_ok_then (Err e) f p = tt
 
 pub on_err_always : {X E P : Type 0} (r : Result X E) → P → OnErr r P
 on_err_always (Ok x) p = tt
