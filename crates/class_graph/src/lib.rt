@@ -20,6 +20,7 @@ use crate::fault::{GraphPartFault, refused};
 use crate::json::json_text;
 use crate::origin::Origins;
 use class_lang::{Limits, Program};
+use diagnostics::OtherPlaces;
 pub use fault::GraphFault;
 use findings::Levels;
 use meta_model::Meta;
@@ -27,7 +28,6 @@ pub use part::GraphPart;
 use program_commands::load_program;
 use program_flaws::{ProgramSource, declarations_of};
 use std::alloc::Global;
-use text_places::TextPlaces;
 use verdicts::{Located, ProgramPlaces};
 
 /// How a graph is written.
@@ -49,7 +49,7 @@ pub fn class_graph(
     program: &[u8],
     part: GraphPart<'_>,
     form: GraphFormat,
-    places: Option<&TextPlaces<'_>>,
+    places: Option<&OtherPlaces<'_>>,
 ) -> Result<String, GraphFault>
     ensures drawn { IfOk result (λ text. Loads limits program.now) }
     ensures lacks { IfErr result (Lacks limits program.now) }
@@ -77,7 +77,7 @@ fn placed_text(
     meta: &Meta,
     part: GraphPart<'_>,
     form: GraphFormat,
-    places: &TextPlaces<'_>,
+    places: &OtherPlaces<'_>,
 ) -> Result<String, GraphPartFault> {
     let Some(tree) = declarations_of(alloc, program)? else {
         return drawn_text(alloc, meta, part, form, None);
@@ -94,7 +94,7 @@ fn told_text<'x>(
     meta: &'x Meta,
     part: GraphPart<'_>,
     form: GraphFormat,
-    places: &'x TextPlaces<'x>,
+    places: &'x OtherPlaces<'x>,
 ) -> Result<String, GraphPartFault> {
     let located = Located {
         source: ProgramSource {

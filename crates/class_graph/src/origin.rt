@@ -2,28 +2,27 @@
 
 use crate::drawing::GraphDrawing;
 use crate::edge::{EdgeCause, NodeEdge};
-use diagnostics::{Printed, TextPlace};
+use diagnostics::{OtherPlace, OtherPlaces, Printed, TextPlace};
 use edge_reasons::reason_for;
 use effect_scan::Node;
 use std::alloc::AllocError;
-use text_places::{Place, TextPlaces};
 use verdicts::Located;
 
 /// A program with its places, and what they stand for in the other text.
 #[derive(Clone, Copy)]
 pub struct Origins<'g> {
     pub located: Located<'g>,
-    pub places: &'g TextPlaces<'g>,
+    pub places: &'g OtherPlaces<'g>,
 }
 
 impl<'g> Origins<'g> {
     /// What the node's member stands for.
-    pub fn node(&self, node: Node) -> Option<&'g Place<'g>> {
+    pub fn node(&self, node: Node) -> Option<&'g OtherPlace<'g>> {
         self.at(self.located.node_place(node))
     }
 
     /// What that stands for which draws the edge.
-    pub fn edge(&self, drawing: &GraphDrawing<'_>, edge: NodeEdge) -> Option<&'g Place<'g>> {
+    pub fn edge(&self, drawing: &GraphDrawing<'_>, edge: NodeEdge) -> Option<&'g OtherPlace<'g>> {
         if let EdgeCause::Queued(wire, _) = edge.cause {
             return self.at(self.located.places.wire(wire));
         }
@@ -33,14 +32,14 @@ impl<'g> Origins<'g> {
     }
 
     /// What this place of the program stands for.
-    fn at(&self, place: Option<TextPlace>) -> Option<&'g Place<'g>> {
+    fn at(&self, place: Option<TextPlace>) -> Option<&'g OtherPlace<'g>> {
         let TextPlace { line, column } = place?;
         self.places.at(line, column)
     }
 }
 
 /// Adds a place as a tip of a picture: its file, line and column, its words and its conditions.
-pub fn push_tip(text: &mut String, place: &Place<'_>) -> Result<(), AllocError> {
+pub fn push_tip(text: &mut String, place: &OtherPlace<'_>) -> Result<(), AllocError> {
     text.push_str(", tooltip=\"")?;
     push_escaped(text, place.file)?;
     let (line, column) = (place.other_line, place.other_column);
@@ -54,7 +53,7 @@ pub fn push_tip(text: &mut String, place: &Place<'_>) -> Result<(), AllocError> 
 }
 
 /// Adds a place as members of an object of JSON.
-pub fn push_members(text: &mut String, place: &Place<'_>) -> Result<(), AllocError> {
+pub fn push_members(text: &mut String, place: &OtherPlace<'_>) -> Result<(), AllocError> {
     text.push_str(", \"file\": \"")?;
     push_escaped(text, place.file)?;
     let (line, column) = (place.other_line, place.other_column);

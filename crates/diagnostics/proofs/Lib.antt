@@ -1,1 +1,5 @@
+pub mod Counting
+pub mod Gathered
+pub mod Keyed
 pub mod Likely
+pub mod Parting

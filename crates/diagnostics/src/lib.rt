@@ -1,5 +1,5 @@
 //! What a person is told of a text: a sentence with its place, the line around it, what to write instead, and the word that was
-//! meant.
+//! meant; and places of another text, from which a tool wrote a program.
 #![tactic(auto)]
 
 mod edits;
@@ -7,6 +7,7 @@ mod excerpt;
 mod flaw;
 mod meanings;
 mod message;
+mod other_text;
 mod place;
 mod printed;
 mod spans;
@@ -16,6 +17,7 @@ pub use excerpt::{push_excerpt, push_place};
 pub use flaw::Flaw;
 pub use meanings::meaning;
 pub use message::{Severity, TextKind, push_flaw};
+pub use other_text::{OtherPlace, OtherPlaces, PlacesFault, read_places};
 pub use place::TextPlace;
 pub use printed::{Printed, push_printed, push_printed_lines};
 pub use spans::{Span, text_spans};

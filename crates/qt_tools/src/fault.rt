@@ -1,13 +1,13 @@
 //! Why a word doesn't do what it is asked.
 
 use class_graph::GraphFault;
+use diagnostics::PlacesFault;
 use findings::{LevelFault, ListFault};
 use moc_import::ImportFault;
 use run_witness::WitnessFault;
 use script_tests::ExpectationFault;
 use std::alloc::AllocError;
 use std::io;
-use text_places::PlacesFault;
 use thiserror::Error;
 
 /// Why a word doesn't do what it is asked. Nothing is written on standard output then, but where a write failed or members

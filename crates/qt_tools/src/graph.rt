@@ -5,8 +5,8 @@ use crate::parted::places_first;
 use crate::streams::{MOST_READ, input, program, write};
 use class_graph::{GraphFormat, GraphPart, class_graph};
 use class_lang::Limits;
+use diagnostics::read_places;
 use std::alloc::{AllocError, Global};
-use text_places::read_places;
 use trace_tool::LARGEST_INPUT;
 
 /// What the options of `graph` ask for.

@@ -5,13 +5,12 @@ use crate::fault::ToolFault;
 use crate::parted::{first_text, places_first};
 use crate::streams::{short_input, write};
 use class_lang::Limits;
-use diagnostics::Printed;
+use diagnostics::{OtherPlaces, Printed, read_places};
 use findings::{
     Edge, FileNames, FindingSeverity, LevelChange, Levels, Verdict, change_levels, edge_list,
     json_report, junit_report, read_edges, rules_report, sarif_report, text_report,
 };
 use std::alloc::{AllocError, Global};
-use text_places::{TextPlaces, read_places};
 use verdicts::Texts;
 
 /// The exit status where a text is refused.
@@ -177,7 +176,7 @@ fn tell_placed(
     said: &Said,
     given: &[Vec<u8>],
     judged: &Judged,
-    places: &TextPlaces<'_>,
+    places: &OtherPlaces<'_>,
 ) -> Result<(), ToolFault> {
     tell_judged(rt, said, given, judged, places)
 }
@@ -188,7 +187,7 @@ fn tell_judged<'x>(
     said: &Said,
     given: &'x [Vec<u8>],
     judged: &'x Judged,
-    places: &'x TextPlaces<'x>,
+    places: &'x OtherPlaces<'x>,
 ) -> Result<(), ToolFault> {
     let names = FileNames {
         program: name(given, said.program, b"program"),

@@ -1,10 +1,9 @@
 //! The names of the texts.
 
 use crate::JudgedText;
-use diagnostics::push_printed;
+use diagnostics::{OtherPlaces, push_printed};
 use std::alloc::{AllocError, Global};
 use std::str;
-use text_places::TextPlaces;
 
 /// What the texts are called: the names of their files, where they are files. Such a name may be any bytes.
 #[derive(Clone, Copy)]
@@ -15,7 +14,7 @@ pub struct FileNames<'n> {
     pub certificate: &'n [u8],
     /// What places of the program stand for in another text, from which a tool wrote it; where they stand for something,
     /// that is told.
-    pub places: Option<&'n TextPlaces<'n>>,
+    pub places: Option<&'n OtherPlaces<'n>>,
 }
 
 impl<'n> FileNames<'n> {

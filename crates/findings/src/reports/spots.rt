@@ -2,16 +2,15 @@
 
 use crate::reports::names::FileNames;
 use crate::{ChainStep, JudgedText, TextPlace};
-use diagnostics::Printed;
+use diagnostics::{OtherPlace, Printed};
 use std::alloc::{AllocError, Global};
-use text_places::Place;
 
 /// What this place of a text stands for in the other text, where that is known.
 pub fn origin<'n>(
     names: FileNames<'n>,
     text: JudgedText,
     place: Option<TextPlace>,
-) -> Option<&'n Place<'n>> {
+) -> Option<&'n OtherPlace<'n>> {
     match text {
         JudgedText::Program => {
             let TextPlace { line, column } = place?;

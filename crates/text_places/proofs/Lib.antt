@@ -1,4 +1,0 @@
-pub mod Parting
-pub mod Counting
-pub mod Gathered
-pub mod Keyed

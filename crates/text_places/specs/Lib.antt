@@ -1,4 +1,0 @@
-pub mod Places
-pub mod code
-pub use Rattle.texts.specs.Lines
-pub use Rattle.texts.specs.Numerals
