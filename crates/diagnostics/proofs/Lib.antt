@@ -3,3 +3,4 @@ pub mod Gathered
 pub mod Keyed
 pub mod Likely
 pub mod Parting
+pub mod Tokens

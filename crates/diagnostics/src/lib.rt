@@ -5,6 +5,7 @@
 mod edits;
 mod excerpt;
 mod flaw;
+mod line;
 mod meanings;
 mod message;
 mod other_text;
@@ -15,6 +16,7 @@ mod spans;
 pub use edits::nearest;
 pub use excerpt::{push_excerpt, push_place};
 pub use flaw::Flaw;
+pub use line::has_tokens;
 pub use meanings::meaning;
 pub use message::{Severity, TextKind, push_flaw};
 pub use other_text::{OtherPlace, OtherPlaces, PlacesFault, read_places};

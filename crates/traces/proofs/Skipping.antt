@@ -1,17 +1,14 @@
 -- The lines of a script, one after another, with those that have events.
-use Rattle.std.proofs.Common.{◌≡◌, ◌∙◌, sym, ap, refl, subst, Bool, true, false, not, ℕ, zero, suc, ◌-◌, ◌≢◌, List, [], ◌∷◌, ◌++◌, map, inl, inr, Bor, Option, Some, None, length, arith}
+use Rattle.std.proofs.Common.{◌≡◌, ◌∙◌, sym, ap, refl, subst, ℕ, zero, suc, ◌-◌, ◌≢◌, List, [], ◌∷◌, ◌++◌, map, inl, inr, Bor, Option, Some, None, length, arith}
 use Rattle.std.proofs.lemmas.List.{map-append}
 use Rattle.std.proofs.lemmas.Option.{slice_get-map, slice_get_past, slice_get_read}
-use Rattle.std.specs.Bool.{MatchBool}
 use Rattle.std.specs.Prelude.{option_map, option_copied, slice_get}
 use Rattle.std.specs.Slice.{IsItemAt}
 use Rattle.std.specs.Str.{IsTrimAscii}
-use Rattle.texts.specs.declared.token.Token.{Token}
 use Rattle.texts.specs.Lines.{IsFrontLine, AreFrontLines}
-use Rattle.texts.specs.Pieces.{AreTokens}
-use Rattle.texts.proofs.Cut.{same_tokens}
 use Rattle.texts.proofs.FrontLines.{one_more_line}
-use Rattle.traces.specs.Statements.{IsSkipped, TellsWhether, IsStatement, HaveStatements, AreStatements, statement_of}
+use Rattle.diagnostics.specs.Blank.{IsBlank}
+use Rattle.traces.specs.Statements.{IsStatement, HaveStatements, AreStatements, statement_of}
 
 abbrev pub texts_of : List (Bor (List ℕ)) → List (List ℕ)
 texts_of lines = map (λ line. line.now) lines
@@ -22,7 +19,7 @@ pub record StatementsSoFar (script left : List ℕ) (found : List (Bor (List ℕ
   pub lead : AreFrontLines script lines left
   pub have : HaveStatements lines (texts_of found)
 
-skipped_behind : (lines : List (List ℕ)) (line : List ℕ) (statements : List (List ℕ)) → HaveStatements lines statements → IsSkipped line → HaveStatements (lines ++ line ∷ []) statements
+skipped_behind : (lines : List (List ℕ)) (line : List ℕ) (statements : List (List ℕ)) → HaveStatements lines statements → IsBlank line → HaveStatements (lines ++ line ∷ []) statements
 skipped_behind [] line statements e h = inl (h, e)
 skipped_behind (l ∷ lines) line statements (inl w) h = inl (w.0, skipped_behind lines line statements w.1 h)
 skipped_behind (l ∷ lines) line statements (inr w) h = inr (w.0, w.1, w.2, w.3, skipped_behind lines line w.1 w.4 h)
@@ -35,14 +32,14 @@ statement_behind (l ∷ lines) line statements statement (inr w) h = inr (w.0, w
 pub none_yet : (script : List ℕ) → StatementsSoFar script script []
 none_yet script = record { lines = []; lead = refl; have = refl }
 
-pub skipped : (script left line rest : List ℕ) (found : List (Bor (List ℕ))) → StatementsSoFar script left found → IsFrontLine left line rest → IsSkipped line → StatementsSoFar script rest found
+pub skipped : (script left line rest : List ℕ) (found : List (Bor (List ℕ))) → StatementsSoFar script left found → IsFrontLine left line rest → IsBlank line → StatementsSoFar script rest found
 skipped script left line rest found s f h = record {
   lines = s.lines ++ line ∷ [];
   lead = one_more_line script s.lines left line rest s.lead f;
   have = skipped_behind s.lines line (texts_of found) s.have h;
 }
 
-pub added : (script left line rest : List ℕ) (found more : List (Bor (List ℕ))) (statement : Bor (List ℕ)) → StatementsSoFar script left found → IsFrontLine left line rest → (¬ IsSkipped line) → IsTrimAscii line statement.now → more ≡ found ++ statement ∷ [] → StatementsSoFar script rest more
+pub added : (script left line rest : List ℕ) (found more : List (Bor (List ℕ))) (statement : Bor (List ℕ)) → StatementsSoFar script left found → IsFrontLine left line rest → (¬ IsBlank line) → IsTrimAscii line statement.now → more ≡ found ++ statement ∷ [] → StatementsSoFar script rest more
 added script left line rest found more statement s f h t e = record {
   lines = s.lines ++ line ∷ [];
   lead = one_more_line script s.lines left line rest s.lead f;
@@ -51,18 +48,6 @@ added script left line rest found more statement s f h t e = record {
 
 pub all_lines : (script left : List ℕ) (found : List (Bor (List ℕ))) → left ≡ [] → StatementsSoFar script left found → AreStatements script (texts_of found)
 all_lines script left found e s = record { lines = s.lines; cut = subst (AreFrontLines script s.lines) e s.lead; have = s.have }
-
--- ---- whether a line has an event
-
-pub told_by_tokens : (line : List ℕ) (tokens : List Token) (empty : Bool) → AreTokens line tokens → MatchBool empty (tokens ≡ []) (tokens ≡ [] → ⊥) → TellsWhether line (not empty)
-told_by_tokens line tokens true cut m = subst (AreTokens line) m cut
-told_by_tokens line tokens false cut m = λ none. m (same_tokens line tokens [] cut none)
-
-pub told_some : (line : List ℕ) (found : Bool) → found ≡ true → TellsWhether line found → ¬ IsSkipped line
-told_some line found e h = subst (TellsWhether line) e h
-
-pub told_none : (line : List ℕ) (found : Bool) → found ≡ false → TellsWhether line found → IsSkipped line
-told_none line found e h = subst (TellsWhether line) e h
 
 -- ---- the line of an event
 

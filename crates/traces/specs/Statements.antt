@@ -1,29 +1,20 @@
 -- The lines of a script that have events, and which event has which (docs/traces.md, "The program trace_view"). Events are
 -- counted from 1, and lines that are blank or a comment aren't.
-use Rattle.std.specs.Prelude.{ℕ, zero, suc, ◌≡◌, Bool, true, false, List, [], ◌∷◌, ◌⊎◌, Option, None, slice_get}
+use Rattle.std.specs.Prelude.{ℕ, zero, suc, ◌≡◌, List, [], ◌∷◌, ◌⊎◌, Option, None, slice_get}
 use Rattle.std.specs.Str.{IsTrimAscii}
 use Rattle.texts.specs.Lines.{AreLines}
-use Rattle.texts.specs.Pieces.{AreTokens}
-
--- the line has no event: there is nothing in it but blanks and a comment
-abbrev pub IsSkipped : List ℕ → Type 0
-IsSkipped line = AreTokens line []
-
--- whether the line has an event
-abbrev pub TellsWhether : List ℕ → Bool → Type 0
-TellsWhether line true = ¬ IsSkipped line
-TellsWhether line false = IsSkipped line
+use Rattle.diagnostics.specs.Blank.{IsBlank}
 
 -- the line has an event, and this is the line without the white space at its two ends
 pub record IsStatement (line statement : List ℕ) : Type 0 where
-  pub holds : ¬ IsSkipped line
+  pub holds : ¬ IsBlank line
   pub trimmed : IsTrimAscii line statement
 
 -- of these lines those that have events, in their order
 abbrev pub HaveStatements : List (List ℕ) → List (List ℕ) → Type 0
 HaveStatements [] statements = statements ≡ []
 HaveStatements (line ∷ lines) statements =
-    (IsSkipped line × HaveStatements lines statements)
+    (IsBlank line × HaveStatements lines statements)
     ⊎ ((first : List ℕ) × (later : List (List ℕ)) × IsStatement line first × (statements ≡ first ∷ later) × HaveStatements lines later)
 
 -- the lines of the script that have events, in their order

@@ -1,11 +1,12 @@
 //! The lines of a script that have events.
 
 ghost use Rattle.std.specs.Prelude.{◌≡◌, IfOk, option_map};
-ghost use Rattle.traces.specs.Statements.{AreStatements, TellsWhether, statement_of};
+ghost use Rattle.traces.specs.Statements.{AreStatements, statement_of};
 
+use diagnostics::has_tokens;
 use std::alloc::{AllocError, Global};
 use std::marker::Model;
-use texts::{LexFault, split_line, tokens};
+use texts::split_line;
 
 /// The lines of a script that have events, in their order: those that are neither blank nor a comment, each without the white
 /// space at its two ends.
@@ -30,7 +31,7 @@ impl<'s> Statements<'s> {
         let mut lines = Vec::new(alloc);
         let mut left = script;
         while let Some((line, rest)) = split_line(left) {
-            if has_event(alloc, line)? {
+            if has_tokens(alloc, line)? {
                 lines.push(line.trim_ascii())?;
             }
             left = rest;
@@ -46,16 +47,5 @@ impl<'s> Statements<'s> {
             return None;
         }
         self.lines.get((event - 1) as usize).copied()
-    }
-}
-
-/// Whether a line has an event: whether there is more in it than blanks and a comment.
-fn has_event(alloc: Global, line: &[u8]) -> Result<bool, AllocError>
-    ensures { IfOk result (TellsWhether line.now) }
-{
-    match tokens(alloc, line) {
-        Ok(tokens) => Ok(!tokens.is_empty()),
-        Err(LexFault::BadByte) => Ok(true),
-        Err(LexFault::Memory) => Err(AllocError),
     }
 }

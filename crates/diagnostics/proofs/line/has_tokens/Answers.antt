@@ -1,7 +1,7 @@
 use Rattle.std.proofs.Common.{refl, []}
 use Rattle.std.proofs.lemmas.Bool.{cases_from_iff}
-use Rattle.traces.proofs.Skipping.{told_by_tokens}
-use Rattle.traces.proofs.reading.statements.has_event.Goals as goal
+use Rattle.diagnostics.proofs.Tokens.{told_by_tokens}
+use Rattle.diagnostics.proofs.line.has_tokens.Goals as goal
 
 pub returns-in-Ok : goal.returns-in-Ok
 returns-in-Ok c = told_by_tokens c.args.line.now c.in-Ok.tokens c.is_empty.result c.in-Ok.ensures.cut (cases_from_iff c.is_empty.ensures)
