@@ -2,18 +2,19 @@
 #![tactic(auto)]
 
 mod bodies;
+mod effects;
 mod summary;
 mod writing;
 
+pub use crate::effects::Mistake;
+use crate::effects::{Effects, Line, added_slots, lines, named_properties};
 pub use moc_classes::ImportFault;
 use moc_classes::{BORDER, Catalogue, Choice, Import, MocFile, files};
-pub use slot_effects::Mistake;
-use slot_effects::{Effects, Line, added_slots, lines, named_properties};
 use std::alloc::Global;
 pub use summary::Summary;
 
 /// A text of effects has at most so many bytes, as many as a program.
-const MOST_EFFECTS: usize = 1_048_576;
+const MOST_EFFECTS_BYTES: usize = 1_048_576;
 
 /// A text of effects has at most so many lines with slots, as many as 256 classes of 64 slots have.
 const MOST_LINES: usize = 16384;
@@ -56,7 +57,7 @@ pub fn import(alloc: Global, input: &str, wanted: Wanted<'_>) -> Result<Outcome,
         None if wanted.has_effects => return Err(ImportFault::NoEffects),
         _ => (input, ""),
     };
-    if effects.len() > MOST_EFFECTS {
+    if effects.len() > MOST_EFFECTS_BYTES {
         return Err(ImportFault::LongEffects);
     }
     let files = files(alloc, json)?;

@@ -1,12 +1,26 @@
-//! Effects as bodies of slots.
+//! What slots do whose bodies moc doesn't tell: lines of effects, which a person writes, and the bodies that they give slots.
 
-use crate::body::Statement;
-use crate::fault::LineFault;
-use crate::line::{EffectLine, Line};
-use crate::lookup::Lookup;
-use crate::slots::slot_of;
-use crate::statements::statement;
+mod body;
+mod fault;
+mod line;
+mod lookup;
+mod methods;
+mod near;
+mod reading;
+mod scanner;
+mod slots;
+mod statements;
+
+use crate::effects::fault::LineFault;
+use crate::effects::line::EffectLine;
+use crate::effects::lookup::Lookup;
+use crate::effects::slots::slot_of;
+use crate::effects::statements::statement;
+pub use body::{Statement, Value};
+pub use line::Line;
 use moc_classes::{Import, push_plain};
+pub use reading::lines;
+pub use slots::{added_slots, named_properties};
 use std::alloc::{AllocError, Global};
 
 /// So many mistakes are reported: behind the last of these no line is looked at any more.
@@ -15,7 +29,7 @@ const MOST_TOLD: usize = 100;
 /// What lines of effects give: bodies of slots, and what is wrong with lines.
 #[derive(Drop)]
 pub struct Effects<'e> {
-    bodies: Vec<Body<'e>>,
+    bodies: Vec<SlotBody<'e>>,
     mistakes: Vec<Mistake>,
 }
 
@@ -29,7 +43,7 @@ pub struct Mistake {
 
 /// The body of a slot.
 #[derive(Drop)]
-struct Body<'e> {
+struct SlotBody<'e> {
     line: usize,
     /// The slot, by its class and its place among the methods of that.
     class: usize,
@@ -82,10 +96,8 @@ impl<'e> Effects<'e> {
         Some(body.statements.as_slice())
     }
 
-    fn body(&self, class: usize, place: usize) -> Option<&Body<'e>> {
-        self.bodies
-            .iter()
-            .find(|it: &&Body<'_>| it.class == class && it.place == place)
+    fn body(&self, class: usize, place: usize) -> Option<&SlotBody<'e>> {
+        self.bodies.iter().find(|it: &&SlotBody<'_>| it.class == class && it.place == place)
     }
 
     /// Adds the body that a line gives.
@@ -118,7 +130,7 @@ impl<'e> Effects<'e> {
                 Err(fault) => self.note(alloc, number, &fault)?,
             }
         }
-        self.bodies.push(Body {
+        self.bodies.push(SlotBody {
             line: number,
             class: slot.class,
             place: slot.place,

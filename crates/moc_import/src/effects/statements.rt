@@ -1,9 +1,9 @@
 //! Effects as statements.
 
-use crate::body::{Statement, Value, next_value, values};
-use crate::fault::LineFault;
-use crate::line::{Effect, Verb, split_path};
-use crate::lookup::{Lookup, MemberSort, Sought};
+use crate::effects::body::{Statement, Value, next_value, values};
+use crate::effects::fault::LineFault;
+use crate::effects::line::{Effect, Verb, split_path};
+use crate::effects::lookup::{Lookup, MemberSort, Sought};
 use moc_classes::{Parameter, Placed};
 use std::alloc::Global;
 

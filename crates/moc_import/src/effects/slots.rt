@@ -1,9 +1,9 @@
 //! The slots that lines of effects name.
 
-use crate::fault::LineFault;
-use crate::line::{EffectLine, Line, Verb, split_path};
-use crate::lookup::Lookup;
-use crate::near::Near;
+use crate::effects::fault::LineFault;
+use crate::effects::line::{EffectLine, Line, Verb, split_path};
+use crate::effects::lookup::Lookup;
+use crate::effects::near::Near;
 use moc_classes::{Catalogue, LeftOut, Method, MocMethod, Parameter, Placed, parameters_of};
 use std::alloc::{AllocError, Global};
 

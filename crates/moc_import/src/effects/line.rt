@@ -1,6 +1,6 @@
 //! The lines of a text of effects.
 
-use crate::fault::LineFault;
+use crate::effects::fault::LineFault;
 use moc_classes::MocMethod;
 
 /// A line that isn't empty.

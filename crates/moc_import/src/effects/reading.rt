@@ -8,9 +8,9 @@
 //! types  = "(" [TYPE {"," TYPE}] ")"
 //! ```
 
-use crate::fault::LineFault;
-use crate::line::{Effect, EffectLine, Line, Verb};
-use crate::scanner::{Scanner, first_word};
+use crate::effects::fault::LineFault;
+use crate::effects::line::{Effect, EffectLine, Line, Verb};
+use crate::effects::scanner::{Scanner, first_word};
 use basic_types::is_name;
 use moc_classes::{MocArgument, MocMethod};
 use std::alloc::{AllocError, Global};

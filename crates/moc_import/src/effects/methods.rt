@@ -1,7 +1,7 @@
 //! Which signals and slots effects name.
 
-use crate::fault::LineFault;
-use crate::lookup::{Lookup, MemberSort, Sought};
+use crate::effects::fault::LineFault;
+use crate::effects::lookup::{Lookup, MemberSort, Sought};
 use moc_classes::{Kind, Mapped, Method, mapped_type};
 use std::alloc::{AllocError, Global};
 

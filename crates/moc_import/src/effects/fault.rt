@@ -1,6 +1,6 @@
 //! What is wrong with a line of effects.
 
-use crate::near::Near;
+use crate::effects::near::Near;
 use moc_classes::LeftOut;
 use std::alloc::AllocError;
 use thiserror::Error;

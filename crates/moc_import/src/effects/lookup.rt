@@ -1,7 +1,7 @@
 //! What paths of effects lead to.
 
-use crate::fault::LineFault;
-use crate::near::Near;
+use crate::effects::fault::LineFault;
+use crate::effects::near::Near;
 use moc_classes::{Catalogue, Import, Kind, Missing};
 use std::alloc::{AllocError, Global};
 
