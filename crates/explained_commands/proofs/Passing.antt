@@ -1,13 +1,9 @@
 -- The lines of a script, one after another, with their events counted.
-use Rattle.std.proofs.Common.{◌≡◌, ◌≢◌, ap, refl, subst, Bool, true, false, not, ℕ, ◌+◌, ◌<◌, List, [], ◌∷◌, ◌++◌, ◌⊎◌, inl, inr, arith}
-use Rattle.std.specs.Bool.{MatchBool}
-use Rattle.texts.specs.declared.token.Token.{Token}
+use Rattle.std.proofs.Common.{◌≡◌, ◌≢◌, ap, refl, ℕ, ◌+◌, ◌<◌, List, [], ◌∷◌, ◌++◌, ◌⊎◌, inl, inr, arith}
 use Rattle.texts.specs.Lines.{IsFrontLine, AreFrontLines}
-use Rattle.texts.specs.Pieces.{AreTokens}
-use Rattle.texts.proofs.Cut.{same_tokens}
 use Rattle.texts.proofs.FrontLines.{one_more_line}
 use Rattle.script_lang.specs.Reads.{IsEmptyLine}
-use Rattle.explained_commands.specs.EventLines.{HaveEvents, TellsTokens}
+use Rattle.explained_commands.specs.EventLines.{HaveEvents}
 
 -- the lines up to what is left have so many events, and the one that is looked for isn't among them
 pub record EventsSoFar (script : List ℕ) (number : ℕ) (left : List ℕ) (event : ℕ) : Type 0 where
@@ -45,15 +41,3 @@ event_passed script left line rest number event s f h other = record {
     further : (event ≡ 0) ⊎ (number < event) → (event ≡ 0) ⊎ (number + 1 < event)
     further (inl e) = inl e
     further (inr h) = inr (omega arith)
-
--- ---- whether a line has tokens
-
-pub told_by_tokens : (line : List ℕ) (tokens : List Token) (empty : Bool) → AreTokens line tokens → MatchBool empty (tokens ≡ []) (tokens ≡ [] → ⊥) → TellsTokens line (not empty)
-told_by_tokens line tokens true cut m = subst (AreTokens line) m cut
-told_by_tokens line tokens false cut m = λ none. m (same_tokens line tokens [] cut none)
-
-pub told_some : (line : List ℕ) (found : Bool) → found ≡ true → TellsTokens line found → ¬ IsEmptyLine line
-told_some line found e h = subst (TellsTokens line) e h
-
-pub told_none : (line : List ℕ) (found : Bool) → found ≡ false → TellsTokens line found → IsEmptyLine line
-told_none line found e h = subst (TellsTokens line) e h

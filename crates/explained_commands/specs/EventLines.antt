@@ -1,14 +1,9 @@
 -- The lines of a script that have events (docs/language.md, "Scripts"): events are counted from 1, and lines that are
 -- blank or a comment aren't.
-use Rattle.std.specs.Prelude.{ℕ, ◌≡◌, ◌+◌, ◌<◌, Bool, true, false, List, [], ◌∷◌, length, Option, Some, None, ◌⊎◌}
+use Rattle.std.specs.Prelude.{ℕ, ◌≡◌, ◌+◌, ◌<◌, List, [], ◌∷◌, length, Option, Some, None, ◌⊎◌}
 use Rattle.texts.specs.Lines.{IsFrontLine, AreFrontLines, AreLines}
 use Rattle.script_lang.specs.Reads.{IsEmptyLine}
 use Rattle.explained_commands.specs.declared.reports.events.EventLine.{EventLine}
-
--- whether there is more in the line than blanks and a comment
-abbrev pub TellsTokens : List ℕ → Bool → Type 0
-TellsTokens line true = ¬ IsEmptyLine line
-TellsTokens line false = IsEmptyLine line
 
 -- so many of the lines have events
 abbrev pub HaveEvents : List (List ℕ) → ℕ → Type 0

@@ -1,12 +1,13 @@
 //! The lines of a script that have events (docs/language.md, "Scripts").
 
 ghost use Rattle.std.specs.Prelude.{IfOk};
-ghost use Rattle.explained_commands.specs.EventLines.{TellsTokens, FindsEvent};
+ghost use Rattle.explained_commands.specs.EventLines.{FindsEvent};
 
 use crate::reports::suspects::Nature;
+use diagnostics::has_tokens;
 use script_lang::{ScriptFault, read_script};
 use std::alloc::{AllocError, Global};
-use texts::{LexFault, split_line, tokens};
+use texts::split_line;
 
 /// A line of a script that has an event.
 #[derive(Clone, Copy, Debug, PartialEq, Eq)]
@@ -39,17 +40,6 @@ pub fn event_line<'a>(
         left = rest;
     }
     Ok(None)
-}
-
-/// Whether there is more in a line than blanks and a comment.
-fn has_tokens(alloc: Global, line: &[u8]) -> Result<bool, AllocError>
-    ensures { IfOk result (TellsTokens line.now) }
-{
-    match tokens(alloc, line) {
-        Ok(tokens) => Ok(!tokens.is_empty()),
-        Err(LexFault::BadByte) => Ok(true),
-        Err(LexFault::Memory) => Err(AllocError),
-    }
 }
 
 /// How the event that a line has may lead to a fault, if it has one.

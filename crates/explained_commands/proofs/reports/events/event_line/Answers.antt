@@ -1,5 +1,6 @@
 use Rattle.std.proofs.Common.{arith}
-use Rattle.explained_commands.proofs.Passing.{empty_passed, event_passed, told_some, told_none}
+use Rattle.diagnostics.proofs.Tokens.{told_some, told_none}
+use Rattle.explained_commands.proofs.Passing.{empty_passed, event_passed}
 use Rattle.explained_commands.proofs.reports.events.event_line.Goals as goal
 
 pub loop-line-preserved-else-number-event : goal.loop-line-preserved-else-number-event
