@@ -21,7 +21,7 @@ const MOST_LINES: usize = 16384;
 
 /// What is asked for.
 #[derive(Clone, Copy, Debug)]
-pub struct Wanted<'w> {
+pub struct ImportOptions<'w> {
     /// These classes and their bases alone, by their names with their scope or without; all classes where none is named.
     pub only: &'w [&'w str],
     /// Of properties those alone that notify, that a slot writes, or that effects name.
@@ -32,7 +32,7 @@ pub struct Wanted<'w> {
 
 /// What comes of it.
 #[derive(Drop)]
-pub enum Outcome {
+pub enum ImportOutcome {
     Imported(Imported),
     /// What is wrong with the effects, line by line.
     Mistaken(Vec<Mistake>),
@@ -51,7 +51,11 @@ pub struct Imported {
 /// asked for. Errors: a text isn't what moc writes (`BadJson`), or they have too many classes (`TooManyClasses`); there is no
 /// text of effects (`NoEffects`), or it is too long (`LongEffects`, `TooManyLines`); a class is asked for that isn't there
 /// (`NoClass`); `Memory`.
-pub fn import(alloc: Global, input: &str, wanted: Wanted<'_>) -> Result<Outcome, ImportFault> {
+pub fn import(
+    alloc: Global,
+    input: &str,
+    wanted: ImportOptions<'_>,
+) -> Result<ImportOutcome, ImportFault> {
     let (json, effects) = match input.rsplit_once(BORDER) {
         Some(both) if wanted.has_effects => both,
         None if wanted.has_effects => return Err(ImportFault::NoEffects),
@@ -73,8 +77,8 @@ fn declarations<'f>(
     alloc: Global,
     files: &'f [MocFile],
     lines: &'f [Line<'_>],
-    wanted: Wanted<'_>,
-) -> Result<Outcome, ImportFault> {
+    wanted: ImportOptions<'_>,
+) -> Result<ImportOutcome, ImportFault> {
     let catalogue = Catalogue::of(alloc, files, wanted.only)?;
     for name in wanted.only {
         if catalogue.number(name).is_none() {
@@ -89,9 +93,9 @@ fn declarations<'f>(
     let import = Import::of(alloc, catalogue, &choice)?;
     let effects = Effects::of(alloc, &import, lines)?;
     if !effects.is_whole() {
-        return Ok(Outcome::Mistaken(effects.into_mistakes()));
+        return Ok(ImportOutcome::Mistaken(effects.into_mistakes()));
     }
     let program = writing::program(alloc, &import, &effects)?;
     let summary = Summary::of(&import, &effects);
-    Ok(Outcome::Imported(Imported { program, summary }))
+    Ok(ImportOutcome::Imported(Imported { program, summary }))
 }

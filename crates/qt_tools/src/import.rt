@@ -2,22 +2,22 @@
 
 use crate::fault::ToolFault;
 use crate::streams::{short_input, write};
-use moc_import::{Imported, Mistake, Outcome, Summary, Wanted, import};
+use moc_import::{ImportOptions, ImportOutcome, Imported, Mistake, Summary, import};
 use std::alloc::{AllocError, Global};
 
 /// What the options of `import` ask for.
 #[derive(Drop)]
-struct Options<'w> {
+struct ImportWords<'w> {
     only: Vec<&'w str>,
     is_lean: bool,
     is_strict: bool,
     has_effects: bool,
 }
 
-impl<'w> Options<'w> {
+impl<'w> ImportWords<'w> {
     /// The options that the words are; `None` where they are none.
-    fn of(alloc: Global, words: &[&'w str]) -> Result<Option<Options<'w>>, AllocError> {
-        let mut options = Options {
+    fn of(alloc: Global, words: &[&'w str]) -> Result<Option<ImportWords<'w>>, AllocError> {
+        let mut options = ImportWords {
             only: Vec::new(alloc),
             is_lean: false,
             is_strict: false,
@@ -49,21 +49,21 @@ impl<'w> Options<'w> {
 /// Writes class declarations for what standard input has, and a summary on standard error.
 pub fn import_classes(rt: &HostRuntime, words: &[&str]) -> Result<(), ToolFault> {
     let alloc = rt.alloc();
-    let Some(options) = Options::of(alloc, words)? else {
+    let Some(options) = ImportWords::of(alloc, words)? else {
         return Err(ToolFault::Usage);
     };
     let bytes = short_input(rt)?;
     let Ok(text) = std::str::from_utf8(bytes.as_slice()) else {
         return Err(ToolFault::NoText);
     };
-    let wanted = Wanted {
+    let wanted = ImportOptions {
         only: options.only.as_slice(),
         is_lean: options.is_lean,
         has_effects: options.has_effects,
     };
     match import(alloc, text, wanted)? {
-        Outcome::Imported(imported) => hand_over(rt, &options, &imported),
-        Outcome::Mistaken(mistakes) => {
+        ImportOutcome::Imported(imported) => hand_over(rt, &options, &imported),
+        ImportOutcome::Mistaken(mistakes) => {
             for Mistake { line, text } in mistakes.as_slice() {
                 eprintln!(rt; "line {line} of the effects: {text}").ok();
             }
@@ -75,7 +75,7 @@ pub fn import_classes(rt: &HostRuntime, words: &[&str]) -> Result<(), ToolFault>
 /// Writes the class declarations, and the summary on standard error.
 fn hand_over(
     rt: &HostRuntime,
-    options: &Options<'_>,
+    options: &ImportWords<'_>,
     imported: &Imported,
 ) -> Result<(), ToolFault> {
     write(rt, imported.program.as_str())?;
@@ -87,7 +87,7 @@ fn hand_over(
 }
 
 /// Writes the summary on standard error.
-fn tell(rt: &HostRuntime, options: &Options<'_>, summary: &Summary) {
+fn tell(rt: &HostRuntime, options: &ImportWords<'_>, summary: &Summary) {
     let Summary {
         classes,
         properties,

@@ -16,7 +16,7 @@ pub struct Lookup<'i, 'f> {
 
 /// A member that is looked for in a class and its bases; the class is `QObject` where it is `None`.
 #[derive(Clone, Copy)]
-pub struct Sought<'i> {
+pub struct SoughtMember<'i> {
     pub class: Option<usize>,
     pub sort: MemberSort,
     pub name: &'i str,
@@ -99,7 +99,7 @@ impl<'i, 'f> Lookup<'i, 'f> {
                 names.push(property.moc.name.as_str())?;
             }
         }
-        let sought = Sought {
+        let sought = SoughtMember {
             class,
             sort: MemberSort::Property,
             name,
@@ -111,7 +111,7 @@ impl<'i, 'f> Lookup<'i, 'f> {
     pub fn no_member(
         self,
         alloc: Global,
-        sought: Sought<'i>,
+        sought: SoughtMember<'i>,
         names: &[&'i str],
     ) -> Result<LineFault<'i>, AllocError> {
         let class = self.catalogue().name(sought.class);

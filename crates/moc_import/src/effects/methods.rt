@@ -1,7 +1,7 @@
 //! Which signals and slots effects name.
 
 use crate::effects::fault::LineFault;
-use crate::effects::lookup::{Lookup, MemberSort, Sought};
+use crate::effects::lookup::{Lookup, MemberSort, SoughtMember};
 use moc_classes::{Kind, Mapped, Method, mapped_type};
 use std::alloc::{AllocError, Global};
 
@@ -14,7 +14,7 @@ impl<'i, 'f> Lookup<'i, 'f> {
     pub fn method(
         self,
         alloc: Global,
-        sought: Sought<'i>,
+        sought: SoughtMember<'i>,
         types: Option<&[&str]>,
     ) -> Result<Vec<Kind>, LineFault<'i>> {
         if is_delete_later(sought, types) {
@@ -50,7 +50,7 @@ impl<'i, 'f> Lookup<'i, 'f> {
     fn methods(
         self,
         alloc: Global,
-        sought: Sought<'_>,
+        sought: SoughtMember<'_>,
     ) -> Result<Vec<(usize, &'i Method<'f>)>, AllocError> {
         let mut methods = Vec::new(alloc);
         for number in self.catalogue().lineage(alloc, sought.class)?.as_slice() {
@@ -89,7 +89,7 @@ impl<'i, 'f> Lookup<'i, 'f> {
     fn no_method(
         self,
         alloc: Global,
-        sought: Sought<'i>,
+        sought: SoughtMember<'i>,
         methods: &[(usize, &'i Method<'f>)],
     ) -> Result<LineFault<'i>, AllocError> {
         let name = sought.name;
@@ -119,10 +119,10 @@ impl<'i, 'f> Lookup<'i, 'f> {
     }
 
     /// Whether the class or a base of it has a signal of this name.
-    fn has_signal(self, alloc: Global, sought: Sought<'_>) -> Result<bool, AllocError> {
+    fn has_signal(self, alloc: Global, sought: SoughtMember<'_>) -> Result<bool, AllocError> {
         let signals = self.methods(
             alloc,
-            Sought {
+            SoughtMember {
                 sort: MemberSort::Signal,
                 ..sought
             },
@@ -150,7 +150,7 @@ impl<'i, 'f> Lookup<'i, 'f> {
 }
 
 /// Whether this is the slot of `QObject`.
-fn is_delete_later(sought: Sought<'_>, types: Option<&[&str]>) -> bool {
+fn is_delete_later(sought: SoughtMember<'_>, types: Option<&[&str]>) -> bool {
     sought.sort == MemberSort::Slot
         && sought.name == DELETE_LATER
         && types.is_none_or(|it: &[&str]| it.is_empty())

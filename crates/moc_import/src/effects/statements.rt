@@ -3,7 +3,7 @@
 use crate::effects::body::{Statement, Value, next_value, values};
 use crate::effects::fault::LineFault;
 use crate::effects::line::{Effect, Verb, split_path};
-use crate::effects::lookup::{Lookup, MemberSort, Sought};
+use crate::effects::lookup::{Lookup, MemberSort, SoughtMember};
 use moc_classes::{Parameter, Placed};
 use std::alloc::Global;
 
@@ -22,7 +22,7 @@ pub fn statement<'i, 'e: 'i>(
             if path != name {
                 return Err(LineFault::OtherObject(path));
             }
-            let sought = Sought {
+            let sought = SoughtMember {
                 class: Some(slot.class),
                 sort: MemberSort::Signal,
                 name,
@@ -39,7 +39,7 @@ pub fn statement<'i, 'e: 'i>(
             Ok(Statement::Set { path, value })
         }
         Verb::Calls => {
-            let sought = Sought {
+            let sought = SoughtMember {
                 class: lookup.object(alloc, slot.class, front)?,
                 sort: MemberSort::Slot,
                 name,
@@ -60,7 +60,7 @@ pub fn statement<'i, 'e: 'i>(
 fn arguments<'i>(
     alloc: Global,
     lookup: Lookup<'i, '_>,
-    sought: Sought<'i>,
+    sought: SoughtMember<'i>,
     effect: &Effect<'_>,
     parameters: &[Parameter<'_>],
 ) -> Result<Vec<Value>, LineFault<'i>> {
