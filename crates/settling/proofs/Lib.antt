@@ -1,2 +1,6 @@
 mod Handing
 mod Ways
+mod Rounds
+mod Alike
+mod Levels
+mod Following

@@ -5,10 +5,10 @@ use Rattle.meta_model.specs.Loaded.{Loaded}
 use Rattle.certificate_lang.specs.declared.certificate.Certificate.{Certificate}
 use Rattle.rank_check.specs.Valid as plain
 use Rattle.settling.specs.Settles.{Settles}
-use Rattle.settling_check.specs.declared.certificate.SettlingSet.{SettlingSet}
-use Rattle.settling_check.specs.declared.certificate.SettlingCertificate.{SettlingCertificate}
-use Rattle.settling_check.specs.Sets.{IsMember}
-use Rattle.settling_check.specs.Valid.{IsValid}
+use Rattle.settling.specs.declared.certificate.SettlingSet.{SettlingSet}
+use Rattle.settling.specs.declared.certificate.SettlingCertificate.{SettlingCertificate}
+use Rattle.settling.specs.Sets.{IsMember}
+use Rattle.settling.specs.Valid.{IsValid}
 
 -- a program with a certificate without steps has a settling one with the same bound and step 0
 pub record HasAlike (p : Loaded) (certificate : Certificate) : Type 0 where

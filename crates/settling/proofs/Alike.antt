@@ -11,12 +11,12 @@ use Rattle.rank_check.specs.Names.{IsNodeNamed}
 use Rattle.rank_check.specs.Valid as plain
 use Rattle.rank_check.specs.Valid.{AreClassesThere}
 use Rattle.rank_check.proofs.Elements.{place_of, element_at}
-use Rattle.settling_check.specs.declared.certificate.SettlingLine.{SettlingLine}
-use Rattle.settling_check.specs.declared.certificate.SettlingSet.{SettlingSet}
-use Rattle.settling_check.specs.declared.certificate.SettlingCertificate.{SettlingCertificate}
-use Rattle.settling_check.specs.Sets.{IsIn}
-use Rattle.settling_check.specs.Valid.{IsLineOf, Destroys, IsValid}
-use Rattle.settling_check.specs.Laws.{HasAlike}
+use Rattle.settling.specs.declared.certificate.SettlingLine.{SettlingLine}
+use Rattle.settling.specs.declared.certificate.SettlingSet.{SettlingSet}
+use Rattle.settling.specs.declared.certificate.SettlingCertificate.{SettlingCertificate}
+use Rattle.settling.specs.Sets.{IsIn}
+use Rattle.settling.specs.Valid.{IsLineOf, Destroys, IsValid}
+use Rattle.settling.specs.Laws.{HasAlike}
 
 abbrev alike_line : Line → SettlingLine
 alike_line line = record { node = line.node; rank = line.rank; step = 0; destroys = line.destroys }

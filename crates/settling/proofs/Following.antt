@@ -6,7 +6,7 @@ use Rattle.binding_graph.specs.declared.place.Place.{Place}
 use Rattle.binding_graph.specs.Bindings.{Reads}
 use Rattle.binding_graph.proofs.Naming.{value-agree}
 use Rattle.binding_graph.proofs.Places.{decide_in}
-use Rattle.settling_check.specs.Following.{IsWrite, StepsFall}
+use Rattle.settling.specs.Following.{IsWrite, StepsFall}
 
 alone : {written : Place} (q : Place) → (q ≡ written) ⊎ (q ≢ written)
 alone {written} q = elim (decide_in q (written ∷ [])) [

@@ -14,10 +14,10 @@ use Rattle.rank_check.specs.Names.{IsNodeNamed}
 use Rattle.rank_check.specs.Valid.{IsListed, AreClassesThere, HasBody, most_bound}
 use Rattle.settling.specs.Hands.{HandOn}
 use Rattle.settling.specs.Settles.{Carries, IsProperty}
-use Rattle.settling_check.specs.declared.certificate.SettlingLine.{SettlingLine}
-use Rattle.settling_check.specs.declared.certificate.SettlingSet.{SettlingSet}
-use Rattle.settling_check.specs.declared.certificate.SettlingCertificate.{SettlingCertificate}
-use Rattle.settling_check.specs.Sets.{IsIn, IsMember, AreTogether, HasAtMost}
+use Rattle.settling.specs.declared.certificate.SettlingLine.{SettlingLine}
+use Rattle.settling.specs.declared.certificate.SettlingSet.{SettlingSet}
+use Rattle.settling.specs.declared.certificate.SettlingCertificate.{SettlingCertificate}
+use Rattle.settling.specs.Sets.{IsIn, IsMember, AreTogether, HasAtMost}
 
 -- the certificate has this line, for this node
 pub record IsLineOf (p : Loaded) (certificate : SettlingCertificate) (x : Node) (line : SettlingLine) : Type 0 where

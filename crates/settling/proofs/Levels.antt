@@ -4,7 +4,7 @@ use Rattle.std.specs.List.{AllByRecursion}
 use Rattle.std.proofs.lemmas.Bool.{cases_eq}
 use Rattle.binding_graph.specs.declared.place.Place.{Place}
 use Rattle.binding_graph.specs.Places.{In, Distinct}
-use Rattle.settling_check.specs.Levels.{Level, Counting, cost_of, AreCounted, StandsAbove, lowest, apart, inside, writes}
+use Rattle.settling.specs.Levels.{Level, Counting, cost_of, AreCounted, StandsAbove, lowest, apart, inside, writes}
 
 mul-mono : (n a b : ℕ) → a ≤ b → n * a ≤ n * b
 mul-mono zero a b low = omega arith

@@ -8,8 +8,8 @@ use Rattle.effect_scan.specs.declared.node.Node.{Node}
 use Rattle.effect_scan.specs.Nodes.{node}
 use Rattle.certificate_lang.specs.declared.certificate.NodeName.{NodeName}
 use Rattle.rank_check.specs.Names.{IsNodeNamed}
-use Rattle.settling_check.specs.declared.certificate.SettlingSet.{SettlingSet}
-use Rattle.settling_check.specs.declared.certificate.SettlingCertificate.{SettlingCertificate}
+use Rattle.settling.specs.declared.certificate.SettlingSet.{SettlingSet}
+use Rattle.settling.specs.declared.certificate.SettlingCertificate.{SettlingCertificate}
 
 -- the node is one of the set
 pub record IsMember (p : Loaded) (set : SettlingSet) (x : Node) : Type 0 where

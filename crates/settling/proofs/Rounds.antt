@@ -5,11 +5,11 @@ use Rattle.meta_model.specs.Loaded.{Loaded}
 use Rattle.effect_scan.specs.declared.node.Node.{Node}
 use Rattle.rank_check.proofs.Elements.{place_of}
 use Rattle.settling.specs.Settles.{Silent, one, more, Settles}
-use Rattle.settling_check.specs.declared.certificate.SettlingLine.{SettlingLine}
-use Rattle.settling_check.specs.declared.certificate.SettlingSet.{SettlingSet}
-use Rattle.settling_check.specs.declared.certificate.SettlingCertificate.{SettlingCertificate}
-use Rattle.settling_check.specs.Sets.{IsMember, AreTogether}
-use Rattle.settling_check.specs.Valid.{IsLineOf, IsValid}
+use Rattle.settling.specs.declared.certificate.SettlingLine.{SettlingLine}
+use Rattle.settling.specs.declared.certificate.SettlingSet.{SettlingSet}
+use Rattle.settling.specs.declared.certificate.SettlingCertificate.{SettlingCertificate}
+use Rattle.settling.specs.Sets.{IsMember, AreTogether}
+use Rattle.settling.specs.Valid.{IsLineOf, IsValid}
 
 module _ {p : Loaded} {certificate : SettlingCertificate} (valid : IsValid p certificate) (set : SettlingSet) (there : Contains certificate.sets set) where
   abbrev In : Node → Type 0

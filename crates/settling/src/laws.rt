@@ -1,8 +1,8 @@
 //! What holds of valid settling certificates.
 
-ghost use Rattle.settling_check.specs.Laws.{SetsSettle, EachHasAlike};
-ghost use Rattle.settling_check.specs.Levels.{StacksAreShallow};
-ghost use Rattle.settling_check.specs.Following.{OthersStay, NothingFollows};
+ghost use Rattle.settling.specs.Laws.{SetsSettle, EachHasAlike};
+ghost use Rattle.settling.specs.Levels.{StacksAreShallow};
+ghost use Rattle.settling.specs.Following.{OthersStay, NothingFollows};
 
 /// The sets of a valid certificate settle.
 pub fn sets_settle()

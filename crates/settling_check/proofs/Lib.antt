@@ -1,4 +1,0 @@
-mod Rounds
-mod Alike
-mod Levels
-mod Following

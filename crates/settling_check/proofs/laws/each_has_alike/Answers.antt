@@ -1,5 +1,0 @@
-use Rattle.settling_check.proofs.Alike.{has_alike}
-use Rattle.settling_check.proofs.laws.each_has_alike.Goals as goal
-
-pub returns : goal.returns
-returns c = has_alike

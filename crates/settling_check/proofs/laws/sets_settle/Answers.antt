@@ -1,5 +1,0 @@
-use Rattle.settling_check.proofs.Rounds.{set_settles}
-use Rattle.settling_check.proofs.laws.sets_settle.Goals as goal
-
-pub returns : goal.returns
-returns c = λ p certificate valid set there. set_settles valid set there
