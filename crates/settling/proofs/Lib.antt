@@ -4,3 +4,12 @@ mod Rounds
 mod Alike
 mod Levels
 mod Following
+mod Lining
+mod Entering
+mod Ordering
+mod Fitting
+mod Tallying
+mod OfNodes
+mod RoundsOfNodes
+mod Assembling
+mod Passing
