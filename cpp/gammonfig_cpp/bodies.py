@@ -5,7 +5,7 @@ from .classes import OWNING
 from .comparing import Comparing
 from .conditional import Conditional
 from .context import Context
-from .libclang import FUNCTIONS, NAMES, RECORDS, VARIABLES, Cursor, K, T, bare, cindex, expressions, strip
+from .libclang import FUNCTIONS, NAMES, RECORDS, VARIABLES, Cursor, K, T, bare, cindex, expressions, is_of_closure, is_pattern, strip
 from .model import Function, Value
 
 # What Q_OBJECT declares and defines.
@@ -20,37 +20,43 @@ class Bodies:
         self.conditional = Conditional(context, self)
         self.locals: list[tuple[str, Cursor, str]] = []
         self.released: set[str] = set()
+        # The instances of generic lambdas.
+        self.closures: list[Cursor] = []
 
     # Declarations
 
     def unit(self, top: Cursor) -> None:
+        """All that stands in the unit, and the instances of templates that it has: libclang tells their functions beside the others."""
         for inner in top.get_children():
             if self.context.is_inside(inner):
                 self.declaration(inner)
+        for cursor in self.closures:
+            self._closure(cursor)
+        for record in self.context.classes.instances:
+            for member in record.type.get_fields():
+                self._member(member)
 
     def declaration(self, cursor: Cursor) -> None:
         kind = cursor.kind
         if kind in (K.NAMESPACE, K.UNEXPOSED_DECL, K.LINKAGE_SPEC):
             for inner in cursor.get_children():
                 self.declaration(inner)
-        elif kind in RECORDS or kind == K.CLASS_TEMPLATE:
+        elif kind in RECORDS:
             self._record(cursor)
         elif kind in FUNCTIONS:
-            if cursor.is_definition() and cursor.spelling not in OF_MOC:
+            if is_of_closure(cursor):
+                self.closures.append(cursor)
+            elif cursor.is_definition() and cursor.spelling not in OF_MOC and not is_pattern(cursor):
                 self.definition(cursor)
         elif kind == K.VAR_DECL:
             self.variable(cursor)
 
     def _record(self, cursor: Cursor) -> None:
-        if cursor.kind == K.CLASS_TEMPLATE:
-            self.context.note('template', cursor, f'class template {cursor.spelling}: its bodies are read once for all instances')
-            self.context.classes.note_template(cursor)
-        elif cursor.is_definition():
-            self.context.classes.note(cursor)
-        else:
+        if not cursor.is_definition():
             return
+        self.context.classes.note(cursor)
         for inner in cursor.get_children():
-            if inner.kind in RECORDS + FUNCTIONS + (K.CLASS_TEMPLATE,):
+            if inner.kind in RECORDS + FUNCTIONS:
                 self.declaration(inner)
             elif inner.kind == K.FIELD_DECL:
                 self._member(inner)
@@ -82,28 +88,19 @@ class Bodies:
         known = context.facts.functions.get(key)
         if known is not None and known.statements:
             return
-        cls = self._class_around(cursor)
-        if cursor.kind == K.FUNCTION_TEMPLATE:
-            context.note('template', cursor, f'function template {cursor.spelling}: its body is read once for all instances')
+        cls = context.classes.note_method(cursor)
         kind = {K.CONSTRUCTOR: 'constructor', K.DESTRUCTOR: 'destructor'}.get(cursor.kind, 'function')
         if kind == 'function' and cls and cursor.is_static_method():
             kind = 'static'
         shown = (context.facts.classes[cls].qualified + '::' if cls else '') + cursor.displayname
-        formals = [k for k in cursor.get_children() if k.kind == K.PARM_DECL] if cursor.kind == K.FUNCTION_TEMPLATE \
-            else list(cursor.get_arguments())
+        formals = list(cursor.get_arguments())
         function = Function(key, cursor.spelling, shown, cls, kind, context.declared(cursor), cursor.extent.end.line,
                             context.classes.parameters(formals))
         context.facts.functions[key] = function
+        context.declare('R:' + key, cursor.result_type)
         self.declare_parameters(key, formals)
-        self._read(function, cursor)
-
-    def _class_around(self, cursor: Cursor) -> str:
-        parent = cursor.semantic_parent
-        if parent is not None and parent.kind in RECORDS:
-            return self.context.classes.note(parent)
-        if parent is not None and parent.kind == K.CLASS_TEMPLATE:
-            return self.context.classes.note_template(parent)
-        return ''
+        with context.as_instance(cursor, key):
+            self._read(function, cursor)
 
     def declare_parameters(self, key: str, formals: list[Cursor]) -> None:
         for at, formal in enumerate(formals):
@@ -167,16 +164,26 @@ class Bodies:
         function = Function(key, f'lambda_{place.line}', shown, outer.cls if outer else '', 'lambda', place, cursor.extent.end.line,
                             context.classes.parameters(formals))
         context.facts.functions[key] = function
-        self.declare_parameters(key, formals)
-        bodies = [k for k in cursor.get_children() if k.kind == K.COMPOUND_STMT]
+        if not any('type-parameter' in p.type for p in function.parameters):
+            self._lambda_body(function, cursor, formals)
+        return key
+
+    def _closure(self, cursor: Cursor) -> None:
+        """A generic lambda does what its instances do."""
+        function = self.context.facts.functions.get(self.context.spot('L', cursor))
+        if function is not None:
+            self._lambda_body(function, cursor, list(cursor.get_arguments()))
+
+    def _lambda_body(self, function: Function, cursor: Cursor, formals: list[Cursor]) -> None:
+        context = self.context
+        self.declare_parameters(function.key, formals)
         outer_locals, self.locals = self.locals, []
         with context.within(function), self.comparing.fresh():
-            for body in bodies:
+            for body in [k for k in cursor.get_children() if k.kind == K.COMPOUND_STMT]:
                 context.changed = context.values.changed_parameters(body)
                 self.walk(body)
             self._end_scope()
         self.locals = outer_locals
-        return key
 
     # Variables
 

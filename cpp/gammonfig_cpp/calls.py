@@ -6,7 +6,7 @@ import re
 from .classes import BINDABLE, CONTAINERS, SMART
 from .context import Context
 from .holders import Holders
-from .libclang import FUNCTIONS, NAMES, RECORDS, VARIABLES, Cursor, K, T, bare, expressions, is_written, overloads, strip
+from .libclang import FUNCTIONS, NAMES, RECORDS, VARIABLES, Cursor, K, T, bare, expressions, is_written, strip
 from .model import NONE, Condition, Construct, Forward, Named, Statement, Value
 from .special import Special
 
@@ -73,13 +73,13 @@ class Calls:
 
     def call(self, call: Cursor) -> None:
         called = call.referenced
-        if called is None or called.kind == K.OVERLOADED_DECL_REF:
+        if called is None:
             self._undecided(call)
         elif called.kind not in FUNCTIONS:
             self._through_variable(call)
         elif called.kind == K.CONSTRUCTOR:
             self._temporary(call)
-        elif called.semantic_parent is None or called.semantic_parent.kind not in RECORDS + (K.CLASS_TEMPLATE,):
+        elif called.semantic_parent is None or called.semantic_parent.kind not in RECORDS:
             self._free(call)
         else:
             self._member(call)
@@ -91,33 +91,21 @@ class Calls:
         return statement
 
     def _undecided(self, call: Cursor) -> None:
-        """A call in a template that its arguments decide."""
-        kids, given = list(call.get_children()), list(call.get_arguments())
-        over = next((k for k in kids[0].walk_preorder() if k.kind == K.OVERLOADED_DECL_REF), None) if kids else None
-        if over is not None and over.spelling == 'connect':
-            self.context.connects.connect(call, given or kids[1:], self.context.this)
-            self.rest(call, callables=False)
-            return
-        candidates = [d for d in overloads(over) if d.kind in FUNCTIONS and self.context.is_inside(d)] if over is not None else []
-        for candidate in candidates:
-            on = expressions(strip(kids[0]))
-            value = self.context.values.of(on[0]) if on else self.context.this
-            self._to_function(call, candidate, value, given)
-        if not candidates and over is None:
-            words = self.context.text(call)
-            if words and not re.match(r'^[A-Z]\w*\(', words):
-                self.context.note('undecided call', call, words)
+        """A call of which it isn't known what it calls."""
+        words = self.context.text(call)
+        if words and not re.match(r'^[A-Z]\w*\(', words):
+            self.context.note('undecided call', call, words)
         self.rest(call)
 
     def _to_function(self, call: Cursor, called: Cursor, on: Value, given: list[Cursor]) -> Statement:
         """A call of a function whose sources are the application's."""
-        context, parent = self.context, called.semantic_parent
+        context = self.context
         statement = context.add('call', call, on)
         statement.function, statement.name = context.function_key(called), called.spelling
-        if parent is not None and parent.kind in RECORDS:
-            statement.cls = context.classes.note(parent)
+        statement.cls = context.classes.note_method(called)
+        if statement.cls:
             statement.virtual = bool(called.kind == K.CXX_METHOD and called.is_virtual_method()) and not self.is_qualified(call)
-        elif parent is None or parent.kind != K.CLASS_TEMPLATE:
+        else:
             statement.on = Value('free')
         statement.terms = context.values.terms(given, context.classes.parameters(list(called.get_arguments())))
         self.pass_arguments(called, given, call)
@@ -222,8 +210,7 @@ class Calls:
     def objects(self, call: Cursor, on: Cursor | None) -> Value:
         """The objects that a member function is called on."""
         context, called = self.context, call.referenced
-        parent = called.semantic_parent
-        cls = context.classes.note(parent) if parent.kind in RECORDS else context.classes.note_template(parent)
+        cls = context.classes.note(called.semantic_parent)
         if called.is_static_method():
             return Value('static', cls=cls)
         if on is None:

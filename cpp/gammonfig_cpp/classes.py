@@ -23,16 +23,22 @@ class Classes:
         self.context = context
         self.known = known
         self.found = context.facts.classes
+        # Instances of templates of the application: nothing of them stands in the text.
+        self.instances: list[Cursor] = []
         self._types: dict[str, tuple[str, bool]] = {}
 
     # Types
 
     def of(self, cxx_type: CxxType) -> str:
         """The class that a type leads to, through pointers, references, smart pointers and containers; or none."""
-        return self.of_many(cxx_type)[0]
+        return self._known(cxx_type)[0]
 
-    def of_many(self, cxx_type: CxxType) -> tuple[str, bool]:
-        """.. and whether the type holds many of it."""
+    def only(self, cxx_type: CxxType) -> str:
+        """The class that all is of to which a type points, or none where that is several or it doesn't point."""
+        cls, is_only = self._known(cxx_type)
+        return cls if is_only else ''
+
+    def _known(self, cxx_type: CxxType) -> tuple[str, bool]:
         name = cxx_type.get_canonical().spelling
         known = self._types.get(name)
         if known is None:
@@ -40,35 +46,36 @@ class Classes:
         return known
 
     def _lead(self, kind: CxxType) -> tuple[str, bool]:
-        many = False
+        """The class, and whether the type points, and to nothing else: what an iterator is of isn't what it leads to."""
+        is_only, points = True, False
         for _ in range(6):
             if kind.kind in (T.POINTER, T.LVALUEREFERENCE, T.RVALUEREFERENCE):
+                points = points or kind.kind == T.POINTER
                 kind = kind.get_pointee().get_canonical()
                 continue
             if kind.kind in (T.CONSTANTARRAY, T.INCOMPLETEARRAY):
-                kind, many = kind.element_type.get_canonical(), True
+                kind = kind.element_type.get_canonical()
                 continue
             declaration = kind.get_declaration()
             if declaration.kind not in RECORDS:
-                return '', many
+                return '', False
             count, name = kind.get_num_template_arguments(), declaration.spelling
             if name in SMART and count > 0:
-                kind = kind.get_template_argument_type(0).get_canonical()
+                kind, points = kind.get_template_argument_type(0).get_canonical(), True
             elif name in CONTAINERS and count > 0:
-                inner = self._element([kind.get_template_argument_type(at).get_canonical() for at in range(count)])
-                if inner is None:
+                fit = self._elements([kind.get_template_argument_type(at).get_canonical() for at in range(count)])
+                if not fit:
                     return '', False
-                kind, many = inner, True
+                kind, is_only = fit[-1], is_only and len(fit) == 1
             else:
-                return self.note(declaration), many
-        return '', many
+                return self.note(declaration), is_only and points
+        return '', False
 
     @staticmethod
-    def _element(arguments: list[CxxType]) -> CxxType | None:
-        """What of a container's arguments is an object: the last that is a pointer, or a holder of them."""
+    def _elements(arguments: list[CxxType]) -> list[CxxType]:
+        """What of a container's arguments is an object: pointers, and holders of them. The last is taken to be what it holds."""
         held = SMART | CONTAINERS
-        fit = [a for a in arguments if a.kind == T.POINTER or (a.kind == T.RECORD and a.get_declaration().spelling in held)]
-        return fit[-1] if fit else None
+        return [a for a in arguments if a.kind == T.POINTER or (a.kind == T.RECORD and a.get_declaration().spelling in held)]
 
     def is_value(self, cxx_type: CxxType) -> bool:
         """Whether a variable of the type is an object itself, not a pointer or a holder."""
@@ -148,8 +155,11 @@ class Classes:
         return str(name)
 
     def _instance(self, cls: Class, cursor: Cursor, template: Cursor) -> None:
-        """An implicit instance of a class template: its bases are the template's, with the arguments put in."""
+        """An implicit instance of a class template: its bases are the template's, with the arguments put in. Its functions are noted
+        where they are called or read."""
         cls.defined = True
+        if cls.inside:
+            self.instances.append(cursor)
         kinds = (K.TEMPLATE_TYPE_PARAMETER, K.TEMPLATE_NON_TYPE_PARAMETER, K.TEMPLATE_TEMPLATE_PARAMETER)
         names = [k.spelling for k in template.get_children() if k.kind in kinds]
         for inner in template.get_children():
@@ -160,18 +170,17 @@ class Classes:
                 base = cursor.type.get_template_argument_type(names.index(inner.type.spelling)).get_canonical().get_declaration()
             if base.kind in RECORDS:
                 cls.bases.append(self.note(base))
-        cls.bases.append(self.note_template(template))
 
-    def note_template(self, template: Cursor) -> str:
-        """The class that stands for what all instances of a class template share: its bodies are read once."""
-        key = str(template.canonical.get_usr())
-        if key not in self.found:
-            cls = Class(key, template.spelling, self._qualified(template), self.context.declared(template),
-                        self.context.is_inside(template), True)
-            self.found[key] = cls
-            for inner in template.get_children():
-                if inner.kind in (K.CXX_METHOD, K.CONSTRUCTOR, K.DESTRUCTOR):
-                    self._method(cls, inner)
+    def note_method(self, function: Cursor) -> str:
+        """The class that a function is a member of, or none. That of an instance of a template is told of the function."""
+        parent = function.semantic_parent
+        if parent is None or parent.kind not in RECORDS:
+            return ''
+        key = self.note(parent)
+        cls = self.found[key]
+        if '>#' in key and cls.inside and function.kind in (K.CXX_METHOD, K.CONSTRUCTOR, K.DESTRUCTOR) \
+                and str(function.canonical.get_usr()) not in cls.methods:
+            self._method(cls, function)
         return key
 
     def _member(self, cls: Class, inner: Cursor) -> None:

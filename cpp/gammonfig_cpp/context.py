@@ -6,7 +6,7 @@ import re
 from contextlib import contextmanager
 from typing import TYPE_CHECKING, Iterator
 
-from .libclang import FUNCTIONS, K, Cursor, T, template_of
+from .libclang import FUNCTIONS, CxxType, K, Cursor, T, is_instance, template_of
 from .model import NONE, Condition, Facts, Function, Named, Place, Site, Statement, Unknown, Value
 from .units import is_generated, real
 
@@ -38,11 +38,13 @@ class Context:
         self.function: Function | None = None
         self.conditions: list[Condition] = []
         self.blocked: list[tuple[Value, str]] = []
-        self.hint = self.outer = ''
+        # The function that is read, where it is an instance of a template or a member of one: what is made there is its own.
+        self.hint = self.outer = self.instance = ''
         self.parameters: dict[tuple[str, int], str] = {}
         self.changed: set[str] = set()
         self.lambdas: dict[str, str] = {}
         self.pointers: dict[str, Named] = {}
+        self._declared: set[str] = set()
         self._paths: dict[str, tuple[str, bool]] = {}
         self._texts: dict[str, bytes] = {}
 
@@ -142,7 +144,11 @@ class Context:
     def spot(self, letter: str, cursor: Cursor) -> str:
         """A key for what stands at a place."""
         place = self.place(cursor, 0)
-        return f'{letter}:{place.file}:{place.line}:{place.column}'
+        return self.own(f'{letter}:{place.file}:{place.line}:{place.column}')
+
+    def own(self, key: str) -> str:
+        """A key by a place, told apart for each instance of a template."""
+        return f'{key}@{self.instance}' if self.instance else key
 
     @property
     def this(self) -> Value:
@@ -152,6 +158,19 @@ class Context:
     # Keys
 
     def variable_key(self, declaration: Cursor) -> str | None:
+        """A variable's key; of which class its objects are by its declaration is noted."""
+        key = self._variable_key(declaration)
+        if key is not None and key not in self._declared:
+            self._declared.add(key)
+            self.declare(key, declaration.type)
+        return key
+
+    def declare(self, key: str, cxx_type: CxxType) -> None:
+        cls = self.classes.only(cxx_type)
+        if cls:
+            self.facts.declared[key] = cls
+
+    def _variable_key(self, declaration: Cursor) -> str | None:
         kind = declaration.kind
         if kind == K.PARM_DECL:
             file = declaration.location.file
@@ -162,14 +181,14 @@ class Context:
             parent = declaration.semantic_parent
             if parent is not None and parent.kind in FUNCTIONS + (K.LAMBDA_EXPR,):
                 file = declaration.location.file
-                return f'V:{self.path(file.name)[0] if file else ""}:{declaration.location.offset}'
+                return self.own(f'V:{self.path(file.name)[0] if file else ""}:{declaration.location.offset}')
             return str(declaration.canonical.get_usr())
         return None
 
     def function_key(self, declaration: Cursor) -> str:
-        """A function's key; of an instance of a template that of the template, whose body is read once."""
+        """A function's key; of an instance of a library's template that of the template."""
         usr = declaration.get_usr()
-        if '<' in usr.rsplit('@F@', 1)[-1] or ('>#' in usr.rsplit('@F@', 1)[0] and self.is_inside(declaration)):
+        if '<' in usr.rsplit('@F@', 1)[-1] and not self.is_inside(declaration):
             template = template_of(declaration)
             if template is not None and template.kind in FUNCTIONS and template.spelling == declaration.spelling:
                 declaration = template
@@ -199,6 +218,15 @@ class Context:
             yield
         finally:
             self.conditions.pop()
+
+    @contextmanager
+    def as_instance(self, cursor: Cursor, key: str) -> Iterator[None]:
+        """Reads a function; what is made in an instance of a template is told apart from what others make."""
+        before, self.instance = self.instance, key if is_instance(cursor) else ''
+        try:
+            yield
+        finally:
+            self.instance = before
 
     @contextmanager
     def within(self, function: Function) -> Iterator[None]:

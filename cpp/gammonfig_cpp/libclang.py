@@ -44,6 +44,7 @@ RECORDS = (K.CLASS_DECL, K.STRUCT_DECL)
 FUNCTIONS = (K.FUNCTION_DECL, K.CXX_METHOD, K.CONSTRUCTOR, K.DESTRUCTOR, K.CONVERSION_FUNCTION, K.FUNCTION_TEMPLATE)
 VARIABLES = (K.VAR_DECL, K.FIELD_DECL, K.PARM_DECL)
 NAMES = (K.DECL_REF_EXPR, K.MEMBER_REF_EXPR)
+TEMPLATES = (K.CLASS_TEMPLATE, K.FUNCTION_TEMPLATE, K.CLASS_TEMPLATE_PARTIAL_SPECIALIZATION)
 WRAPPERS = (K.UNEXPOSED_EXPR, K.PAREN_EXPR)
 REFERENCES = (K.TYPE_REF, K.NAMESPACE_REF, K.TEMPLATE_REF)
 CASTS = (K.CXX_STATIC_CAST_EXPR, K.CXX_DYNAMIC_CAST_EXPR, K.CXX_REINTERPRET_CAST_EXPR, K.CXX_CONST_CAST_EXPR, K.CSTYLE_CAST_EXPR,
@@ -83,10 +84,25 @@ def template_of(cursor: Cursor) -> Cursor | None:
     return found if found is not None and found.kind != K.NO_DECL_FOUND else None
 
 
-def overloads(cursor: Cursor) -> list[Cursor]:
-    """The declarations that an overloaded name may be, in a template that isn't decided yet."""
-    lib = cindex.conf.lib
-    return [lib.clang_getOverloadedDecl(cursor, at) for at in range(lib.clang_getNumOverloadedDecls(cursor))]
+def is_instance(cursor: Cursor) -> bool:
+    """Whether a function is an instance of a template, or a member of one."""
+    return cursor.kind != K.FUNCTION_TEMPLATE and template_of(cursor) is not None
+
+
+def is_pattern(cursor: Cursor) -> bool:
+    """Whether a declaration is a template or stands in one: what it does, its instances do."""
+    at = cursor
+    while at is not None and at.kind != K.TRANSLATION_UNIT:
+        if at.kind in TEMPLATES:
+            return True
+        at = at.semantic_parent
+    return False
+
+
+def is_of_closure(cursor: Cursor) -> bool:
+    """Whether a function is what a lambda does."""
+    parent = cursor.semantic_parent
+    return bool(cursor.spelling == 'operator()' and parent.kind == K.CLASS_DECL and (not parent.spelling or '(lambda at' in parent.spelling))
 
 
 def is_written(cursor: Cursor) -> bool:

@@ -227,6 +227,8 @@ class Facts:
     sites: dict[str, Site] = field(default_factory=dict)
     fields: dict[str, Field] = field(default_factory=dict)
     flows: list[tuple[str, Value]] = field(default_factory=list)
+    # By a variable or result the class that all it holds is of, or below.
+    declared: dict[str, str] = field(default_factory=dict)
     connects: list[Connect] = field(default_factory=list)
     owns: list[tuple[Value, Value, Place]] = field(default_factory=list)
     contents: list[tuple[Value, Value]] = field(default_factory=list)

@@ -93,13 +93,23 @@ class Objects:
                 new = set(self.may.get(key, ()))
                 count = len(new)
                 for value in self.whole.flows[key]:
-                    new |= self.resolve(value)
+                    new |= self._fitting(key, self.resolve(value))
                 if len(new) != count:
                     self.may[key] = frozenset(new)
                     more = [k for k in waiting.get(key, ()) if k not in queued]
                     todo.extend(more)
                     queued.update(more)
             todo.extend(contents if self._hold() else ())
+
+    def _fitting(self, key: str, found: set[Element]) -> set[Element]:
+        """Those that a variable may hold by its declaration: of its class or below. What is only known to be of a class above is any of
+        its class."""
+        cls = self.whole.declared.get(key, '')
+        if cls not in self.whole.classes:
+            return found
+        fit = {e for e in found if self.whole.is_a(self.cls(e), cls)}
+        above = any(e.kind == 'class' and self.whole.is_a(cls, e.key) for e in found - fit)
+        return fit | {Element('class', cls)} if above else fit
 
     def _dependents(self) -> tuple[dict[str, list[str]], list[str]]:
         """By a variable or result those that depend on it; and those that depend on what widgets hold."""

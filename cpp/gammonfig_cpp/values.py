@@ -117,7 +117,7 @@ class Values:
                 self.context.calls.note_construction('', made, given)
             return made
         parent = called.semantic_parent
-        if parent is not None and parent.kind in RECORDS + (K.CLASS_TEMPLATE,):
+        if parent is not None and parent.kind in RECORDS:
             found = self._of_member(cursor, cls, depth)
             if found is not None:
                 return found

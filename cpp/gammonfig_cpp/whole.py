@@ -3,6 +3,7 @@ from __future__ import annotations
 
 import re
 from collections import Counter, defaultdict, deque
+from dataclasses import replace
 from functools import cache
 from typing import Iterable
 
@@ -20,6 +21,7 @@ class Whole:
         self.sites: dict[str, Site] = {}
         self.fields: dict[str, Field] = {}
         self.flows: dict[str, list[Value]] = {}
+        self.declared: dict[str, str] = {}
         self.callables: dict[str, list[Named]] = defaultdict(list)
         self.forwards: dict[str, list[Forward]] = defaultdict(list)
         self.connects: list[Connect] = []
@@ -48,12 +50,16 @@ class Whole:
                     self.twice.setdefault(cls.qualified, (one, other))
             if known is None or (cls.defined and not known.defined):
                 self.classes[key] = cls
+            elif '>#' in key and not cls.methods.keys() <= known.methods.keys():
+                # Each unit tells the functions of an instance of a template that it uses.
+                self.classes[key] = replace(known, methods={**known.methods, **cls.methods})
         for key, function in facts.functions.items():
             known_function = self.functions.get(key)
             if known_function is None or len(function.statements) > len(known_function.statements):
                 self.functions[key] = function
         self.sites.update(facts.sites)
         self.fields.update(facts.fields)
+        self.declared.update(facts.declared)
         for key, value in facts.flows:
             if self._is_new(('flow', key, value)):
                 self.flows.setdefault(key, []).append(value)
@@ -63,7 +69,7 @@ class Whole:
 
     def _add_lists(self, facts: Facts) -> None:
         for connect in facts.connects:
-            if self._is_new(('connect', connect.place.file, connect.place.line, connect.place.column, connect.by, connect.slot)):
+            if self._is_new(('connect', connect.place.file, connect.place.line, connect.place.column, connect.by, connect.slot, connect.function)):
                 self.connects.append(connect)
         self.owns += [o for o in facts.owns if self._is_new(('owns', o))]
         self.handed += [h for h in facts.handed if self._is_new(('handed', h))]

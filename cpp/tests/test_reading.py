@@ -64,6 +64,37 @@ def test_values_that_are_handed_on() -> None:
     assert case('bodies').body('hands') == ['call this.takes(value, words);', 'call this.takes(0, "");']
 
 
+def test_each_instance_of_a_template_is_read() -> None:
+    found = case('templates')
+    assert found.body('drop') == ['delete this.to_Apple_m_apple;', 'call this.to_Apple_m_apple.Apple_gone();'], 'no pear dies where apples do'
+    assert found.body('drop_2') == ['delete this.to_Pear_m_pear;', 'call this.to_Pear_m_pear.Pear_gone();']
+    assert found.body('squeeze') == ['call this.to_Apple_m_apple.press();'], 'what its argument decides'
+    assert found.body('pressSame') == ['call this.to_Pear_m_pear.press();', 'call this.to_Functions.same("");']
+    assert found.body('grow') == ['call this.to_Functions.grown();', 'call this.to_Functions.grown_2();']
+    wires = found.wires()
+    assert 'wire Apple_made pressed() -> Functions lambda_28() auto;' in wires and 'wire Pear_made pressed() -> Functions lambda_28_2() auto;' in wires
+    assert [u for u in found.linked.whole.unknown if 'call' in u.kind or 'template' in u.kind] == []
+
+
+def test_each_instance_of_a_class_template_is_read() -> None:
+    found = case('templates')
+    assert found.body('cut', 'Box') == ['delete this.to_Apple_m_apple;', 'call this.to_Apple_m_apple.Apple_gone();']
+    assert found.body('cut', 'Box_2') == ['delete this.to_Pear_m_pear;', 'call this.to_Pear_m_pear.Pear_gone();']
+    assert found.body('cutPears') == ['call this.to_Box_2.cut();']
+    assert found.body('shakes') == ['call this.to_Crate.shake_2();'], 'a class below an instance overrides'
+
+
+def test_a_generic_lambda_does_what_its_instances_do() -> None:
+    found = case('templates')
+    assert [line.split('.')[-1] for line in found.body('lambda_61')] == ['press();', 'press();']
+
+
+def test_a_variable_holds_what_its_class_lets_it() -> None:
+    found = case('templates')
+    assert found.body('pressKeys') == ['call this.to_Apple_m_apple.press();'], 'a map holds keys and values'
+    assert found.body('pressValues') == ['call this.to_Pear_m_pear.press();']
+
+
 def test_deletions() -> None:
     found = case('deletions')
     for slot, role in (('byDelete', 'Part_m_plain'), ('byReset', 'Part_m_unique'), ('byAssignment', 'Part_m_unique'),
