@@ -10,9 +10,13 @@ Pair = tuple[Event, Event]
 
 @dataclass
 class Coverage:
-    """`outside` is what isn't told in the program: of objects that Qt made, or of members that lead to nothing."""
+    """`missed` is what isn't read, and leads on. `silent` isn't read either, but leads to nothing: no finding goes through it. `of_qt` has
+    an object that Qt made for itself: such a one emits as a user does, and what it brings about is a pair of its own. `outside` isn't in
+    the program."""
     covered: list[Pair] = field(default_factory=list)
     missed: list[Pair] = field(default_factory=list)
+    silent: list[Pair] = field(default_factory=list)
+    of_qt: list[Pair] = field(default_factory=list)
     outside: list[Pair] = field(default_factory=list)
 
 
@@ -20,9 +24,11 @@ def nodes(event: Event, graph: Graph, lines: dict[Called, Line]) -> set[Node]:
     """What stands for an event in the program."""
     if isinstance(event, Called):
         return graph.functions.get(lines[event], set()) if event in lines else set()
-    if event.is_inner or not graph.has(event.cls):
-        return set()
-    return graph.signals(event.declaring, event.signal)
+    return graph.signals(event.declaring, event.signal) if graph.has(event.cls) else set()
+
+
+def is_of_qt(event: Event) -> bool:
+    return not isinstance(event, Called) and event.is_inner
 
 
 def cover(record: Record, graph: Graph, lines: dict[Called, Line] | None = None) -> Coverage:
@@ -36,10 +42,14 @@ def cover(record: Record, graph: Graph, lines: dict[Called, Line] | None = None)
         outer, inner = pair
         if outer not in reached:
             reached[outer] = graph.reach(known[outer])
-        if reached[outer] & known[inner]:
+        if is_of_qt(outer) or is_of_qt(inner):
+            found.of_qt.append(pair)
+        elif reached[outer] & known[inner]:
             found.covered.append(pair)
-        elif known[outer] and any(graph.leads_on(it) for it in known[inner]):
+        elif not known[outer] or not known[inner]:
+            found.outside.append(pair)
+        elif any(graph.leads_on(it) for it in known[inner]):
             found.missed.append(pair)
         else:
-            found.outside.append(pair)
+            found.silent.append(pair)
     return found

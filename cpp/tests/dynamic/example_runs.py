@@ -17,7 +17,8 @@ from qt_flags import python_with_clang
 from spied import BadRecord, Called, Event, Record, run
 
 READER = ROOT / "cpp" / "gammonfig_cpp"
-HEAD = "| example | functions | signals | pairs read | pairs missing |\n|---|---|---|---|---|\n"
+HEAD = "| example | functions | signals | pairs read | missing | to what leads to nothing | of Qt's own objects |\n|---|---|---|---|---|---|---|\n"
+COUNTS = ("functions", "signals", "covered", "missed", "silent", "of_qt")
 
 
 @dataclass
@@ -29,17 +30,19 @@ class Ran:
     signals: int = 0
     covered: int = 0
     missed: int = 0
+    silent: int = 0
+    of_qt: int = 0
     reason: str = ""
     lines: list[str] = field(default_factory=list)
 
     def row(self) -> str:
-        told = [self.name, self.functions, self.signals, self.covered, self.missed]
+        told = [self.name, *(getattr(self, name) for name in COUNTS)]
         return "" if self.reason and not self.missed else "| " + " | ".join(str(it) for it in told) + " |\n"
 
     @staticmethod
     def total(them: list["Ran"]) -> str:
         them = [it for it in them if it.missed or not it.reason]
-        sums = [sum(getattr(it, name) for it in them) for name in ("functions", "signals", "covered", "missed")]
+        sums = [sum(getattr(it, name) for it in them) for name in COUNTS]
         return f"| {len(them)} examples | " + " | ".join(str(it) for it in sums) + " |\n"
 
 
@@ -107,7 +110,7 @@ def compare(ran: Ran, whole: Record, out: Path, root: Path) -> None:
     seen = {event for pair in [*found.covered, *found.missed] for event in pair}
     ran.functions = sum(isinstance(it, Called) for it in seen)
     ran.signals = len(seen) - ran.functions
-    ran.covered, ran.missed = len(found.covered), len(found.missed)
+    ran.covered, ran.missed, ran.silent, ran.of_qt = (len(it) for it in (found.covered, found.missed, found.silent, found.of_qt))
     ran.lines = sorted(f"{told(a, lines)} > {told(b, lines)}" for a, b in nearest(found))
     if ran.missed:
         ran.reason = f"{ran.missed} of {ran.missed + ran.covered} pairs are no way that was read"

@@ -66,7 +66,7 @@ def test_pairs_of_a_run_are_covered_missed_or_outside() -> None:
     record = Record(within={(moved, moved): 3, (told, moved): 1, (moved, told): 1, (other, moved): 1, (told, inner): 1})
     found = cover(record, parse(PROGRAM))
     assert (found.covered, found.missed) == ([(moved, moved)], [(told, moved)])
-    assert found.outside == [(moved, told), (other, moved), (told, inner)], "what leads to nothing, and what Qt made for itself"
+    assert (found.silent, found.of_qt, found.outside) == ([(moved, told)], [(told, inner)], [(other, moved)])
 
 
 def test_functions_of_a_run_are_known_by_their_lines(tmp_path: Path) -> None:
