@@ -43,8 +43,10 @@ class Calls:
         return None
 
     def whose(self, cursor: Cursor) -> str:
-        """`own` of an object that a member of this object holds, itself or in a container."""
+        """`own` of an object that a member of this object holds, itself or in a container, `child` of one that it finds among its children."""
         at: Cursor | None = strip(cursor)
+        if self._is_child(strip(cursor)):
+            return 'child'
         while at is not None and at.kind in (K.CALL_EXPR, K.ARRAY_SUBSCRIPT_EXPR, K.UNARY_OPERATOR):
             inner = self.object_of(at) if at.kind == K.CALL_EXPR else next(iter(at.get_children()), None)
             at = strip(inner) if inner is not None else None
@@ -52,6 +54,16 @@ class Calls:
             return ''
         base = expressions(at)
         return 'own' if not base or strip(base[0]).kind == K.CXX_THIS_EXPR else ''
+
+    def _is_child(self, cursor: Cursor) -> bool:
+        """Whether an expression is a variable that was made of what `findChild` finds below this object."""
+        named = cursor.referenced if cursor.kind == K.DECL_REF_EXPR else None
+        initial = expressions(named) if named is not None and named.kind == K.VAR_DECL else []
+        call = strip(initial[-1]) if initial else cursor
+        if call.kind != K.CALL_EXPR or call.spelling != 'findChild':
+            return False
+        on = self.object_of(call)
+        return on is None or strip(on).kind == K.CXX_THIS_EXPR
 
     @staticmethod
     def is_qualified(call: Cursor) -> bool:

@@ -157,7 +157,7 @@ class Effects:
         program, on = self.program, statement.on
         steps: list[Step] = []
         fresh = statement.kind == 'scope' and on.kind == 'site' or self._is_fresh(on, function)
-        is_own = statement.how == 'own' and on.key in self.owning_members
+        is_own = statement.how == 'child' or statement.how == 'own' and on.key in self.owning_members
         # What a destructor deletes of its members is owned, and dies with the object.
         of_member = function.kind == 'destructor' and is_of_member(statement.kind, on)
         for element in sorted(self.objects.elements(on, statement.cls)):

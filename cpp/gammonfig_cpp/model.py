@@ -85,7 +85,7 @@ class Statement:
     `call` and `library` (a function with sources, and one of Qt), `delete`, `scope` (a local object ends), `later`, `property`
     (setProperty by name), `event` (sendEvent), `invoke`, `post`, `nested`, `assign` (a compared member is set), `field`, `read`,
     `bind`, `observe` (of bindable properties), `close` (an object is told to delete itself). `how` is `queued` and such of a call by
-    name, `told` of an emission that only tells what was set, and `own` of a deletion of what a member of this object holds."""
+    name, `told` of an emission that only tells what was set, and of a deletion `own`, of what a member of this object holds, or `child`."""
     kind: str
     place: Place
     on: Value = NONE

@@ -13,6 +13,8 @@ RESTS = ('each step hands on the value that it was given, and only a change is t
          'that were read as properties compare; that is not proved')
 CLIMBS = ('each step stays with its object, or goes on to one that holds it, as up a tree: this ends at the top, unless objects hold '
           'one another; that is not proved')
+BLOCKED = ('the signals of an object on it are blocked by the one that begins this, so that it ends there, unless another object of the role '
+           'emits them; that is not proved')
 OF_OWN = ('what is deleted is held by a member of the object that deletes it: another object of its class, unless it owns itself; '
           'that is not proved')
 DIES_ONCE = 'an object dies on each way round, and each dies once: this goes on only while others are made; that is not proved'
@@ -57,7 +59,9 @@ class Warnings:
             if finding.rule == 'cycle' and any(names <= known for known in self.resting):
                 finding.note = RESTS
             elif finding.rule == 'cycle' and any(names <= known for known in self.climbing):
-                finding.note = CLIMBS
+                finding.note, finding.severity = CLIMBS, 'note'
+            elif finding.rule == 'cycle' and _is_blocked(finding.chain):
+                finding.note, finding.severity = BLOCKED, 'note'
             elif finding.rule == 'destroy-path' and self._is_of_own(finding):
                 finding.note, finding.severity = OF_OWN, 'note'
         verdict.findings += [warning_of(f) for f in self.found if f['rule'] not in own]
@@ -65,6 +69,7 @@ class Warnings:
             if finding.rule == 'queued-cycle' and finding.chain and all(s.from_ in self.by_death for s in finding.chain):
                 finding.note, finding.severity = DIES_ONCE, 'note'
         self._one_for_each_set(verdict)
+        self._one_for_each_tree(verdict)
 
     def _is_of_own(self, finding: Finding) -> bool:
         """Whether a slot deletes by a statement of its own what its object owns: no other object stands between."""
@@ -82,6 +87,25 @@ class Warnings:
                 groups.setdefault(next(sets, len(self.circling) + at), []).append(finding)
         chosen = [_chosen(group) for group in groups.values()]
         verdict.findings = [f for f in verdict.findings if f.rule != 'queued-cycle' or any(f is one for one in chosen)]
+
+
+    def _one_for_each_tree(self, verdict: Verdict) -> None:
+        """Of the circles in one set of members that go up a tree the shortest is told."""
+        told: dict[int, Finding] = {}
+        for finding in (f for f in verdict.findings if f.note == CLIMBS):
+            names = {step.from_ for step in finding.chain}
+            number = next(n for n, known in enumerate(self.climbing) if names <= known)
+            told[number] = min(told.get(number, finding), finding, key=lambda f: len(f.chain))
+        verdict.findings = [f for f in verdict.findings if f.note != CLIMBS or any(f is one for one in told.values())]
+
+
+def _is_blocked(chain: list[StepTold]) -> bool:
+    """Whether one step of a circle calls an object whose signals are blocked meanwhile, and a later one is a connection to a signal of it."""
+    for at, step in enumerate(chain):
+        blocked = step.to.partition('.')[0] if any(c.startswith('blocked by') for c in step.spot.conditions) else None
+        if any(later.by == 'wire' and later.from_.partition('.')[0] == blocked for later in chain[at + 1:] + chain[:at]):
+            return True
+    return False
 
 
 def _chosen(group: list[Finding]) -> Finding:

@@ -9,6 +9,8 @@ import subprocess
 
 import pytest
 from reading import CASES, HERE, flags
+from gammonfig_cpp.report import Finding, Spot, StepTold, Verdict
+from gammonfig_cpp.warned import Warnings
 
 READ = os.path.join(os.path.dirname(HERE), 'read')
 TABLE = ['--table', os.path.join(CASES, 'qt.effects')]
@@ -148,6 +150,38 @@ def test_a_circle_by_deaths(written: pathlib.Path, tmp_path: pathlib.Path) -> No
     path.write_text(json.dumps(json.loads(path.read_text()) | {'by_death': ['Desk.end()']}))
     told = run(tmp_path, '--verdict', 'out', GAMMONFIG=named).stdout
     assert ': note: m [queued-cycle]' in told and 'each dies once' in told
+
+
+def test_one_note_for_each_tree(written: pathlib.Path, tmp_path: pathlib.Path) -> None:
+    """Circles that go up a tree are told as one note, the shortest of each set of members."""
+    def circle(*names: str) -> dict[str, object]:
+        chain = [{'from': a, 'to': b, 'by': 'wire', 'message': 's', 'file': 'x', 'line': 1, 'column': 1} for a, b in zip(names, [*names[1:], names[0]])]
+        return {'rule': 'cycle', 'severity': 'error', 'message': names[0], 'file': 'x', 'line': 1, 'column': 1, 'chain': chain}
+
+    shutil.copytree(written / 'out', tmp_path / 'out')
+    path = tmp_path / 'out/app.warnings.json'
+    path.write_text(json.dumps(json.loads(path.read_text()) | {'climbing': [['A.a()', 'A.b()', 'A.c()'], ['B.a()']]}))
+    named = checker(tmp_path, 1)
+    findings = [circle('A.a()', 'A.b()', 'A.c()'), circle('A.b()', 'A.c()'), circle('B.a()'), circle('C.a()', 'C.b()')]
+    pathlib.Path(named).write_text(f"#!/bin/sh\ncat > /dev/null\ncat << 'TXT'\n{json.dumps(VERDICT | {'findings': findings})}\nTXT\n")
+    told = json.loads(run(tmp_path, '--verdict', 'out', '--json', GAMMONFIG=named).stdout)['findings']
+    assert [(f['message'], f['severity']) for f in told] == [('A.b()', 'note'), ('B.a()', 'note'), ('C.a()', 'error')]
+    assert 'ends at the top' in told[0]['note'] and 'note' not in told[2]
+
+
+def test_a_circle_by_blocked_signals() -> None:
+    """A circle in which the signals of an object are blocked while they would go on is a note."""
+    def circle(*conditions: str) -> Verdict:
+        steps = [('Desk.fill()', 'Dial_m_dial.turn()', 'statement'), ('Dial_m_dial.turn()', 'Dial_m_dial.turned()', 'statement'),
+                 ('Dial_m_dial.turned()', 'Desk.fill()', 'wire')]
+        chain = [StepTold(Spot('a.cpp', 1, 1, '', conditions if by == 'statement' and to.endswith('turn()') else ()), from_, to, by, '')
+                 for from_, to, by in steps]
+        return Verdict([Finding(Spot(), 'cycle', 0, 'm', '', chain)], 0, 0, 3)
+
+    for conditions, severity in ((('blocked by `blocker(m_dial)`',), 'note'), (('if `m_dial`',), 'error')):
+        verdict = circle(*conditions)
+        Warnings([], [], [], set(), set(), [], set(), False).add_to(verdict)
+        assert verdict.findings[0].severity == severity
 
 
 def test_one_finding_for_each_set_of_circles(written: pathlib.Path, tmp_path: pathlib.Path) -> None:

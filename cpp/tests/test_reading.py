@@ -116,6 +116,7 @@ def test_what_an_object_deletes_of_its_own() -> None:
     program = case('deletions').linked.program
     own = {m.name: [s.is_own for s in m.steps if s.kind == 'delete'] for m in program.members.values()}
     assert own['cut'] == [True], 'an object is not its own child'
+    assert own['cutFound'] == [True], 'nor is it found among its children'
     assert own['cutAbove'] == [False], 'what a member only knows of may be above'
     assert own['cutOther'] == [False], 'the child of another object may be this one'
 

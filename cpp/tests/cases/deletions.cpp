@@ -45,6 +45,7 @@ public:
     void grow() { m_below.append(new Knot(this)); }
     void cut() { delete m_below.takeLast(); }
     void cutAbove() { delete m_above; }
+    void cutFound() { while (auto *found = findChild<Knot *>()) delete found; }
     void cutOther(Knot *other) { delete other->m_below.takeLast(); }
 private:
     Knot *m_above;
