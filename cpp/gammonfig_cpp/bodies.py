@@ -22,6 +22,8 @@ class Bodies:
         self.released: set[str] = set()
         # The instances of generic lambdas.
         self.closures: list[Cursor] = []
+        # By the variable of a loop what it goes over.
+        self.ranges: dict[str, Cursor] = {}
 
     # Declarations
 
@@ -272,7 +274,8 @@ class Bodies:
         cls = self.context.classes.of(strip(operand).type)
         if cls:
             statement = self.context.add('delete', cursor, self.context.values.of(operand))
-            statement.cls, statement.how = cls, self.context.calls.whose(operand)
+            statement.cls = cls
+            self.context.calls.possessing.tell(statement, operand)
         self.walk(operand)
 
     def _return(self, cursor: Cursor) -> None:
@@ -299,9 +302,10 @@ class Bodies:
         variable = next((k for k in kids if k.kind == K.VAR_DECL), None)
         ranges = [k for k in kids if k.kind.is_expression()]
         if variable is not None and ranges:
-            cls = self.context.classes.of(variable.type)
+            cls, key = self.context.classes.of(variable.type), self.context.variable_key(variable)
+            self.ranges[key or ''] = ranges[0]
             if cls:
-                self.context.flow(self.context.variable_key(variable), self.context.values.of(ranges[0]), cls)
+                self.context.flow(key, self.context.values.of(ranges[0]), cls)
         self.conditional.loop(cursor)
 
     def _operator(self, cursor: Cursor) -> None:

@@ -8,6 +8,7 @@ from .context import Context
 from .holders import Holders
 from .libclang import FUNCTIONS, NAMES, RECORDS, VARIABLES, Cursor, K, T, bare, expressions, is_written, strip
 from .model import NONE, Condition, Construct, Forward, Named, Statement, Value
+from .possessing import Possessing
 from .special import Special
 
 # Classes of values, whose functions do nothing that others see.
@@ -23,7 +24,7 @@ DEFERRED = {'singleShot', 'run', 'create', 'mapped', 'map', 'filtered', 'filter'
 class Calls:
     def __init__(self, context: Context) -> None:
         self.context = context
-        self.holders = Holders(context)
+        self.holders, self.possessing = Holders(context), Possessing(context)
         self.special = Special(context)
 
     # The parts of a call
@@ -41,29 +42,6 @@ class Calls:
             inner = expressions(first)
             return inner[0] if inner else None
         return None
-
-    def whose(self, cursor: Cursor) -> str:
-        """`own` of an object that a member of this object holds, itself or in a container, `child` of one that it finds among its children."""
-        at: Cursor | None = strip(cursor)
-        if self._is_child(strip(cursor)):
-            return 'child'
-        while at is not None and at.kind in (K.CALL_EXPR, K.ARRAY_SUBSCRIPT_EXPR, K.UNARY_OPERATOR):
-            inner = self.object_of(at) if at.kind == K.CALL_EXPR else next(iter(at.get_children()), None)
-            at = strip(inner) if inner is not None else None
-        if at is None or at.kind != K.MEMBER_REF_EXPR or at.referenced is None or at.referenced.kind != K.FIELD_DECL:
-            return ''
-        base = expressions(at)
-        return 'own' if not base or strip(base[0]).kind == K.CXX_THIS_EXPR else ''
-
-    def _is_child(self, cursor: Cursor) -> bool:
-        """Whether an expression is a variable that was made of what `findChild` finds below this object."""
-        named = cursor.referenced if cursor.kind == K.DECL_REF_EXPR else None
-        initial = expressions(named) if named is not None and named.kind == K.VAR_DECL else []
-        call = strip(initial[-1]) if initial else cursor
-        if call.kind != K.CALL_EXPR or call.spelling != 'findChild':
-            return False
-        on = self.object_of(call)
-        return on is None or strip(on).kind == K.CXX_THIS_EXPR
 
     @staticmethod
     def is_qualified(call: Cursor) -> bool:
@@ -153,7 +131,8 @@ class Calls:
             cls = self.context.classes.of(given[0].type)
             if cls:
                 statement = self.context.add('delete', call, self.context.values.of(given[0]))
-                statement.cls, statement.how = cls, self.whose(given[0])
+                statement.cls = cls
+                self.possessing.tell(statement, given[0])
             else:
                 self.context.note('qDeleteAll', call)
         else:

@@ -78,9 +78,10 @@ class Classes:
         return [a for a in arguments if a.kind == T.POINTER or (a.kind == T.RECORD and a.get_declaration().spelling in held)]
 
     def is_value(self, cxx_type: CxxType) -> bool:
-        """Whether a variable of the type is an object itself, not a pointer or a holder."""
+        """Whether a variable of the type is an object itself, not a pointer, a holder or an iterator."""
         kind = cxx_type.get_canonical()
-        return bool(kind.kind == T.RECORD and kind.get_declaration().spelling not in SMART | CONTAINERS)
+        name = kind.get_declaration().spelling if kind.kind == T.RECORD else ''
+        return bool(kind.kind == T.RECORD and name not in SMART | CONTAINERS and 'terator' not in name)
 
     def holder(self, cxx_type: CxxType) -> str:
         """The name of the smart pointer or container that a type is."""

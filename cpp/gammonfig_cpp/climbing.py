@@ -33,7 +33,7 @@ class Holding:
     def __init__(self, flows: Mapping[str, list[Value]]) -> None:
         self._held: set[tuple[str, str]] = set()
         for key, values in flows.items():
-            for value in values:
+            for value in (it.uncast() for it in values):
                 if value.kind == 'variable' and '@FI@' in key:
                     self._held.add((key.rpartition('@FI@')[0], value.key))
                 elif value.kind == 'variable' and '@FI@' in value.key:

@@ -71,7 +71,7 @@ class Deaths:
 
     def _may_lead_on(self, destructor: str) -> bool:
         """Whether a destructor has a statement that may lead to something; what it deletes of its members is looked at as owned."""
-        return any(self._leads_on(s) for s in self.whole.functions[destructor].statements if not is_of_member(s.kind, s.on))
+        return any(self._leads_on(s) for s in self.whole.functions[destructor].statements if not is_of_member(s))
 
     def _leads_on(self, statement: Statement) -> bool:
         if statement.kind == 'call':

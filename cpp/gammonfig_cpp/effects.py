@@ -157,9 +157,9 @@ class Effects:
         program, on = self.program, statement.on
         steps: list[Step] = []
         fresh = statement.kind == 'scope' and on.kind == 'site' or self._is_fresh(on, function)
-        is_own = statement.how == 'child' or statement.how == 'own' and on.key in self.owning_members
+        is_own = statement.how == 'child' or statement.how == 'own' and statement.field in self.owning_members
         # What a destructor deletes of its members is owned, and dies with the object.
-        of_member = function.kind == 'destructor' and is_of_member(statement.kind, on)
+        of_member = function.kind == 'destructor' and is_of_member(statement)
         for element in sorted(self.objects.elements(on, statement.cls)):
             role = program.role(element)
             if fresh and not self.calling.is_watched(element):

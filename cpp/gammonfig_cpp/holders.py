@@ -45,7 +45,8 @@ class Holders:
         if cls:
             later = 'DeleteLater' in on.type.get_canonical().spelling
             statement = self.context.add('later' if later else 'delete', call, self.context.values.of(on))
-            statement.cls, statement.how = cls, self.context.calls.whose(on)
+            statement.cls = cls
+            self.context.calls.possessing.tell(statement, on)
 
     def keep(self, on: Cursor | None, given: list[Cursor]) -> None:
         """A function object is kept in a variable."""

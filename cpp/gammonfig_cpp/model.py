@@ -25,6 +25,10 @@ class Value:
     cls: str = ''
     parts: tuple[Value, ...] = ()
 
+    def uncast(self) -> Value:
+        """The value without casts around it."""
+        return self.parts[0].uncast() if self.kind == 'cast' else self
+
 
 NONE = Value('none')
 NULL = Value('null')
@@ -85,7 +89,7 @@ class Statement:
     `call` and `library` (a function with sources, and one of Qt), `delete`, `scope` (a local object ends), `later`, `property`
     (setProperty by name), `event` (sendEvent), `invoke`, `post`, `nested`, `assign` (a compared member is set), `field`, `read`,
     `bind`, `observe` (of bindable properties), `close` (an object is told to delete itself). `how` is `queued` and such of a call by
-    name, `told` of an emission that only tells what was set, and of a deletion `own`, of what a member of this object holds, or `child`."""
+    name, `told` of an emission that only tells what was set, and of a deletion `own`, of what the member `field` of this object holds, or `child`."""
     kind: str
     place: Place
     on: Value = NONE

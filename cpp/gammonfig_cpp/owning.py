@@ -1,7 +1,7 @@
 """Who owns what: by the calls of Qt's functions, as the table says, and by what destructors delete."""
 from __future__ import annotations
 
-from .model import Handed, Value
+from .model import Handed, Statement, Value
 from .qtmodel import TAKING, QtModel
 from .whole import Whole
 
@@ -15,8 +15,9 @@ def find_owners(whole: Whole, qt: QtModel) -> None:
             whole.contents.append((handed.on, value))
     for function in whole.functions.values():
         for statement in function.statements if function.kind == 'destructor' else ():
-            if is_of_member(statement.kind, statement.on):
-                whole.owns.append((Value('member', cls=function.cls), statement.on, statement.place))
+            if is_of_member(statement):
+                held = Value('variable', statement.field, statement.cls) if statement.how == 'own' else statement.on
+                whole.owns.append((Value('member', cls=function.cls), held, statement.place))
 
 
 def of_each_object(given: Value, this: Value, whole: Whole, depth: int = 0) -> list[tuple[Value, Value]]:
@@ -40,6 +41,7 @@ def owned_by(handed: Handed, qt: QtModel) -> list[Value]:
     return [value for _, value in handed.given] if handed.name in TAKING else []
 
 
-def is_of_member(kind: str, on: Value) -> bool:
+def is_of_member(statement: Statement) -> bool:
     """Whether a destructor's statement deletes what a member of its object holds: that is owned."""
-    return kind == 'delete' and on.kind == 'variable' and '@FI@' in on.key
+    held = statement.on.uncast()
+    return statement.kind == 'delete' and (statement.how == 'own' or held.kind == 'variable' and '@FI@' in held.key)

@@ -129,7 +129,7 @@ class Values:
         name, parent = called.spelling, called.semantic_parent.spelling
         on = self.context.calls.object_of(cursor)
         if parent in SMART | CONTAINERS or 'terator' in parent:
-            return self.of(on, depth + 1) if on is not None else self.any_of(cls)
+            return self._held(cursor, cls, on, depth) if on is not None else self.any_of(cls)
         if self.context.is_inside(called):
             return None
         if name == 'sender' and parent == 'QObject':
@@ -142,6 +142,11 @@ class Values:
         if GIVING_AWAY.match(name):
             return Value('given', name, cls, (self.of(on, depth + 1) if on is not None else self.context.this,))
         return None
+
+    def _held(self, cursor: Cursor, cls: str, on: Cursor, depth: int) -> Value:
+        """What a function of a holder gives of what is in it: of one with keys and values those of its own class."""
+        inner, only = self.of(on, depth + 1), self.context.classes.only(cursor.type)
+        return Value('cast', cls=cls, parts=(inner,)) if only and only != self.context.classes.only(on.type) else inner
 
     # Values that are handed on
 

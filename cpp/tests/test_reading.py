@@ -1,8 +1,11 @@
 """What is read of each form that C++ has for it."""
 import json
+from dataclasses import replace
 
-from reading import case
+from reading import case, facts
+from gammonfig_cpp.model import Facts
 from gammonfig_cpp.watching import Watching
+from gammonfig_cpp.whole import Whole
 
 
 def test_each_form_of_connect_is_a_wire() -> None:
@@ -84,15 +87,24 @@ def test_each_instance_of_a_class_template_is_read() -> None:
     assert found.body('shakes') == ['call this.to_Crate.shake_2();'], 'a class below an instance overrides'
 
 
+def test_units_tell_of_an_instance_what_they_use() -> None:
+    box = next(c for c in facts()['templates'].classes.values() if c.name == 'Box' and len(c.methods) > 2)
+    names = list(box.methods)
+    units = [Facts(name, classes={box.key: replace(box, methods={name: box.methods[name]})}) for name in names]
+    assert set(Whole(units).classes[box.key].methods) == set(names)
+
+
 def test_a_generic_lambda_does_what_its_instances_do() -> None:
     found = case('templates')
-    assert [line.split('.')[-1] for line in found.body('lambda_61')] == ['press();', 'press();']
+    assert [line.split('.')[-1] for line in found.body('lambda_63')] == ['press();', 'press();']
 
 
 def test_a_variable_holds_what_its_class_lets_it() -> None:
     found = case('templates')
     assert found.body('pressKeys') == ['call this.to_Apple_m_apple.press();'], 'a map holds keys and values'
     assert found.body('pressValues') == ['call this.to_Pear_m_pear.press();']
+    assert found.body('pressFound') == ['call this.to_Pear_m_pear.press();'], 'an iterator leads to what the list holds'
+    assert found.body('pressMapped') == ['call this.to_Apple_m_apple.press();', 'call this.to_Pear_m_pear.press();']
 
 
 def test_deletions() -> None:
@@ -117,8 +129,15 @@ def test_what_an_object_deletes_of_its_own() -> None:
     own = {m.name: [s.is_own for s in m.steps if s.kind == 'delete'] for m in program.members.values()}
     assert own['cut'] == [True], 'an object is not its own child'
     assert own['cutFound'] == [True], 'nor is it found among its children'
+    assert own['cutListed'] == own['cutReturned'] == own['cutCopied'] == [True], 'in a loop, by a function, as a copy'
+    assert own['cutListedOther'] == [False]
     assert own['cutAbove'] == [False], 'what a member only knows of may be above'
     assert own['cutOther'] == [False], 'the child of another object may be this one'
+
+
+def test_what_a_destructor_deletes_is_owned() -> None:
+    found = case('deletions')
+    assert not any(line.startswith('delete') for line in found.body('Grove_gone')), found.body('Grove_gone')
 
 
 def test_what_ends_without_a_statement() -> None:

@@ -45,9 +45,26 @@ public:
     void grow() { m_below.append(new Knot(this)); }
     void cut() { delete m_below.takeLast(); }
     void cutAbove() { delete m_above; }
+    QList<Knot *> below() const { return m_below; }
+    void cutListed() { for (Knot *one : std::as_const(m_below)) delete one; }
+    void cutReturned() { for (Knot *one : below()) delete one; }
+    void cutCopied() { qDeleteAll(QList<Knot *>(m_below)); }
+    void cutListedOther(Knot *other) { for (Knot *one : other->below()) delete one; }
     void cutFound() { while (auto *found = findChild<Knot *>()) delete found; }
     void cutOther(Knot *other) { delete other->m_below.takeLast(); }
 private:
     Knot *m_above;
     QList<Knot *> m_below;
+};
+
+class Grove : public QObject {
+    Q_OBJECT
+public:
+    ~Grove() override { for (Grove *one : inner()) delete one; emit parted(); }
+    void grow() { m_inner.append(new Grove); }
+    QList<Grove *> inner() const { return m_inner; }
+signals:
+    void parted();
+private:
+    QList<Grove *> m_inner;
 };

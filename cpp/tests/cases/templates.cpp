@@ -58,6 +58,8 @@ public:
     void pair() { m_pairs.insert(m_apple, m_pear); }
     void pressKeys() { for (Apple *one : m_pairs.keys()) one->press(); }
     void pressValues() { for (Pear *one : m_pairs) one->press(); }
+    void pressFound() { auto at = m_list.begin(); (*at)->press(); }
+    void pressMapped() { for (auto at = m_pairs.begin(); at != m_pairs.end(); ++at) { at.key()->press(); at.value()->press(); } }
     void visit() { auto each = [](auto *one) { one->press(); }; each(m_apple); each(m_pear); }
 private:
     Apple *m_apple = new Apple;
@@ -66,4 +68,5 @@ private:
     Box<Pear> m_pears;
     Box<Apple> *m_crate = new Crate;
     QMap<Apple *, Pear *> m_pairs;
+    QList<Pear *> m_list { m_pear };
 };

@@ -59,6 +59,39 @@ void click(QWidget *on)
     }
 }
 
+// A view goes to another item, and sometimes edits it: the editor is a widget like others.
+void choose(QAbstractItemView *view)
+{
+    if (!view->model() || !view->model()->rowCount(view->rootIndex()))
+        return;
+    const QModelIndex at = view->model()->index(number(view->model()->rowCount(view->rootIndex())),
+                                                number(view->model()->columnCount(view->rootIndex())), view->rootIndex());
+    view->setCurrentIndex(at);
+    if (number(3) == 0 && (at.flags() & Qt::ItemIsEditable) && view->editTriggers() != QAbstractItemView::NoEditTriggers)
+        view->edit(at);
+}
+
+void askForMenu(QWidget *on)
+{
+    const QPoint at(number(on->width()), number(on->height()));
+    QContextMenuEvent event(QContextMenuEvent::Mouse, at, on->mapToGlobal(at));
+    QCoreApplication::sendEvent(on, &event);
+}
+
+// A menu that is open is left by an action of it, or without one.
+void answer(QMenu *menu)
+{
+    const QList<QAction *> actions = menu->actions();
+    QAction *one = actions.isEmpty() ? nullptr : actions.at(number(int(actions.size())));
+    if (one && one->isEnabled() && !one->menu() && !left(one->text())) {
+        menu->setActiveAction(one);
+        QKeyEvent event(QEvent::KeyPress, Qt::Key_Return, Qt::NoModifier, "\r");
+        QCoreApplication::sendEvent(menu, &event);
+    } else {
+        menu->close();
+    }
+}
+
 void pokeAt(QWidget *it, bool modal)
 {
     if (auto *button = qobject_cast<QAbstractButton *>(it)) {
@@ -72,12 +105,13 @@ void pokeAt(QWidget *it, bool modal)
         if (choice->count())
             choice->setCurrentIndex(number(choice->count()));
     } else if (auto *view = qobject_cast<QAbstractItemView *>(it)) {
-        if (view->model() && view->model()->rowCount())
-            view->setCurrentIndex(view->model()->index(number(view->model()->rowCount()), 0));
+        choose(view);
     } else if (auto *tabs = qobject_cast<QTabWidget *>(it)) {
         tabs->setCurrentIndex(number(tabs->count()));
     } else if (it->inherits("QLineEdit") || it->inherits("QTextEdit") || it->inherits("QPlainTextEdit")) {
         key(it);
+    } else if (number(10) == 0) {
+        askForMenu(it);
     } else {
         click(it);
     }
@@ -89,6 +123,10 @@ void poke()
 {
     if (!qobject_cast<QApplication *>(qApp))
         return;
+    if (auto *menu = qobject_cast<QMenu *>(QApplication::activePopupWidget())) {
+        answer(menu);
+        return;
+    }
     const QWidget *modal = QApplication::activeModalWidget();
     QWidgetList widgets;
     for (QWidget *it : QApplication::allWidgets())
