@@ -23,12 +23,17 @@ class Coverage:
 def nodes(event: Event, graph: Graph, lines: dict[Called, Line]) -> set[Node]:
     """What stands for an event in the program."""
     if isinstance(event, Called):
-        return graph.functions.get(lines[event], set()) if event in lines else set()
+        return graph.function(*lines[event]) if event in lines else set()
     return graph.signals(event.declaring, event.signal) if graph.has(event.cls) else set()
 
 
 def is_of_qt(event: Event) -> bool:
     return not isinstance(event, Called) and event.is_inner
+
+
+def is_of_program(event: Event, graph: Graph, lines: dict[Called, Line]) -> bool:
+    """Whether a function is one of the application's files: what it brings about has to be read, though it may be that it does nothing."""
+    return isinstance(event, Called) and event in lines and lines[event][0] in graph.files()
 
 
 def cover(record: Record, graph: Graph, lines: dict[Called, Line] | None = None) -> Coverage:
@@ -46,7 +51,7 @@ def cover(record: Record, graph: Graph, lines: dict[Called, Line] | None = None)
             found.of_qt.append(pair)
         elif reached[outer] & known[inner]:
             found.covered.append(pair)
-        elif not known[outer] or not known[inner]:
+        elif not known[inner] or not known[outer] and not is_of_program(outer, graph, lines or {}):
             found.outside.append(pair)
         elif any(graph.leads_on(it) for it in known[inner]):
             found.missed.append(pair)

@@ -65,7 +65,7 @@ def add(whole: Record, one: Record) -> None:
 
 def told(event: Event, lines: dict[Called, Line]) -> str:
     if isinstance(event, Called):
-        file, line = lines[event]
+        file, line, _ = lines[event]
         return f"{Path(file).name}:{line}"
     return f"{event.declaring}.{event.signal}" + (f" of {event.cls}" if event.cls != event.declaring else "")
 

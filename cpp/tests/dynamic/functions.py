@@ -10,20 +10,33 @@ sys.path.insert(0, str(Path(__file__).resolve().parent.parent))
 from needs import output, program
 from spied import Called
 
-Line = tuple[str, int]
+# The file, the line at which the body begins or the function is named, and its name.
+Line = tuple[str, int, str]
 TOLD = re.compile(r"(.*):(\d+)(?: \(discriminator \d+\))?")
 
 
 def lines_of(functions: Iterable[Called]) -> dict[Called, Line]:
-    """The file and the line of each function of which the compiler told it."""
+    """The file, the line and the name of each function of which the compiler told it."""
     by_module: dict[str, list[Called]] = defaultdict(list)
     for it in functions:
         by_module[it.module].append(it)
     found = {}
     for module, them in by_module.items():
-        told = output([program("addr2line", "binutils"), "-e", module, *(hex(it.offset) for it in them)]).splitlines()
-        for function, words in zip(them, told):
+        told = output([program("addr2line", "binutils"), "-f", "-C", "-e", module, *(hex(it.offset) for it in them)]).splitlines()
+        for function, name, words in zip(them, told[::2], told[1::2]):
             line = TOLD.fullmatch(words)
             if line and line[1] != "??" and line[2] != "0":
-                found[function] = (os.path.realpath(line[1]), int(line[2]))
+                found[function] = (os.path.realpath(line[1]), int(line[2]), short(name))
     return found
+
+
+def short(name: str) -> str:
+    """A function's own name, of its name with scopes, arguments and types: `[` of a lambda."""
+    if "{lambda" in name:
+        return "["
+    while "<" in name and not name.startswith("operator") and "::operator" not in name:
+        shorter = re.sub(r"<[^<>]*>", "", name)
+        if shorter == name:
+            break
+        name = shorter
+    return name.split("(")[0].rpartition("::")[2].rpartition(" ")[2]

@@ -14,6 +14,10 @@ WIRE = re.compile(r"wire (\w+) (\w+)\(.*\) -> (\w+) (\w+)\(.*\) (\w+)")
 BINDING = re.compile(r"binding \w+ (\w+)\.(\w+) \((.*?)\) = (.*);")
 
 
+# How many lines a function's head has at most.
+MOST_LINES = 10
+
+
 class BadProgram(Exception):
     """A line that no reader writes: the sentence that says so."""
 
@@ -36,6 +40,7 @@ class Graph:
     deleting: set[Node] = field(default_factory=set)                              # slots that delete
     declared: dict[int, Node] = field(default_factory=dict)                       # by the line of the program
     functions: dict[tuple[str, int], set[Node]] = field(default_factory=dict)     # by file and line of C++
+    words: dict[tuple[str, int], str] = field(default_factory=dict)               # how each is declared
 
     def chain(self, name: str) -> list[str]:
         found = []
@@ -76,6 +81,16 @@ class Graph:
                     seen.add(end)
                     todo.append(end)
         return seen
+
+    def files(self) -> set[str]:
+        return {file for file, _ in self.functions}
+
+    def function(self, file: str, line: int, name: str) -> set[Node]:
+        """What stands for a function of which the compiler tells where it is named or its body begins."""
+        for at in range(line, line - MOST_LINES, -1):
+            if (file, at) in self.functions and (at == line or name + ("(" if name != "[" else "") in self.words[(file, at)]):
+                return self.functions[(file, at)]
+        return set()
 
     def leads_on(self, node: Node) -> bool:
         """Whether a member does anything: what leads to nothing need not be told of everywhere."""
@@ -166,5 +181,7 @@ def read(path: Path, root: Path) -> Graph:
     for words in (it.split("\t") for it in path.with_suffix(".places").read_text().splitlines()):
         node = graph.declared.get(int(words[0]))
         if node:
-            graph.functions.setdefault((os.path.realpath(root / words[2]), int(words[3])), set()).add(node)
+            place = (os.path.realpath(root / words[2]), int(words[3]))
+            graph.functions.setdefault(place, set()).add(node)
+            graph.words[place] = words[5]
     return graph

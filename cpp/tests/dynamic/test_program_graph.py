@@ -7,6 +7,7 @@ import pytest
 sys.path.insert(0, str(Path(__file__).resolve().parent.parent))
 sys.path.insert(0, str(Path(__file__).resolve().parent))
 from coverage import cover
+from functions import short
 from program_graph import BadProgram, parse, read
 from spied import BadRecord, Called, Emitted, Record
 from spied import parse as parse_record
@@ -70,17 +71,26 @@ def test_pairs_of_a_run_are_covered_missed_or_outside() -> None:
 
 
 def test_functions_of_a_run_are_known_by_their_lines(tmp_path: Path) -> None:
+    """A body may begin some lines below the name of its function."""
     (tmp_path / "app.gf").write_text(PROGRAM)
-    places = [(4, "level.cpp", 7), (10, "mixer.cpp", 3), (11, "mixer.cpp", 5)]
-    (tmp_path / "app.places").write_text("".join(f"{line}\t5\t{file}\t{at}\t10\twords\n" for line, file, at in places))
+    places = [(4, "level.cpp", 7, "void Level::set(int value)"), (10, "mixer.cpp", 3, "void start()"), (11, "mixer.cpp", 5, "[this]")]
+    (tmp_path / "app.places").write_text("".join(f"{line}\t5\t{file}\t{at}\t10\t{words}\n" for line, file, at, words in places))
     graph = read(tmp_path / "app.gf", tmp_path)
     set_, start, follow = (Called("program", at) for at in (1, 2, 3))
-    lines = {set_: (str(tmp_path / "level.cpp"), 7), start: (str(tmp_path / "mixer.cpp"), 3), follow: (str(tmp_path / "mixer.cpp"), 5)}
+    level, mixer = str(tmp_path / "level.cpp"), str(tmp_path / "mixer.cpp")
+    lines = {set_: (level, 9, "set"), start: (mixer, 3, "start"), follow: (mixer, 5, "["), Called("program", 4): (level, 12, "other")}
     moved = Emitted("Level", "Level", "moved")
-    record = Record(under={(set_, moved): 1, (moved, follow): 1, (follow, set_): 1, (start, set_): 1, (start, Called("program", 9)): 1})
+    record = Record(under={(set_, moved): 1, (moved, follow): 1, (follow, set_): 1, (start, set_): 1, (start, Called("program", 9)): 1,
+                           (Called("program", 4), moved): 1})
     found = cover(record, graph, lines)
     assert found.covered == [(set_, moved), (moved, follow), (follow, set_)]
-    assert found.missed == [(start, set_)]
+    assert found.missed == [(start, set_), (Called("program", 4), moved)], "of a file that was read, and not in the program"
+
+
+@pytest.mark.parametrize("told, name", [("Window::setValue(int)", "setValue"), ("main", "main"), ("void drop<Apple>(Apple*&)", "drop"),
+                                        ("Window::Window(QWidget*)::{lambda()#1}::operator()() const", "["), ("Box<Apple>::cut()", "cut")])
+def test_names_of_functions(told: str, name: str) -> None:
+    assert short(told) == name
 
 
 def test_a_record_tells_what_became_of_the_program() -> None:
