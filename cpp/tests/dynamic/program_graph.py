@@ -93,8 +93,11 @@ class Graph:
         return set()
 
     def leads_on(self, node: Node) -> bool:
-        """Whether a member does anything: what leads to nothing need not be told of everywhere."""
-        return bool(self.edges.get(node)) or node in self.deleting
+        """Whether a signal has somebody who listens, or a function brings about a signal or a deletion: what leads to nothing need not be
+        told of everywhere."""
+        if node[1] in self.classes[node[0]].signals:
+            return bool(self.edges.get(node))
+        return any(it in self.deleting or it[1] in self.classes[it[0]].signals for it in {node, *self.reach({node})})
 
     def has(self, cls: str) -> bool:
         """Whether there are objects of a class of C++, as such or by a role."""
