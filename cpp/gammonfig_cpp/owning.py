@@ -1,7 +1,7 @@
 """Who owns what: by the calls of Qt's functions, as the table says, and by what destructors delete."""
 from __future__ import annotations
 
-from .model import Handed, Statement, Value
+from .model import Function, Handed, Statement, Value
 from .qtmodel import TAKING, QtModel
 from .whole import Whole
 
@@ -14,10 +14,17 @@ def find_owners(whole: Whole, qt: QtModel) -> None:
             whole.owns.append((handed.on, value, handed.place))
             whole.contents.append((handed.on, value))
     for function in whole.functions.values():
-        for statement in function.statements if function.kind == 'destructor' else ():
-            if is_of_member(statement):
-                held = Value('variable', statement.field, statement.cls) if statement.how == 'own' else statement.on
-                whole.owns.append((Value('member', cls=function.cls), held, statement.place))
+        for statement in deleted_at_the_end(function, whole) if function.kind == 'destructor' else ():
+            held = Value('variable', statement.field, statement.cls) if statement.how == 'own' else statement.on
+            whole.owns.append((Value('member', cls=function.cls), held, statement.place))
+
+
+def deleted_at_the_end(destructor: Function, whole: Whole) -> list[Statement]:
+    """What a destructor deletes of its members, itself or by a function of its own that it calls."""
+    called = [whole.functions[s.function] for s in destructor.statements
+              if s.kind == 'call' and s.on.kind == 'this' and not s.virtual and s.function in whole.functions]
+    by_itself = [s for s in destructor.statements if is_of_member(s)]
+    return by_itself + [s for f in called for s in f.statements if is_of_member(s) and s.how == 'own']
 
 
 def of_each_object(given: Value, this: Value, whole: Whole, depth: int = 0) -> list[tuple[Value, Value]]:

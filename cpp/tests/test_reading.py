@@ -131,6 +131,7 @@ def test_what_an_object_deletes_of_its_own() -> None:
     assert own['cutFound'] == [True], 'nor is it found among its children'
     assert own['cutListed'] == own['cutReturned'] == own['cutCopied'] == [True], 'in a loop, by a function, as a copy'
     assert own['cutListedOther'] == [False]
+    assert own['shear'] == [True], 'what a function deletes that its destructor calls is owned'
     assert own['cutAbove'] == [False], 'what a member only knows of may be above'
     assert own['cutOther'] == [False], 'the child of another object may be this one'
 

@@ -68,3 +68,13 @@ signals:
 private:
     QList<Grove *> m_inner;
 };
+
+class Hedge : public QObject {
+    Q_OBJECT
+public:
+    ~Hedge() override { shear(); }
+    void grow() { m_inner.append(new Hedge); }
+    void shear() { qDeleteAll(m_inner); }
+private:
+    QList<Hedge *> m_inner;
+};
