@@ -68,7 +68,7 @@ class Calling:
         shown = method.shown if method is not None else statement.name
         steps, known = [], False
         for element, usr in self.reached(statement.function, shown, statement.name, found, statement.virtual):
-            target = self.target(element, usr, statement.name)
+            target = self.target(element, usr, statement.name, self.lists(statement.on))
             known = known or target is not None or self.is_known(element, usr, statement.name)
             if target is None:
                 continue
@@ -88,7 +88,14 @@ class Calling:
                 return [Step('call', key, program.role(element), (), statement.place, statement.conditions)], True
         return [], False
 
-    def target(self, element: Element, usr: str, name: str) -> Key | None:
+    def lists(self, value: Value) -> frozenset[Element]:
+        """The lists, trees or tables that an item is one of, where that is known."""
+        values = self.whole.flows.get(value.key, []) if value.kind == 'variable' else [value]
+        if not values or not all(it.kind == 'class' and it.parts for it in values):
+            return frozenset()
+        return frozenset().union(*(self.objects.elements(it.parts[0]) for it in values))
+
+    def target(self, element: Element, usr: str, name: str, lists: frozenset[Element] = frozenset()) -> Key | None:
         """The slot that stands for a function: with its body, or one of Qt of which something is known."""
         whole = self.whole
         if usr in whole.functions:
@@ -99,7 +106,7 @@ class Calling:
         if self.qt.entry(self.objects.cls(element), name) is None:
             return None
         method = whole.method(usr)
-        key = self.library(element, name, list(method.parameters) if method is not None else [])
+        key = self.library(element, name, list(method.parameters) if method is not None else [], lists)
         return key if self.program.members[key].steps else None
 
     def is_known(self, element: Element, usr: str, name: str) -> bool:
@@ -108,10 +115,11 @@ class Calling:
 
     # Functions of Qt
 
-    def library(self, element: Element, name: str, parameters: list[Parameter]) -> Key:
-        """The slot that stands for a function of Qt on an object; its body is made once."""
+    def library(self, element: Element, name: str, parameters: list[Parameter], lists: frozenset[Element] = frozenset()) -> Key:
+        """The slot that stands for a function of Qt on an object, or on an item of lists; its body is made once."""
         program, element = self.program, self.program.role(element)
-        key = ('library', element.kind, element.key, name, *(p.type for p in parameters))
+        roles = sorted({program.role(it) for it in lists})
+        key = ('library', element.kind, element.key, name, *(p.type for p in parameters), *(word for it in roles for word in it))
         if key in program.members:
             return key
         cls = self.objects.cls(element)
@@ -120,10 +128,11 @@ class Calling:
         member = Member(key, element, name, 'slot', shown, None, parameters, library=True)
         program.add(member)
         if found is not None:
-            member.steps = self._library_steps(element, name, parameters, found[1], found[2])
+            member.steps = self._library_steps(element, name, parameters, found[1], found[2], roles)
         return key
 
-    def _library_steps(self, element: Element, name: str, parameters: list[Parameter], entry: Entry, written: list[Written]) -> list[Step]:
+    def _library_steps(self, element: Element, name: str, parameters: list[Parameter], entry: Entry, written: list[Written],
+                       lists: list[Element]) -> list[Step]:
         cls, steps, told, names = self.objects.cls(element), [], set(), set()
         for one in written:
             usr = self.whole.signal(cls, one.notify)
@@ -135,7 +144,7 @@ class Calling:
                 steps.append(step)
         for signal in entry.emits:
             if signal not in told:
-                steps += self._emit(cls, signal)
+                steps += self._emit(cls, signal, lists)
         for signal in entry.inside:
             steps += self._inside(element, signal)
         for function in entry.calls:
@@ -175,7 +184,7 @@ class Calling:
         key = self.program.property((self.whole.class_of(usr), one.name), owner, one.name, parameters[0].sort, self.program.signal(usr), None)
         return Step('set', key, None, (Term('parameter', 0),))
 
-    def _emit(self, cls: str, name: str) -> list[Step]:
+    def _emit(self, cls: str, name: str, lists: list[Element]) -> list[Step]:
         whole, program = self.whole, self.program
         if '::' not in name:
             usr = whole.signal(cls, name)
@@ -187,7 +196,10 @@ class Calling:
         steps = []
         for key in whole.by_name.get(class_name, ()):
             found = whole.signal(key, signal)
-            if found is not None and not whole.is_inside(key) and self.is_present(key):
+            fitting = [it for it in lists if whole.is_a(self.objects.cls(it), key)]
+            if found is not None and fitting:
+                steps += [Step('call', program.emitter(found), it) for it in fitting]
+            elif found is not None and not whole.is_inside(key) and self.is_present(key):
                 steps.append(Step('call', program.emitter(found), program.of_class(key)))
         return steps
 

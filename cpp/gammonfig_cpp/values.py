@@ -19,6 +19,9 @@ FACTORY_CLASSES = {'QAction', 'QMenu', 'QToolBar', 'QPushButton', 'QTcpSocket', 
                    'QGraphicsRectItem', 'QGraphicsTextItem', 'QGraphicsLineItem', 'QGraphicsEllipseItem', 'QGraphicsPixmapItem',
                    'QGraphicsPathItem', 'QGraphicsSimpleTextItem', 'QGraphicsPolygonItem', 'QThread', 'QMdiSubWindow'}
 HELD = {'widget', 'currentWidget', 'centralWidget', 'itemAt', 'activeSubWindow', 'currentSubWindow', 'takeAt', 'cellWidget', 'indexWidget'}
+# Functions by which a list, a tree or a table gives one of its items.
+ITEMS = {'item', 'currentItem', 'itemAt', 'topLevelItem', 'itemFromIndex'}
+ITEM_WIDGETS = ('QListWidget', 'QTreeWidget', 'QTableWidget')
 # Functions of Qt that may give away what an object has owned: the table says which of them do.
 GIVING_AWAY = re.compile('(take|remove|replace|set)[A-Z]')
 
@@ -134,6 +137,8 @@ class Values:
             return None
         if name == 'sender' and parent == 'QObject':
             return Value('sender', self.context.function.key if self.context.function else '', cls)
+        if name in ITEMS and parent in ITEM_WIDGETS and on is not None:
+            return Value('class', cls=cls, parts=(self.of(on, depth + 1),))
         if name in HELD:
             holder = self.of(on, depth + 1) if on is not None else self.context.this
             return Value('content', cls=cls, parts=(holder,))

@@ -297,6 +297,14 @@ def test_classes_of_qt() -> None:
     assert found.linked.program.silent == {'QPushButton::setFlat': 1}
 
 
+def test_an_item_is_told_of_by_its_list() -> None:
+    found = case('widgets')
+    for slot, lists in (('check', ['m_one']), ('checkNext', ['m_other']), ('checkAny', ['m_one', 'm_other'])):
+        called = [line.split('.')[-1].split('(')[0] for line in found.body(slot) if 'setCheckState' in line]
+        told = {line for name in called for line in found.body(name, 'QListWidgetItem')}
+        assert [it for it in ('m_one', 'm_other') if any(it in line or 'to_QListWidget.' in line for line in told)] == lists, (slot, told)
+
+
 def test_members_that_lead_to_nothing() -> None:
     whole, lean = case('connects'), case('connects', lean=True)
     assert 'slot byMember()' in whole.text

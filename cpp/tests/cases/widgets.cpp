@@ -34,3 +34,21 @@ class Ask : public QDialog {
 public:
     void ok() { accept(); }
 };
+
+class Lists : public QWidget {
+    Q_OBJECT
+public:
+    Lists() {
+        connect(m_one, &QListWidget::itemChanged, this, &Lists::changed);
+        connect(m_other, &QListWidget::itemChanged, this, &Lists::changed);
+    }
+    void check() { QListWidgetItem *item = m_one->item(0); item->setCheckState(Qt::Checked); }
+    void checkNext() { m_other->currentItem()->setCheckState(Qt::Checked); }
+    void checkAny(QListWidgetItem *item) { item->setCheckState(Qt::Checked); }
+    void changed() { emit told(); }
+signals:
+    void told();
+private:
+    QListWidget *m_one = new QListWidget(this);
+    QListWidget *m_other = new QListWidget(this);
+};
