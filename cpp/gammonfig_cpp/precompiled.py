@@ -14,6 +14,9 @@ from .units import ANNOTATIONS, PATHS, Unit
 # So many units have to be read before it pays to parse all headers of the modules that they may include.
 LEAST = 6
 ERROR = 3
+# What the headers' own code makes of templates is made once, with them. Else each unit made all of it anew, which took two thirds of
+# its time.
+ONCE = '-fpch-instantiate-templates'
 # The folder of a module's headers, and the header in it that includes them all.
 MODULE = re.compile(r'Qt[A-Z]\w*$')
 
@@ -25,7 +28,7 @@ class Kind:
     flags: tuple[str, ...]
 
     def name(self) -> str:
-        words = '\0'.join((*self.modules, '', *self.flags, '', *ANNOTATIONS, '', version()))
+        words = '\0'.join((*self.modules, '', *self.flags, '', *ANNOTATIONS, ONCE, '', version()))
         return 'headers-' + hashlib.sha256(words.encode()).hexdigest()[:40]
 
 
@@ -92,7 +95,7 @@ def _parse(kind: Kind, path: str) -> bool:
     if not os.path.exists(path + '.h'):
         with open(path + '.h', 'w', encoding='utf-8') as file:
             file.write(text)
-    tree = cindex.Index.create().parse(path + '.h', args=['-x', 'c++-header', *kind.flags, *ANNOTATIONS],
+    tree = cindex.Index.create().parse(path + '.h', args=['-x', 'c++-header', *kind.flags, *ANNOTATIONS, ONCE],
                                        options=cindex.TranslationUnit.PARSE_INCOMPLETE)
     if any(found.severity >= ERROR for found in tree.diagnostics):
         return False
