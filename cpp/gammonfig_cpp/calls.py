@@ -287,7 +287,7 @@ class Calls:
             self.context.bodies.walk(given)
 
     def construct(self, call: Cursor, on: Value) -> None:
-        """A constructor runs on an object; a parent among its arguments owns it."""
+        """A constructor runs on an object."""
         context, called = self.context, call.referenced
         parent = called.semantic_parent
         if parent.kind not in RECORDS or parent.spelling in SMART | CONTAINERS:
@@ -298,8 +298,13 @@ class Calls:
         if inside:
             self._to_function(call, called, on, given).virtual = False
             self.note_construction(context.function_key(called), on, given)
+        self._own_by_parent(call, called, on, given)
+        self.special.constructed(call, context.facts.classes[cls].name, inside, on, given)
+
+    def _own_by_parent(self, call: Cursor, called: Cursor, on: Value, given: list[Cursor]) -> None:
+        """A parent among the arguments of a constructor owns its object."""
+        context, inside, owner = self.context, self.context.is_inside(called), NONE
         formals = list(called.get_arguments())
-        owner = NONE
         for at, argument in enumerate(given[:len(formals)]):
             held = context.classes.of(argument.type)
             if held and (formals[at].spelling.lower().endswith('parent') or not inside) \
@@ -308,7 +313,6 @@ class Calls:
                 owner = context.values.of(argument)
         if owner.kind not in ('null', 'none') and on.kind in ('site', 'this'):
             context.facts.owns.append((owner, on, context.place(call)))
-        self.special.constructed(call, context.facts.classes[cls].name, inside, on, given)
 
     def note_construction(self, constructor: str, on: Value, given: list[Cursor]) -> None:
         """What a constructor is handed for an object; '' stands for that of the object's class which takes so many arguments."""
@@ -322,10 +326,12 @@ class Calls:
         for inner in made.get_children() if made.kind == K.CXX_NEW_EXPR else ():
             call = strip(inner)
             if call.kind == K.CALL_EXPR and call.referenced is not None and call.referenced.kind == K.CONSTRUCTOR:
-                called = self._declared_constructor(call.referenced)
+                called, given, on = self._declared_constructor(call.referenced), list(call.get_arguments()), self.context.values.made(made)
+                if called.semantic_parent.kind in RECORDS and self.context.classes.of(made.type):
+                    self._own_by_parent(call, called, on, given)
                 if self.context.is_inside(called):
-                    self.pass_arguments(called, list(call.get_arguments()))
-                    self.note_construction(self.context.function_key(called), self.context.values.made(made), list(call.get_arguments()))
+                    self.pass_arguments(called, given)
+                    self.note_construction(self.context.function_key(called), on, given)
 
     @staticmethod
     def _declared_constructor(called: Cursor) -> Cursor:

@@ -152,7 +152,7 @@ class Context:
 
     @property
     def this(self) -> Value:
-        cls = self.function.cls if self.function else ''
+        cls = self.function.cls if self.function else self.outer
         return Value('this', cls=cls) if cls else NONE
 
     # Keys

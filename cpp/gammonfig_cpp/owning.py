@@ -1,8 +1,10 @@
 """Who owns what: by the calls of Qt's functions, as the table says, and by what destructors delete."""
 from __future__ import annotations
 
+from dataclasses import dataclass
+
 from .model import Function, Handed, Statement, Value
-from .qtmodel import TAKING, QtModel
+from .qtmodel import TAKING, Entry, QtModel
 from .whole import Whole
 
 
@@ -10,9 +12,11 @@ def find_owners(whole: Whole, qt: QtModel) -> None:
     """Adds owners to those that constructors and members show."""
     whole.owns = [(a, b, place) for owner, child, place in whole.owns for a, b in of_each_object(owner, child, whole)]
     for handed in whole.handed:
-        for value in owned_by(handed, qt):
-            whole.owns.append((handed.on, value, handed.place))
-            whole.contents.append((handed.on, value))
+        of_table = hand_over(handed, qt)
+        whole.owns += [(handed.on, value, handed.place) for value in of_table.owned]
+        whole.laid += [(handed.on, value, handed.place) for value in of_table.laid]
+        whole.owns += [(a, b, handed.place) for value in of_table.owners for a, b in of_each_object(value, handed.on, whole)]
+        whole.contents += [(handed.on, value) for value in of_table.owned + of_table.laid]
     for function in whole.functions.values():
         for statement in deleted_at_the_end(function, whole) if function.kind == 'destructor' else ():
             held = Value('variable', statement.field, statement.cls) if statement.how == 'own' else statement.on
@@ -39,13 +43,25 @@ def of_each_object(given: Value, this: Value, whole: Whole, depth: int = 0) -> l
     return found + [(given, Value('site', site, whole.sites[site].cls)) for site in whole.unseen(whole.class_of(function))]
 
 
-def owned_by(handed: Handed, qt: QtModel) -> list[Value]:
-    """The arguments that the object owns after the call: those that the table names, or all of a function that is known to own."""
+@dataclass(frozen=True)
+class Given:
+    """What is owned after a call: by its object, by that around which its object, a layout, lies; and who owns its object."""
+    owned: list[Value]
+    laid: list[Value]
+    owners: list[Value]
+
+
+def hand_over(handed: Handed, qt: QtModel) -> Given:
+    """What the table says of a call's arguments; a function that it doesn't know, and that is known to own, owns all of them."""
     found = qt.entry(handed.cls, handed.name)
-    numbers = found[1].owns if found is not None else []
-    if numbers:
+    entry = found[1] if found is not None else Entry()
+
+    def named(numbers: list[str]) -> list[Value]:
         return [value for at, value in handed.given if str(at) in numbers]
-    return [value for _, value in handed.given] if handed.name in TAKING else []
+
+    if not entry.owns and not entry.lays and handed.name in TAKING:
+        return Given([value for _, value in handed.given], [], [])
+    return Given(named(entry.owns), named(entry.lays), named(entry.owner))
 
 
 def is_of_member(statement: Statement) -> bool:

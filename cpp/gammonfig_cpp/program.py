@@ -1,7 +1,7 @@
 """The program that comes of the facts: members of roles, what their bodies do, wires, owners and bindings."""
 from __future__ import annotations
 
-from collections import Counter
+from collections import Counter, defaultdict
 from dataclasses import dataclass, field, replace
 
 from .model import Condition, Function, Parameter, Place, Term
@@ -114,8 +114,35 @@ class Program:
                 for a in self.objects.elements(owner):
                     for b in self.objects.elements(child):
                         found.setdefault((a, b), place)
+            self._lay(found)
             self._owners = len(self.whole.owns), [(a, b, place) for (a, b), place in sorted(found.items(), key=lambda f: f[0])]
         return self._owners[1]
+
+    def _lay(self, found: dict[tuple[Element, Element], Place]) -> None:
+        """What a layout is given, the object owns around which it lies, and a layout in it itself; where none is known, it owns all."""
+        laid = [(a, b, place) for layout, child, place in self.whole.laid
+                for a in self.objects.elements(layout) for b in self.objects.elements(child)]
+        for a, b, place in laid:
+            if self._is_layout(b):
+                found.setdefault((a, b), place)
+        above: dict[Element, set[Element]] = defaultdict(set)
+        for a, b in found:
+            above[b].add(a)
+        for a, b, place in laid:
+            for around in self._around(a, above) if not self._is_layout(b) else ():
+                found.setdefault((around, b), place)
+
+    def _is_layout(self, element: Element) -> bool:
+        return self.whole.is_named(self.objects.cls(element), 'QLayout')
+
+    def _around(self, layout: Element, above: dict[Element, set[Element]]) -> list[Element]:
+        """The objects around which a layout lies, or it itself."""
+        seen, todo = {layout}, [layout]
+        while todo:
+            new = above.get(todo.pop(), set()) - seen
+            seen |= new
+            todo += [element for element in new if self._is_layout(element)]
+        return sorted(element for element in seen if not self._is_layout(element)) or [layout]
 
     # Members
 

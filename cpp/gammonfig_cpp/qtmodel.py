@@ -11,20 +11,20 @@ from .whole import Whole
 # Functions by which an object becomes the owner of its arguments, where the table doesn't say of which.
 TAKING = {'addWidget', 'insertWidget', 'setCentralWidget', 'setWidget', 'addTab', 'insertTab', 'addPage', 'setPage', 'setMenuBar',
           'setStatusBar', 'addDockWidget', 'setLayout', 'addLayout', 'insertLayout', 'addToolBar', 'addSubWindow', 'setCellWidget',
-          'setItemWidget', 'setIndexWidget', 'setCornerWidget', 'addItem', 'addPermanentWidget', 'addRow', 'setTitleBarWidget', 'addMenu',
+          'setItemWidget', 'setIndexWidget', 'setCornerWidget', 'addItem', 'addPermanentWidget', 'addRow', 'setTitleBarWidget',
           'setViewport', 'addScrollBarWidget', 'setMenuWidget', 'addAnimation', 'addState', 'setButton', 'replaceWidget'}
 # Functions of which the reader knows what they mean, beside the table.
 KNOWN = TAKING | {'addAction', 'setParent', 'setObjectName', 'setAttribute', 'callOnTimeout'}
 LINE = re.compile(r'(\w+)\.(~?\w+)\s+(.+)$')
-CLAUSES = ('emits', 'inside', 'rarely', 'calls', 'posts', 'deletes', 'later', 'owns', 'takes')
+CLAUSES = ('emits', 'inside', 'rarely', 'calls', 'posts', 'deletes', 'later', 'owns', 'lays', 'owner', 'takes', 'needs')
 WIRE = re.compile(r'wire\s+(\w+)\.(\w+)\s*->\s*(\w+)\.(\w+)$')
 
 
 @dataclass
 class Entry:
     """What one function does: names of signals, of those of objects in this one, of virtual functions, of what is posted, of what is
-    deleted at once or later, the arguments that it owns, what it gives away; and whether it runs an event loop. A name with `C::`
-    before it is of any object of the class C."""
+    deleted at once or later, the arguments that it owns, those that the widget owns around which a layout lies, the argument that becomes
+    its own owner, what it gives away; and whether it runs an event loop. A name with `C::` before it is of any object of the class C."""
     emits: list[str] = field(default_factory=list)
     inside: list[str] = field(default_factory=list)
     calls: list[str] = field(default_factory=list)
@@ -32,7 +32,10 @@ class Entry:
     deletes: list[str] = field(default_factory=list)
     later: list[str] = field(default_factory=list)
     owns: list[str] = field(default_factory=list)
+    lays: list[str] = field(default_factory=list)
+    owner: list[str] = field(default_factory=list)
     takes: list[str] = field(default_factory=list)
+    needs: list[str] = field(default_factory=list)
     modal: bool = False
 
     def add(self, clause: str, names: list[str]) -> None:

@@ -90,8 +90,6 @@ class Special:
                 context.facts.object_names.append((on, text))
         elif self._dies_by_itself(name, given):
             context.add('close', call, on)
-        elif name == 'setParent' and given:
-            context.facts.owns.append((context.values.of(given[0]), on, context.place(call)))
         else:
             self._hand(call, name, on, given)
         if name in WIRING:

@@ -26,6 +26,8 @@ class Whole:
         self.forwards: dict[str, list[Forward]] = defaultdict(list)
         self.connects: list[Connect] = []
         self.owns: list[tuple[Value, Value, Place]] = []
+        # What layouts are given: the object around which they lie owns it.
+        self.laid: list[tuple[Value, Value, Place]] = []
         self.contents: list[tuple[Value, Value]] = []
         self.handed: list[Handed] = []
         self.constructs: dict[str, list[Construct]] = defaultdict(list)

@@ -32,7 +32,7 @@ def flags(package: str) -> tuple[str, ...]:
 def facts() -> dict[str, Facts]:
     """The facts of each case."""
     names = sorted(name for name in os.listdir(CASES) if name.endswith('.cpp'))
-    units = [Unit(os.path.join(CASES, name), flags('Qt6Widgets' if name in ('ends.cpp', 'widgets.cpp') else 'Qt6Core')) for name in names]
+    units = [Unit(os.path.join(CASES, name), flags('Qt6Widgets' if name in ('ends.cpp', 'owners.cpp', 'widgets.cpp') else 'Qt6Core')) for name in names]
     return dict(zip((name[:-4] for name in names), gather(units, [CASES], None, jobs(), True)))
 
 

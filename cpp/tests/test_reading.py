@@ -177,6 +177,17 @@ def test_owners() -> None:
         assert f'owns Machine {role};' in text
 
 
+def test_owners_by_what_functions_of_qt_do() -> None:
+    """`setParent` names an owner. What a layout is given, the widget owns around which it lies, and it doesn't die with the layout."""
+    found = case('owners')
+    assert [line for line in found.text.split('\n') if line.startswith('owns ')] == [
+        'owns Crown QVBoxLayout;', 'owns Crown Leaf_m_laid;', 'owns Crown Leaf_m_adopted;', 'owns Crown Twig;',
+        'owns QVBoxLayout QHBoxLayout;']
+    assert found.body('flatten', 'Crown') == ['delete this.to_QHBoxLayout;']
+    assert found.body('Crown_parts_gone') == [
+        f'call this.to_{name}.Leaf_gone();' for name in ('Leaf_m_laid', 'Leaf_m_adopted', 'Twig')]
+
+
 def test_a_role_for_each_member() -> None:
     found = case('roles')
     expected = {'pokeLeft': 'Cell_left.poke', 'pokeBase': 'Loud.poke_2', 'pokeOwn': 'Loud.poke', 'pokeListed': 'Cell_right.poke',

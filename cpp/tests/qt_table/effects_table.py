@@ -3,7 +3,7 @@ import re
 from dataclasses import dataclass, field
 from pathlib import Path
 
-CLAUSES = ["emits", "inside", "rarely", "calls", "posts", "deletes", "later", "owns", "takes"]
+CLAUSES = ["emits", "inside", "rarely", "calls", "posts", "deletes", "later", "owns", "lays", "owner", "takes"]
 BARE = ["modal", "silent"]
 
 
