@@ -7,6 +7,11 @@ void setUpTexts();
 void setUpModels();
 void setUpWindows();
 void setUpCore();
+void setUpChildren();
+void setUpTold();
+void registerLoops();
+void registerPlaces();
+void registerTold();
 
 namespace {
 
@@ -239,10 +244,15 @@ void registerAll()
     setUpModels();
     setUpWindows();
     setUpCore();
+    setUpChildren();
+    setUpTold();
     callInputs();
     callModels();
     callTexts();
     callWindows();
     callCore();
+    registerLoops();
+    registerPlaces();
+    registerTold();
     registerMade();
 }

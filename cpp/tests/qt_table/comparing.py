@@ -8,9 +8,9 @@ from table_program import Called, Note
 # What every object has, and nobody connects to but those who mean just that.
 NOISE = {"objectNameChanged"}
 # The window that Qt makes for a widget tells nothing that the widget doesn't; style animations are Qt's own.
-HIDDEN_INSIDE = {"QWindow", "QScreen", "QInputMethod", "QPaintDeviceWindow", "QAbstractAnimation", "QAbstractTextDocumentLayout"}
+HIDDEN_INSIDE = {"QAbstractEventDispatcher", "QWindow", "QScreen", "QInputMethod", "QPaintDeviceWindow", "QAbstractAnimation", "QAbstractTextDocumentLayout"}
 UNTOLD_HANDLERS = {"timerEvent", "enterEvent", "leaveEvent"}
-CLAUSES = {"called": "calls", "deleted": "deletes", "owned": "owns", "released": "takes"}
+CLAUSES = {"released": "takes", "joined": "owner", "looped": "modal"}
 
 
 @dataclass
@@ -25,6 +25,7 @@ class Fact:
     names: list[str]              # all that mean it
     place: str
     signal: str = ""
+    told: bool = True             # whether the table has to tell it: handlers of any other widget it may
     classes: list[str] = field(default_factory=list)    # of the object that emits
 
 
@@ -33,7 +34,7 @@ def ignored(note: Note, headers: Headers) -> bool:
     if note.kind == "signal":
         return note.name in NOISE or note.whose == "hidden" or not chain or (note.whose != "self" and bool(HIDDEN_INSIDE & set(chain)))
     if note.kind == "called":
-        return note.name in UNTOLD_HANDLERS or (note.whose == "other" and note.classes in (["QWidget"], ["QObject"]))
+        return note.name in UNTOLD_HANDLERS
     if note.kind == "owned":
         return note.name == "0"
     return note.kind == "deleted" and (note.whose in ("inside", "beyond", "hidden") or not chain)
@@ -50,7 +51,7 @@ def signal_names(note: Note, headers: Headers) -> tuple[str, list[str]]:
     return f"{chain[0] if note.whose in ('inside', 'beyond') else chain[-1]}::{note.name}", names
 
 
-def clause_and_names(note: Note, headers: Headers) -> tuple[str, str, list[str]]:
+def clause_and_names(note: Note, headers: Headers, is_layout: bool) -> tuple[str, str, list[str]]:
     if note.kind == "signal":
         name, names = signal_names(note, headers)
         return ("inside" if note.whose in ("inside", "owned") else "emits"), name, names
@@ -60,29 +61,39 @@ def clause_and_names(note: Note, headers: Headers) -> tuple[str, str, list[str]]
     if note.kind == "deleted":
         names = ["this"] if note.whose == "self" else [*headers.public(note.classes), note.name]
         return ("deletes" if note.once else "later"), names[0], names
+    if note.kind == "owned":
+        return ("owns" if note.whose in ("self", "inside", "owned") or not is_layout else "lays"), note.name, [note.name]
     name = "result" if note.kind == "released" and note.name == "0" else note.name
-    return CLAUSES[note.kind], name, [name, "result"]
+    return CLAUSES[note.kind], name, [name] if name == "this" or note.kind != "released" else [name, "result"]
+
+
+def chain_of(call: Called, headers: Headers) -> list[str]:
+    """The classes of the object whose function was called: the subject's, but for a function of another class that is called beside it."""
+    chain = headers.chain(call.subject)
+    return chain if call.cls in chain else headers.chain(call.cls)
 
 
 def facts(calls: list[Called], headers: Headers) -> list[Fact]:
     found = []
     for call in calls:
         dead = any(it.kind == "deleted" and it.whose == "self" for it in call.notes)
+        looped = any(it.kind == "looped" for it in call.notes)
         for note in call.notes:
-            if ignored(note, headers) or (not note.once and note.kind != "deleted"):
+            if ignored(note, headers) or (not note.once and (looped or note.kind != "deleted")):
                 continue
             if note.kind == "deleted" and note.whose != "self" and dead:
                 continue          # what an object owns dies with it
             if note.kind == "called" and note.whose == "self" and note.name == call.function:
                 continue
-            clause, name, names = clause_and_names(note, headers)
-            chain, function, declared = headers.chain(call.subject), call.function, call.cls
+            chain, function, declared = chain_of(call, headers), call.function, call.cls
+            clause, name, names = clause_and_names(note, headers, "QLayout" in chain)
             if note.handler and note.handler != "event" and note.whose in ("self", "inside", "owned"):
                 chain, function = headers.public(note.handlers_classes), note.handler
                 declared = chain[-1] if chain else ""
             if chain:
                 classes = headers.public(note.classes) if note.kind == "signal" else []
-                found.append(Fact(chain, function, declared, clause, name, names, call.place(), note.name, classes))
+                told = note.kind != "called" or note.whose != "other" or note.classes not in (["QWidget"], ["QObject"])
+                found.append(Fact(chain, function, declared, clause, name, names, call.place(), note.name, told, classes))
     return found
 
 
@@ -127,7 +138,9 @@ class Finding:
     places: set[str] = field(default_factory=set)
 
 
-ASKED = {"emits": ["emits", "rarely", "inside"], "inside": ["emits", "rarely", "inside"]}
+SIGNALS = ["emits", "rarely", "inside"]
+# What lies in a layout may be a layout, which the outer one owns.
+ASKED = {"emits": SIGNALS, "inside": SIGNALS, "owns": ["owns", "lays"]}
 Used = set[tuple[str, str, str, str]]
 
 
@@ -140,10 +153,24 @@ def allowed(fact: Fact, table: Table, headers: Headers, emitted: set[tuple[str, 
                 if name in fact.names:
                     used.add((line.cls, line.function, clause, name))
                     good = True
-    if good or fact.clause not in ASKED:
+        if fact.clause == "modal" and "modal" in line.clauses:
+            used.add((line.cls, line.function, "modal", ""))
+            good = True
+    if good or fact.clause not in SIGNALS:
         return good
     notified = fact.name in headers.notified(fact.chain[0], fact.function)
     return notified or wired(fact, emitted, table) or by_others(fact, lines, table)
+
+
+def mark_posted(call: Called, table: Table, headers: Headers, used: Used) -> None:
+    """What a function posts by its line, and came from the event loop after it."""
+    chain = chain_of(call, headers)
+    for line in lines_of(table, chain, call.function):
+        posted = line.names("posts")
+        for note in call.notes if posted else ():
+            if not note.once and (note.kind == "called" or (note.kind == "signal" and headers.public(note.classes))):
+                _, _, names = clause_and_names(note, headers, False)
+                used |= {(line.cls, line.function, "posts", name) for name in posted if name in names}
 
 
 def compare(calls: list[Called], table: Table, headers: Headers) -> tuple[list[Finding], Used]:
@@ -152,9 +179,10 @@ def compare(calls: list[Called], table: Table, headers: Headers) -> tuple[list[F
     used: Used = set()
     for call in calls:
         these = facts([call], headers)
+        mark_posted(call, table, headers, used)
         emitted = {(cls, it.signal) for it in these if it.signal for cls in it.classes}
         for fact in these:
-            if not allowed(fact, table, headers, emitted, used):
+            if not allowed(fact, table, headers, emitted, used) and fact.told:
                 line = table.line(fact.chain, fact.function)
                 cls = line.cls if line else fact.declared
                 key = (cls, fact.function, fact.clause, fact.name)

@@ -3,8 +3,10 @@ import re
 from dataclasses import dataclass, field
 from pathlib import Path
 
-CLAUSES = ["emits", "inside", "rarely", "calls", "posts", "deletes", "later", "owns", "lays", "owner", "takes"]
+CLAUSES = ["emits", "inside", "rarely", "calls", "posts", "deletes", "later", "owns", "lays", "owner", "takes", "needs"]
 BARE = ["modal", "silent"]
+# What a function needs that the test program hasn't got, where it can't be called, or not in the state in which it does what its line says.
+NEEDS = {"database", "peer", "person", "screen", "thread"}
 
 
 class BadTable(Exception):
@@ -53,6 +55,8 @@ def parse_clauses(line: Line, rest: str, number: int) -> None:
             line.clauses[word] = []
             clause, after_comma = ("" if word in BARE else word), True
         elif clause and after_comma and re.fullmatch(r"(\w+::)?\w+", word):
+            if clause == "needs" and word not in NEEDS:
+                raise BadTable(f"qt.effects:{number}: `needs` knows {', '.join(sorted(NEEDS))}, and not `{word}`")
             line.clauses[clause].append(word)
             after_comma = False
         else:

@@ -45,6 +45,7 @@ void one(const SetUp &made, const Call &call, bool shown)
     scene.settle();
     for (const QByteArray &line : recorder::stop())
         write(line);
+    fflush(stdout);          // what stands around it may crash as it ends
     if (subject.object && !alive)
         scene.self = nullptr;
 }

@@ -94,7 +94,7 @@ def unwired(calls: list[Called], table: Table, headers: Headers) -> list[Fact]:
     for call in calls:
         these = facts([call], headers)
         emitted = {(cls, it.signal) for it in these if it.signal for cls in it.classes}
-        found += [it for it in these if "::" not in it.name or not wired(it, emitted, table)]
+        found += [it for it in these if it.told and ("::" not in it.name or not wired(it, emitted, table))]
     return found
 
 

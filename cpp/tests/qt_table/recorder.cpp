@@ -101,12 +101,34 @@ const QHash<int, QByteArray> &handlers()
         {QEvent::ToolTipChange, "changeEvent"}, {QEvent::WindowIconChange, "changeEvent"},
         {QEvent::LanguageChange, "changeEvent"}, {QEvent::MouseButtonPress, "mousePressEvent"},
         {QEvent::MouseButtonRelease, "mouseReleaseEvent"}, {QEvent::KeyPress, "keyPressEvent"}, {QEvent::Timer, "timerEvent"},
-        {QEvent::Enter, "enterEvent"}, {QEvent::Leave, "leaveEvent"}};
+        {QEvent::Enter, "enterEvent"}, {QEvent::Leave, "leaveEvent"}, {QEvent::User, "event"}};
     return all;
+}
+
+// Stands in the queue of events while a function runs: where it is delivered, an event loop runs inside.
+QObject *probe()
+{
+    static QObject it;
+    return &it;
+}
+
+// Who became the owner of the subject itself, or that it has none any more.
+void parentOfSubject()
+{
+    if (!subject || gone.contains(subject))
+        return;
+    const Known known = objects.value(subject);
+    QObject *now = subject->parent();
+    const int number = objects.value(now).argument;
+    if (now && now != known.parent && number > 0)
+        note("joined\tself\t" + known.classes + "\t" + QByteArray::number(number));
+    if (!now && known.parent)
+        note("released\tself\t" + known.classes + "\tthis");
 }
 
 void parents()
 {
+    parentOfSubject();
     for (auto it = objects.constBegin(); it != objects.constEnd(); ++it) {
         if (!it->named || it.key() == subject || gone.contains(it.key()))
             continue;
@@ -157,27 +179,36 @@ void start(QObject *self, const QHash<QObject *, Known> &known)
     gone.clear();
     deliveries.clear();
     fromLoop = false;
+    QCoreApplication::postEvent(probe(), new QEvent(QEvent::User));
     on = true;
 }
 
 void add(QObject *it, const Known &known)
 {
-    objects.insert(it, known);
+    Known whole = known;
+    whole.parent = it->parent();
+    objects.insert(it, whole);
     watch(it);
 }
 
 Delivery::Delivery(QObject *to, const QEvent *event) : m_counted(false)
 {
+    if (on && !fromLoop && to == probe()) {
+        note("looped\tself\t\tmodal");
+        fromLoop = true;
+    }
     if (!on || QThread::currentThread() != qApp->thread() || !isNamed(to))
         return;
     const auto found = handlers().constFind(event->type());
-    const bool known = found != handlers().constEnd();
+    const bool updates = to->isWindowType() && event->type() == QEvent::UpdateRequest;
+    const bool known = found != handlers().constEnd() || updates;
+    const QByteArray name = updates || !known ? QByteArray("event") : *found;
     if (known)
-        note("called\t" + who(to) + "\t" + (to->isWidgetType() ? "QWidget" : "QObject") + "\t" + *found);
+        note("called\t" + who(to) + "\t" + (to->isWidgetType() ? "QWidget" : "QObject") + "\t" + name);
     if (objects.value(to).argument < 0)
         return;          // the window around it: what comes in its handlers is of the call
     m_counted = true;
-    deliveries << Handler{to, known ? *found : QByteArray("event"), classesOf(to->metaObject())};
+    deliveries << Handler{to, name, classesOf(to->metaObject())};
 }
 
 Delivery::~Delivery()
@@ -205,6 +236,7 @@ void later()
 QByteArrayList stop()
 {
     on = false;
+    QCoreApplication::removePostedEvents(probe());
     return lines;
 }
 

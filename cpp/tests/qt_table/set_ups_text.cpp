@@ -87,6 +87,7 @@ void setUpActions()
 
 void setUpTexts()
 {
+    CALL(QUndoStack, push, it.push(new Command); it.push(new Command);)
     SET_UP(QTextDocument, "alone", auto *it = new QTextDocument; it->setHtml(html); it->setModified(true); return it;)
     SET_UP(QTextDocument, "of an editor", auto *edit = s.other(filledEdit<QTextEdit>(s)); return s.other(edit->document());)
     SET_UP(QTextDocument, "of a plain editor", auto *edit = s.other(filledEdit<QPlainTextEdit>(s)); return s.other(edit->document());)

@@ -21,6 +21,7 @@ public:
     bool validateCurrentPage() override { recorder::called("validateCurrentPage"); return QWizard::validateCurrentPage(); }
     int nextId() const override { recorder::called("nextId"); return QWizard::nextId(); }
     void done(int result) override { recorder::called("done"); QWizard::done(result); }
+    void reject() override { recorder::called("reject"); QWizard::reject(); }
 };
 
 class Dialog : public QDialog
@@ -67,6 +68,17 @@ public:
     QVariant itemChange(GraphicsItemChange change, const QVariant &value) override
     {
         recorder::called("itemChange");
+        return QGraphicsRectItem::itemChange(change, value);
+    }
+};
+
+// As an item of which it is told what a scene calls.
+class Told : public QGraphicsRectItem
+{
+public:
+    QVariant itemChange(GraphicsItemChange change, const QVariant &value) override
+    {
+        recorder::calledOf("QGraphicsItem", "itemChange");
         return QGraphicsRectItem::itemChange(change, value);
     }
 };
@@ -153,6 +165,8 @@ void setUpLayouts()
 void setUpGraphics()
 {
     SET_UP(QGraphicsScene, "two items", return scene(s);)
+    CALL(QGraphicsScene, addItem, it.addItem(new Told);)
+    CALL(QGraphicsScene, removeItem, auto *item = new Told; { recorder::Pause quiet; it.addItem(item); } it.removeItem(item); delete item;)
     SET_UP(QGraphicsScene, "with a view", auto *it = scene(s); s.other(new QGraphicsView(it)); return it;)
     SET_UP(QGraphicsView, "on a scene", return new View(s.other(scene(s)));)
     SET_UP(QGraphicsItem, "of a scene", auto *it = s.other(scene(s)); auto *item = new Item; it->addItem(item);

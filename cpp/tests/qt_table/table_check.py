@@ -1,6 +1,7 @@
 #!/usr/bin/env python3
 """Calls the public functions of Qt's classes without a screen, in several states each, and compares what comes at once with the table
-`cpp/qt.effects`: what comes and isn't in the table is a failure; what is in the table and never came is listed.
+`cpp/qt.effects`: what comes and isn't in the table is a failure, and so is a line of which nothing came, unless it says what it needs
+that isn't there. Names that never came are listed.
 
 Usage: cpp/tests/qt_table/table_check.py [--folder DIR] [--only TEXT] [--class QClass] [--propose] [--never]
 
@@ -13,7 +14,7 @@ from pathlib import Path
 sys.path.insert(0, str(Path(__file__).resolve().parent.parent))
 sys.path.insert(0, str(Path(__file__).resolve().parent))
 from comparing import Finding, Used, compare, wires_that_came
-from effects_table import BadTable, Table, read
+from effects_table import BadTable, Line, Table, read
 from needs import ROOT, Missing, cache, outside
 from proposing import proposed
 from qt_flags import query
@@ -21,7 +22,7 @@ from qt_headers import Headers, read_headers
 from table_program import Called, all_calls, functions
 
 TABLE = ROOT / "cpp" / "qt.effects"
-TESTED = ["emits", "inside", "calls", "deletes", "later", "owns", "takes"]
+TESTED = ["emits", "inside", "calls", "posts", "deletes", "later", "owns", "lays", "owner", "takes"]
 SHOWN = 12
 
 
@@ -51,15 +52,28 @@ def with_above(used: Used, headers: Headers) -> Used:
     return {(above, function, clause, name) for cls, function, clause, name in used for above in headers.chain(cls)}
 
 
+def said_by(line: Line) -> Used:
+    """What a line says that a call can show."""
+    found = {(line.cls, line.function, clause, name) for clause in TESTED for name in line.clauses.get(clause, [])}
+    return found | {(line.cls, line.function, clause, "") for clause in line.clauses if clause == "modal"}
+
+
 def tell_never(table: Table, used: Used, all_of_them: bool) -> None:
-    """What the table says and no call brought about."""
-    said = {
-        (line.cls, line.function, clause, name) for line in table.lines.values() for clause in TESTED for name in line.clauses.get(clause, [])
-    }
+    """What the table says and no call brought about; and what is `rarely`, and a call did."""
+    said = {it for line in table.lines.values() for it in said_by(line)}
     never = sorted(said - used)
     print(f"{len(said)} names in {len(table.lines)} lines; {len(never)} of them never came")
     for cls, function, clause, name in never if all_of_them else never[:SHOWN]:
         print(f"  never came: {cls}.{function} {clause} {name}")
+    for cls, function, clause, name in sorted(used):
+        if clause == "rarely" and (cls, function) in table.lines and name in table.lines[(cls, function)].names("rarely"):
+            print(f"  came, and isn't rare: {cls}.{function} {name}")
+
+
+def unshown(table: Table, used: Used) -> list[str]:
+    """Lines of which no call showed anything, and that don't say what they need."""
+    shown = {(cls, function) for cls, function, _, _ in used}
+    return sorted(f"{cls}.{function}" for (cls, function), line in table.lines.items() if (cls, function) not in shown and not line.names("needs"))
 
 
 def tell_wires(table: Table, came: set[tuple[str, str, str, str]]) -> None:
@@ -91,13 +105,19 @@ def check(given: argparse.Namespace, folder: Path) -> int:
         print("\n".join(proposed(calls, table, headers).text()))
         return 0
     findings, used = compare(calls, table, headers)
+    used = with_above(used, headers)
     tell(findings)
+    lines = unshown(table, used) if not given.only and not given.cls else []
+    for it in lines:
+        print(f"FAILED: {it}: nothing of this line came, and it doesn't say what it needs")
     count = tell_calls(calls, folder)
-    tell_never(table, with_above(used, headers), given.never)
+    needy = sum(1 for it in table.lines.values() if it.names("needs"))
+    print(f"{needy} lines need what isn't there")
+    tell_never(table, used, given.never)
     tell_wires(table, wires_that_came(calls, table, headers))
     failed = len({(it.cls, it.function) for it in findings})
-    print(f"{count - failed} passed, {failed + len(wrong)} failed")
-    return 1 if failed or wrong or not calls else 0
+    print(f"{count - failed} passed, {failed + len(wrong) + len(lines)} failed")
+    return 1 if failed or wrong or lines or not calls else 0
 
 
 def main() -> int:

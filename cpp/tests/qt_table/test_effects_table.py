@@ -26,6 +26,7 @@ BAD = [
     "QAction.trigger emits a emits b",
     "QAction.trigger emits a::b::c",
     "QAction.trigger modal triggered",
+    "QAction.trigger needs luck",
     "wire QAction.triggered QMenu.triggered",
 ]
 
