@@ -1,0 +1,4 @@
+pub mod Components
+pub mod Searching
+pub mod Circles
+pub mod Inside

@@ -1,0 +1,16 @@
+//! What settling certificates are made of: sets of nodes that all lead to one another, and what stands against them.
+#![tactic(auto)]
+
+mod circles;
+mod components;
+mod groups;
+mod heights;
+mod laws;
+mod search;
+mod unsettled;
+
+pub use circles::Circle;
+pub use components::{Components, components_of};
+pub use heights::heights_of;
+pub use laws::none_is_valid;
+pub use unsettled::first_unsettled;
