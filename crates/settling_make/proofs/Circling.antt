@@ -52,7 +52,7 @@ module _ (p : Loaded) (scan : Scanned) (is : IsScan p scan) where
       edge_of : (x y : Node) (n m : ℕ) → IsAt (nodes_of p) x n → IsAt (nodes_of p) y m → MayLead p x y → Edge scan.rows n m
       edge_of x y n m at_x at_y leads = (is.edges.edges n m).1 (record { from = x; to = y; is_from = at_x; is_to = at_y; leads = leads })
 
-      walk_numbers : (x : Node) (zs : List Node) (y : Node) (a b : ℕ) → LeadsBy (MayLead p) x zs y → IsAt (nodes_of p) x a → IsAt (nodes_of p) y b → ((n m : ℕ) → IsAt (nodes_of p) y n → IsAt (nodes_of p) y m → n ≡ m) → (ws : List ℕ) × LeadsBy (Edge scan.rows) a ws b
+      pub walk_numbers : (x : Node) (zs : List Node) (y : Node) (a b : ℕ) → LeadsBy (MayLead p) x zs y → IsAt (nodes_of p) x a → IsAt (nodes_of p) y b → ((n m : ℕ) → IsAt (nodes_of p) y n → IsAt (nodes_of p) y m → n ≡ m) → (ws : List ℕ) × LeadsBy (Edge scan.rows) a ws b
       walk_numbers x [] y a b leads at_x at_y once =
           let same : x ≡ y = leads in
           ([], once a b (subst (λ (n : Node). IsAt (nodes_of p) n a) same at_x) at_y)

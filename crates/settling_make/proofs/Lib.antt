@@ -1,6 +1,8 @@
 pub mod Barred
 pub mod Circling
+pub mod Collecting
 pub mod Driving
+pub mod Ending
 pub mod Grouping
 pub mod Searching
 pub mod Silent

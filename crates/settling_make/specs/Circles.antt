@@ -1,5 +1,5 @@
 -- What stands against a settling certificate (docs/settling.md, "Sets that settle").
-use Rattle.std.specs.Prelude.{◌≡◌, ◌≤◌, ℕ, List, length}
+use Rattle.std.specs.Prelude.{◌≡◌, ◌↔◌, ◌≤◌, ℕ, Bool, true, List, length}
 use Rattle.std.specs.List.{Contains}
 use Rattle.meta_model.specs.Loaded.{Loaded}
 use Rattle.effect_scan.specs.declared.node.Node.{Node}
@@ -15,6 +15,7 @@ use Rattle.settling.specs.Settles.{Carries, IsProperty}
 use Rattle.settling.specs.Valid.{IsValid}
 use Rattle.settling_make.specs.declared.circles.Circle.{Circle}
 use Rattle.settling_make.specs.declared.circles.Circle.TheVariants.{NoValue, OtherValue, NoProperty}
+use Rattle.settling_make.specs.Components.{number_of}
 
 abbrev pub NoneIsValid : Loaded → Type 0
 NoneIsValid p = (certificate : SettlingCertificate) → ¬ IsValid p certificate
@@ -58,3 +59,20 @@ pub record LeadsToEnd (p : Loaded) (x : Node) : Type 0 where
   pub body : HasBody p x
   pub destruction : to.member ≡ Destruction
   pub holds : Closure p to.class x.class
+
+-- none does
+abbrev pub NoneEnds : Loaded → Type 0
+NoneEnds p = (x : Node) → ¬ LeadsToEnd p x
+
+-- an object of class d may be destroyed from x: edges lead to a `~X` whose closure has d
+pub record MayDestroy (p : Loaded) (x : Node) (d : ℕ) : Type 0 where
+  pub to : Node
+  pub along : List Node
+  pub leads : LeadsBy (MayLead p) x along to
+  pub destruction : to.member ≡ Destruction
+  pub holds : Closure p to.class d
+
+-- of each component, by number, the classes of the objects that may be destroyed from its nodes
+abbrev pub AreDestroyed : Loaded → List ℕ → (ℕ → ℕ → Bool) → Type 0
+AreDestroyed p numbers leads =
+    (n : ℕ) (x : Node) → IsAt (nodes_of p) x n → (d : ℕ) → (leads (number_of numbers n) d ≡ true) ↔ MayDestroy p x d

@@ -2,3 +2,4 @@ pub mod Components
 pub mod Searching
 pub mod Circles
 pub mod Inside
+pub mod Collected

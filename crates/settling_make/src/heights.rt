@@ -110,7 +110,7 @@ fn no_rows(alloc: Global, count: usize) -> Result<Items<Items<usize>>, AllocErro
 }
 
 /// Each of so many numbers, in order. The error is that memory was refused.
-fn each_itself(alloc: Global, count: usize) -> Result<Items<usize>, AllocError>
+pub fn each_itself(alloc: Global, count: usize) -> Result<Items<usize>, AllocError>
     ensures { IfOk result (AreThemselves count) }
 {
     let mut numbers = Items::new(alloc);

@@ -3,14 +3,17 @@
 
 mod circles;
 mod components;
+mod ends;
 mod groups;
 mod heights;
 mod laws;
+mod outer;
 mod search;
 mod unsettled;
 
 pub use circles::Circle;
 pub use components::{Components, components_of};
+pub use ends::{destroyed, first_ending};
 pub use heights::heights_of;
 pub use laws::none_is_valid;
 pub use unsettled::first_unsettled;

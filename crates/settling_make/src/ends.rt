@@ -1,0 +1,83 @@
+//! Slots and natives that may destroy their own object.
+
+ghost use Rattle.std.specs.Prelude.{◌≡◌, ◌↔◌, IfOk, IsTrue, MatchOption};
+ghost use Rattle.effect_scan.specs.Scans.{IsScan};
+ghost use Rattle.rank_check.specs.Valid.{HasBody};
+ghost use Rattle.rank_graph.specs.Solutions.{leads_of};
+ghost use Rattle.settling_make.specs.Circles.{LeadsToEnd, NoneEnds, AreDestroyed};
+ghost use Rattle.settling_make.specs.Components.{AreComponents};
+
+use crate::components::Components;
+use crate::heights::each_itself;
+use crate::outer::{outer_own, outer_rows};
+use effect_scan::{Member, Node, Scan, edges_join_nodes};
+use meta_model::{Meta, Work};
+use rank_graph::{Solution, Unranked, solve};
+use std::alloc::{AllocError, Global};
+
+/// Of a program with this scan, whose edges have these components: of each component, by number, the classes of the objects that may be
+/// destroyed from its nodes. Takes time linear in the nodes and edges, for each 128 classes. The error is that memory was refused.
+pub fn destroyed(
+    alloc: Global,
+    meta: &Meta,
+    scan: &Scan,
+    found: &Components,
+) -> Result<Solution, AllocError>
+    requires scan { IsScan meta.now scan.now }
+    requires found { AreComponents scan.now.rows found.now }
+    ensures { IfOk result (λ solution. AreDestroyed meta.now found.now.numbers (leads_of solution)) }
+{
+    // All edges are between nodes.
+    edges_join_nodes(meta);
+    let rows = outer_rows(alloc, scan, found)?;
+    let own = outer_own(alloc, scan, found)?;
+    let alike = each_itself(alloc, rows.len())?;
+    let classes = meta.classes().len();
+    match solve(
+        alloc,
+        rows.as_slice(),
+        alike.as_slice(),
+        own.as_slice(),
+        classes,
+    ) {
+        Ok(solution) => Ok(solution),
+        // Along these edges the numbers of components fall.
+        Err(Unranked::Cycle(_)) => unreachable!(),
+        Err(Unranked::Memory) => Err(AllocError),
+    }
+}
+
+/// The first slot or native, by the order of nodes, that may destroy an object of its own class: edges lead from it to a `~X` whose
+/// closure has that class. What may be destroyed from the components is known.
+pub fn first_ending(
+    meta: &Meta,
+    scan: &Scan,
+    found: &Components,
+    destroyed: &Solution,
+) -> Option<Node>
+    requires scan { IsScan meta.now scan.now }
+    requires destroyed { AreDestroyed meta.now found.now.numbers (leads_of destroyed.now) }
+    ensures { MatchOption result (NoneEnds meta.now) (LeadsToEnd meta.now) }
+{
+    // All edges are between nodes.
+    edges_join_nodes(meta);
+    for (number, node) in scan.nodes().iter().enumerate() {
+        if destroyed.leads_to(found.number(number), node.class) && has_body(meta, *node) {
+            return Some(*node);
+        }
+    }
+    None
+}
+
+/// Whether the node is a slot or a native.
+fn has_body(meta: &Meta, node: Node) -> bool
+    ensures { IsTrue result ↔ HasBody meta.now node }
+{
+    let Member::Method(method) = node.member else {
+        return false;
+    };
+    match meta.method_at(node.class, method) {
+        Some(found) => !matches!(found.work, Work::Signal),
+        None => false,
+    }
+}
