@@ -24,8 +24,8 @@ ERROR = 3
 # Headers that clang has of its own.
 OF_CLANG = ('stddef.h', 'stdarg.h', 'float.h', 'limits.h', 'stdint.h')
 # The modules that facts depend on.
-READERS = ('bodies', 'calls', 'classes', 'comparing', 'conditional', 'connects', 'context', 'facts', 'holders', 'libclang', 'model', 'naming_callees', 'possessing',
-           'precompiled', 'qtmodel', 'quick', 'special', 'units', 'values')
+READERS = ('bodies', 'calls', 'classes', 'comparing', 'conditional', 'connects', 'context', 'facts', 'holders', 'libclang', 'model', 'naming_callees',
+           'possessing', 'precompiled', 'qtmodel', 'quick', 'special', 'units', 'values')
 
 
 def read_unit(unit: Unit, roots: list[str], known: dict[str, Class], headers: Headers | None = None) -> Facts:

@@ -16,10 +16,10 @@ class Place:
 class Value:
     """Which objects an expression may be.
 
-    `this`, `class` (any object of `cls`; an item of the list parts[0], if there is one), `variable` and `result` (what the variable or function `key` may hold), `site` (what is
-    made at the place `key`), `cast` (those of parts[0] that are a `cls`), `any` (of the parts), `content` (what parts[0] holds as
-    a widget), `given` (what the function `key` of Qt gives of parts[0]), `sender`, `member` (of each object of `cls`), `null` and
-    `none`."""
+    `this`, `class` (any object of `cls`; an item of the list parts[0], if there is one), `variable` and `result` (what the variable or
+    function `key` may hold), `site` (what is made at the place `key`), `cast` (those of parts[0] that are a `cls`), `any` (of the
+    parts), `content` (what parts[0] holds as a widget), `given` (what the function `key` of Qt gives of parts[0]), `sender`, `member`
+    (of each object of `cls`), `null` and `none`."""
     kind: str
     key: str = ''
     cls: str = ''
