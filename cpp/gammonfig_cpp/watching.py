@@ -44,8 +44,9 @@ class Watching:
     def _by_death(self) -> list[str]:
         """Members that lead back to themselves, but only by what runs because an object dies."""
         edges, functions = self.graph.edges, self.program.whole.functions
-        dying = {node for node in edges if node[1][0] in ('with', 'later')
-                 or (node[1][0] == 'function' and functions[node[1][1]].kind == 'destructor')}
+        # Of a function whose source isn't read nothing is known but its name.
+        destructors = {key for key, function in functions.items() if function.kind == 'destructor'}
+        dying = {node for node in edges if node[1][0] in ('with', 'later') or (node[1][0] == 'function' and node[1][1] in destructors)}
         circling = set[Node]().union(*components({n: list(to) for n, to in edges.items()}))
         living = components({n: [m for m in to if m not in dying] for n, to in edges.items() if n not in dying})
         return sorted(self.graph.name(node) for node in circling.difference(*living))

@@ -188,6 +188,12 @@ def test_owners_by_what_functions_of_qt_do() -> None:
         f'call this.to_{name}.Leaf_gone();' for name in ('Leaf_m_laid', 'Leaf_m_adopted', 'Twig')]
 
 
+def test_a_function_whose_source_is_not_read_is_watched() -> None:
+    found = case('owners')
+    assert found.wires() == ['wire Leaf_m_leaf falling() -> Wood elsewhere() auto;']
+    assert json.loads(Watching(found.linked.program, found.written.names, found.written.places).text(False))['findings'] == []
+
+
 def test_a_role_for_each_member() -> None:
     found = case('roles')
     expected = {'pokeLeft': 'Cell_left.poke', 'pokeBase': 'Loud.poke_2', 'pokeOwn': 'Loud.poke', 'pokeListed': 'Cell_right.poke',

@@ -40,6 +40,8 @@ private:
 class Wood : public QObject {
     Q_OBJECT
 public:
+    Wood() { connect(m_leaf, &Leaf::falling, this, &Wood::elsewhere); }
+    void elsewhere();    // its source isn't in the build
     void fell() { delete m_crown; }
     void flatten() { m_crown->flatten(); }
     void pick() { delete m_leaf; }
