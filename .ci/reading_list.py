@@ -47,10 +47,10 @@ class Page:
             elif text.startswith(('infix', 'module', 'mutual')): comment = []
             else:
                 head, case = HEAD.match(text), CASE.match(text)
-                if head:
-                    item = self.items.setdefault(head[1], Item(self, head[1]))
-                    item.lines += comment
-                    comment = []
+                if head: item = self.items.setdefault(head[1], Item(self, head[1]))
+                elif not text.startswith(' '): item = self.items.get(text.split()[0], item)  # a further clause
+                if item: item.lines += comment
+                comment = []
                 if item: item.lines.append(text)
                 if item and case and not head: self.items.setdefault(case[1], item)
         return self

@@ -1,7 +1,7 @@
 //! The text of connections that statements make and remove.
 
 ghost use Rattle.std.specs.Prelude.{◌≡◌, ◌++◌, codes};
-ghost use Rattle.command_lines.specs.Lines.{kind_text, given_text, type_text, end_text, ends_text, connected_text};
+ghost use Rattle.command_lines.specs.Lines.{kind_text, given_text, type_text, end_text, ends_text};
 ghost use Rattle.command_lines.specs.Sent.{Puts};
 
 use crate::output::Output;
@@ -12,7 +12,7 @@ use syntax_trees::{ConnectionType, Endpoints};
 impl<W: Write> Output<'_, W> {
     /// Adds that a connection is made.
     pub fn connected(&mut self, ends: &Endpoints<Name>, how: ConnectionType)
-        ensures { Puts W.contents self.old self.new (connected_text ends.now how) }
+        ensures { Puts W.contents self.old self.new (codes "connect " ++ (ends_text ends.now ++ (codes " " ++ type_text how))) }
     {
         self.put_word(b"connect ");
         self.ends(ends);
@@ -56,7 +56,7 @@ impl<W: Write> Output<'_, W> {
     }
 
     /// Adds a word after a blank, where it is given.
-    fn given(&mut self, given: bool, word: &[u8])
+    pub fn given(&mut self, given: bool, word: &[u8])
         ensures { Puts W.contents self.old self.new (given_text given word.now) }
     {
         if given {

@@ -2,7 +2,8 @@
 
 ghost use Rattle.std.specs.Prelude.{◌++◌, codes, decimal};
 ghost use Rattle.std.specs.Fmt.{signed_decimal};
-ghost use Rattle.command_lines.specs.Lines.{newline, value_text, bare_call_text, action_text, actions_text, arguments_text, member_text, call_text, blocked_text, emitted_text, called_text, property_text, entry_kind_text, depth_line, refused_event_line, entry_line, trace_text, post_text, posted_text, scheduled_text, died_text};
+ghost use Rattle.std.specs.List.{join_by};
+ghost use Rattle.command_lines.specs.Lines.{newline, value_text, call_text, given_text, action_text, actions_text, member_text, property_text, entry_kind_text, entry_line, trace_text};
 ghost use Rattle.command_lines.specs.Sent.{Puts};
 
 use crate::output::Output;
@@ -63,7 +64,7 @@ impl<W: Write> Output<'_, W> {
 
     /// Adds values, separated by commas.
     fn arguments(&mut self, values: &[Shown])
-        ensures { Puts W.contents self.old self.new (arguments_text values.now) }
+        ensures { Puts W.contents self.old self.new (join_by value_text (codes ",") values.now) }
     {
         let Some((first, rest)) = values.split_first() else {
             return;
@@ -86,7 +87,7 @@ impl<W: Write> Output<'_, W> {
 
     /// Adds `object.method(arguments)`.
     fn call(&mut self, object: &Name, method: &Name, arguments: &[Shown])
-        ensures { Puts W.contents self.old self.new (call_text object.now method.now arguments.now) }
+        ensures { Puts W.contents self.old self.new (call_text (member_text object.now method.now) arguments.now) }
     {
         self.member(object, method);
         self.put_byte(b'(');
@@ -96,25 +97,17 @@ impl<W: Write> Output<'_, W> {
 
     /// Adds an emission, and whether the object is blocked.
     fn emitted(&mut self, object: &Name, signal: &Name, arguments: &[Shown], blocked: bool)
-        ensures { Puts W.contents self.old self.new (emitted_text object.now signal.now arguments.now blocked) }
+        ensures { let call = call_text (member_text object.now signal.now) arguments.now in
+            Puts W.contents self.old self.new (codes "emit " ++ call ++ given_text blocked (codes "blocked")) }
     {
         self.put_word(b"emit ");
         self.call(object, signal, arguments);
-        self.blocked(blocked);
-    }
-
-    /// Adds what tells that an object is blocked, where it is.
-    fn blocked(&mut self, blocked: bool)
-        ensures { Puts W.contents self.old self.new (blocked_text blocked) }
-    {
-        if blocked {
-            self.put_word(b" blocked");
-        }
+        self.given(blocked, b"blocked");
     }
 
     /// Adds a call.
     fn called(&mut self, object: &Name, slot: &Name, arguments: &[Shown])
-        ensures { Puts W.contents self.old self.new (called_text object.now slot.now arguments.now) }
+        ensures { Puts W.contents self.old self.new (codes "call " ++ call_text (member_text object.now slot.now) arguments.now) }
     {
         self.put_word(b"call ");
         self.call(object, slot, arguments);
@@ -167,7 +160,7 @@ impl<W: Write> Output<'_, W> {
 
     /// Adds that an action emits a signal.
     fn emit_action(&mut self, signal: &Name, arguments: &[Shown])
-        ensures { Puts W.contents self.old self.new (codes "emit " ++ bare_call_text signal.now arguments.now) }
+        ensures { Puts W.contents self.old self.new (codes "emit " ++ call_text signal.now arguments.now) }
     {
         self.put_word(b"emit ");
         self.name(signal);
@@ -178,33 +171,28 @@ impl<W: Write> Output<'_, W> {
 
     /// Adds a call that is posted to an event loop.
     fn posted(&mut self, event_loop: &Name, object: &Name, method: &Name, arguments: &[Shown])
-        ensures { Puts W.contents self.old self.new (posted_text event_loop.now object.now method.now arguments.now) }
+        ensures { let call = call_text (member_text object.now method.now) arguments.now in
+            Puts W.contents self.old self.new (codes "post " ++ event_loop.now ++ codes " " ++ call) }
     {
-        self.post(event_loop);
+        self.put_word(b"post ");
+        self.name(event_loop);
+        self.put_byte(b' ');
         self.call(object, method, arguments);
     }
 
     /// Adds the deletion of an object that is posted to an event loop.
     fn scheduled(&mut self, event_loop: &Name, object: &Name)
-        ensures { Puts W.contents self.old self.new (scheduled_text event_loop.now object.now) }
-    {
-        self.post(event_loop);
-        self.put_byte(b'~');
-        self.name(object);
-    }
-
-    /// Adds to which event loop something is posted.
-    fn post(&mut self, event_loop: &Name)
-        ensures { Puts W.contents self.old self.new (post_text event_loop.now) }
+        ensures { Puts W.contents self.old self.new (codes "post " ++ event_loop.now ++ codes " ~" ++ object.now) }
     {
         self.put_word(b"post ");
         self.name(event_loop);
-        self.put_byte(b' ');
+        self.put_word(b" ~");
+        self.name(object);
     }
 
     /// Adds that an object dies.
     fn died(&mut self, object: &Name)
-        ensures { Puts W.contents self.old self.new (died_text object.now) }
+        ensures { Puts W.contents self.old self.new (codes "dead " ++ object.now) }
     {
         self.put_word(b"dead ");
         self.name(object);
@@ -219,7 +207,7 @@ impl<W: Write> Output<'_, W> {
         property: &Name,
         value: &Shown,
     )
-        ensures { Puts W.contents self.old self.new (property_text word.now object.now property.now value.now) }
+        ensures { Puts W.contents self.old self.new (word.now ++ property_text object.now property.now value.now) }
     {
         self.put_word(word);
         self.member(object, property);
@@ -277,7 +265,7 @@ impl<W: Write> Output<'_, W> {
 
     /// Adds the line of what happens at a depth.
     fn at_depth(&mut self, depth: usize, entry_kind: &EntryKind)
-        ensures { Puts W.contents self.old self.new (depth_line depth entry_kind.now) }
+        ensures { Puts W.contents self.old self.new (decimal depth ++ codes " " ++ entry_kind_text entry_kind.now ++ newline) }
     {
         self.depth(depth);
         self.put_byte(b' ');
@@ -315,7 +303,7 @@ impl<W: Write> Output<'_, W> {
 
     /// Adds the line of a refused event.
     fn refused_event(&mut self, event: u64, refusal: u8)
-        ensures { Puts W.contents self.old self.new (refused_event_line event refusal) }
+        ensures { Puts W.contents self.old self.new (codes "event " ++ decimal event ++ (codes " refused " ++ decimal refusal ++ newline)) }
     {
         self.put_word(b"event ");
         self.number(event);

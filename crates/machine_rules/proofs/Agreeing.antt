@@ -10,7 +10,7 @@ use Rattle.binding_graph.{specs.declared.binding.Binding.{Binding}, specs.declar
 use Rattle.prop_bindings.{specs.Changes.{places_in}, specs.Fits.{IsFit, IsInOneLoop, Agree}, proofs.Fitting.{all-stay}, proofs.Alive.{lives-on}, proofs.Homes.{joined-stays, all-joined}, proofs.Leaving.{agree-fewer, left_agree}}
 use Rattle.machine_state.specs.{Telling.{Assigning, writes_of}, declared.endpoints.Endpoints.{Endpoints}, declared.turn.Turn.{Turn}, Connections.{is_living, next_used}, State.{Step, State, Activation, Body, Emit, Update, Destroy}, Turns.{running, reaches_at_once}}
 use Rattle.trace_entries.specs.declared.refusal.Refusal.{Refusal}
-use Rattle.machine_rules.{specs.Connecting.{kept_ends, names_of}, specs.Destroying.{Dies, NextRule, ChildRule, DestroyRule, living_child, Schedules}, specs.Operations.{Operation, Write, Begin, Choose, Connect, Disconnect, Delete, Schedule, TakeAnswer, Nothing}, specs.Good.{IsWell, IsAcyclic}, specs.Rules.{RuleAt, BodyRule, Does, EmitRule, UpdateRule, NotifiesIf, TurnRule, Serves, Delivers, Arrives, BeginsIf, begun, with_used, linked, unlinked}, specs.code.Going.{GoodRules, done, then}, specs.Settling.{Writes, Installs}, specs.There.{IsField}, proofs.Fields.{old-there, stored-reads}, proofs.Differing.{scheduled-agree}, specs.Natives.{NativeAnswers}, proofs.Scheduling.{schedule-cases}}
+use Rattle.machine_rules.{specs.Connecting.{kept_ends, names_of}, specs.Destroying.{Dies, NextRule, ChildRule, DestroyRule, living_child, Schedules}, specs.Operations.{Operation, Write, Begin, Choose, Connect, Disconnect, Delete, Schedule, TakeAnswer, Nothing}, specs.Good.{IsWell, IsAcyclic}, specs.Rules.{RuleAt, BodyRule, Does, EmitRule, UpdateRule, NotifiesIf, TurnRule, Serves, Delivers, Arrives, BeginsIf, begun, with_used, linked, unlinked}, specs.code.Going.{GoodRules, done, then}, specs.Settling.{Writes, Installs}, specs.There.{IsField}, proofs.Doing.{step-of}, proofs.Fields.{old-there, stored-reads}, proofs.Differing.{scheduled-agree}, specs.Natives.{NativeAnswers}, proofs.Scheduling.{schedule-cases}}
 
 -- a binding that replaces another stands
 replaced-at : (bs : List Binding) (b : Binding) → binding_at (replaced bs b) b.target ≡ Some b
@@ -50,15 +50,15 @@ module _ {p : Loaded} {s t : State} (agree : Agree p s.objects s.bindings) (well
       })
 
   -- the target of a binding that was installed has its expression's value
-  pub bound-fits : {below : List Activation} {b : Binding} (x : Installs p s below b t) → AreTyped p x.objects → IsPlain x.property.kind → IsFit p x.objects b
+  pub bound-fits : {below : List Activation} {b : Binding} (x : Installs p s below b t) → AreTyped p x.objects → IsPlain x.there.property.kind → IsFit p x.objects b
   bound-fits {b = b} x typed plain =
-      let on = lives-on s.objects x.objects x.installed.objects b.target.object x.is.life (life-of-lives x.is.lives) in
-      let field : IsField p x.objects b.target.object b.target.property on.object x.property = record {
+      let on = lives-on s.objects x.objects x.installed.objects b.target.object x.there.is.life (life-of-lives x.there.is.lives) in
+      let field : IsField p x.objects b.target.object b.target.property on.object x.there.property = record {
         life = on.life;
         lives = on.lives;
-        class = x.is.class;
-        is_class = subst (λ (k : ℕ). IsClass p k x.is.class) (sym on.same) x.is.is_class;
-        is_property = x.is.is_property;
+        class = x.there.is.class;
+        is_class = subst (λ (k : ℕ). IsClass p k x.there.is.class) (sym on.same) x.there.is.is_class;
+        is_property = x.there.is.is_property;
       } in
       let there = old-there field typed in
       record {
@@ -68,7 +68,7 @@ module _ {p : Loaded} {s t : State} (agree : Agree p s.objects s.bindings) (well
           object = on.object;
           life = on.life;
           lives = on.lives;
-          property = x.property;
+          property = x.there.property;
           is_property = record { class = field.class; is_class = field.is_class; is = field.is_property };
           reads = stored-reads field typed there.1;
         };
@@ -76,7 +76,7 @@ module _ {p : Loaded} {s t : State} (agree : Agree p s.objects s.bindings) (well
       }
 
   -- .. and so does a bind, within one event loop, to a property of a value type that closes no chain
-  pub installs-agrees : {below : List Activation} {b : Binding} → IsAcyclic t → (x : Installs p s below b t) → IsPlain x.property.kind → IsInOneLoop s.objects b → Agree p t.objects t.bindings
+  pub installs-agrees : {below : List Activation} {b : Binding} → IsAcyclic t → (x : Installs p s below b t) → IsPlain x.there.property.kind → IsInOneLoop s.objects b → Agree p t.objects t.bindings
   installs-agrees {b = b} acyclic x plain within =
       let keep : Binding → Bool = λ z. not (same_place z.target b.target) in
       let typed : AreTyped p x.objects = subst (λ (v : State). AreTyped p v.objects) x.settles.gives well.values in
@@ -135,7 +135,9 @@ module _ {p : Loaded} {s t : State} (agree : Agree p s.objects s.bindings) (well
 
   body-agrees : (natives : NativeAnswers) (o m : ℕ) (arguments : List Value) (below : List Activation) (left : List Step) → BodyRule p natives s o m arguments below t left → Agree p t.objects t.bindings
   body-agrees natives o m arguments below [] r = agree-at _ r agree
-  body-agrees natives o m arguments below (x ∷ rest) r = does-agrees natives o m arguments rest below r.what r.does
+  body-agrees natives o m arguments below (x ∷ rest) rule =
+      let r = step-of p natives s o m arguments x rest below t rule in
+      does-agrees natives o m arguments rest below r.what r.does
 
   arrives-agrees : (u : State) (stack : List Activation) (home o : ℕ) (x : Object) (m : ℕ) (method : MetaMethod) (arguments : List Value) (b : Bool) → Agree p u.objects u.bindings → Arrives u stack home o x m method arguments t b → Agree p t.objects t.bindings
   arrives-agrees u stack home o x m method arguments true before r = begun-agrees u stack o x m method arguments method.work before r

@@ -11,7 +11,7 @@ use Rattle.event_loops.specs.{declared.item.Item.{Item}, declared.item.Item.TheV
 use Rattle.object_tree.specs.{declared.life.Life.{Life}, declared.object.Object.{Object}, Family.{without_life}, Objects.{life_of, change_life, scheduled}}
 use Rattle.binding_graph.specs.{declared.binding.Binding.{Binding}, declared.place.Place.{Place}}
 use Rattle.prop_bindings.specs.Changes.{DifferInValues}
-use Rattle.machine_rules.{specs.Connecting.{AreThere, kept_ends, names_of}, specs.Destroying.{Dies, forgotten, NextRule, ChildRule, DestroyRule, living_child, Schedules}, specs.Natives.{NativeAnswers}, specs.Operations.{Operation, Write, Begin, Choose, Connect, Disconnect, Delete, Schedule, TakeAnswer, Nothing}, specs.Rules.{Rule, RuleAt, BodyRule, Does, EmitRule, UpdateRule, NotifiesIf, TurnRule, Serves, Delivers, Arrives, Begins, BeginsIf, begun, with_used, linked, unlinked}, specs.Settling.{Settles, Writes, Installs}, specs.There.{IsMember, IsDead}, specs.code.Going.{GoodRules, done, then}, specs.Reaches.{Reaches}, specs.code.Sound.{IsUnheard, MayBeHeard, MayBeHeardIn}, proofs.Differing.{differ-spared}, proofs.Dying.{lives-not-dead, other-seen, scheduled-seen}, proofs.Keeps.{some-stack, some-top, some-by}, proofs.Lists.{all-snoc}, proofs.Scheduling.{schedule-cases}}
+use Rattle.machine_rules.{specs.Connecting.{AreThere, kept_ends, names_of}, specs.Destroying.{Dies, forgotten, NextRule, ChildRule, DestroyRule, living_child, Schedules}, specs.Natives.{NativeAnswers}, specs.Operations.{Operation, Write, Begin, Choose, Connect, Disconnect, Delete, Schedule, TakeAnswer, Nothing}, specs.Rules.{Rule, RuleAt, BodyRule, Does, EmitRule, UpdateRule, NotifiesIf, TurnRule, Serves, Delivers, Arrives, Begins, BeginsIf, begun, with_used, linked, unlinked}, specs.Settling.{Settles, Writes, Installs}, specs.There.{IsMember, IsDead}, specs.code.Going.{GoodRules, done, then}, specs.Reaches.{Reaches}, specs.code.Sound.{IsUnheard, MayBeHeard, MayBeHeardIn}, proofs.Doing.{step-of}, proofs.Differing.{differ-spared}, proofs.Dying.{lives-not-dead, other-seen, scheduled-seen}, proofs.Keeps.{some-stack, some-top, some-by}, proofs.Lists.{all-snoc}, proofs.Scheduling.{schedule-cases}}
 
 -- ---- a stack
 
@@ -165,7 +165,9 @@ module _ (p : Loaded) (s t : State) where
 
   body-heard : (natives : NativeAnswers) (o m : ℕ) (arguments : List Value) (below : List Activation) (left : List Step) → In below → BodyRule p natives s o m arguments below t left → Heard t
   body-heard natives o m arguments below [] lower r = heard-as r lower
-  body-heard natives o m arguments below (x ∷ rest) lower r = does-heard natives o m arguments rest below r.what lower r.does
+  body-heard natives o m arguments below (x ∷ rest) lower rule =
+      let r = step-of p natives s o m arguments x rest below t rule in
+      does-heard natives o m arguments rest below r.what lower r.does
 
   emission-heard : (o g : ℕ) (arguments : List Value) (last : ℕ) (below : List Activation) (found : Option Connection) → ((n : ℕ) → In (Emit o g arguments n last ∷ below)) → EmitRule p s o g arguments last below t found → Heard t
   emission-heard o g arguments last below None all r = heard-as r (all 0).1

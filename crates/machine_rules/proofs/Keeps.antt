@@ -7,7 +7,7 @@ use Rattle.event_loops.specs.{declared.item.Item.{Item}, declared.item.Item.TheV
 use Rattle.object_tree.{specs.declared.life.Life.{Life}, specs.declared.object.Object.{Object}, specs.Objects.{Lives, life_of, class_of, change_life, scheduled}, specs.Family.{without_life}, proofs.Changing.{life-of-lives, lives-of-life}, specs.Typed.{ReadAs}, proofs.TypedObjects.{Follow, read-still}}
 use Rattle.connections.specs.{declared.connection.Connection.{Connection}, Connected.{touches}}
 use Rattle.binding_graph.specs.{declared.place.Place.{Place}, declared.binding.Binding.{Binding}}
-use Rattle.machine_rules.{specs.Destroying.{Dies, forgotten, NextRule, ChildRule, DestroyRule, living_child, Schedules}, specs.Rules.{RuleAt, BodyRule, Does, EmitRule, UpdateRule, NotifiesIf, Begins, BeginsIf, begun, with_used, linked, unlinked, TurnRule, Serves, Delivers, Arrives}, specs.Operations.{Operation, Write, Begin, Choose, Connect, Disconnect, Delete, Schedule, TakeAnswer, Nothing}, proofs.Waiting.{length-change, housed-same, home-change}, specs.There.{IsMember, IsDead}, specs.Connecting.{AreThere, kept_ends, named_signal, names_of, found_ends, may_connect}, specs.Judgement.{goes_on, holds}, proofs.Fitting.{kinds-fit}, proofs.Lists.{all-snoc}, proofs.Declared.{member-takes, member-sends}, proofs.Dying.{lives-or-dead, lives-not-dead, died-stay, died-home, scheduled-stay}, specs.code.Going.{GoodRules, done, then}, specs.code.Sound.{IsDeclared, Receives, Sends, Joined, AgreeIn}, specs.Reaches.{Reaches}, specs.Settling.{Settles, Writes, Installs}, proofs.Agreeing.{rules-settled}, proofs.Differing.{differ-stay, differ-home}, specs.code.Keeps.{StayThere, AllJoined, Grows, Keeps, KeepsWorld}, specs.Natives.{NativeAnswers}, specs.Good.{whose, shows}, proofs.Scheduling.{deferred, schedule-cases}}
+use Rattle.machine_rules.{specs.Destroying.{Dies, forgotten, NextRule, ChildRule, DestroyRule, living_child, Schedules}, specs.Rules.{RuleAt, BodyRule, Does, EmitRule, UpdateRule, NotifiesIf, Begins, BeginsIf, begun, with_used, linked, unlinked, TurnRule, Serves, Delivers, Arrives}, specs.Operations.{Operation, Write, Begin, Choose, Connect, Disconnect, Delete, Schedule, TakeAnswer, Nothing}, proofs.Doing.{step-of}, proofs.Waiting.{length-change, housed-same, home-change}, specs.There.{IsMember, IsDead}, specs.Connecting.{AreThere, kept_ends, named_signal, names_of, found_ends, may_connect}, specs.Judgement.{goes_on, holds}, proofs.Fitting.{kinds-fit}, proofs.Lists.{all-snoc}, proofs.Declared.{member-takes, member-sends}, proofs.Dying.{lives-or-dead, lives-not-dead, died-stay, died-home, scheduled-stay}, specs.code.Going.{GoodRules, done, then}, specs.code.Sound.{IsDeclared, Receives, Sends, Joined, AgreeIn}, specs.Reaches.{Reaches}, specs.Settling.{Settles, Writes, Installs}, proofs.Agreeing.{rules-settled}, proofs.Differing.{differ-stay, differ-home}, specs.code.Keeps.{StayThere, AllJoined, Grows, Keeps, KeepsWorld}, specs.Natives.{NativeAnswers}, specs.Good.{whose, shows}, proofs.Scheduling.{deferred, schedule-cases}}
 use Rattle.trace_entries.specs.{declared.entry.Entry.{Entry}, declared.refusal.Refusal.{Refusal}}
 use Rattle.syntax_trees.specs.{declared.connection.ConnectionType.{ConnectionType}, declared.connection.Endpoints.{Endpoints as Named}}
 use Rattle.prop_bindings.specs.Changes.{DifferInValues}
@@ -308,7 +308,9 @@ does-kept p natives s o m arguments rest below Nothing t does = keeps-is does (k
 
 body-kept : (p : Loaded) (natives : NativeAnswers) (s : State) (o m : ℕ) (arguments : List Value) (below : List Activation) (t : State) (left : List Step) → BodyRule p natives s o m arguments below t left → Keeps p s 1 t 0
 body-kept p natives s o m arguments below t [] r = keeps-is r (keeps-all _ (grows-same s.trace))
-body-kept p natives s o m arguments below t (x ∷ rest) r = does-kept p natives s o m arguments rest below r.what t r.does
+body-kept p natives s o m arguments below t (x ∷ rest) rule =
+    let r = step-of p natives s o m arguments x rest below t rule in
+    does-kept p natives s o m arguments rest below r.what t r.does
 
 -- objects and connections are those that they were, and other items wait in the loops
 queues-kept : {p : Loaded} {s : State} {n : ℕ} (queues : Queues) (stack : List Activation) {trace : List Entry} → length queues.loops ≡ length s.queues.loops → queues.posted ≤ s.queues.posted + 1 → Grows s.trace trace → Keeps p s (suc n) (record s { queues = queues; stack = stack; trace = trace }) n

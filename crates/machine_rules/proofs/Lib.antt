@@ -13,6 +13,7 @@ pub mod Inherited
 pub mod OneRule
 pub mod Stacks
 pub mod Keeps
+pub mod Doing
 pub mod ReachedStates
 pub mod Delivered
 pub mod Notifying

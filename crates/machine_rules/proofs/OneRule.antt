@@ -10,7 +10,7 @@ use Rattle.machine_state.{specs.declared.changes.telling.Cause.TheVariants.{Bind
 use Rattle.binding_graph.specs.{declared.binding.Binding.{Binding}, Bindings.{binding_at, without_all, replaced, Loop}, declared.place.Place.{Place}}
 use Rattle.prop_bindings.{specs.Changes.{places_in}, specs.Fits.{Agree}, proofs.Once.{written_once, installed_once}}
 use Rattle.syntax_trees.specs.{declared.connection.ConnectionType.{ConnectionType}, declared.connection.Endpoints.{Endpoints as Named}}
-use Rattle.machine_rules.{specs.declared.ends.FoundEnds.{FoundEnds}, specs.Connecting.{AreThere, kept_ends, names_of, found_ends, may_connect}, specs.Judgement.{HasOneAnswer}, proofs.OneAnswer.{one-check, one-then}, specs.Destroying.{Dies, died, NextRule, ChildRule, DestroyRule, living_child, Schedules}, specs.Operations.{Operation, Write, Begin, Choose, Connect, Disconnect, Delete, Schedule, TakeAnswer, Nothing}, specs.Rules.{Rule, RuleAt, BodyRule, Does, EmitRule, Uses, UpdateRule, Notifies, NotifiesIf, Begins, BeginsIf, begun, with_used, Connects, Disconnects, linked, unlinked, Arrives, posted, TurnRule, Serves, Delivers}, specs.Settling.{Settles, Writes, Installs, notified}, proofs.Answering.{answers-one}, proofs.Fields.{some-is, life-unique, method-unique, member-object, member-method, field-property}, specs.Natives.{NativeAnswers, AnswersOnce}, proofs.Scheduling.{told-one}}
+use Rattle.machine_rules.{specs.declared.ends.FoundEnds.{FoundEnds}, specs.Connecting.{AreThere, kept_ends, names_of, found_ends, may_connect}, specs.Judgement.{HasOneAnswer}, proofs.Doing.{step-of}, proofs.OneAnswer.{one-check, one-then}, specs.Destroying.{Dies, died, NextRule, ChildRule, DestroyRule, living_child, Schedules}, specs.Operations.{Operation, Write, Begin, Choose, Connect, Disconnect, Delete, Schedule, TakeAnswer, Nothing}, specs.Rules.{Rule, RuleAt, BodyRule, Does, EmitRule, Uses, UpdateRule, Notifies, NotifiesIf, Begins, BeginsIf, begun, with_used, Connects, Disconnects, linked, unlinked, Arrives, posted, TurnRule, Serves, Delivers}, specs.Settling.{Settles, Writes, Installs, notified}, proofs.Answering.{answers-one}, proofs.Fields.{some-is, life-unique, method-unique, member-object, member-method, field-property}, specs.Natives.{NativeAnswers, AnswersOnce}, proofs.Scheduling.{told-one}}
 use Rattle.delete_later.specs.Scheduling.{scheduled_with}
 
 -- two methods of one number of one life's class
@@ -131,7 +131,9 @@ does-one p natives once s o m arguments rest below Nothing t u agree a b = a ∙
 
 body-one : (p : Loaded) (natives : NativeAnswers) → AnswersOnce natives → (s : State) (o m : ℕ) (arguments : List Value) (below : List Activation) (t u : State) (left : List Step) → Agree p s.objects s.bindings → BodyRule p natives s o m arguments below t left → BodyRule p natives s o m arguments below u left → t ≡ u
 body-one p natives once s o m arguments below t u [] agree a b = a ∙ sym b
-body-one p natives once s o m arguments below t u (x ∷ rest) agree a b =
+body-one p natives once s o m arguments below t u (x ∷ rest) agree first other =
+    let a = step-of p natives s o m arguments x rest below t first in
+    let b = step-of p natives s o m arguments x rest below u other in
     let both : Some a.what ≡ Some b.what = sym a.is ∙ b.is in
     let same : a.what ≡ b.what = cc both in
     let Done : Operation → Type 0 = λ d. Does p natives s o m arguments rest below d u in

@@ -5,7 +5,7 @@ use Rattle.meta_model.specs.{Loaded.{Loaded}, declared.effects.MetaEffects.{Meta
 use Rattle.expressions.specs.declared.evaluation.EvalFault.{EvalFault}
 use Rattle.expressions.specs.declared.evaluation.EvalFault.TheVariants as eval
 use Rattle.trace_entries.specs.{declared.fault.Fault.{Fault}, declared.fault.Fault.TheVariants.{BadType, TooDeep, InUse, Steps, Memory}, Faults.{IsFaultOf}}
-use Rattle.machine_rules.{specs.Rules.{Rule, RuleAt, StepRule, Does}, specs.Settling.{Writes, notified}, specs.Operations.{Operation, Write, TakeAnswer}, specs.There.{IsDead, NoneDied}, specs.code.Sound.{AgreeIn}, specs.Good.{has_body, IsWell, Spares, IsAcyclic, IsGood, TopFits, shows}, specs.Faults.{WritesDeep, GoesIll, GoesFatal, GoesDeep}, specs.code.Lacking.{LacksFirst}, specs.Next.{DoesNext, WritesNext, WritesIll}, specs.code.Going.{GoodRules, done, then, IsStuck}, specs.Reaches.{Reaches, StopsIn, RunsTo}, proofs.Stacks.{high, shows-over}, specs.Natives.{NativeAnswers}}
+use Rattle.machine_rules.{specs.Rules.{Rule, RuleAt, StepRule, Does}, specs.Settling.{Writes, notified}, specs.Operations.{Operation, Write, TakeAnswer}, specs.There.{IsDead, NoneDied}, specs.code.Sound.{AgreeIn}, specs.Good.{has_body, IsWell, Spares, IsAcyclic, IsGood, TopFits, shows}, specs.Faults.{WritesDeep, GoesIll, GoesFatal, GoesDeep}, specs.code.Lacking.{LacksFirst}, specs.Next.{DoesNext, WritesNext, WritesIll}, specs.code.Going.{GoodRules, done, then, IsStuck}, specs.Reaches.{Reaches, StopsIn, RunsTo}, proofs.Doing.{Doing, doing, step-of}, proofs.Stacks.{high, shows-over}, specs.Natives.{NativeAnswers}}
 use Rattle.prop_bindings.specs.Fits.{Agree}
 use Rattle.binding_graph.specs.declared.place.Place.{Place}
 use Rattle.object_tree.specs.declared.object.Object.{Object}
@@ -42,17 +42,17 @@ pub same-spared : {old new : List Object} → new ≡ old → NoneDied old new
 same-spared e o gone = subst (λ (objects : List Object). IsDead objects o) e gone
 
 -- where the next step writes, the next rule does
-pub next-writes : (p : Loaded) (natives : NativeAnswers) (s t : State) {what : Assigning} → (next : WritesNext s what) → Rule p natives s t → Writes p s (Body next.object next.method next.arguments next.rest ∷ next.below) what t
+pub next-writes : (p : Loaded) (natives : NativeAnswers) (s t : State) {what : Assigning} → (next : Doing s (Write what)) → Rule p natives s t → Writes p s (Body next.object next.method next.arguments next.rest ∷ next.below) what t
 next-writes p natives s t {what} next rule =
     let At : List Activation → Type 0 = λ stack. RuleAt p natives s t stack in
-    let step : StepRule p natives s next.object next.method next.arguments next.step next.rest next.below t = subst At next.is_next rule in
+    let step : StepRule p natives s next.object next.method next.arguments next.step next.rest next.below t = step-of p natives s next.object next.method next.arguments next.step next.rest next.below t (subst At next.is_next rule) in
     let both : Some step.what ≡ Some (Write what) = sym step.is ∙ next.does in
     let same : step.what ≡ Write what = cc both in
     let Done : Operation → Type 0 = λ e. Does p natives s next.object next.method next.arguments next.rest next.below e t in
     subst Done same step.does
 
 -- .. and pushes an update
-pub writes-push : (p : Loaded) (natives : NativeAnswers) (s t : State) {what : Assigning} → (next : WritesNext s what) → Rule p natives s t → (places : List Place) × (t.stack ≡ Update places ∷ Body next.object next.method next.arguments next.rest ∷ next.below)
+pub writes-push : (p : Loaded) (natives : NativeAnswers) (s t : State) {what : Assigning} → (next : Doing s (Write what)) → Rule p natives s t → (places : List Place) × (t.stack ≡ Update places ∷ Body next.object next.method next.arguments next.rest ∷ next.below)
 writes-push p natives s t next rule =
     let writes = next-writes p natives s t next rule in
     (notified p writes.objects writes.changed, ap (λ (u : State). u.stack) writes.settles.gives)
@@ -60,7 +60,7 @@ writes-push p natives s t next rule =
 -- .. so one that leaves the stack no higher writes nothing
 no-higher-fits : (p : Loaded) (natives : NativeAnswers) (s t : State) → Rule p natives s t → length t.stack ≤ length s.stack → ¬ WritesIll p s
 no-higher-fits p natives s t rule low ill =
-    let next = ill.next in
+    let next = doing s ill.next in
     let pushed = writes-push p natives s t next rule in
     let after : length t.stack ≡ suc (suc (length next.below)) = ap (λ (l : List Activation). length l) pushed.1 in
     let before : length s.stack ≡ suc (length next.below) = ap (λ (l : List Activation). length l) next.is_next in
@@ -69,7 +69,7 @@ no-higher-fits p natives s t rule low ill =
 -- .. nor does one that pushes something else
 pub no-update-fits : (p : Loaded) (natives : NativeAnswers) (s t : State) (top : Activation) (below : List Activation) → Rule p natives s t → t.stack ≡ top ∷ below → ((places : List Place) → top ≢ Update places) → ¬ WritesIll p s
 no-update-fits p natives s t top below rule is other ill =
-    let next = ill.next in
+    let next = doing s ill.next in
     let pushed = writes-push p natives s t next rule in
     let both : (top ∷ below) ≡ (Update pushed.0 ∷ Body next.object next.method next.arguments next.rest ∷ next.below) = sym is ∙ pushed.1 in
     let same : top ≡ Update pushed.0 = cc both in

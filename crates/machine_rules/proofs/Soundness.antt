@@ -9,7 +9,7 @@ use Rattle.object_tree.specs.{declared.object.Object.{Object}, declared.life.Lif
 use Rattle.binding_graph.specs.{declared.binding.Binding.{Binding}, declared.place.Place.{Place}}
 use Rattle.prop_bindings.specs.{Changes.{DifferInValues}, Fits.{Agree}}
 use Rattle.trace_entries.specs.{declared.entry.Entry.{Entry}, declared.refusal.Refusal.{Refusal}}
-use Rattle.machine_rules.{specs.Operations.{Operation, Write, Begin, Choose, Nothing, Connect, Disconnect, Delete, Schedule, TakeAnswer}, specs.Good.{ArgumentsFit, TopFits, IsWell}, specs.code.Keeps.{StayThere, AllJoined, KeepsWorld}, specs.Reaches.{Reaches}, specs.Settling.{Settles, Writes, Installs}, specs.Rules.{RuleAt, BodyRule, Does, EmitRule, UpdateRule, NotifiesIf, TurnRule, Serves, Delivers, Arrives, Begins, BeginsIf, begun, with_used, linked, unlinked}, specs.code.Going.{GoodRules, done, then}, specs.code.Sound.{SendsThese, IsDelivered, Joined, Waits, AllWait, Sound, AgreeIn, IsSoundWorld, MayBeHeard}, specs.Destroying.{Dies, forgotten, NextRule, ChildRule, DestroyRule, living_child, Schedules}, proofs.Delivered.{next-delivered, delivered-fits}, proofs.Declared.{fit-takes, emission-sends}, proofs.Dying.{died-stay, scheduled-stay}, proofs.Keeps.{takes-still, sends-still, values-stay, all-joined-still, rule-kept, some-top, some-stack, some-all, reaches-keeps, reaches-agree}, proofs.Differing.{differ-stay, differ-home}, proofs.Waiting.{all-posted, all-taken, all-dropped, housed-same}, proofs.Lists.{all-append, all-weaken}, specs.Connecting.{kept_ends, names_of}, specs.Natives.{NativeAnswers}, proofs.Scheduling.{deferred, schedule-cases}, proofs.Hearing.{AllHeard, nobody, Heard, may-be-heard, rule-heard, heard-over}}
+use Rattle.machine_rules.{specs.Operations.{Operation, Write, Begin, Choose, Nothing, Connect, Disconnect, Delete, Schedule, TakeAnswer}, specs.Good.{ArgumentsFit, TopFits, IsWell}, specs.code.Keeps.{StayThere, AllJoined, KeepsWorld}, specs.Reaches.{Reaches}, specs.Settling.{Settles, Writes, Installs}, specs.Rules.{RuleAt, BodyRule, Does, EmitRule, UpdateRule, NotifiesIf, TurnRule, Serves, Delivers, Arrives, Begins, BeginsIf, begun, with_used, linked, unlinked}, specs.code.Going.{GoodRules, done, then}, specs.code.Sound.{SendsThese, IsDelivered, Joined, Waits, AllWait, Sound, AgreeIn, IsSoundWorld, MayBeHeard}, specs.Destroying.{Dies, forgotten, NextRule, ChildRule, DestroyRule, living_child, Schedules}, proofs.Doing.{step-of}, proofs.Delivered.{next-delivered, delivered-fits}, proofs.Declared.{fit-takes, emission-sends}, proofs.Dying.{died-stay, scheduled-stay}, proofs.Keeps.{takes-still, sends-still, values-stay, all-joined-still, rule-kept, some-top, some-stack, some-all, reaches-keeps, reaches-agree}, proofs.Differing.{differ-stay, differ-home}, proofs.Waiting.{all-posted, all-taken, all-dropped, housed-same}, proofs.Lists.{all-append, all-weaken}, specs.Connecting.{kept_ends, names_of}, specs.Natives.{NativeAnswers}, proofs.Scheduling.{deferred, schedule-cases}, proofs.Hearing.{AllHeard, nobody, Heard, may-be-heard, rule-heard, heard-over}}
 use Rattle.syntax_trees.specs.{declared.connection.ConnectionType.{ConnectionType}, declared.connection.Endpoints.{Endpoints as Named}}
 
 -- ---- as long as the objects stay there
@@ -179,7 +179,9 @@ module _ {p : Loaded} {s t : State} (program : IsSound p) (well : IsWell p s t) 
 
   body-fair : (natives : NativeAnswers) (o m : ℕ) (arguments : List Value) (below : List Activation) (left : List Step) → AllFit p s.objects below → length s.stack ≡ suc (length below) → BodyRule p natives s o m arguments below t left → Fair p t
   body-fair natives o m arguments below [] lower high r = quiet-fair r lower
-  body-fair natives o m arguments below (x ∷ rest) lower high r = does-fair natives o m arguments rest below r.what lower high r.does
+  body-fair natives o m arguments below (x ∷ rest) lower high rule =
+      let r = step-of p natives s o m arguments x rest below t rule in
+      does-fair natives o m arguments rest below r.what lower high r.does
 
   emission-fair : (o g : ℕ) (arguments : List Value) (used last : ℕ) (below : List Activation) (found : Option Connection) → AllJoined p s.objects s.connected.connections → next_used s.objects s.connected.connections o g used last ≡ found → SendsThese p s.objects o g arguments → MayBeHeard s.objects s.connected.connections o g → AllFit p s.objects below → length s.stack ≡ suc (length below) → EmitRule p s o g arguments last below t found → Fair p t
   emission-fair o g arguments used last below None joined is fit may lower high r = quiet-fair r lower

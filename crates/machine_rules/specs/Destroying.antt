@@ -1,6 +1,6 @@
 -- What a deletion does, and how one is scheduled (docs/machine.md, "Destruction"; Qt 6, `QObject::~QObject`,
 -- `QObject::deleteLater` and "Object Trees & Ownership").
-use Rattle.std.specs.Prelude.{◌≡◌, ℕ, suc, List, [], ◌∷◌, ◌++◌, length, Option, None, Some, Bool, true, false}
+use Rattle.std.specs.Prelude.{◌≡◌, ℕ, suc, List, [], ◌∷◌, ◌++◌, length, Option, None, Some, Bool, true, false, MatchBool, MatchOption}
 use Rattle.std.specs.List.{find}
 use Rattle.basic_types.specs.declared.value.Value.TheVariants as value
 use Rattle.meta_model.specs.declared.qobject.TheConstants.{DESTROYED}
@@ -25,39 +25,30 @@ use Rattle.machine_state.specs.Worlds.{store_of, with_store}
 abbrev pub deleting : State → List Activation → ℕ → State
 deleting s below x = record s { stack = Destroy (Some x) [] ∷ below }
 
--- Object x, of this name, dies, over a stack with the deletion on top: it leaves its parent, the bindings go whose target
--- or source it is, and its `destroyed` is emitted, whether it was blocked or not. The signal's argument would be a
--- reference to x, which reads as null from now on.
-abbrev pub died : State → List Activation → ℕ → List ℕ → State
-died s stack x name = record (with_store s (died_in x (store_of s))) {
-  stack = Emit x DESTROYED (value.Ref None ∷ []) 0 s.connected.last ∷ stack;
-  trace = s.trace ++ At (length stack) (entry_kind.Died name)
-      ∷ At (suc (length stack)) (entry_kind.Emitted name destroyed.name (show.Null ∷ []) false) ∷ [];
-}
-
--- Object x dies so, whatever its name is.
+-- Object x dies, over a stack with the deletion on top: it leaves its parent, the bindings go whose target or source it is,
+-- and its `destroyed` is emitted, whether it was blocked or not. The signal's argument would be a reference to x, which
+-- reads as null from now on.
 pub record Dies (s : State) (stack : List Activation) (x : ℕ) (t : State) : Type 0 where
   pub name : List ℕ
   pub named : name_of s.objects x ≡ Some name
-  pub gives : t ≡ died s stack x name
+  pub gives : t ≡ record (with_store s (died_in x (store_of s))) {
+    stack = Emit x DESTROYED (value.Ref None ∷ []) 0 s.connected.last ∷ stack;
+    trace = s.trace ++ At (length stack) (entry_kind.Died name)
+        ∷ At (suc (length stack)) (entry_kind.Emitted name destroyed.name (show.Null ∷ []) false) ∷ [];
+  }
 
--- the object that is deleted next dies, if it lives; it is forgotten when its `destroyed` has ended, and then it is the
--- latest of those that are torn down: no connection leads from or to it any more, and nothing waits for it
-abbrev pub NextRule : State → List Activation → State → ℕ → List ℕ → Bool → Type 0
-NextRule s below t x torn true = Dies s (Destroy (Some x) torn ∷ below) x t
-NextRule s below t x torn false = t ≡ record (with_store s (ended_in x (store_of s))) { stack = Destroy None (x ∷ torn) ∷ below }
-
--- the first living child of the latest of those that are torn down dies, in the order of adoption; where it has none left, it
--- isn't torn down any more
-abbrev pub ChildRule : State → List Activation → State → ℕ → List ℕ → Option ℕ → Type 0
-ChildRule s below t parent torn (Some x) = Dies s (Destroy (Some x) (parent ∷ torn) ∷ below) x t
-ChildRule s below t parent torn None = t ≡ record s { stack = Destroy None torn ∷ below }
-
--- with no object left a deletion ends
+-- The object that is deleted next dies, if it lives; it is forgotten when its `destroyed` has ended, and then it is the
+-- latest of those that are torn down: no connection leads from or to it any more, and nothing waits for it. The first living
+-- child of the latest of those that are torn down dies, in the order of adoption; where it has none left, it isn't torn down
+-- any more. With no object left a deletion ends.
 abbrev pub DestroyRule : State → List Activation → State → Option ℕ → List ℕ → Type 0
-DestroyRule s below t (Some x) torn = NextRule s below t x torn (is_living s.objects x)
+DestroyRule s below t (Some x) torn =
+    MatchBool (is_living s.objects x) (Dies s (Destroy (Some x) torn ∷ below) x t)
+    (t ≡ record (with_store s (ended_in x (store_of s))) { stack = Destroy None (x ∷ torn) ∷ below })
 DestroyRule s below t None [] = t ≡ record s { stack = below }
-DestroyRule s below t None (parent ∷ torn) = ChildRule s below t parent torn (find (is_living s.objects) (children_of s.objects parent))
+DestroyRule s below t None (parent ∷ torn) =
+    MatchOption (find (is_living s.objects) (children_of s.objects parent)) (t ≡ record s { stack = Destroy None torn ∷ below })
+    (λ x. Dies s (Destroy (Some x) (parent ∷ torn) ∷ below) x t)
 
 -- ---- an object is scheduled to be deleted
 
@@ -77,6 +68,25 @@ pub record Schedules (s : State) (stack : List Activation) (x : ℕ) (t : State)
   pub gives : t ≡ record (with_store s (scheduled_with life x (store_of s))) { stack = stack; trace = s.trace ++ lines }
 
 -- ---- parts of these, each as the code does it
+
+-- object x, of this name, has died
+abbrev pub died : State → List Activation → ℕ → List ℕ → State
+died s stack x name = record (with_store s (died_in x (store_of s))) {
+  stack = Emit x DESTROYED (value.Ref None ∷ []) 0 s.connected.last ∷ stack;
+  trace = s.trace ++ At (length stack) (entry_kind.Died name)
+      ∷ At (suc (length stack)) (entry_kind.Emitted name destroyed.name (show.Null ∷ []) false) ∷ [];
+}
+
+-- the object that is deleted next dies, if it lives, or is forgotten
+abbrev pub NextRule : State → List Activation → State → ℕ → List ℕ → Bool → Type 0
+NextRule s below t x torn lives =
+    MatchBool lives (Dies s (Destroy (Some x) torn ∷ below) x t)
+    (t ≡ record (with_store s (ended_in x (store_of s))) { stack = Destroy None (x ∷ torn) ∷ below })
+
+-- this child of the latest of those that are torn down dies, or there is none
+abbrev pub ChildRule : State → List Activation → State → ℕ → List ℕ → Option ℕ → Type 0
+ChildRule s below t parent torn child =
+    MatchOption child (t ≡ record s { stack = Destroy None torn ∷ below }) (λ x. Dies s (Destroy (Some x) (parent ∷ torn) ∷ below) x t)
 
 -- no connection leads from or to the object any more, and nothing waits for it
 abbrev pub forgotten : State → ℕ → State

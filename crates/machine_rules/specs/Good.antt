@@ -1,6 +1,5 @@
 -- The bad moments that a rule, or the taking of an event, may bring (docs/machine.md, "Faults"). None of them is forbidden.
-use Rattle.std.specs.Prelude.{◌≡◌, ℕ, ◌<◌, ◌≤◌, Bool, false, IsTrue, List, [], ◌∷◌, length, Option, None, Some}
-use Rattle.std.specs.List.{list_any}
+use Rattle.std.specs.Prelude.{◌≡◌, ℕ, eqb, ◌||◌, ◌<◌, ◌≤◌, Bool, false, IsTrue, List, [], ◌∷◌, length, Option, None, Some}
 use Rattle.basic_types.specs.declared.value.Value.{Value}
 use Rattle.meta_model.specs.declared.object.MetaMethod.{MetaMethod}
 use Rattle.meta_model.specs.declared.object.ValueType.{ValueType}
@@ -8,7 +7,6 @@ use Rattle.meta_model.specs.declared.object.ValueType.TheVariants as type
 use Rattle.meta_model.specs.declared.qobject.TheConstants.{QOBJECT, DESTROYED}
 use Rattle.meta_model.specs.Loaded.{Loaded}
 use Rattle.object_tree.specs.declared.object.Object.{Object}
-use Rattle.object_tree.specs.Forest.{is_the}
 use Rattle.object_tree.specs.Typed.{ReadAs, AreTyped}
 use Rattle.binding_graph.specs.Bindings.{binding_at, Loop, Settled}
 use Rattle.prop_bindings.specs.Values.{values_in}
@@ -43,19 +41,11 @@ destroyed_kinds = type.Reference QOBJECT false ∷ []
 
 -- ---- active bodies
 
--- the object whose body an activation is
-abbrev pub whose : Activation → Option ℕ
-whose (Body o m arguments left) = Some o
-whose _ = None
-
--- for each activation of a stack the object whose body it is
-abbrev pub shows : List Activation → List (Option ℕ)
-shows [] = []
-shows (a ∷ below) = whose a ∷ shows below
-
 -- a body of the object is active
 abbrev pub has_body : ℕ → List Activation → Bool
-has_body o stack = list_any (is_the o) (shows stack)
+has_body o [] = false
+has_body o (Body x m arguments left ∷ below) = eqb x o || has_body o below
+has_body o (_ ∷ below) = has_body o below
 
 -- ---- from a state s to the next, t
 
@@ -97,3 +87,15 @@ pub record IsTyped (p : Loaded) (t : State) : Type 0 where
   pub values : AreTyped p t.objects
   pub has_values : ¬ LacksValue t
   pub fits : ¬ WritesIll p t
+
+-- ---- parts of these, for proofs
+
+-- the object whose body an activation is
+abbrev pub whose : Activation → Option ℕ
+whose (Body o m arguments left) = Some o
+whose _ = None
+
+-- for each activation of a stack the object whose body it is
+abbrev pub shows : List Activation → List (Option ℕ)
+shows [] = []
+shows (a ∷ below) = whose a ∷ shows below

@@ -34,20 +34,17 @@ pub data Operation : Type 0 where
   -- nothing, since a path leads to null
   Nothing : Operation
 
--- what comes of the object that a path leads to, or of null; a value that is no reference leads to nothing
+-- what comes of the object that a path leads to, or of null, on which no expression is evaluated; a value that is no
+-- reference leads to nothing
 abbrev pub led_to : {X : Type 0} → X → (ℕ → Option X) → Option Value → Option X
 led_to null act (Some (value.Ref None)) = Some null
 led_to null act (Some (value.Ref (Some x))) = act x
 led_to null act _ = None
 
--- what is done with the object that a path leads to; on null nothing is done, and no expression is evaluated
-abbrev pub on_object : (ℕ → Option Operation) → Option Value → Option Operation
-on_object act found = led_to Nothing act found
-
 -- what is done with the objects that the two paths of a connection lead to
 abbrev pub on_ends : (Endpoints → Operation) → MetaEndpoints → Option Value → Option Value → Option Operation
 on_ends act ends sender receiver =
-    on_object (λ x. on_object (λ y. Some (act (record { sender = x; signal = ends.signal; receiver = y; method = ends.method }))) receiver) sender
+    led_to Nothing (λ x. led_to Nothing (λ y. Some (act (record { sender = x; signal = ends.signal; receiver = y; method = ends.method }))) receiver) sender
 
 -- the block that a condition chooses
 abbrev pub chosen_by : List Statement → List Statement → Option Value → Option Operation
@@ -94,14 +91,14 @@ operation objects o arguments (layer.Set path q e) = option_map operation_of_set
 operation objects o arguments (layer.Group sets) = option_map (λ found. Write (Grouped found)) (sets_in objects o arguments sets)
 operation objects o arguments (layer.Emit g es) = option_map (λ given. Begin o g given) (values_of objects o arguments es)
 operation objects o arguments (layer.Call path n es) =
-    on_object (λ x. option_map (λ given. Begin x n given) (values_of objects o arguments es)) (path_value objects o arguments path)
+    led_to Nothing (λ x. option_map (λ given. Begin x n given) (values_of objects o arguments es)) (path_value objects o arguments path)
 operation objects o arguments (layer.If e block other) = chosen_by block other (value_of objects o arguments e)
 operation objects o arguments (layer.Connect ends how) =
     on_ends (λ between. Connect between how) ends (path_value objects o arguments ends.sender) (path_value objects o arguments ends.receiver)
 operation objects o arguments (layer.Disconnect ends) =
     on_ends Disconnect ends (path_value objects o arguments ends.sender) (path_value objects o arguments ends.receiver)
-operation objects o arguments (layer.Delete path) = on_object (λ x. Some (Delete x)) (path_value objects o arguments path)
-operation objects o arguments (layer.Later path) = on_object (λ x. Some (Schedule x)) (path_value objects o arguments path)
+operation objects o arguments (layer.Delete path) = led_to Nothing (λ x. Some (Delete x)) (path_value objects o arguments path)
+operation objects o arguments (layer.Later path) = led_to Nothing (λ x. Some (Schedule x)) (path_value objects o arguments path)
 
 -- an action of a native of object o: what is in this place of the lists of its effects is set or emitted
 abbrev pub operation_of_action : ℕ → MetaEffects → Action → Option Operation
@@ -113,3 +110,9 @@ abbrev pub operation_of_step : List Object → ℕ → List Value → Step → O
 operation_of_step objects o arguments (Run statement) = operation objects o arguments (out-Statement statement)
 operation_of_step objects o arguments (Ask effects) = Some (TakeAnswer effects)
 operation_of_step objects o arguments (Act effects action) = operation_of_action o effects action
+
+-- ---- a part of these, for proofs
+
+-- what is done with the object that a path leads to; on null nothing is done
+abbrev pub on_object : (ℕ → Option Operation) → Option Value → Option Operation
+on_object act found = led_to Nothing act found

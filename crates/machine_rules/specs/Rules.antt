@@ -67,10 +67,10 @@ UpdateRule p s below t (place ∷ places) =
 abbrev pub told : State → List Activation → EntryKind → State
 told s stack what = record s { stack = stack; trace = s.trace ++ At (length stack) what ∷ [] }
 
--- a connection is made, or refused, which changes nothing else
-abbrev pub linked : State → List Activation → Endpoints → ConnectionType → Named (List ℕ) → Result (Unit {0}) Refusal → State
-linked s stack ends how names (Ok _) = told (with_connection s ends how) stack (entry_kind.Connected names how)
-linked s stack ends how names (Err r) = told s stack (entry_kind.Refused (refusal_number r))
+-- what is done is written down, or it is refused, which changes nothing else
+abbrev pub answered : State → State → List Activation → EntryKind → Result (Unit {0}) Refusal → State
+answered s done stack what (Ok _) = told done stack what
+answered s done stack what (Err r) = told s stack (entry_kind.Refused (refusal_number r))
 
 -- a statement connects: its signal and method are judged as they are spelled; `destroyed()` is kept and written down as
 -- `destroyed(QObject*)`
@@ -79,19 +79,14 @@ pub record Connects (p : Loaded) (s : State) (stack : List Activation) (ends : E
   pub kept : AreThere p s.objects (kept_ends ends)
   pub answer : Result (Unit {0}) Refusal
   pub judged : may_connect p s.connected (found_ends spelled) spelled.signal.sig spelled.method.sig how answer
-  pub gives : t ≡ linked s stack (kept_ends ends) how (names_of kept) answer
+  pub gives : t ≡ answered s (with_connection s (kept_ends ends) how) stack (entry_kind.Connected (names_of kept) how) answer
 
--- the connections are removed, or that is refused
-abbrev pub unlinked : State → List Activation → Endpoints → Named (List ℕ) → Result (Unit {0}) Refusal → State
-unlinked s stack ends names (Ok _) = told (without_connections s ends) stack (entry_kind.Disconnected names)
-unlinked s stack ends names (Err r) = told s stack (entry_kind.Refused (refusal_number r))
-
--- a statement disconnects
+-- a statement disconnects: the connections are removed
 pub record Disconnects (p : Loaded) (s : State) (stack : List Activation) (ends : Endpoints) (t : State) : Type 0 where
   pub kept : AreThere p s.objects (kept_ends ends)
   pub answer : Result (Unit {0}) Refusal
   pub judged : may_disconnect s.connected (kept_ends ends) answer
-  pub gives : t ≡ unlinked s stack (kept_ends ends) (names_of kept) answer
+  pub gives : t ≡ answered s (without_connections s (kept_ends ends)) stack (entry_kind.Disconnected (names_of kept)) answer
 
 -- A native's answer is taken, and written down; its actions come next. Which one it is, is the native's choice.
 pub record Answers (p : Loaded) (natives : NativeAnswers) (s : State) (o m : ℕ) (arguments : List Value) (effects : MetaEffects)
@@ -114,33 +109,23 @@ Does p natives s o m arguments rest below (Schedule x) t = Schedules s (Body o m
 Does p natives s o m arguments rest below (TakeAnswer effects) t = Answers p natives s o m arguments effects rest below t
 Does p natives s o m arguments rest below Nothing t = t ≡ told s (Body o m arguments rest ∷ below) entry_kind.OnNull
 
--- a step is carried out, and `rest` follows it
-pub record StepRule (p : Loaded) (natives : NativeAnswers) (s : State) (o m : ℕ) (arguments : List Value)
-    (step : Step) (rest : List Step) (below : List Activation) (t : State) : Type 0 where
-  pub what : Operation
-  pub is : operation_of_step s.objects o arguments step ≡ Some what
-  pub does : Does p natives s o m arguments rest below what t
-
--- the next step is carried out; with none left the body ends
+-- the next step is carried out, unless it lacks a value; with none left the body ends
 abbrev pub BodyRule : Loaded → NativeAnswers → State → ℕ → ℕ → List Value → List Activation → State → List Step → Type 0
 BodyRule p natives s o m arguments below t [] = t ≡ record s { stack = below }
-BodyRule p natives s o m arguments below t (step ∷ rest) = StepRule p natives s o m arguments step rest below t
+BodyRule p natives s o m arguments below t (step ∷ rest) =
+    MatchOption (operation_of_step s.objects o arguments step) ⊥ (λ what. Does p natives s o m arguments rest below what t)
 
 -- ---- emissions
 
--- a call of a method is appended to the items of an event loop; the stack stays as it is
-abbrev pub posted : State → List Activation → List ℕ → ℕ → ℕ → Object → ℕ → MetaMethod → List Value → State
-posted s stack name home o x m method arguments = record s {
-  queues = posted_to home (Call o m arguments) s.queues;
-  stack = stack;
-  trace = s.trace ++ At (length stack) (entry_kind.Posted name x.name method.sig.name (all_shown s.objects arguments)) ∷ [];
-}
-
--- a call of a method is posted so to this loop, which has a name
+-- a call of a method is appended to the items of this event loop; the stack stays as it is
 pub record Posts (s : State) (stack : List Activation) (home o : ℕ) (x : Object) (m : ℕ) (method : MetaMethod) (arguments : List Value) (t : State) : Type 0 where
   pub name : List ℕ
   pub is_loop : HasName s.queues.loops name home
-  pub gives : t ≡ posted s stack name home o x m method arguments
+  pub gives : t ≡ record s {
+    queues = posted_to home (Call o m arguments) s.queues;
+    stack = stack;
+    trace = s.trace ++ At (length stack) (entry_kind.Posted name x.name method.sig.name (all_shown s.objects arguments)) ∷ [];
+  }
 
 -- a method begins at once, or a call of it is posted to a loop
 abbrev pub Arrives : State → List Activation → ℕ → ℕ → Object → ℕ → MetaMethod → List Value → State → Bool → Type 0
@@ -166,23 +151,16 @@ abbrev pub Delivers : Loaded → State → State → Item → Type 0
 Delivers p s t (Call o m arguments) = MatchOption (life_of s.objects o) (t ≡ s) (λ l. Begins p s [] o m arguments t)
 Delivers p s t (Deletion o) = t ≡ deleting s [] o
 
--- the first item that was posted before the turn began is taken and delivered; with none left the turn ends
-abbrev pub Serves : Loaded → State → State → Turn → Option Posted → Type 0
-Serves p s t turn None = t ≡ record s { turn = None }
-Serves p s t turn (Some first) =
-    Delivers p (record s { queues = taken_before turn.home turn.limit s.queues }) t first.item
-
--- outside a turn nothing follows
-abbrev pub TurnRule : Loaded → State → State → Option Turn → Type 0
-TurnRule p s t None = ⊥
-TurnRule p s t (Some turn) = Serves p s t turn (find (is_before turn.limit) (items_at s.queues.loops turn.home))
-
 -- ---- one rule
 
--- What the activation on top does next; where there is none, what the turn does. An emission uses the next connection; with none
--- left, and where the object is blocked, it ends.
+-- What the activation on top does next; where there is none, what the turn does: the first item that was posted before it
+-- began is taken and delivered; with none left the turn ends, and outside a turn nothing follows. An emission uses the next
+-- connection; with none left, and where the object is blocked, it ends.
 abbrev pub RuleAt : Loaded → NativeAnswers → State → State → List Activation → Type 0
-RuleAt p natives s t [] = TurnRule p s t s.turn
+RuleAt p natives s t [] =
+    MatchOption s.turn ⊥
+    (λ turn. MatchOption (find (is_before turn.limit) (items_at s.queues.loops turn.home)) (t ≡ record s { turn = None })
+    (λ first. Delivers p (record s { queues = taken_before turn.home turn.limit s.queues }) t first.item))
 RuleAt p natives s t (Body o m arguments left ∷ below) = BodyRule p natives s o m arguments below t left
 RuleAt p natives s t (Emit o g arguments used last ∷ below) =
     MatchOption (next_used s.objects s.connected.connections o g used last) (t ≡ record s { stack = below })
@@ -195,6 +173,39 @@ abbrev pub Rule : Loaded → NativeAnswers → State → State → Type 0
 Rule p natives s t = RuleAt p natives s t s.stack
 
 -- ---- parts of these, for proofs
+
+-- a step is carried out, and `rest` follows it
+pub record StepRule (p : Loaded) (natives : NativeAnswers) (s : State) (o m : ℕ) (arguments : List Value)
+    (step : Step) (rest : List Step) (below : List Activation) (t : State) : Type 0 where
+  pub what : Operation
+  pub is : operation_of_step s.objects o arguments step ≡ Some what
+  pub does : Does p natives s o m arguments rest below what t
+
+-- a connection is made, or refused
+abbrev pub linked : State → List Activation → Endpoints → ConnectionType → Named (List ℕ) → Result (Unit {0}) Refusal → State
+linked s stack ends how names answer = answered s (with_connection s ends how) stack (entry_kind.Connected names how) answer
+
+-- the connections are removed, or that is refused
+abbrev pub unlinked : State → List Activation → Endpoints → Named (List ℕ) → Result (Unit {0}) Refusal → State
+unlinked s stack ends names answer = answered s (without_connections s ends) stack (entry_kind.Disconnected names) answer
+
+-- a call of a method is appended to the items of the event loop of this name
+abbrev pub posted : State → List Activation → List ℕ → ℕ → ℕ → Object → ℕ → MetaMethod → List Value → State
+posted s stack name home o x m method arguments = record s {
+  queues = posted_to home (Call o m arguments) s.queues;
+  stack = stack;
+  trace = s.trace ++ At (length stack) (entry_kind.Posted name x.name method.sig.name (all_shown s.objects arguments)) ∷ [];
+}
+
+-- this item is delivered, or the turn ends
+abbrev pub Serves : Loaded → State → State → Turn → Option Posted → Type 0
+Serves p s t turn found =
+    MatchOption found (t ≡ record s { turn = None })
+    (λ first. Delivers p (record s { queues = taken_before turn.home turn.limit s.queues }) t first.item)
+
+-- outside a turn nothing follows
+abbrev pub TurnRule : Loaded → State → State → Option Turn → Type 0
+TurnRule p s t found = MatchOption found ⊥ (λ turn. Serves p s t turn (find (is_before turn.limit) (items_at s.queues.loops turn.home)))
 
 -- the notify signal is emitted if the property's object lives
 abbrev pub NotifiesIf : Loaded → State → List Activation → Place → State → Option Life → Type 0

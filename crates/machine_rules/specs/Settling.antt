@@ -17,7 +17,7 @@ use Rattle.trace_entries.specs.declared.entry.Entry.{Entry}
 use Rattle.machine_state.specs.declared.changes.telling.Cause.TheVariants.{Bind}
 use Rattle.machine_state.specs.State.{State, Activation, Update}
 use Rattle.machine_state.specs.Telling.{AreTold, Assigning, IsAssigningTold, writes_of}
-use Rattle.machine_rules.specs.There.{HasField, IsField}
+use Rattle.machine_rules.specs.There.{HasField}
 
 -- ---- what is notified
 
@@ -54,9 +54,7 @@ pub record Writes (p : Loaded) (s : State) (below : List Activation) (what : Ass
 -- A binding is installed in place of its target's old one, and stands last. Whether it closes a chain of bindings is not
 -- asked: that is a bad moment, and not forbidden.
 pub record Installs (p : Loaded) (s : State) (below : List Activation) (b : Binding) (t : State) : Type 0 where
-  pub object : Object
-  pub property : MetaProperty
-  pub is : IsField p s.objects b.target.object b.target.property object property
+  pub there : HasField p s.objects b.target
   pub objects : List Object
   pub changed : List Place
   pub installed : IsInstalled s.bindings (replaced s.bindings b) s.objects objects b changed

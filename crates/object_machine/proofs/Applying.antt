@@ -16,14 +16,14 @@ use Rattle.object_machine.specs.Seen.{Seen, Completes, Halts, Stays, RunsAll}
 use Rattle.object_machine.proofs.Running.{runs-trans}
 
 pub completes-none : {N : Type 0} {gives : N → NativeAnswers} {a : Seen N} → a.stopped ≡ false → a.world.turn ≡ None → Completes gives a [] [] a
-completes-none went none = record { went = went; same = refl; whole = record { runs = record { run = done; good = tt }; ends = record { empty = refl; no_turn = none } } }
+completes-none went none = record { went = went; same = refl; runs = record { run = done; good = tt }; ends = record { empty = refl; no_turn = none } }
 
 -- a run goes on where another came
 pub completes-then : {N : Type 0} {gives : N → NativeAnswers} {a b c : Seen N} {es fs : List Event} {xs ys : List Answer} → Completes gives a es xs b → Completes gives b fs ys c → Completes gives a (es ++ fs) (xs ++ ys) c
 completes-then {N} {gives} {a} {b} {c} {es} {fs} {xs} {ys} x y =
     let Family : Seen N → Type 0 = λ s. Completes gives s fs ys c in
     let z : Completes gives (record a { world = b.world }) fs ys c = subst Family x.same y in
-    record { went = x.went; same = z.same; whole = record { runs = runs-trans x.whole.runs z.whole.runs; ends = z.whole.ends } }
+    record { went = x.went; same = z.same; runs = runs-trans x.runs z.runs; ends = z.ends }
 
 pub halts-after : {N : Type 0} {gives : N → NativeAnswers} {a b c : Seen N} {f : Fault} {es fs : List Event} {xs : List Answer} → Completes gives a es xs b → Halts gives b fs f c → Halts gives a (es ++ fs) f c
 halts-after {N} {gives} {a} {b} {c} {f} {es} {fs} {xs} x y =
@@ -32,17 +32,15 @@ halts-after {N} {gives} {a} {b} {c} {f} {es} {fs} {xs} x y =
     record {
       went = x.went;
       same = z.same;
-      way = record {
-        stack = z.way.stack;
-        front = record {
-          taken = es ++ z.way.front.taken;
-          rest = z.way.front.rest;
-          split = ap (λ (l : List Event). es ++ l) z.way.front.split ∙ sym (append_assoc es z.way.front.taken z.way.front.rest);
-          answers = xs ++ z.way.front.answers;
-          runs = runs-trans x.whole.runs z.way.front.runs;
-        };
-        cause = z.way.cause;
+      stack = z.stack;
+      front = record {
+        taken = es ++ z.front.taken;
+        rest = z.front.rest;
+        split = ap (λ (l : List Event). es ++ l) z.front.split ∙ sym (append_assoc es z.front.taken z.front.rest);
+        answers = xs ++ z.front.answers;
+        runs = runs-trans x.runs z.front.runs;
       };
+      cause = z.cause;
     }
 
 -- a rule that is due stays due, and one that follows still follows, whatever events come after
@@ -79,17 +77,15 @@ pub halts-more : {N : Type 0} {gives : N → NativeAnswers} {a c : Seen N} {f : 
 halts-more {N} {gives} {a} {c} {f} {es} more x = record {
   went = x.went;
   same = x.same;
-  way = record {
-    stack = x.way.stack;
-    front = record {
-      taken = x.way.front.taken;
-      rest = x.way.front.rest ++ more;
-      split = ap (λ (l : List Event). l ++ more) x.way.front.split ∙ append_assoc x.way.front.taken x.way.front.rest more;
-      answers = x.way.front.answers;
-      runs = x.way.front.runs;
-    };
-    cause = stops-more more x.way.cause;
+  stack = x.stack;
+  front = record {
+    taken = x.front.taken;
+    rest = x.front.rest ++ more;
+    split = ap (λ (l : List Event). l ++ more) x.front.split ∙ append_assoc x.front.taken x.front.rest more;
+    answers = x.front.answers;
+    runs = x.front.runs;
   };
+  cause = stops-more more x.cause;
 }
 
 -- where a run completed the machine has not stopped

@@ -3,14 +3,14 @@ use Rattle.std.proofs.Common.{◌≡◌, ℕ, ◌+◌, true, false, List, [], �
 use Rattle.script_lang.specs.declared.event.Event.{Event}
 use Rattle.script_lang.specs.declared.event.Event.TheVariants as event
 use Rattle.meta_model.specs.Loaded.{Loaded}
-use Rattle.object_tree.specs.{Objects.{change_life, blocked}, Creating.{fresh, initial_values}, declared.life.Life.{Life}}
+use Rattle.object_tree.specs.{Objects.{change_life, blocked}, Creating.{fresh, initial_values}}
 use Rattle.event_loops.specs.Queues.{with_loop}
-use Rattle.machine_state.specs.{Accepting.{accepted, refused}, State.{State, IsIdle}, Telling.{Alone}, Worlds.{begun_turn, with_connection, without_connections}}
+use Rattle.machine_state.specs.{Accepting.{accepted, refused}, State.{State, IsIdle}, Telling.{Alone}, Worlds.{begun_turn, with_store, with_connection, without_connections}}
 use Rattle.trace_entries.specs.{Refusals.{refusal_number}, declared.entry.Entry.{Entry}, declared.fault.Answer.{Answer}, declared.fault.Answer.TheVariants.{Refused}, declared.fault.Fault.{Fault}, declared.refusal.Refusal.{Refusal}}
 use Rattle.trace_entries.specs.declared.entry.Entry.TheVariants as entry
 use Rattle.binding_graph.specs.{Places.{property_of}, declared.binding.Binding.{Binding}}
-use Rattle.machine_rules.specs.{Destroying.{deleting, Schedules}, Next.{DoesNext, WritesNext, WritesIll, LacksValue}, Good.{IsWell, IsGood}, Judgement.{Numbered, Then, goes_on, ends, Gives, gives, Becomes, becomes}, Natives.{NativeAnswers}, Operations.{Operation}, Rules.{Begins}, Settling.{Writes, Installs}}
-use Rattle.object_machine.{specs.Causes.{BindsNext, Brings, StopsFor, spent, short, brings, lacks_value, writes_ill, binds_ill, goes_ill, goes_fatal, binds_loop, writes_deep, goes_deep}, specs.Events.{Adopts, MovesTo}, specs.Laws.{in_front, RunReadsNoTrace}, specs.Runs.{Run, done, goes, takes, Each, GoodRun, Follows, by_rule, by_event, IsDue, goes_on as is_under_way, is_next}, specs.Takes.{judged, Takes, accepts, refuses}, proofs.RuleFronts.{reads-no-trace, begins-front, writes-front, installs-front, schedules-front}}
+use Rattle.machine_rules.specs.{Destroying.{deleting, Schedules}, Next.{WritesIll}, Good.{IsWell, IsGood}, Judgement.{Then, goes_on, ends, Gives, gives, Becomes, becomes}, Natives.{NativeAnswers}, Rules.{Begins}, Settling.{Writes, Installs}}
+use Rattle.object_machine.{specs.Causes.{BindsNext, Brings, StopsFor, spent, short, brings, lacks_value, writes_ill, binds_ill, goes_ill, goes_fatal, binds_loop, writes_deep, goes_deep}, specs.Events.{judged}, specs.Laws.{in_front, RunReadsNoTrace}, specs.Runs.{Run, done, goes, takes, Each, GoodRun, Follows, by_rule, by_event, IsDue, goes_on as is_under_way, is_next}, specs.Takes.{Takes, accepts, refuses}, proofs.RuleFronts.{reads-no-trace, begins-front, writes-front, installs-front, schedules-front}}
 
 module _ (front : List Entry) where
   abbrev shifted : Result State Refusal → Result State Refusal
@@ -38,12 +38,6 @@ module _ (front : List Entry) where
   idle-front : {s : State} → IsIdle s → IsIdle (in_front front s)
   idle-front idle = record { empty = idle.empty; no_turn = idle.no_turn }
 
-  adopts-front : {s t : State} {a c : Numbered Life} → Adopts s a c t → Adopts (in_front front s) a c (in_front front t)
-  adopts-front x = record { objects = x.objects; is = x.is; gives = ap (in_front front) x.gives }
-
-  moves-front : {s t : State} {o home : ℕ} → MovesTo s o home t → MovesTo (in_front front s) o home (in_front front t)
-  moves-front x = record { store = x.store; is = x.is; gives = ap (in_front front) x.gives }
-
   judged-front : (p : Loaded) (s : State) (e : Event) (r : Result State Refusal) → judged p s e r → judged p (in_front front s) e (shifted r)
   judged-front p s (event.Loop name) r x =
       then-front (λ free q n. gives-front (ap (λ (u : State). record u { queues = with_loop name s.queues }) (accepted-front s)) n) x
@@ -54,10 +48,10 @@ module _ (front : List Entry) where
       gives-front (ap (λ (u : State). record u { objects = s.objects ++ fresh name c.number home (initial_values c.it) ∷ [] }) (accepted-front s)) n) n) n) n) x
   judged-front p s (event.Adopt parent child) r x =
       then-front (λ a q n. then-front (λ c q n. then-front (λ owned q n. then-front (λ above q n. then-front (λ home q n.
-      becomes-front (λ t y. subst (λ (u : State). Adopts u a c (in_front front t)) (accepted-front s) (adopts-front y)) n) n) n) n) n) x
+      then-front (λ objects q n. gives-front (ap (λ (u : State). record u { objects = objects }) (accepted-front s)) n) n) n) n) n) n) x
   judged-front p s (event.Move name loop) r x =
       then-front (λ o q n. then-front (λ home q n. then-front (λ alone q n. then-front (λ bound q n.
-      becomes-front (λ t y. subst (λ (u : State). MovesTo u o.number home (in_front front t)) (accepted-front s) (moves-front y)) n) n) n) n) x
+      then-front (λ store q n. gives-front (ap (λ (u : State). with_store u store) (accepted-front s)) n) n) n) n) n) x
   judged-front p s (event.Connect joins how) r x =
       then-front (λ f q n. then-front (λ may q n. gives-front (ap (λ (u : State). with_connection u f.ends how) (accepted-front s)) n) n) x
   judged-front p s (event.Disconnect joins) r x =
@@ -91,10 +85,7 @@ module _ (front : List Entry) where
 
   -- what is written next doesn't depend on it
   ill-behind : {p : Loaded} (s : State) → WritesIll p (in_front front s) → WritesIll p s
-  ill-behind s ill =
-      let next = ill.next in
-      let same : WritesNext s ill.what = record { object = next.object; method = next.method; arguments = next.arguments; step = next.step; rest = next.rest; below = next.below; is_next = next.is_next; does = next.does } in
-      record { what = ill.what; next = same; set = ill.set; among = ill.among; it = ill.it; property = ill.property; is = ill.is; ill = ill.ill }
+  ill-behind s ill = record { what = ill.what; next = ill.next; set = ill.set; among = ill.among; there = ill.there; ill = ill.ill }
 
   module _ {p : Loaded} {natives : NativeAnswers} where
     abbrev pub run-front : {s t : State} {n k : ℕ} {es : List Event} {xs : List Answer} → Run p natives s n es xs t k → Run p natives (in_front front s) n es xs (in_front front t) k
@@ -139,39 +130,13 @@ module _ (front : List Entry) where
   due-front (is_under_way busy) = is_under_way (λ idle. busy (idle-behind idle))
   due-front (is_next idle) = is_next (idle-front idle)
 
-  pub lacks-front : {s : State} → LacksValue s → LacksValue (in_front front s)
-  lacks-front x = record {
-    object = x.object;
-    method = x.method;
-    arguments = x.arguments;
-    statement = x.statement;
-    rest = x.rest;
-    below = x.below;
-    is_next = x.is_next;
-    lacks = x.lacks;
-  }
-
-  does-next-front : {s : State} {what : Operation} → DoesNext s what → DoesNext (in_front front s) what
-  does-next-front x = record {
-    object = x.object;
-    method = x.method;
-    arguments = x.arguments;
-    step = x.step;
-    rest = x.rest;
-    below = x.below;
-    is_next = x.is_next;
-    does = x.does;
-  }
-
   pub writes-ill-front : {p : Loaded} {s : State} → WritesIll p s → WritesIll p (in_front front s)
   writes-ill-front x = record {
     what = x.what;
-    next = does-next-front x.next;
+    next = x.next;
     set = x.set;
     among = x.among;
-    it = x.it;
-    property = x.property;
-    is = x.is;
+    there = x.there;
     ill = x.ill;
   }
 
@@ -199,13 +164,13 @@ module _ (front : List Entry) where
       follows-front (by_event x) = by_event (takes-front x)
 
       brings-front : {d : ℕ} {es : List Event} {f : Fault} → Brings p natives d s es f → Brings p natives d (in_front front s) es f
-      brings-front (lacks_value x) = lacks_value (lacks-front x)
+      brings-front (lacks_value x) = lacks_value x
       brings-front (writes_ill x) = writes_ill (writes-ill-front x)
       brings-front (binds_ill x) = binds_ill (record { binding = x.binding; next = binds-next-front x.next; ill = x.ill })
       brings-front (goes_ill x) = goes_ill (record { t = in_front front x.t; follows = follows-front x.follows; acyclic = x.acyclic; ill = λ well. x.ill (well-behind well) })
       brings-front (goes_fatal x) = goes_fatal (record { t = in_front front x.t; follows = follows-front x.follows; well = well-front x.well; fatal = x.fatal })
       brings-front (binds_loop x) = binds_loop (record { binding = x.binding; next = binds-next-front x.next; fit = x.fit; closes = x.closes })
-      brings-front (writes_deep x) = writes_deep (record { what = x.what; next = does-next-front x.next; fit = x.fit; deep = x.deep })
+      brings-front (writes_deep x) = writes_deep (record { what = x.what; next = x.next; fit = x.fit; deep = x.deep })
       brings-front (goes_deep x) = goes_deep (record {
         t = in_front front x.t;
         follows = follows-front x.follows;

@@ -7,7 +7,7 @@ use Rattle.trace_entries.specs.declared.fault.Answer.{Answer}
 use Rattle.machine_state.specs.{declared.world.World.{World}, Accepting.{accepted}, State.{State}, Worlds.{at, with_store}}
 use Rattle.delete_later.specs.declared.store.Store.{Store}
 use Rattle.machine_rules.{specs.Natives.{NativeAnswers}, specs.code.Sound.{IsSoundWorld}, specs.code.Keeps.{Grows, Keeps}, proofs.Keeps.{grows-by, grows-same, grows-then, begins-kept, writes-kept, installs-kept, schedules-kept, rule-kept}, specs.Good.{IsGood}, proofs.Agreeing.{rule-agrees}, specs.Judgement.{becomes, gives, goes_on}}
-use Rattle.object_machine.{specs.declared.invoking.Invocation.{Invocation}, specs.declared.invoking.Invocation.TheVariants.{Emit as EmitIt, Call as CallIt}, proofs.Judged.{given-is}, proofs.Moving.{moved-by}, specs.Laws.{AlwaysSettled}, specs.Runs.{Run, done, goes, takes, Each}, specs.Takes.{judged, Takes, accepts, refuses}, specs.Events.{block, invoke}, proofs.Settling.{takes-agree}, proofs.Standing.{Invariant}}
+use Rattle.object_machine.{specs.declared.invoking.Invocation.{Invocation}, specs.declared.invoking.Invocation.TheVariants.{Emit as EmitIt, Call as CallIt}, proofs.Judged.{given-is}, proofs.Moving.{moved-by}, specs.Laws.{AlwaysSettled}, specs.Runs.{Run, done, goes, takes, Each}, specs.Takes.{Takes, accepts, refuses}, specs.Events.{judged, block, invoke}, proofs.Settling.{takes-agree}, proofs.Standing.{Invariant}}
 
 -- ---- counts
 
@@ -32,15 +32,15 @@ counts-judged : (p : Loaded) {s t : State} (e : Event) → judged p s e (Ok t) �
 counts-judged p (Loop name) (goes_on _ free gives) = record { events = refl; connected = omega arith; posted = omega arith; grows = grows-by _ }
 counts-judged p (Turn name) (goes_on _ is gives) = record { events = refl; connected = omega arith; posted = omega arith; grows = grows-by _ }
 counts-judged p (New name class loop) (goes_on _ free (goes_on _ is (goes_on _ lives (goes_on _ room gives)))) = record { events = refl; connected = omega arith; posted = omega arith; grows = grows-by _ }
-counts-judged p (Adopt parent child) (goes_on _ a (goes_on _ c (goes_on _ owns (goes_on _ over (goes_on _ home (becomes x)))))) =
-    let events = ap (λ (u : State). u.events) x.gives in
-    let connected = ap (λ (u : State). u.connected.last) x.gives in
-    let posted = ap (λ (u : State). u.queues.posted) x.gives in
-    record { events = events; connected = omega (arith, connected); posted = omega (arith, posted); grows = record { more = _; is = ap (λ (u : State). u.trace) x.gives } }
-counts-judged p {s = s} (Move name loop) (goes_on o lives (goes_on home is (goes_on _ root (goes_on _ alone (becomes x))))) =
+counts-judged p (Adopt parent child) (goes_on _ a (goes_on _ c (goes_on _ owns (goes_on _ over (goes_on _ home (goes_on objects (becomes x) given)))))) =
+    let events = ap (λ (u : State). u.events) (given-is given) in
+    let connected = ap (λ (u : State). u.connected.last) (given-is given) in
+    let posted = ap (λ (u : State). u.queues.posted) (given-is given) in
+    record { events = events; connected = omega (arith, connected); posted = omega (arith, posted); grows = record { more = _; is = ap (λ (u : State). u.trace) (given-is given) } }
+counts-judged p {s = s} (Move name loop) (goes_on o lives (goes_on home is (goes_on _ root (goes_on _ alone (goes_on store (becomes x) given))))) =
     let Family : State → Type 0 = λ u. Counts s u in
     let same : Counts s (accepted s) = record { events = refl; connected = omega arith; posted = omega arith; grows = grows-by _ } in
-    subst Family (sym x.gives) (moved-by (λ (stores : Store). Counts s (with_store (accepted s) stores)) same (λ os alone. record { events = refl; connected = omega arith; posted = omega arith; grows = grows-by _ }) x.is)
+    subst Family (sym (given-is given)) (moved-by (λ (stores : Store). Counts s (with_store (accepted s) stores)) same (λ os alone. record { events = refl; connected = omega arith; posted = omega arith; grows = grows-by _ }) x)
 counts-judged p {s = s} (Disconnect e) (goes_on f named (goes_on _ is given)) =
     let Family : State → Type 0 = λ u. Counts s u in
     subst Family (sym (given-is given)) (record { events = refl; connected = omega arith; posted = omega arith; grows = grows-by _ })

@@ -8,8 +8,8 @@ use Rattle.binding_graph.specs.{declared.binding.Binding.{Binding}, Bindings.{bi
 use Rattle.prop_bindings.{specs.Calls.{AllFit}, specs.Fits.{Agree, IsFit}, proofs.Fitting.{fit-stays}}
 use Rattle.trace_entries.specs.{declared.fault.Answer.{Answer}, declared.fault.Fault.{Fault}, declared.refusal.Refusal.{Refusal}}
 use Rattle.machine_state.specs.{Accepting.{accepted}, State.{Step, Run, State, Activation, Body, IsIdle}, Telling.{Assigning, writes_of}}
-use Rattle.machine_rules.{specs.Operations.{Operation, Write, TakeAnswer, operation_of_step}, specs.Faults.{WritesDeep, GoesIll, GoesFatal, GoesDeep}, specs.Next.{DoesNext, WritesNext, WritesIll, LacksValue}, specs.Good.{IsWell, Spares, IsAcyclic, TopFits, has_body}, specs.Natives.{NativeAnswers, AnswersOnce}, specs.Rules.{Rule, RuleAt, StepRule, Does}, specs.Settling.{Installs}, specs.There.{IsDead}, specs.Judgement.{becomes, goes_on, ends}, proofs.Agreeing.{bound-fits}, proofs.Differing.{differ-spared}, proofs.OneRule.{does-one, stack-one}, proofs.ReachingFitting.{fits-read}, proofs.ReachedStates.{next-writes}}
-use Rattle.object_machine.{specs.Causes.{BindsNext, BindsIll, BindsLoop, Brings, spent, short, brings, lacks_value, writes_ill, binds_ill, goes_ill, goes_fatal, binds_loop, writes_deep, goes_deep}, specs.Events.{may_bind, bind}, specs.FaultLaws.{OneFault}, specs.Runs.{Follows, by_rule, by_event}, specs.Takes.{Takes, accepts, refuses}, proofs.CheckedRuns.Settled.{writes-agree}, proofs.OneRun.{no-rule, taken-idle}, proofs.OneTaking.{one_taking, one-may-bind}, proofs.Settling.{bound-plain}}
+use Rattle.machine_rules.{specs.Operations.{Operation, Write, TakeAnswer}, specs.Faults.{WritesDeep, GoesIll, GoesFatal, GoesDeep}, specs.Next.{WritesNext, WritesIll, LacksValue}, specs.Good.{IsWell, Spares, IsAcyclic, TopFits, has_body}, specs.Natives.{NativeAnswers, AnswersOnce}, specs.Rules.{Rule, RuleAt, StepRule, Does}, specs.Settling.{Installs}, specs.There.{IsDead}, specs.Judgement.{becomes, goes_on, ends}, proofs.Agreeing.{bound-fits}, proofs.Differing.{differ-spared}, proofs.OneRule.{does-one, stack-one}, proofs.ReachingFitting.{fits-read}, proofs.Doing.{step-of, doing, lacking, lacks-nothing}, proofs.ReachedStates.{next-writes}}
+use Rattle.object_machine.{specs.Causes.{BindsNext, BindsIll, BindsLoop, Brings, spent, short, brings, lacks_value, writes_ill, binds_ill, goes_ill, goes_fatal, binds_loop, writes_deep, goes_deep}, specs.Events.{judged, may_bind}, specs.FaultLaws.{OneFault}, specs.Runs.{Follows, by_rule, by_event}, specs.Takes.{Takes, accepts, refuses}, proofs.CheckedRuns.Settled.{writes-agree}, proofs.OneRun.{no-rule, taken-idle}, proofs.OneTaking.{one_taking, one-may-bind}, proofs.Settling.{bound-plain}}
 
 -- natives that answer nothing else than nothing
 abbrev silent : NativeAnswers
@@ -36,7 +36,9 @@ module _ (p : Loaded) (natives : NativeAnswers) (s : State) (sound : IsSound p) 
   does-alike t u o m arguments rest below step is d a b = inl (does-one p silent silent-once s o m arguments rest below d t u agree a b)
 
   at-alike : (t u : State) (stack : List Activation) → s.stack ≡ stack → RuleAt p natives s t stack → RuleAt p natives s u stack → (t ≡ u) ⊎ (IsQuiet s t × IsQuiet s u)
-  at-alike t u (Body o m arguments (step ∷ rest) ∷ below) is a b =
+  at-alike t u (Body o m arguments (step ∷ rest) ∷ below) is first other =
+      let a = step-of p natives s o m arguments step rest below t first in
+      let b = step-of p natives s o m arguments step rest below u other in
       let both : Some a.what ≡ Some b.what = sym a.is ∙ b.is in
       let same : a.what ≡ b.what = cc both in
       let Done : Operation → Type 0 = λ d. Does p natives s o m arguments rest below d u in
@@ -69,13 +71,13 @@ module _ (p : Loaded) (natives : NativeAnswers) (s : State) (sound : IsSound p) 
 
   -- ---- a bind
 
-  made : {t : State} {b : Binding} (site target : List ℕ) (sources : List (List ℕ)) → may_bind p s site target sources (Ok b) → bind p s site target sources (Ok t) → Installs p (accepted s) s.stack b t
+  made : {t : State} {b : Binding} (site target : List ℕ) (sources : List (List ℕ)) → may_bind p s site target sources (Ok b) → judged p s (Bind site target sources) (Ok t) → Installs p (accepted s) s.stack b t
   made {t} {b} site target sources may (goes_on c also (becomes x)) =
       let both : Ok c ≡ Ok b = one-may-bind p s site target sources sound (Ok c) (Ok b) also may in
       let same : c ≡ b = cc both in
       subst (λ (z : Binding). Installs p (accepted s) s.stack z t) same x
 
-  unrefused : {b : Binding} (k : Refusal) (site target : List ℕ) (sources : List (List ℕ)) → may_bind p s site target sources (Ok b) → bind p s site target sources (Err k) → ⊥
+  unrefused : {b : Binding} (k : Refusal) (site target : List ℕ) (sources : List (List ℕ)) → may_bind p s site target sources (Ok b) → judged p s (Bind site target sources) (Err k) → ⊥
   unrefused k site target sources may (goes_on c f x) = elim x [ ]
   unrefused {b} k site target sources may (ends f) = let no = one-may-bind p s site target sources sound (Ok b) (Err k) may f in absurd (cc no)
 
@@ -119,50 +121,28 @@ module _ (p : Loaded) (natives : NativeAnswers) (s : State) (sound : IsSound p) 
   -- ---- what is next in a body
 
   lacks-stuck : (t : State) → LacksValue s → Rule p natives s t → ⊥
-  lacks-stuck t x r =
+  lacks-stuck t value r =
+      let x = lacking s value in
       let At : List Activation → Type 0 = λ stack. RuleAt p natives s t stack in
-      let step : StepRule p natives s x.object x.method x.arguments (Run x.statement) x.rest x.below t = subst At x.is_next r in
+      let step : StepRule p natives s x.object x.method x.arguments (Run x.statement) x.rest x.below t = step-of p natives s x.object x.method x.arguments (Run x.statement) x.rest x.below t (subst At x.is_next r) in
       let both : Some step.what ≡ None = sym step.is ∙ x.lacks in
-      cc both
-
-  lacks-nothing : {what : Operation} → LacksValue s → DoesNext s what → ⊥
-  lacks-nothing {what} x next =
-      let stacks : (Body x.object x.method x.arguments (Run x.statement ∷ x.rest) ∷ x.below) ≡ (Body next.object next.method next.arguments (next.step ∷ next.rest) ∷ next.below) = sym x.is_next ∙ next.is_next in
-      let object : x.object ≡ next.object = cc stacks in
-      let arguments : x.arguments ≡ next.arguments = cc stacks in
-      let step : Run x.statement ≡ next.step = cc stacks in
-      let both : Some what ≡ None =
-      sym next.does
-      ∙ ap (λ (k : Step). operation_of_step s.objects next.object next.arguments k) (sym step)
-      ∙ ap (λ (l : List Value). operation_of_step s.objects next.object l (Run x.statement)) (sym arguments)
-      ∙ ap (λ (o : ℕ). operation_of_step s.objects o x.arguments (Run x.statement)) (sym object)
-      ∙ x.lacks in
       cc both
 
   -- two writes that are next are one
   next-one : {what other : Assigning} → WritesNext s what → WritesNext s other → what ≡ other
   next-one {what} {other} x y =
-      let stacks : (Body x.object x.method x.arguments (x.step ∷ x.rest) ∷ x.below) ≡ (Body y.object y.method y.arguments (y.step ∷ y.rest) ∷ y.below) = sym x.is_next ∙ y.is_next in
-      let object : x.object ≡ y.object = cc stacks in
-      let arguments : x.arguments ≡ y.arguments = cc stacks in
-      let step : x.step ≡ y.step = cc stacks in
-      let both : Some (Write what) ≡ Some (Write other) =
-      sym x.does
-      ∙ ap (λ (k : Step). operation_of_step s.objects x.object x.arguments k) step
-      ∙ ap (λ (l : List Value). operation_of_step s.objects x.object l y.step) arguments
-      ∙ ap (λ (o : ℕ). operation_of_step s.objects o y.arguments y.step) object
-      ∙ y.does in
+      let both : Some (Write what) ≡ Some (Write other) = sym x ∙ y in
       cc both
 
   writes-spare : (t : State) {what : Assigning} → WritesNext s what → Rule p natives s t → Spares s t
   writes-spare t next r o body gone =
-      let x = next-writes p natives s t next r in
+      let x = next-writes p natives s t (doing s next) r in
       differ-spared s.objects x.objects x.written.objects o (subst (λ (v : State). IsDead v.objects o) x.settles.gives gone)
 
   -- values that fit are written well
   writes-well : (t : State) {depth : ℕ} → WritesDeep p depth s → Rule p natives s t → IsWell p s t
   writes-well t deep r =
-      let x = next-writes p natives s t deep.next r in
+      let x = next-writes p natives s t (doing s deep.next) r in
       record {
         arguments = λ higher. subst (λ (v : State). TopFits p v.objects v.stack) (sym x.settles.gives) tt;
         values = (writes-agree agree x deep.fit).typed;
@@ -171,17 +151,17 @@ module _ (p : Loaded) (natives : NativeAnswers) (s : State) (sound : IsSound p) 
   writes-fit : {depth : ℕ} → WritesDeep p depth s → ¬ WritesIll p s
   writes-fit deep ill =
       let same : deep.what ≡ ill.what = next-one deep.next ill.next in
-      ill.ill (fits-read (writes_of ill.what) (subst (λ (w : Assigning). AllFit p s.objects (writes_of w)) same deep.fit) ill.set ill.among ill.is)
+      ill.ill (fits-read (writes_of ill.what) (subst (λ (w : Assigning). AllFit p s.objects (writes_of w)) same deep.fit) ill.set ill.among ill.there.is)
 
   -- ---- of two causes one excludes the other
 
   module _ (depth : ℕ) (next : List Event) where
     -- 60 and 63
     lacks-fatal : LacksValue s → GoesFatal p s (λ t. Follows p natives s t next) → ⊥
-    lacks-fatal x g = lacks-stuck g.t x (busy-rule (body-busy x.is_next) g.follows)
+    lacks-fatal x g = lacks-stuck g.t x (busy-rule (body-busy (lacking s x).is_next) g.follows)
 
     writes-fatal : {what : Assigning} → WritesNext s what → GoesFatal p s (λ t. Follows p natives s t next) → ⊥
-    writes-fatal w g = g.fatal (writes-spare g.t w (busy-rule (body-busy w.is_next) g.follows))
+    writes-fatal w g = g.fatal (writes-spare g.t w (busy-rule (body-busy (doing s w).is_next) g.follows))
 
     idle-fatal : IsIdle s → GoesFatal p s (λ t. Follows p natives s t next) → ⊥
     idle-fatal idle g = g.fatal (idle-spares g.t idle)
@@ -206,13 +186,13 @@ module _ (p : Loaded) (natives : NativeAnswers) (s : State) (sound : IsSound p) 
 
     -- 60 and 61
     lacks-deep : LacksValue s → GoesDeep p depth s (λ t. Follows p natives s t next) → ⊥
-    lacks-deep x g = lacks-stuck g.t x (busy-rule (body-busy x.is_next) g.follows)
+    lacks-deep x g = lacks-stuck g.t x (busy-rule (body-busy (lacking s x).is_next) g.follows)
 
     binds-deep : BindsIll p s next → GoesDeep p depth s (λ t. Follows p natives s t next) → ⊥
     binds-deep i g = i.ill (bind-fits i.next g.follows g.well)
 
     ill-low : GoesIll p s (λ t. Follows p natives s t next) → WritesDeep p depth s → ⊥
-    ill-low i w = i.ill (writes-well i.t w (busy-rule (body-busy w.next.is_next) i.follows))
+    ill-low i w = i.ill (writes-well i.t w (busy-rule (body-busy (doing s w.next).is_next) i.follows))
 
     ill-deep : GoesIll p s (λ t. Follows p natives s t next) → GoesDeep p depth s (λ t. Follows p natives s t next) → ⊥
     ill-deep i g = by_follows refl g.follows i.follows
@@ -258,15 +238,15 @@ module _ (p : Loaded) (natives : NativeAnswers) (s : State) (sound : IsSound p) 
     one-cause (lacks_value x) (binds_ill y) = refl
     one-cause (lacks_value x) (goes_ill y) = refl
     one-cause (lacks_value x) (goes_fatal y) = absurd (lacks-fatal x y)
-    one-cause (lacks_value x) (binds_loop y) = absurd (busy-binds x.is_next y.next)
-    one-cause (lacks_value x) (writes_deep y) = absurd (lacks-nothing x y.next)
+    one-cause (lacks_value x) (binds_loop y) = absurd (busy-binds (lacking s x).is_next y.next)
+    one-cause (lacks_value x) (writes_deep y) = absurd (lacks-nothing s x y.next)
     one-cause (lacks_value x) (goes_deep y) = absurd (lacks-deep x y)
     one-cause (writes_ill x) (lacks_value y) = refl
     one-cause (writes_ill x) (writes_ill y) = refl
     one-cause (writes_ill x) (binds_ill y) = refl
     one-cause (writes_ill x) (goes_ill y) = refl
     one-cause (writes_ill x) (goes_fatal y) = absurd (writes-fatal x.next y)
-    one-cause (writes_ill x) (binds_loop y) = absurd (busy-binds x.next.is_next y.next)
+    one-cause (writes_ill x) (binds_loop y) = absurd (busy-binds (doing s x.next).is_next y.next)
     one-cause (writes_ill x) (writes_deep y) = absurd (writes-fit y x)
     one-cause (writes_ill x) (goes_deep y) = absurd (y.fits x)
     one-cause (binds_ill x) (lacks_value y) = refl
@@ -275,7 +255,7 @@ module _ (p : Loaded) (natives : NativeAnswers) (s : State) (sound : IsSound p) 
     one-cause (binds_ill x) (goes_ill y) = refl
     one-cause (binds_ill x) (goes_fatal y) = absurd (idle-fatal x.next.idle y)
     one-cause (binds_ill x) (binds_loop y) = absurd (binds-loop x y)
-    one-cause (binds_ill x) (writes_deep y) = absurd (busy-binds y.next.is_next x.next)
+    one-cause (binds_ill x) (writes_deep y) = absurd (busy-binds (doing s y.next).is_next x.next)
     one-cause (binds_ill x) (goes_deep y) = absurd (binds-deep x y)
     one-cause (goes_ill x) (lacks_value y) = refl
     one-cause (goes_ill x) (writes_ill y) = refl
@@ -293,20 +273,20 @@ module _ (p : Loaded) (natives : NativeAnswers) (s : State) (sound : IsSound p) 
     one-cause (goes_fatal x) (binds_loop y) = absurd (idle-fatal y.next.idle x)
     one-cause (goes_fatal x) (writes_deep y) = absurd (writes-fatal y.next x)
     one-cause (goes_fatal x) (goes_deep y) = absurd (fatal-deep x y)
-    one-cause (binds_loop x) (lacks_value y) = absurd (busy-binds y.is_next x.next)
-    one-cause (binds_loop x) (writes_ill y) = absurd (busy-binds y.next.is_next x.next)
+    one-cause (binds_loop x) (lacks_value y) = absurd (busy-binds (lacking s y).is_next x.next)
+    one-cause (binds_loop x) (writes_ill y) = absurd (busy-binds (doing s y.next).is_next x.next)
     one-cause (binds_loop x) (binds_ill y) = absurd (binds-loop y x)
     one-cause (binds_loop x) (goes_ill y) = absurd (ill-loop y x)
     one-cause (binds_loop x) (goes_fatal y) = absurd (idle-fatal x.next.idle y)
     one-cause (binds_loop x) (binds_loop y) = refl
-    one-cause (binds_loop x) (writes_deep y) = absurd (busy-binds y.next.is_next x.next)
+    one-cause (binds_loop x) (writes_deep y) = absurd (busy-binds (doing s y.next).is_next x.next)
     one-cause (binds_loop x) (goes_deep y) = absurd (loop-deep x y)
-    one-cause (writes_deep x) (lacks_value y) = absurd (lacks-nothing y x.next)
+    one-cause (writes_deep x) (lacks_value y) = absurd (lacks-nothing s y x.next)
     one-cause (writes_deep x) (writes_ill y) = absurd (writes-fit x y)
-    one-cause (writes_deep x) (binds_ill y) = absurd (busy-binds x.next.is_next y.next)
+    one-cause (writes_deep x) (binds_ill y) = absurd (busy-binds (doing s x.next).is_next y.next)
     one-cause (writes_deep x) (goes_ill y) = absurd (ill-low y x)
     one-cause (writes_deep x) (goes_fatal y) = absurd (writes-fatal x.next y)
-    one-cause (writes_deep x) (binds_loop y) = absurd (busy-binds x.next.is_next y.next)
+    one-cause (writes_deep x) (binds_loop y) = absurd (busy-binds (doing s x.next).is_next y.next)
     one-cause (writes_deep x) (writes_deep y) = refl
     one-cause (writes_deep x) (goes_deep y) = refl
     one-cause (goes_deep x) (lacks_value y) = absurd (lacks-deep y x)

@@ -1,30 +1,31 @@
 -- An event has one answer.
 use Rattle.std.proofs.Common.{◌≡◌, ℕ, List, Option, None, Some, slice_get, length, arith, Result, Ok, Err, true, false, refl, sym, ap, ◌∙◌, subst}
 use Rattle.basic_types.specs.declared.sig.Sig.{Sig}
-use Rattle.meta_model.specs.{declared.object.MetaMethod.{MetaMethod}, declared.object.MetaObject.{MetaObject}, declared.site.MetaSite.{MetaSite}, Loaded.{Loaded}, Sound.{IsSound}}
-use Rattle.object_tree.specs.{declared.life.Life.{Life}, declared.object.Object.{Object}}
+use Rattle.meta_model.specs.{declared.object.MetaMethod.{MetaMethod}, declared.object.MetaObject.{MetaObject}, declared.site.MetaSite.{MetaSite}, Loaded.{Loaded}, Members.{HasSig}, Sound.{IsSound}}
+use Rattle.object_tree.specs.declared.object.Object.{Object}
 use Rattle.binding_graph.specs.declared.binding.Binding.{Binding}
 use Rattle.prop_bindings.specs.Fits.{Agree}
 use Rattle.syntax_trees.specs.{declared.connection.ConnectionType.{ConnectionType}, declared.connection.Endpoints.{Endpoints as Named}}
 use Rattle.script_lang.specs.{declared.event.Event.{Event}, declared.event.Input.{Input}}
 use Rattle.script_lang.specs.declared.event.Event.TheVariants as event
 use Rattle.trace_entries.specs.{declared.fault.Answer.{Answer}, declared.fault.Answer.TheVariants.{Refused}, declared.refusal.Refusal.{Refusal}, Refusals.{refusal_number}}
-use Rattle.machine_state.specs.{Accepting.{accepted, refused}, State.{State}, Worlds.{store_of, with_store}}
-use Rattle.delete_later.{specs.declared.store.Store.{Store}, proofs.Moving.{moved-once}}
-use Rattle.machine_rules.{proofs.OneRule.{begins-one, writes-one, installs-one, schedules-one, may-connect-one}, specs.Judgement.{Numbered, HasOneAnswer, becomes, goes_on, ends}, specs.Settling.{Installs}, specs.Good.{IsAcyclic}, proofs.OneAnswer.{one-find, one-check, one-gives, one-becomes, one-then, numbered-is}}
-use Rattle.object_machine.{specs.declared.invoking.Invocation.{Invocation}, specs.declared.invoking.Invocation.TheVariants.{Emit, Call}, specs.Laws.{IsAcyclicIn, OneJudgement, OneTaking}, specs.Takes.{judged, Takes, accepts, refuses}, specs.Events.{adopt, Adopts, move, MovesTo, assign, IsSiteOf, may_bind, bind, block, delete, later, connect, disconnect, find_ends, IsMethodOf, add_loop, turn, create, IsClassOf, IsHome, invoke}, proofs.OneAnswer.{one-living, one-all-living, one-value, one-values, one-method, one-property, one-adopted}}
+use Rattle.machine_state.specs.{Accepting.{accepted, refused}, State.{State}, Worlds.{store_of}}
+use Rattle.delete_later.proofs.Moving.{moved-once}
+use Rattle.machine_rules.{proofs.OneRule.{begins-one, writes-one, installs-one, schedules-one, may-connect-one}, specs.Judgement.{Numbered, numbered, HasOneAnswer, becomes, goes_on, ends}, specs.Settling.{Installs}, specs.Good.{IsAcyclic}, proofs.OneAnswer.{one-find, one-check, one-gives, one-becomes, one-then, numbered-is}}
+use Rattle.object_machine.{specs.declared.invoking.Invocation.{Invocation}, specs.declared.invoking.Invocation.TheVariants.{Emit, Call}, specs.Laws.{IsAcyclicIn, OneJudgement, OneTaking}, specs.Takes.{Takes, accepts, refuses}, specs.Events.{judged, may_bind, block, find_ends, IsHome, invoke}, proofs.OneAnswer.{one-living, one-all-living, one-value, one-values, one-method, one-property, one-adopted}}
 use Rattle.event_loops.specs.Queues.{Loop, IsNamed}
+use Rattle.object_machine.specs.code.Judgement.{IsSiteOf, IsClassOf}
 
 one-class : {p : Loaded} {name : List ℕ} → IsSound p → (a b : Numbered MetaObject) → IsClassOf p name a → IsClassOf p name b → a ≡ b
 one-class {p} sound a b f g =
-    let same : a.number ≡ b.number = sound.distinct_classes a.number b.number a.it b.it f.is.is g.is.is (f.named ∙ sym g.named) in
-    let it : Some a.it ≡ Some b.it = sym f.is.is ∙ ap (λ (n : ℕ). slice_get p.classes n) same ∙ g.is.is in
+    let same : a.number ≡ b.number = sound.distinct_classes a.number b.number a.it b.it f.0.is g.0.is (f.1 ∙ sym g.1) in
+    let it : Some a.it ≡ Some b.it = sym f.0.is ∙ ap (λ (n : ℕ). slice_get p.classes n) same ∙ g.0.is in
     numbered-is same (cc it)
 
-one-sig : {p : Loaded} {class : ℕ} {sig : Sig} → IsSound p → (a b : Numbered MetaMethod) → IsMethodOf p class sig a → IsMethodOf p class sig b → a ≡ b
+one-sig : {p : Loaded} {class : ℕ} {sig : Sig} → IsSound p → (a b : ℕ) → HasSig p class sig a → HasSig p class sig b → a ≡ b
 one-sig sound a b f g =
-    let signed : a.it.sig ≡ b.it.sig = f.signed ∙ sym g.signed in
-    one-method sound a b f.is g.is (ap (λ (s : Sig). s.name) signed) (ap (λ (s : Sig). length s.types) signed)
+    let signed : f.method.sig ≡ g.method.sig = f.signed ∙ sym g.signed in
+    ap (λ (m : Numbered MetaMethod). m.number) (one-method sound (numbered a f.method) (numbered b g.method) f.is g.is (ap (λ (s : Sig). s.name) signed) (ap (λ (s : Sig). length s.types) signed))
 
 -- two loops, each the first of one name
 one-loop : {loops : List Loop} {name : List ℕ} → (a b : ℕ) → IsNamed loops name a → IsNamed loops name b → a ≡ b
@@ -34,63 +35,57 @@ one-home : (loops : List Loop) (loop : Option (List ℕ)) → (a b : ℕ) → Is
 one-home loops None a b f g = f ∙ sym g
 one-home loops (Some name) a b f g = one-loop a b f g
 
-one-create : (p : Loaded) (s : State) (name class : List ℕ) (loop : Option (List ℕ)) → IsSound p → HasOneAnswer (create p s name class loop)
+one-create : (p : Loaded) (s : State) (name class : List ℕ) (loop : Option (List ℕ)) → IsSound p → HasOneAnswer (judged p s (event.New name class loop))
 one-create p s name class loop sound = one-then one-check (λ free. one-then (one-find (one-class sound)) (λ c. one-then (one-find (one-home s.queues.loops loop)) (λ home. one-then one-check (λ room. one-gives _))))
 
-one-add-loop : (s : State) (name : List ℕ) → HasOneAnswer (add_loop s name)
-one-add-loop s name = one-then one-check (λ free. one-gives _)
+one-add-loop : (p : Loaded) (s : State) (name : List ℕ) → HasOneAnswer (judged p s (event.Loop name))
+one-add-loop p s name = one-then one-check (λ free. one-gives _)
 
-one-turn : (s : State) (name : List ℕ) → HasOneAnswer (turn s name)
-one-turn s name = one-then (one-find one-loop) (λ home. one-gives _)
+one-turn : (p : Loaded) (s : State) (name : List ℕ) → HasOneAnswer (judged p s (event.Turn name))
+one-turn p s name = one-then (one-find one-loop) (λ home. one-gives _)
 
-one-adopts : (s : State) (a c : Numbered Life) (t u : State) → Adopts s a c t → Adopts s a c u → t ≡ u
-one-adopts s a c t u f g = f.gives ∙ ap (λ (l : List Object). record s { objects = l }) (one-adopted f.is g.is) ∙ sym g.gives
-
-one-adopt : (p : Loaded) (s : State) (parent child : List ℕ) → HasOneAnswer (adopt p s parent child)
+one-adopt : (p : Loaded) (s : State) (parent child : List ℕ) → HasOneAnswer (judged p s (event.Adopt parent child))
 one-adopt p s parent child =
     one-then (one-living s.objects parent) (λ a. one-then (one-living s.objects child) (λ c.
-    one-then one-check (λ owns. one-then one-check (λ over. one-then one-check (λ home. one-becomes (one-adopts (accepted s) a c))))))
+    one-then one-check (λ owns. one-then one-check (λ over. one-then one-check (λ home. one-then (one-becomes (λ l k f g. one-adopted f g)) (λ objects. one-gives _))))))
 
-one-moves : (s : State) (o home : ℕ) (t u : State) → MovesTo s o home t → MovesTo s o home u → t ≡ u
-one-moves s o home t u f g = f.gives ∙ ap (λ (x : Store). with_store s x) (moved-once o home (store_of s) f.store g.store f.is g.is) ∙ sym g.gives
-
-one-move : (s : State) (name loop : List ℕ) → HasOneAnswer (move s name loop)
-one-move s name loop =
+one-move : (p : Loaded) (s : State) (name loop : List ℕ) → HasOneAnswer (judged p s (event.Move name loop))
+one-move p s name loop =
     one-then (one-living s.objects name) (λ o. one-then (one-find one-loop) (λ home.
-    one-then one-check (λ root. one-then one-check (λ alone. one-becomes (one-moves (accepted s) o.number home)))))
+    one-then one-check (λ root. one-then one-check (λ alone. one-then (one-becomes (moved-once o.number home (store_of s))) (λ store. one-gives _)))))
 
 one-ends : (p : Loaded) (objects : List Object) (e : Named (List ℕ)) → IsSound p → HasOneAnswer (find_ends p objects e)
 one-ends p objects e sound =
     one-then (one-living objects e.sender) (λ a. one-then (one-living objects e.receiver) (λ b.
-    one-then (one-find (λ g h f k. one-sig sound g h f.of k.of)) (λ g. one-then (one-find (one-sig sound)) (λ m. one-gives _))))
+    one-then (one-find (λ g h f k. one-sig sound g h f.0 k.0)) (λ g. one-then (one-find (one-sig sound)) (λ m. one-gives _))))
 
-one-connect : (p : Loaded) (s : State) (e : Named (List ℕ)) (how : ConnectionType) → IsSound p → HasOneAnswer (connect p s e how)
+one-connect : (p : Loaded) (s : State) (e : Named (List ℕ)) (how : ConnectionType) → IsSound p → HasOneAnswer (judged p s (event.Connect e how))
 one-connect p s e how sound =
     one-then (one-ends p s.objects e sound) (λ f. one-then (may-connect-one p s.connected f e.signal e.method how) (λ _. one-gives _))
 
-one-disconnect : (p : Loaded) (s : State) (e : Named (List ℕ)) → IsSound p → HasOneAnswer (disconnect p s e)
+one-disconnect : (p : Loaded) (s : State) (e : Named (List ℕ)) → IsSound p → HasOneAnswer (judged p s (event.Disconnect e))
 one-disconnect p s e sound = one-then (one-ends p s.objects e sound) (λ f. one-then one-check (λ is. one-gives _))
 
 one-block : (s : State) (name : List ℕ) (on : _) → HasOneAnswer (block s name on)
 one-block s name on = one-then (one-living s.objects name) (λ o. one-gives _)
 
-one-delete : (s : State) (name : List ℕ) → HasOneAnswer (delete s name)
-one-delete s name = one-then (one-living s.objects name) (λ o. one-gives _)
+one-delete : (p : Loaded) (s : State) (name : List ℕ) → HasOneAnswer (judged p s (event.Delete name))
+one-delete p s name = one-then (one-living s.objects name) (λ o. one-gives _)
 
-one-later : (s : State) (name : List ℕ) → HasOneAnswer (later s name)
-one-later s name = one-then (one-living s.objects name) (λ o. one-becomes (λ t u f g. schedules-one (accepted s) t u s.stack o.number (Some o.it) f g))
+one-later : (p : Loaded) (s : State) (name : List ℕ) → HasOneAnswer (judged p s (event.Later name))
+one-later p s name = one-then (one-living s.objects name) (λ o. one-becomes (λ t u f g. schedules-one (accepted s) t u s.stack o.number (Some o.it) f g))
 
 -- ---- events
 
-one-assign : (p : Loaded) (s : State) (name property : List ℕ) (i : Input) → IsSound p → Agree p s.objects s.bindings → HasOneAnswer (assign p s name property i)
+one-assign : (p : Loaded) (s : State) (name property : List ℕ) (i : Input) → IsSound p → Agree p s.objects s.bindings → HasOneAnswer (judged p s (event.Set name property i))
 one-assign p s name property i sound agree =
-    one-then (one-living s.objects name) (λ o. one-then (one-find (λ a b f g. one-property sound a b f.is g.is (f.named ∙ sym g.named))) (λ q.
+    one-then (one-living s.objects name) (λ o. one-then (one-find (λ a b f g. one-property sound a b f.0 g.0 (f.1 ∙ sym g.1))) (λ q.
     one-then (one-value s.objects i) (λ v. one-then one-check (λ fits. one-becomes (λ t u f g. writes-one agree f g)))))
 
 one-site : {p : Loaded} {name : List ℕ} → IsSound p → (a b : Numbered MetaSite) → IsSiteOf p name a → IsSiteOf p name b → a ≡ b
 one-site {p} sound a b f g =
-    let same : a.number ≡ b.number = sound.distinct_sites a.number b.number a.it b.it f.is g.is (f.named ∙ sym g.named) in
-    let it : Some a.it ≡ Some b.it = sym f.is ∙ ap (λ (n : ℕ). slice_get p.sites n) same ∙ g.is in
+    let same : a.number ≡ b.number = sound.distinct_sites a.number b.number a.it b.it f.0 g.0 (f.1 ∙ sym g.1) in
+    let it : Some a.it ≡ Some b.it = sym f.0 ∙ ap (λ (n : ℕ). slice_get p.sites n) same ∙ g.0 in
     numbered-is same (cc it)
 
 pub one-may-bind : (p : Loaded) (s : State) (site target : List ℕ) (sources : List (List ℕ)) → IsSound p → HasOneAnswer (may_bind p s site target sources)
@@ -99,7 +94,7 @@ one-may-bind p s site target sources sound =
     one-then (one-all-living s.objects sources) (λ xs. one-then one-check (λ covers. one-then one-check (λ home. one-gives _))))))
 
 -- .. unless it closes a chain of bindings
-one-bind : (p : Loaded) (s : State) (site target : List ℕ) (sources : List (List ℕ)) (a b : Result State Refusal) → IsSound p → Agree p s.objects s.bindings → bind p s site target sources a → bind p s site target sources b → IsAcyclicIn a → a ≡ b
+one-bind : (p : Loaded) (s : State) (site target : List ℕ) (sources : List (List ℕ)) (a b : Result State Refusal) → IsSound p → Agree p s.objects s.bindings → judged p s (event.Bind site target sources) a → judged p s (event.Bind site target sources) b → IsAcyclicIn a → a ≡ b
 one-bind p s site target sources a b sound agree (goes_on x may (becomes {x = t} f)) (goes_on y also (becomes {x = u} g)) acyclic =
     let both : Ok x ≡ Ok y = one-may-bind p s site target sources sound (Ok x) (Ok y) may also in
     let same : x ≡ y = cc both in
@@ -119,11 +114,11 @@ one-invoke p s a name called inputs sound =
     one-then (one-values s.objects inputs) (λ vs. one-then one-check (λ fits. one-becomes (λ t u f g. begins-one f g)))))
 
 pub one_judgement : OneJudgement
-one_judgement p s (event.Loop name) a b sound agree f g acyclic = one-add-loop s name a b f g
-one_judgement p s (event.Turn name) a b sound agree f g acyclic = one-turn s name a b f g
+one_judgement p s (event.Loop name) a b sound agree f g acyclic = one-add-loop p s name a b f g
+one_judgement p s (event.Turn name) a b sound agree f g acyclic = one-turn p s name a b f g
 one_judgement p s (event.New name class loop) a b sound agree f g acyclic = one-create p s name class loop sound a b f g
 one_judgement p s (event.Adopt parent child) a b sound agree f g acyclic = one-adopt p s parent child a b f g
-one_judgement p s (event.Move name loop) a b sound agree f g acyclic = one-move s name loop a b f g
+one_judgement p s (event.Move name loop) a b sound agree f g acyclic = one-move p s name loop a b f g
 one_judgement p s (event.Connect e how) a b sound agree f g acyclic = one-connect p s e how sound a b f g
 one_judgement p s (event.Disconnect e) a b sound agree f g acyclic = one-disconnect p s e sound a b f g
 one_judgement p s (event.Set name property i) a b sound agree f g acyclic = one-assign p s name property i sound agree a b f g
@@ -132,8 +127,8 @@ one_judgement p s (event.Emit name signal inputs) a b sound agree f g acyclic = 
 one_judgement p s (event.Call name slot inputs) a b sound agree f g acyclic = one-invoke p s Call name slot inputs sound a b f g
 one_judgement p s (event.Block name) a b sound agree f g acyclic = one-block s name true a b f g
 one_judgement p s (event.Unblock name) a b sound agree f g acyclic = one-block s name false a b f g
-one_judgement p s (event.Delete name) a b sound agree f g acyclic = one-delete s name a b f g
-one_judgement p s (event.Later name) a b sound agree f g acyclic = one-later s name a b f g
+one_judgement p s (event.Delete name) a b sound agree f g acyclic = one-delete p s name a b f g
+one_judgement p s (event.Later name) a b sound agree f g acyclic = one-later p s name a b f g
 
 pub one_taking : OneTaking
 one_taking p e x y s t u sound agree (accepts f a) (accepts g b) acyclic =

@@ -10,8 +10,8 @@ use Rattle.object_tree.{specs.declared.life.Life.{Life}, specs.declared.object.O
 use Rattle.binding_graph.specs.{declared.binding.Binding.{Binding}, declared.place.Place.{Place}}
 use Rattle.prop_bindings.specs.{Changes.{DifferInValues}, Fits.{Agree}}
 use Rattle.machine_state.{specs.declared.endpoints.Endpoints.{Endpoints}, specs.Telling.{Assigning}, specs.State.{Step, Run, Ask, Act, State, IsIdle, Activation, Body, Emit, Update, Destroy}, specs.declared.turn.Turn.{Turn as ATurn}, specs.Turns.{running, reaches_at_once}, specs.Worlds.{store_of, with_store}, specs.Connections.{is_living, next_used, joins_these}, specs.Accepting.{accepted}, proofs.Due.{all-removed}}
-use Rattle.machine_rules.{specs.Natives.{NativeAnswers, IsShownAs, set_shown, emit_shown, AreShownAs}, specs.Connecting.{AreThere, kept_ends, names_of}, specs.Operations.{Operation, Write, Begin, Choose, Connect as Link, Disconnect as Unlink, Delete, Schedule, TakeAnswer, Nothing, operation_of_step}, specs.Destroying.{Dies, NextRule, ChildRule, DestroyRule, living_child, Schedules}, specs.Rules.{Rule, RuleAt, BodyRule, Does, EmitRule, UpdateRule, Begins, begun, with_used, linked, unlinked, TurnRule, Serves, Delivers, Arrives, BeginsIf, NotifiesIf}, specs.Settling.{Settles, Writes, Installs}, specs.Writing.{MayNotify}, specs.Judgement.{found as finds, holds as so, becomes, gives as just, goes_on}, specs.declared.ends.FoundEnds.{FoundEnds}, specs.Good.{has_body, ArgumentsFit, TopFits, IsWell, Spares, IsGood}, proofs.Agreeing.{rule-agrees}, specs.code.Sound.{Joined, AreHoused}, specs.code.Keeps.{StayThere, Keeps}, specs.There.{IsDead, IsMember}, proofs.Dying.{died-stay, scheduled-stay, scheduled-seen}, proofs.Fields.{life-unique, member-method}, proofs.Differing.{differ-stay, differ-spared}, proofs.Notifying.{all-notified}, proofs.Lists.{all-append, all-snoc}, proofs.Keeps.{all-stay, all-joined-still, rule-kept, begins-kept, writes-kept, installs-kept, schedules-kept, joined-by}, proofs.Soundness.{AllFit, Fair, rule-fair, begins-fair, writes-fair, installs-fair, schedules-fair, all-wait-still}, proofs.Waiting.{housed-same, home-change}, proofs.Scheduling.{schedule-cases}, proofs.Hearing.{AllHeard, nobody, Heard, rule-heard, begins-heard, writes-heard, installs-heard, schedules-heard}}
-use Rattle.object_machine.{proofs.Possible.{possible}, proofs.Standing.{ActionStands, StepStands, BodyStands, Stands, Invariant, AllStand, SparedIn, all-stand-still}, specs.declared.invoking.Invocation.{Invocation}, specs.declared.invoking.Invocation.TheVariants.{Emit as EmitIt, Call as CallIt}, specs.Takes.{judged, Takes, accepts, refuses}, specs.Events.{block, find_ends, invoke}, proofs.Judged.{given-is}, proofs.Judging.Naming.{living-is, living-object}, proofs.Settling.{takes-agree}, specs.Runs.{Run as ARun, done, goes, takes, Each, GoodRun}, proofs.Changes.{adopted-by, length-moved}, proofs.Moving.{moved-by, shape-in_loop, housed-in_loop, all-rehomed, length-rehomed}, proofs.Homes.{housed-more, housed-loop, waiting-loop, home-there, home-moved}}
+use Rattle.machine_rules.{specs.Natives.{NativeAnswers, IsShownAs, set_shown, emit_shown, AreShownAs}, specs.Connecting.{AreThere, kept_ends, names_of}, specs.Operations.{Operation, Write, Begin, Choose, Connect as Link, Disconnect as Unlink, Delete, Schedule, TakeAnswer, Nothing, operation_of_step}, specs.Destroying.{Dies, NextRule, ChildRule, DestroyRule, living_child, Schedules}, specs.Rules.{Rule, RuleAt, BodyRule, Does, EmitRule, UpdateRule, Begins, begun, with_used, linked, unlinked, TurnRule, Serves, Delivers, Arrives, BeginsIf, NotifiesIf}, specs.Settling.{Settles, Writes, Installs}, specs.Writing.{MayNotify}, specs.Judgement.{found as finds, holds as so, becomes, gives as just, goes_on}, specs.declared.ends.FoundEnds.{FoundEnds}, specs.Good.{has_body, ArgumentsFit, TopFits, IsWell, Spares, IsGood}, proofs.Doing.{step-of}, proofs.Agreeing.{rule-agrees}, specs.code.Sound.{Joined, AreHoused}, specs.code.Keeps.{StayThere, Keeps}, specs.There.{IsDead, IsMember}, proofs.Dying.{died-stay, scheduled-stay, scheduled-seen}, proofs.Fields.{life-unique, member-method}, proofs.Differing.{differ-stay, differ-spared}, proofs.Notifying.{all-notified}, proofs.Lists.{all-append, all-snoc}, proofs.Keeps.{all-stay, all-joined-still, rule-kept, begins-kept, writes-kept, installs-kept, schedules-kept, joined-by}, proofs.Soundness.{AllFit, Fair, rule-fair, begins-fair, writes-fair, installs-fair, schedules-fair, all-wait-still}, proofs.Waiting.{housed-same, home-change}, proofs.Scheduling.{schedule-cases}, proofs.Hearing.{AllHeard, nobody, Heard, rule-heard, begins-heard, writes-heard, installs-heard, schedules-heard}}
+use Rattle.object_machine.{proofs.Possible.{possible}, proofs.Standing.{ActionStands, StepStands, BodyStands, Stands, Invariant, AllStand, SparedIn, all-stand-still}, specs.declared.invoking.Invocation.{Invocation}, specs.declared.invoking.Invocation.TheVariants.{Emit as EmitIt, Call as CallIt}, specs.Takes.{Takes, accepts, refuses}, specs.Events.{judged, block, find_ends, invoke}, proofs.Judged.{given-is}, proofs.Judging.Naming.{living-is, living-object}, proofs.Settling.{takes-agree}, specs.Runs.{Run as ARun, done, goes, takes, Each, GoodRun}, proofs.Changes.{adopted-by, length-moved}, proofs.Moving.{moved-by, shape-in_loop, housed-in_loop, all-rehomed, length-rehomed}, proofs.Homes.{housed-more, housed-loop, waiting-loop, home-there, home-moved}}
 use Rattle.event_loops.specs.{declared.item.Item.{Item}, declared.item.Item.TheVariants.{Call, Deletion}, declared.item.Posted.{Posted}, Queues.{Loop as ALoop, Queues, items_at, is_before, taken_before, with_loop, rehomed}}
 use Rattle.delete_later.specs.{declared.store.Store.{Store}, Moving.{IsMoved}}
 use Rattle.syntax_trees.specs.{declared.connection.ConnectionType.{ConnectionType}, declared.connection.Endpoints.{Endpoints as Named}}
@@ -136,7 +136,9 @@ module _ {p : Loaded} {s t : State} (sound : IsSound p) (well : IsWell p s t) wh
 
   body-stands : (natives : NativeAnswers) → AreTyped p s.objects → (o m : ℕ) (arguments : List Value) (below : List Activation) (left : List Step) → BodyStands p s.objects o arguments left → AllByRecursion (Stands p s.objects) below → length s.stack ≡ suc (length below) → BodyRule p natives s o m arguments below t left → AllStand p t
   body-stands natives typed o m arguments below [] body lower high r = as-is r lower
-  body-stands natives typed o m arguments below (x ∷ rest) body lower high r = does-stands natives typed o m arguments x rest below r.what body r.is lower high r.does
+  body-stands natives typed o m arguments below (x ∷ rest) body lower high rule =
+      let r = step-of p natives s o m arguments x rest below t rule in
+      does-stands natives typed o m arguments x rest below r.what body r.is lower high r.does
 
   -- a method begins, or a call of it is posted
   arrives-stands : (u : State) (stack : List Activation) (home o : ℕ) (x : Object) (m : ℕ) (method : MetaMethod) (arguments : List Value) (b : Bool) → IsWell p u t → IsMember p u.objects o m x method → length u.stack < suc (length stack) → AllByRecursion (Stands p u.objects) stack → Arrives u stack home o x m method arguments t b → AllStand p t
@@ -293,20 +295,20 @@ connection-joined : {p : Loaded} {objects : List Object} (e : Named (List ℕ)) 
     Joined p objects (record { number = n; sender = f.ends.sender; signal = f.ends.signal; receiver = f.ends.receiver; method = f.ends.method; kind = how.kind; single = how.single })
 connection-joined {p} {objects} e how n f sound (goes_on a sender (goes_on b receiver (goes_on g (finds signal) (goes_on m (finds method) given)))) fits =
     let Signal_types : Sig → Type 0 = λ t. Fits t e.method in
-    let Method_types : Sig → Type 0 = λ t. Fits g.it.sig t in
+    let Method_types : Sig → Type 0 = λ t. Fits signal.0.method.sig t in
     let from = living-object a (living-is sender) in
     let to = living-object b (living-is receiver) in
-    let ends : Endpoints = record { sender = a.number; signal = g.number; receiver = b.number; method = m.number } in
+    let ends : Endpoints = record { sender = a.number; signal = g; receiver = b.number; method = m } in
     let spelled : AreThere p objects ends = record {
       sender = from.0;
-      signal = g.it;
-      sends = record { life = a.it; lives = from.1; is_method = signal.of.is };
+      signal = signal.0.method;
+      sends = record { life = a.it; lives = from.1; is_method = signal.0.is };
       receiver = to.0;
-      method = m.it;
+      method = method.method;
       receives = record { life = b.it; lives = to.1; is_method = method.is };
     } in
     let Joins : FoundEnds → Type 0 = λ k. Joined p objects (record { number = n; sender = k.ends.sender; signal = k.ends.signal; receiver = k.ends.receiver; method = k.ends.method; kind = how.kind; single = how.single }) in
-    subst Joins (sym (given-is given)) (joined-by how n spelled sound (subst Method_types (sym method.signed) (subst Signal_types (sym signal.of.signed) fits)))
+    subst Joins (sym (given-is given)) (joined-by how n spelled sound (subst Method_types (sym method.signed) (subst Signal_types (sym signal.0.signed) fits)))
 
 -- the state in which an event is taken
 accepted-invariant : {p : Loaded} {s : State} → Invariant p s → Invariant p (accepted s)
@@ -332,14 +334,14 @@ judged-invariant {s = s} (New name class loop) sound idle up (goes_on _ free (go
     let l : Life = begun_life c.number home (initial_values c.it) in
     changed-invariant _ idle up agree (created-stay _ x l refl)
     (housed-more s.objects x l s.queues.loops refl up.sound.housed (home-there s.queues.loops home loop up.sound.housed.has_main lives))
-judged-invariant {p} {s} (Adopt parent child) sound idle up (goes_on _ a (goes_on _ c (goes_on _ owns (goes_on _ over (goes_on _ home (becomes x)))))) well agree =
+judged-invariant {p} {s} (Adopt parent child) sound idle up (goes_on _ a (goes_on _ c (goes_on _ owns (goes_on _ over (goes_on _ home (goes_on objects (becomes x) given)))))) well agree =
     let Family : State → Type 0 = λ u. Invariant p u in
     let Agrees : State → Type 0 = λ u. Agree p u.objects u.bindings in
-    subst Family (sym x.gives) (changed-invariant x.objects idle up (subst Agrees x.gives agree) (adopted-stay x.is) (adopted-housed s.queues.loops x.is up.sound.housed))
-judged-invariant {p} {s} (Move name loop) sound idle up (goes_on _ o (goes_on _ is (goes_on _ root (goes_on _ alone (becomes x))))) well agree =
+    subst Family (sym (given-is given)) (changed-invariant objects idle up (subst Agrees (given-is given) agree) (adopted-stay x) (adopted-housed s.queues.loops x up.sound.housed))
+judged-invariant {p} {s} (Move name loop) sound idle up (goes_on _ o (goes_on _ is (goes_on _ root (goes_on _ alone (goes_on store (becomes x) given))))) well agree =
     let Family : State → Type 0 = λ u. Invariant p u in
     let Agrees : State → Type 0 = λ u. Agree p u.objects u.bindings in
-    subst Family (sym x.gives) (moved-invariant idle up x.is (subst Agrees x.gives agree))
+    subst Family (sym (given-is given)) (moved-invariant idle up x (subst Agrees (given-is given) agree))
 judged-invariant {p} {s} (Connect e how) sound idle up (goes_on f named (goes_on _ (goes_on _ covers (goes_on _ (so fits) new)) given)) well agree =
     let Family : State → Type 0 = λ u. Invariant p u in
     subst Family (sym (given-is given)) (record {

@@ -6,7 +6,7 @@ use Rattle.meta_model.specs.{declared.object.ValueType.{ValueType}, declared.obj
 use Rattle.machine_state.specs.{declared.endpoints.Endpoints.{Endpoints}, State.{Step, Run, Ask, Act, State, Activation, Body, Emit, Update, Destroy}, declared.turn.Turn.{Turn}, Turns.{running, reaches_at_once}, Connections.{is_living, next_used}, Telling.{Assigning, writes_of}}
 use Rattle.trace_entries.specs.{declared.refusal.Refusal.{Refusal}, declared.fault.Fault.{Fault}, declared.fault.Fault.TheVariants.{BadType, TooDeep, BindingLoop, InUse, Steps, Memory, Stopped}}
 use Rattle.syntax_trees.specs.declared.connection.ConnectionType.{ConnectionType}
-use Rattle.machine_rules.{specs.Natives.{NativeAnswers}, specs.Connecting.{AreThere}, specs.Judgement.{Check, Then, holds, fails, goes_on as next_is, ends as ends_so}, specs.Rules.{RuleAt, StepRule, Does, EmitRule, UpdateRule, Connects, Disconnects, TurnRule, Serves, Delivers, Arrives, with_used, BeginsIf, NotifiesIf}, specs.Destroying.{Dies, NextRule, ChildRule, DestroyRule, living_child, Schedules, scheduled_now, scheduled_before, not_living}, specs.Operations.{Operation, Write, Begin, Choose, Connect, Disconnect, Delete, Schedule, TakeAnswer, Nothing, operation_of_step}, specs.code.Lacking.{LacksFirst}, specs.Next.{DoesNext, LacksValue}, specs.code.Going.{IsStuck, RulesStop}, specs.There.{IsField}, specs.Writing.{MayNotify}, proofs.Delivered.{next-delivered}, proofs.Fields.{old-there}, specs.code.Sound.{IsDelivered, Waits}, proofs.Soundness.{AllFit}, proofs.Waiting.{loop-named, first-waits}, proofs.Hearing.{AllHeard, nobody, may-be-heard}}
+use Rattle.machine_rules.{specs.Natives.{NativeAnswers}, specs.Connecting.{AreThere}, specs.Judgement.{Check, Then, holds, fails, goes_on as next_is, ends as ends_so}, specs.Rules.{RuleAt, StepRule, Does, EmitRule, UpdateRule, Connects, Disconnects, TurnRule, Serves, Delivers, Arrives, with_used, BeginsIf, NotifiesIf}, specs.Destroying.{Dies, NextRule, ChildRule, DestroyRule, living_child, Schedules, scheduled_now, scheduled_before, not_living}, specs.Operations.{Operation, Write, Begin, Choose, Connect, Disconnect, Delete, Schedule, TakeAnswer, Nothing, operation_of_step}, specs.code.Lacking.{LacksFirst}, specs.Next.{DoesNext, LacksValue}, specs.code.Going.{IsStuck, RulesStop}, specs.There.{IsField}, specs.Writing.{MayNotify}, proofs.Delivered.{next-delivered}, proofs.Doing.{step-rule, does-next, lacks-value}, proofs.Fields.{old-there}, specs.code.Sound.{IsDelivered, Waits}, proofs.Soundness.{AllFit}, proofs.Waiting.{loop-named, first-waits}, proofs.Hearing.{AllHeard, nobody, may-be-heard}}
 use Rattle.run_context.proofs.Linking.{kept-there}
 use Rattle.connections.specs.declared.connection.Connection.{Connection}
 use Rattle.object_tree.{specs.declared.object.Object.{Object}, specs.Family.{children_of}, specs.declared.life.Life.{Life}, specs.Objects.{life_of, home_of}, proofs.Changing.{life-of-lives, lives-of-life}}
@@ -108,7 +108,7 @@ module _ {p : Loaded} {s : State} (sound : IsSound p) (up : Invariant p s) where
       by_found : (found : Option Operation) → operation_of_step s.objects o arguments x ≡ found → operation_of_step s.objects o arguments x ≡ None
       by_found None is = is
       by_found (Some d) is =
-          let next : (k : Operation) → d ≡ k → DoesNext s k = λ k same. record { object = o; method = m; arguments = arguments; step = x; rest = rest; below = below; is_next = e; does = is ∙ ap (λ (k : Operation). Some k) same } in
+          let next : (k : Operation) → d ≡ k → DoesNext s k = λ k same. does-next s e (is ∙ ap (λ (k : Operation). Some k) same) in
           absurd (possible-goes natives o m arguments rest below body.declaring body.kinds d (possible sound up.sound.agree.typed body d is)
           (λ what same. halts.lacks what (next (Write what) same)) (λ effects same. halts.asks_none effects (next (TakeAnswer effects) same))
           (λ t does. stuck t (record { what = d; is = is; does = does })))
@@ -116,7 +116,7 @@ module _ {p : Loaded} {s : State} (sound : IsSound p) (up : Invariant p s) where
   -- .. so it is a statement that lacks a value
   step-lacks : {natives : NativeAnswers} (o m : ℕ) (arguments : List Value) (x : Step) (rest : List Step) (below : List Activation) → s.stack ≡ Body o m arguments (x ∷ rest) ∷ below → IsStuck p natives s → BodyStands p s.objects o arguments (x ∷ rest) → ((t : State) → ¬ StepRule p natives s o m arguments x rest below t) → LacksValue s
   step-lacks o m arguments (Run x) rest below e halts body stuck =
-      record { object = o; method = m; arguments = arguments; statement = x; rest = rest; below = below; is_next = e; lacks = step-none o m arguments (Run x) rest below e halts body stuck }
+      lacks-value s e (step-none o m arguments (Run x) rest below e halts body stuck)
   step-lacks o m arguments (Ask effects) rest below e halts body stuck = absurd (cc (step-none o m arguments (Ask effects) rest below e halts body stuck))
   step-lacks o m arguments (Act effects it) rest below e halts body stuck = absurd (acts body (step-none o m arguments (Act effects it) rest below e halts body stuck))
 
@@ -181,7 +181,7 @@ module _ {p : Loaded} {s : State} (sound : IsSound p) (up : Invariant p s) where
       by_turn None none stays = absurd (halts.goes_on (record { empty = e; no_turn = none }))
       by_turn (Some turn) is stays = absurd (turn-goes turn (find (is_before turn.limit) (items_at s.queues.loops turn.home)) (λ q found. first-waits p s.objects s.queues.loops turn.home turn.limit q up.sound.waiting found) stays)
   stack-lacks (Body o m arguments [] ∷ below) e halts all fit heard stuck = absurd (stuck _ refl)
-  stack-lacks (Body o m arguments (x ∷ rest) ∷ below) e halts all fit heard stuck = step-lacks o m arguments x rest below e halts all.0 stuck
+  stack-lacks (Body o m arguments (x ∷ rest) ∷ below) e halts all fit heard stuck = step-lacks o m arguments x rest below e halts all.0 (λ t r. stuck t (step-rule p _ s o m arguments x rest below t r))
   stack-lacks (Emit o g arguments used last ∷ below) e halts all fit heard stuck =
       absurd (emission-goes o g arguments last below (next_used s.objects s.connected.connections o g used last) (λ c found. next-delivered s.connected.connections o g used last c up.sound.joined fit.0 (may-be-heard s.objects s.connected.connections o g heard.0) found) stuck)
   stack-lacks (Update places ∷ below) e halts all fit heard stuck = absurd (update-goes below places all.0 stuck)

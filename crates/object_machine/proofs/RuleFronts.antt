@@ -13,8 +13,9 @@ use Rattle.trace_entries.specs.{declared.entry.Entry.{Entry}, declared.entry.Ent
 use Rattle.trace_entries.specs.declared.entry.EntryKind.TheVariants as entry_kind
 use Rattle.trace_entries.specs.declared.entry.Shown.TheVariants as show
 use Rattle.basic_types.specs.declared.value.Value.TheVariants as value
-use Rattle.machine_rules.specs.{Destroying.{Dies, NextRule, ChildRule, DestroyRule, TellsSchedule, scheduled_now, scheduled_before, not_living, Schedules, living_child}, Natives.{NativeAnswers}, Operations.{Operation, Write, Begin, Choose, Connect, Disconnect, Delete, Schedule, TakeAnswer, Nothing}, Rules.{top_of, begin_entry, begun, Begins, Notifies, NotifiesIf, UpdateRule, told, linked, Connects, unlinked, Disconnects, Does, BodyRule, Arrives, with_used, Uses, EmitRule, BeginsIf, Delivers, Serves, TurnRule, RuleAt}, Settling.{Settles, Writes, Installs, notified}}
+use Rattle.machine_rules.specs.{Destroying.{Dies, NextRule, ChildRule, DestroyRule, TellsSchedule, scheduled_now, scheduled_before, not_living, Schedules, living_child}, Natives.{NativeAnswers}, Operations.{Operation, Write, Begin, Choose, Connect, Disconnect, Delete, Schedule, TakeAnswer, Nothing}, Rules.{top_of, begin_entry, begun, Begins, Notifies, NotifiesIf, UpdateRule, told, linked, Connects, unlinked, Disconnects, Does, BodyRule, StepRule, Arrives, with_used, Uses, EmitRule, BeginsIf, Delivers, Serves, TurnRule, RuleAt}, Settling.{Settles, Writes, Installs, notified}}
 use Rattle.object_machine.specs.Laws.{in_front, ReadsNoTrace}
+use Rattle.machine_rules.proofs.Doing.{step-of, step-rule}
 
 module _ (front : List Entry) where
   -- a state with another trace
@@ -70,9 +71,7 @@ module _ (front : List Entry) where
 
     pub installs-front : {below : List Activation} {b : Binding} → Installs p s below b t → Installs p (in_front front s) below b (in_front front t)
     installs-front x = record {
-      object = x.object;
-      property = x.property;
-      is = x.is;
+      there = x.there;
       objects = x.objects;
       changed = x.changed;
       installed = x.installed;
@@ -150,7 +149,10 @@ module _ (front : List Entry) where
     body-front : (natives : NativeAnswers) (o m : ℕ) (arguments : List Value) (below : List Activation) (left : List Step) → BodyRule p natives s o m arguments below t left →
         BodyRule p natives (in_front front s) o m arguments below (in_front front t) left
     body-front natives o m arguments below [] x = ap (in_front front) x
-    body-front natives o m arguments below (step ∷ rest) x = record { what = x.what; is = x.is; does = does-front natives o m arguments rest below x.what x.does }
+    body-front natives o m arguments below (step ∷ rest) rule =
+        let x = step-of p natives s o m arguments step rest below t rule in
+        let after : StepRule p natives (in_front front s) o m arguments step rest below (in_front front t) = record { what = x.what; is = x.is; does = does-front natives o m arguments rest below x.what x.does } in
+        step-rule p natives (in_front front s) o m arguments step rest below (in_front front t) after
 
     -- ---- emissions
 

@@ -13,24 +13,23 @@ module _ {N : Type 0} {gives : N → NativeAnswers} (front : List Entry) where
   completes-front x = record {
     went = x.went;
     same = ap (with_front front) x.same;
-    whole = record { runs = good-front front x.whole.runs; ends = record { empty = x.whole.ends.empty; no_turn = x.whole.ends.no_turn } };
+    runs = good-front front x.runs;
+    ends = record { empty = x.ends.empty; no_turn = x.ends.no_turn };
   }
 
   pub halts-front : {a b : Seen N} {es : List Event} {f : Fault} → Halts gives a es f b → Halts gives (with_front front a) es f (with_front front b)
   halts-front x = record {
     went = x.went;
     same = ap (with_front front) x.same;
-    way = record {
-      stack = x.way.stack;
-      front = record {
-        taken = x.way.front.taken;
-        rest = x.way.front.rest;
-        split = x.way.front.split;
-        answers = x.way.front.answers;
-        runs = good-front front x.way.front.runs;
-      };
-      cause = stops-front front x.way.cause;
+    stack = x.stack;
+    front = record {
+      taken = x.front.taken;
+      rest = x.front.rest;
+      split = x.front.split;
+      answers = x.front.answers;
+      runs = good-front front x.front.runs;
     };
+    cause = stops-front front x.cause;
   }
 
   pub stop-front : {a b : Seen N} {es : List Event} {f : Fault} → Halts gives a es f b ⊎ Stays a f b → Halts gives (with_front front a) es f (with_front front b) ⊎ Stays (with_front front a) f (with_front front b)

@@ -9,19 +9,19 @@ use Rattle.script_lang.specs.{declared.event.Event.{Event}, declared.event.Event
 use Rattle.trace_entries.specs.declared.fault.Answer.{Answer}
 use Rattle.machine_state.specs.{Accepting.{accepted}, State.{State, Activation}}
 use Rattle.machine_rules.{specs.Good.{IsWell, IsAcyclic}, specs.Judgement.{found as finds, holds as so, becomes, goes_on}, specs.Settling.{Installs}, specs.There.{IsField}, proofs.Agreeing.{begun-agrees, writes-agrees, installs-agrees, schedules-agrees}, proofs.Fields.{field-property}, proofs.Keeps.{lives-of-class}, proofs.Inherited.{property-below}}
-use Rattle.object_machine.{specs.declared.invoking.Invocation.{Invocation}, specs.declared.invoking.Invocation.TheVariants.{Emit as EmitIt, Call as CallIt}, specs.Laws.{TakingSettles}, specs.Takes.{judged, Takes, accepts, refuses}, specs.Events.{may_bind, block, invoke}, proofs.Judged.{given-is}, proofs.Changes.{agree-adopted, agree-blocked}, proofs.Moving.{stores-agree}}
+use Rattle.object_machine.{specs.declared.invoking.Invocation.{Invocation}, specs.declared.invoking.Invocation.TheVariants.{Emit as EmitIt, Call as CallIt}, specs.Laws.{TakingSettles}, specs.Takes.{Takes, accepts, refuses}, specs.Events.{judged, may_bind, block, invoke}, proofs.Judged.{given-is}, proofs.Changes.{agree-adopted, agree-blocked}, proofs.Moving.{stores-agree}}
 
 -- a binding that may be installed binds a property of a value type
-pub bound-plain : {p : Loaded} {t : State} {b : Binding} {below : List Activation} (s : State) (site target : List ℕ) (sources : List (List ℕ)) → IsSound p → may_bind p s site target sources (Ok b) → (x : Installs p (accepted s) below b t) → IsPlain x.property.kind
+pub bound-plain : {p : Loaded} {t : State} {b : Binding} {below : List Activation} (s : State) (site target : List ℕ) (sources : List (List ℕ)) → IsSound p → may_bind p s site target sources (Ok b) → (x : Installs p (accepted s) below b t) → IsPlain x.there.property.kind
 bound-plain {p} {b = b} s site target sources sound (goes_on n (finds is) (goes_on _ many (goes_on o lives (goes_on xs all (goes_on _ (so covers) (goes_on _ one given)))))) x =
-    let plain = (sound.sites n.number n.it is.is).target in
+    let plain = (sound.sites n.number n.it is.0).target in
     let own = lives-of-class s.objects o.number covers.of_target.class covers.of_target.is in
     let At : ℕ → Type 0 = λ k. IsProperty p k n.it.property plain.property in
     let its : IsProperty p own.1.class n.it.property plain.property = subst At (sym own.3) (property-below sound covers.of_target.below plain.is) in
     let field : IsField p s.objects o.number n.it.property own.0 plain.property = record { life = own.1; lives = own.2; class = its.class; is_class = its.is_class; is_property = its.is } in
     let same : b ≡ binding_of n.it n.number o.number xs = given-is given in
     let There : Binding → Type 0 = λ z. IsField p s.objects z.target.object z.target.property own.0 plain.property in
-    let one_is : plain.property ≡ x.property = field-property (subst There (sym same) field) x.is in
+    let one_is : plain.property ≡ x.there.property = field-property (subst There (sym same) field) x.there.is in
     subst (λ (k : MetaProperty). IsPlain k.kind) one_is plain.plain
 
 -- .. and its objects live in one event loop
@@ -51,10 +51,10 @@ module _ {p : Loaded} {s t : State} (sound : IsSound p) (agree : Agree p s.objec
       let z : Object = fresh name c.number home (initial_values c.it) in
       let typed : AreTyped p (s.objects ++ z ∷ []) = subst (λ (v : State). AreTyped p v.objects) (given-is given) well.values in
       settled-at _ (given-is given) (agree-on p s.objects (s.objects ++ z ∷ []) (live-created s.objects z) s.bindings typed agree)
-  judged-agrees (Adopt parent child) acyclic (goes_on a above (goes_on c below (goes_on _ owns (goes_on _ over (goes_on _ home (becomes x)))))) =
-      settled-at _ x.gives (agree-adopted agree x.is)
-  judged-agrees (Move name loop) acyclic (goes_on o lives (goes_on home is (goes_on _ root (goes_on _ alone (becomes x))))) =
-      settled-at _ x.gives (stores-agree x.is agree)
+  judged-agrees (Adopt parent child) acyclic (goes_on a above (goes_on c below (goes_on _ owns (goes_on _ over (goes_on _ home (goes_on objects (becomes x) given)))))) =
+      settled-at _ (given-is given) (agree-adopted agree x)
+  judged-agrees (Move name loop) acyclic (goes_on o lives (goes_on home is (goes_on _ root (goes_on _ alone (goes_on store (becomes x) given))))) =
+      settled-at _ (given-is given) (stores-agree x agree)
   judged-agrees (Connect e how) acyclic (goes_on f both (goes_on _ may given)) = settled-at _ (given-is given) agree
   judged-agrees (Disconnect e) acyclic (goes_on f both (goes_on _ may given)) = settled-at _ (given-is given) agree
   judged-agrees (Set name property i) acyclic (goes_on o lives (goes_on q asked (goes_on v given (goes_on _ fits (becomes x))))) =

@@ -16,7 +16,8 @@ use Rattle.machine_rules.specs.Natives.{NativeAnswers, AnswersOnce}
 use Rattle.machine_rules.specs.code.Keeps.{Grows}
 use Rattle.machine_rules.specs.Rules.{Rule}
 use Rattle.object_machine.specs.Runs.{Run, EachRule, GoodRun, RunsWhole, RunsFront}
-use Rattle.object_machine.specs.Takes.{judged, Takes}
+use Rattle.object_machine.specs.Takes.{Takes}
+use Rattle.object_machine.specs.Events.{judged}
 
 -- ---- one answer
 

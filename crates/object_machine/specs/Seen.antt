@@ -3,22 +3,12 @@ use Rattle.std.specs.Prelude.{◌≡◌, ℕ, ◌⊎◌, Bool, false, true, List
 use Rattle.script_lang.specs.declared.event.Event.{Event}
 use Rattle.meta_model.specs.Loaded.{Loaded}
 use Rattle.delete_later.specs.Scheduling.{empty}
-use Rattle.machine_state.specs.declared.world.World.{World}
-use Rattle.trace_entries.specs.declared.entry.Entry.{Entry}
-use Rattle.trace_entries.specs.declared.fault.Answer.{Answer}
-use Rattle.trace_entries.specs.declared.fault.Answer.TheVariants.{Refused}
-use Rattle.trace_entries.specs.declared.fault.Fault.{Fault}
+use Rattle.machine_state.specs.{declared.world.World.{World}, State.{State, Activation, IsIdle}, Worlds.{at}}
+use Rattle.trace_entries.specs.{declared.entry.Entry.{Entry}, declared.fault.Answer.{Answer}, declared.fault.Answer.TheVariants.{Refused}, declared.fault.Fault.{Fault}, declared.refusal.Refusal.{Refusal}, Refusals.{refusal_number}}
 use Rattle.trace_entries.specs.declared.fault.Fault.TheVariants as fault
-use Rattle.trace_entries.specs.declared.refusal.Refusal.{Refusal}
-use Rattle.trace_entries.specs.Refusals.{refusal_number}
-use Rattle.machine_state.specs.State.{State}
-use Rattle.machine_state.specs.Worlds.{at}
 use Rattle.native_slots.specs.Promises.{Takes}
-use Rattle.machine_rules.specs.Good.{AreSettled}
-use Rattle.machine_rules.specs.Natives.{NativeAnswers, KeepPromises}
-use Rattle.object_machine.specs.Causes as run
-use Rattle.object_machine.specs.Runs.{Run, Each, RunsWhole}
-use Rattle.object_machine.specs.Takes.{judged, IsRefusedAs}
+use Rattle.machine_rules.specs.{Good.{AreSettled}, Natives.{NativeAnswers, KeepPromises}}
+use Rattle.object_machine.specs.{Causes.{StopsFor}, Runs.{Run, Each, GoodRun, RunsFront}, Takes.{IsRefusedAs}, Events.{judged}}
 
 pub record Seen (N : Type 0) : Type 0 where
   pub program : Loaded
@@ -42,14 +32,18 @@ pub record Completes {N : Type 0} (gives : N → NativeAnswers) (before : Seen N
     (after : Seen N) : Type 0 where
   pub went : before.stopped ≡ false
   pub same : after ≡ record before { world = after.world }
-  pub whole : RunsWhole before.program (gives before.natives) before.depth (at before.world []) before.world.left events answers (at after.world []) after.world.left
+  pub runs : GoodRun before.program (gives before.natives) before.depth (at before.world []) before.world.left events answers (at after.world []) after.world.left
+  pub ends : IsIdle (at after.world [])
 
--- the machine stopped on the way through these events, for this fault
+-- The machine stopped on the way through these events, for this fault: a run of a front of them without a bad moment led to
+-- a state in which what comes next, or memory, is the cause.
 pub record Halts {N : Type 0} (gives : N → NativeAnswers) (before : Seen N) (events : List Event) (f : Fault) (after : Seen N)
     : Type 0 where
   pub went : before.stopped ≡ false
   pub same : after ≡ record before { world = after.world; stopped = true }
-  pub way : run.Halts before.program (gives before.natives) before.depth before.world events f after.world
+  pub stack : List Activation
+  pub front : RunsFront before.program (gives before.natives) before.depth (at before.world []) before.world.left events (at after.world stack) after.world.left
+  pub cause : StopsFor before.program (gives before.natives) before.depth (at after.world stack) after.world.left front.rest f
 
 -- a machine that has stopped does nothing more
 pub record Stays {N : Type 0} (before : Seen N) (f : Fault) (after : Seen N) : Type 0 where

@@ -5,9 +5,9 @@ ghost use Rattle.script_lang.specs.declared.event.Event.TheVariants.{Set};
 ghost use Rattle.prop_bindings.specs.Fits.{FitsAt};
 ghost use Rattle.machine_state.specs.Worlds.{at};
 ghost use Rattle.machine_rules.specs.Judgement.{NothingIs, numbered};
-ghost use Rattle.object_machine.specs.code.Judgement.{IsNotAccepted};
+ghost use Rattle.object_machine.specs.code.Judgement.{IsNotAccepted, IsPropertyOf};
 ghost use Rattle.object_machine.specs.code.Accepted.{WritesTo};
-ghost use Rattle.object_machine.specs.Events.{assign, IsPropertyOf};
+ghost use Rattle.object_machine.specs.Events.{judged};
 
 use crate::named::find_living;
 use crate::not_accepted::NotAccepted;
@@ -33,7 +33,8 @@ pub fn judge_write(
     ensures fits { IfOk result
         (λ a. FitsAt context.now.meta world.now.store.tree a.place a.value) }
     ensures refused { IfErr result (IsNotAccepted
-        (assign context.now.meta (at world.now []) name.now property.now input.now)) }
+        (judged context.now.meta (at world.now [])
+        (Set name.now property.now input.now))) }
 {
     let (object, life) = find_living(world, name)?;
     let Some((property, declared)) = property_of(&context.meta, life.class, property) else {

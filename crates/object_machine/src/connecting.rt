@@ -1,11 +1,12 @@
 //! `connect` and `disconnect`: which methods are connected.
 
 ghost use Rattle.std.specs.Prelude.{[], IfOk, IfErr, IsTrue};
+ghost use Rattle.script_lang.specs.declared.event.Event.TheVariants.{Connect, Disconnect};
 ghost use Rattle.machine_state.specs.Connections.{are_joined};
 ghost use Rattle.machine_state.specs.Worlds.{at};
 ghost use Rattle.object_machine.specs.code.Judgement.{IsNotAccepted};
 ghost use Rattle.object_machine.specs.code.Accepted.{ConnectsThese, DisconnectsThese};
-ghost use Rattle.object_machine.specs.Events.{connect, disconnect};
+ghost use Rattle.object_machine.specs.Events.{judged};
 
 use crate::ends::find_ends;
 use crate::not_accepted::NotAccepted;
@@ -26,7 +27,7 @@ pub fn judge_connect(
     ensures accepted { IfOk result
         (ConnectsThese context.now.meta world.now named.now how) }
     ensures refused { IfErr result (IsNotAccepted
-        (connect context.now.meta (at world.now []) named.now how)) }
+        (judged context.now.meta (at world.now []) (Connect named.now how))) }
 {
     let found = find_ends(context, world, named)?;
     let from = ConnectionEnd {
@@ -55,7 +56,7 @@ pub fn judge_disconnect(
         (DisconnectsThese context.now.meta world.now named.now) }
     ensures joined { IfOk result (λ ends. IsTrue (are_joined ends world.now.store.connections)) }
     ensures refused { IfErr result (IsNotAccepted
-        (disconnect context.now.meta (at world.now []) named.now)) }
+        (judged context.now.meta (at world.now []) (Disconnect named.now))) }
 {
     let found = find_ends(context, world, named)?;
     if !world.are_joined(&found.ends) {

@@ -3,7 +3,7 @@
 ghost use Rattle.std.specs.Prelude.{◌≡◌, ◌↔◌, IfOk, IfErr, IsTrue, MatchOption};
 ghost use Rattle.meta_model.specs.declared.object.Work.TheVariants.{Signal};
 ghost use Rattle.machine_rules.specs.Judgement.{NothingIs};
-ghost use Rattle.object_machine.specs.code.Judgement.{IsNotAccepted, FindsEnds, IsSignalNumber};
+ghost use Rattle.object_machine.specs.code.Judgement.{IsNotAccepted, FindsEnds};
 ghost use Rattle.object_machine.specs.Events.{find_ends, IsSignalOf};
 
 use crate::named::find_living;
@@ -50,7 +50,7 @@ pub fn find_ends(
 /// The number of the class's signal of this signature.
 fn signal_of(meta: &Meta, class: usize, sig: &Sig) -> Option<usize>
     ensures { MatchOption result (NothingIs (IsSignalOf meta.now class sig.now))
-        (IsSignalNumber meta.now class sig.now) }
+        (IsSignalOf meta.now class sig.now) }
 {
     let Some(number) = meta.method(class, sig) else {
         return None;

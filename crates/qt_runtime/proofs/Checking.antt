@@ -8,7 +8,7 @@ use Rattle.native_slots.specs.Promises.{Takes}
 use Rattle.trace_entries.specs.{declared.fault.Answer.{Answer}, declared.fault.Fault.{Fault}, declared.entry.Entry.{Entry}}
 use Rattle.machine_state.specs.{declared.world.World.{World}, Worlds.{at, untouched}, State.{State}}
 use Rattle.machine_rules.specs.{Good.{HasArguments, Spares, IsAcyclic, AreSettled, IsTyped}, Natives.{NativeAnswers, KeepPromises}}
-use Rattle.object_machine.{specs.Causes.{StopsFor}, specs.Laws.{in_front}, specs.Runs.{Run, done}, proofs.Fronts.{run-front, each-behind, lacks-front, writes-ill-front, stops-front}, proofs.Running.{run-trans, each-weaker}, specs.CheckedLaws.{IsFaultless, IsReached}, proofs.CheckedRuns.Claims.{only_limits, each_run_is_faultless}, specs.Checked.{HasCome, IsChecked, Claims, IsLimit, StopsAtLimit}, specs.Seen.{Seen, AreKept, InEachRun, Completes, Halts, Stays, begun, cleared}}
+use Rattle.object_machine.{specs.Causes.{StopsFor}, specs.Laws.{in_front}, specs.Runs.{Run, done}, proofs.Fronts.{run-front, each-behind, writes-ill-front, stops-front}, proofs.Running.{run-trans, each-weaker}, specs.CheckedLaws.{IsFaultless, IsReached}, proofs.CheckedRuns.Claims.{only_limits, each_run_is_faultless}, specs.Checked.{HasCome, IsChecked, Claims, IsLimit, StopsAtLimit}, specs.Seen.{Seen, AreKept, InEachRun, Completes, Halts, Stays, begun, cleared}}
 use Rattle.qt_runtime.proofs.Halting.{seen}
 
 -- the program that is within is the one that is seen
@@ -43,7 +43,7 @@ module _ {N : Type 0} (gives : N → NativeAnswers) where
           taken = come.taken ++ es;
           answers = come.answers ++ xs;
           gone = come.gone;
-          run = run-trans come.run (run-front come.gone x.whole.runs.run);
+          run = run-trans come.run (run-front come.gone x.runs.run);
         };
       } in
       subst (λ (m : Seen N). IsChecked gives m) (sym x.same) further
@@ -85,7 +85,7 @@ faultless-behind front s t x = record {
   acyclic = x.acyclic;
   spared = x.spared;
   shallow = x.shallow;
-  typed = record { values = x.typed.values; has_values = λ lacking. x.typed.has_values (lacks-front front lacking); fits = λ ill. x.typed.fits (writes-ill-front front ill) };
+  typed = record { values = x.typed.values; has_values = x.typed.has_values; fits = λ ill. x.typed.fits (writes-ill-front front ill) };
   settled = x.settled;
 }
 
@@ -99,18 +99,18 @@ module _ {N : Type 0} (takes : N → Takes) (gives : N → NativeAnswers) where
   halts-limit {a} {b} {f = f} sound kept x checked =
       let come = checked.came x.went in
       let natives = gives a.natives in
-      let stop = in_front come.gone (at b.world x.way.stack) in
-      let StopsAt : ℕ → Type 0 = λ d. StopsFor a.program natives d stop b.world.left x.way.front.rest f in
+      let stop = in_front come.gone (at b.world x.stack) in
+      let StopsAt : ℕ → Type 0 = λ d. StopsFor a.program natives d stop b.world.left x.front.rest f in
       let reached : IsReached (takes a.natives) natives a.program checked.certificate stop b.world.left = record {
         sound = sound;
         valid = checked.valid;
         promises = kept;
         steps = come.steps;
-        taken = come.taken ++ x.way.front.taken;
-        answers = come.answers ++ x.way.front.answers;
-        run = run-trans come.run (run-front come.gone x.way.front.runs.run);
+        taken = come.taken ++ x.front.taken;
+        answers = come.answers ++ x.front.answers;
+        run = run-trans come.run (run-front come.gone x.front.runs.run);
       } in
-      only_limits b.world.left x.way.front.rest f reached (subst StopsAt checked.bound (stops-front come.gone x.way.cause))
+      only_limits b.world.left x.front.rest f reached (subst StopsAt checked.bound (stops-front come.gone x.cause))
 
   stops-checked : {a b : Seen N} {es : List Event} {f : Fault} → IsSound a.program → AreKept takes gives a → Halts gives a es f b ⊎ Stays a f b → IsChecked gives a → IsChecked gives b × StopsAtLimit a f
   stops-checked sound kept (inl halts) checked = (halts-checked gives halts checked, inl (halts-limit sound kept halts checked))

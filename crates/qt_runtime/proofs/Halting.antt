@@ -48,7 +48,7 @@ spent-fault none (brings some x) = absurd (omega (arith, none, some))
 module _ {N : Type 0} (gives : N → NativeAnswers) (natives : N) {p : Loaded} {depth : ℕ} {w v : World} {e : Event} where
   -- what `take_event` did, as what `apply` does
   pub applied-taken : {went stopped : Bool} (r : Result Answer Fault) → Took p (gives natives) depth w e v r → went ≡ false → stopped ≡ is_err r → IfOk r (λ a. Completes gives (seen p natives depth w went) (e ∷ []) (a ∷ []) (seen p natives depth v stopped))
-  applied-taken (Ok a) took goes is = record { went = goes; same = ap (λ (b : Bool). seen p natives depth v b) (is ∙ sym goes); whole = took.cases.0 }
+  applied-taken (Ok a) took goes is = record { went = goes; same = ap (λ (b : Bool). seen p natives depth v b) (is ∙ sym goes); runs = took.cases.0.runs; ends = took.cases.0.ends }
   applied-taken (Err f) took goes is = tt
 
   -- refused exactly where the event's conditions refuse it
@@ -62,7 +62,7 @@ module _ {N : Type 0} (gives : N → NativeAnswers) (natives : N) {p : Loaded} {
   pub applied-stopped : {went stopped : Bool} (r : Result Answer Fault) → Took p (gives natives) depth w e v r → went ≡ false → stopped ≡ is_err r → IfErr r (λ f. Halts gives (seen p natives depth w went) (e ∷ []) f (seen p natives depth v stopped) ⊎ Stays (seen p natives depth w went) f (seen p natives depth v stopped))
   applied-stopped (Ok x) took goes is = tt
   applied-stopped (Err f) took goes is =
-      inl (record { went = goes; same = ap (λ (b : Bool). seen p natives depth v b) is; way = took.cases })
+      inl (record { went = goes; same = ap (λ (b : Bool). seen p natives depth v b) is; stack = took.cases.stack; front = took.cases.front; cause = took.cases.cause })
 
   -- it stops for want of rules exactly where none is left
   pub applied-spent : {stopped : Bool} (r : Result Answer Fault) → Took p (gives natives) depth w e v r → stopped ≡ is_err r → (r ≡ Err Steps) ↔ ((stopped ≡ true) × (v.left ≡ 0))

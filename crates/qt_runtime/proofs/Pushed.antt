@@ -6,13 +6,14 @@ use Rattle.meta_model.specs.{declared.object.MetaMethod.{MetaMethod}, declared.o
 use Rattle.object_tree.specs.declared.object.Object.{Object}
 use Rattle.machine_state.specs.{Telling.{Alone}, declared.world.World.{World}, Objects.{all_shown}, State.{Activation, Update}, Accepting.{accepted}, Worlds.{at}, code.Changing.{accepting_entries, accepting_turn, with_bound, HasWritten, HasBound}}
 use Rattle.trace_entries.specs.{declared.entry.Entry.{Entry}, declared.fault.Answer.{Answer}, declared.fault.Answer.TheVariants.{Done}, declared.fault.Fault.{Fault}}
-use Rattle.object_machine.{specs.Takes.{judged, accepts}, specs.code.Accepted.{AsksFor, WritesTo}, proofs.Judging.Assigning.{field-of}, specs.Causes.{Halts}}
+use Rattle.object_machine.{specs.Takes.{accepts}, specs.code.Accepted.{AsksFor, WritesTo}, proofs.Judging.Assigning.{field-of}, specs.Causes.{Halts}}
 use Rattle.machine_rules.{specs.Natives.{NativeAnswers}, specs.Reaches.{RunsTo}, specs.Good.{ArgumentsFit, TopFits}, specs.Rules.{begun, begin_entry, top_of}, specs.Settling.{Installs, notified}, proofs.Soundness.{sound-settled}, specs.code.Sound.{IsSoundWorld}}
 use Rattle.run_context.specs.code.Activating.{IsActivated, IsBarred}
 use Rattle.binding_graph.specs.{declared.binding.Binding.{Binding}, declared.place.Place.{Place}}
 use Rattle.prop_bindings.specs.{Calls.{new_binding}, Changes.{DifferInValues, IsWritten, IsInstalled, one}, Fits.{Agree, FitsAt}}
 use Rattle.rule_interpreter.proofs.Beginning.{top-fits}
 use Rattle.qt_runtime.{specs.code.Taking.{Took}, proofs.Taken.{idle, Ready, good-pushed, took-unchanged}, proofs.Stopping.{took-run}}
+use Rattle.object_machine.specs.Events.{judged}
 
 begun-here : (w : World) (o : ℕ) (x : Object) (m : ℕ) (method : MetaMethod) (values : List Value) (work : Work) →
     at (accepting_entries w (begin_entry 1 x m method.sig.name (all_shown w.store.tree values) work ∷ [])) (top_of o m values w.store.connections.last work ∷ []) ≡ begun (accepted (at w [])) [] o x m method values work
@@ -64,9 +65,7 @@ installed {p} {v} {changed = changed} w has =
     let it = has.binds.installs in
     let Installs_so : List Binding → Type 0 = λ cs. IsInstalled w.store.bindings cs w.store.tree v.store.tree (new_binding has.binds.may) changed in
     record {
-      object = has.binds.fit.typed.object;
-      property = has.binds.fit.typed.property;
-      is = field-of has.binds.fit.typed;
+      there = record { object = has.binds.fit.typed.object; property = has.binds.fit.typed.property; is = field-of has.binds.fit.typed };
       objects = v.store.tree;
       changed = changed;
       installed = subst Installs_so it.bindings it;

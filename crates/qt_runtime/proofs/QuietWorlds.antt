@@ -15,8 +15,8 @@ use Rattle.prop_bindings.specs.Fits.{Agree}
 use Rattle.object_machine.specs.declared.not_accepted.NotAccepted.{NotAccepted}
 use Rattle.object_machine.specs.code.Judgement.{IsNotAccepted}
 use Rattle.object_machine.specs.code.Judgement as not_accepted
-use Rattle.object_machine.specs.Takes.{judged}
 use Rattle.qt_runtime.specs.code.Quiet.{IsRefused, QuietCases, Stops, TookQuietly, short}
+use Rattle.object_machine.specs.Events.{judged}
 
 -- the event is accepted, and nothing is going on after it
 pub quietly-done : {p : Loaded} {w v : World} (t : State) (e : Event) → judged p (at w []) e (Ok t) → at (after w t) [] ≡ t → Agree p t.objects t.bindings → t.turn ≡ None → v ≡ after w t → TookQuietly p w e v (Ok answer.Done)

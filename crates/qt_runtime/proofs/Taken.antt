@@ -1,18 +1,19 @@
 -- What the taking of an event comes to.
-use Rattle.std.{proofs.Common.{◌≡◌, ℕ, suc, ◌-◌, ◌<◌, ◌≤◌, List, [], ◌∷◌, None, Result, Ok, Err, refl, sym, ap, ◌∙◌, subst, arith}, specs.Result.{IsErrAnd}}
+use Rattle.std.{proofs.Common.{◌≡◌, ℕ, suc, ◌-◌, ◌<◌, ◌≤◌, List, [], ◌∷◌, Some, None, Result, Ok, Err, refl, sym, ap, ◌∙◌, subst, arith}, specs.Result.{IsErrAnd}}
 use Rattle.script_lang.specs.declared.event.Event.{Event}
 use Rattle.meta_model.specs.Loaded.{Loaded}
 use Rattle.trace_entries.specs.{declared.fault.Answer.{Answer}, declared.fault.Fault.{Fault}, declared.fault.Fault.TheVariants.{Steps, Memory}, declared.refusal.Refusal.{Refusal}, Refusals.{refusal_number}}
 use Rattle.trace_entries.specs.declared.fault.Answer.TheVariants as answer
 use Rattle.machine_state.specs.{declared.world.World.{World}, Accepting.{refused}, State.{State, Activation, IsIdle}, Worlds.{at, after}, code.Changing.{Rejects}}
-use Rattle.machine_rules.specs.{Natives.{NativeAnswers}, Good.{IsGood, TopFits}, Next.{WritesIll}, code.Going.{GoodRules}}
+use Rattle.machine_rules.specs.{Natives.{NativeAnswers}, Good.{IsGood, TopFits}, Next.{WritesIll}, Operations.{Write}, code.Going.{GoodRules}}
 use Rattle.binding_graph.specs.{declared.binding.Binding.{Binding}, Bindings.{binding_at, Loop}}
 use Rattle.prop_bindings.specs.Fits.{Agree}
 use Rattle.machine_rules.specs.code.Going as of_rules
-use Rattle.object_machine.{specs.declared.not_accepted.NotAccepted.{NotAccepted}, specs.code.Judgement.{IsNotAccepted}, specs.Runs.{GoodRun, RunsWhole, done, takes, is_next, by_event}, specs.Takes.{judged, Takes, accepts, refuses}, proofs.Running.{rules-run}, specs.Causes.{Halts, short, spent, brings, goes_ill}}
+use Rattle.object_machine.{specs.declared.not_accepted.NotAccepted.{NotAccepted}, specs.code.Judgement.{IsNotAccepted}, specs.Runs.{GoodRun, RunsWhole, done, takes, is_next, by_event}, specs.Takes.{Takes, accepts, refuses}, proofs.Running.{rules-run}, specs.Causes.{Halts, short, spent, brings, goes_ill}}
 use Rattle.object_machine.specs.code.Judgement as not_accepted
 use Rattle.qt_runtime.specs.{code.Quiet.{IsRefused, Stops, TookQuietly}, code.Taking.{SaysWhy, Took}}
 use Rattle.qt_runtime.specs.code.Quiet as before
+use Rattle.object_machine.specs.Events.{judged}
 
 -- an event is taken, and rules follow
 pub runs-taken : {p : Loaded} {natives : NativeAnswers} {d : ℕ} {a : Answer} {s m t : State} {n j k : ℕ} (e : Event) → Takes p e a s m → IsGood p d s m → 0 < n → j ≡ n - 1 → GoodRules p natives d m j t k → GoodRun p natives d s n (e ∷ []) (a ∷ []) t k
@@ -24,7 +25,7 @@ runs-taken {p} {natives} {d} {a} {s} {m} {t} {n} {j} {k} e x good some less rest
 
 -- where nothing is going on, nothing is written next
 nothing-written : {p : Loaded} (w : World) → ¬ WritesIll p (at w [])
-nothing-written w ill = absurd (cc (ill.next).is_next)
+nothing-written w ill = let no : None ≡ Some (Write ill.what) = ill.next in absurd (cc no)
 
 -- an event that pushes nothing is good where objects and bindings agree
 pub good-quiet : {p : Loaded} {d : ℕ} (w v : World) → Agree p v.store.tree v.store.bindings → IsGood p d (at w []) (at v [])

@@ -10,7 +10,7 @@ use Rattle.trace_entries.specs.{declared.entry.Entry.{Entry}, declared.entry.Ent
 use Rattle.native_slots.specs.declared.action.Action.{Action}
 use Rattle.object_tree.specs.{declared.object.Object.{Object}, Objects.{life_of}}
 use Rattle.syntax_trees.specs.declared.connection.ConnectionType.{ConnectionType}
-use Rattle.machine_rules.{specs.Operations.{Operation, Write, Begin, Choose, Connect, Disconnect, Delete, Schedule, TakeAnswer, Nothing, operation, operation_of_step}, specs.Rules.{Rule, StepRule, Does, told, Connects, Disconnects}, specs.Destroying.{Schedules}, specs.code.Sound.{AgreeIn}, specs.Next.{DoesNext}, specs.code.Going.{GoodRules, done, then}, specs.Reaches.{StopsIn, RunsTo, Advances, Calls, OnlyCalls, Sets, Deletes}, proofs.ReachedStates.{not-idle, reaches-low, stops-as, stops-memory, stops-faulted, stops-stuck, ends-noted, ends-ticked}, proofs.Stacks.{high}, proofs.Keeps.{some-stack, rules-kept}, specs.Natives.{NativeAnswers, MayAnswer}, specs.code.Answering.{TellsAnswer}}
+use Rattle.machine_rules.{specs.Operations.{Operation, Write, Begin, Choose, Connect, Disconnect, Delete, Schedule, TakeAnswer, Nothing, operation, operation_of_step}, specs.Rules.{Rule, StepRule, Does, told, Connects, Disconnects}, specs.Destroying.{Schedules}, specs.code.Sound.{AgreeIn}, specs.code.Going.{GoodRules, done, then}, specs.Reaches.{StopsIn, RunsTo, Advances, Calls, OnlyCalls, Sets, Deletes}, proofs.Doing.{step-of, step-rule}, proofs.ReachedStates.{not-idle, reaches-low, stops-as, stops-memory, stops-faulted, stops-stuck, ends-noted, ends-ticked}, proofs.Stacks.{high}, proofs.Keeps.{some-stack, rules-kept}, specs.Natives.{NativeAnswers, MayAnswer}, specs.code.Answering.{TellsAnswer}}
 use Rattle.run_context.specs.code.Statements.{Went, Stalls, ConnectsIn, DisconnectsIn, SchedulesIn}
 
 -- ---- the rule of a body whose next step does this
@@ -22,43 +22,28 @@ next w o m arguments x rest below = at w (Body o m arguments (x ∷ rest) ∷ be
 does-rule : (p : Loaded) (natives : NativeAnswers) (w : World) (o m : ℕ) (arguments : List Value) (x : Step) (rest : List Step) (d : Operation) (below : List Activation) (t : State) → operation_of_step w.store.tree o arguments x ≡ Some d → Does p natives (next w o m arguments x rest below) o m arguments rest below d t → Rule p natives (next w o m arguments x rest below) t
 does-rule p natives w o m arguments x rest d below t is does =
     let r : StepRule p natives (next w o m arguments x rest below) o m arguments x rest below t = record { what = d; is = is; does = does } in
-    r
+    step-rule p natives (next w o m arguments x rest below) o m arguments x rest below t r
 
 rule-does : (p : Loaded) (natives : NativeAnswers) (w : World) (o m : ℕ) (arguments : List Value) (x : Step) (rest : List Step) (d : Operation) (below : List Activation) (t : State) → operation_of_step w.store.tree o arguments x ≡ Some d → Rule p natives (next w o m arguments x rest below) t → Does p natives (next w o m arguments x rest below) o m arguments rest below d t
 rule-does p natives w o m arguments x rest d below t is rule =
-    let r : StepRule p natives (next w o m arguments x rest below) o m arguments x rest below t = rule in
+    let r : StepRule p natives (next w o m arguments x rest below) o m arguments x rest below t = step-of p natives (next w o m arguments x rest below) o m arguments x rest below t rule in
     let both : Some r.what ≡ Some d = sym r.is ∙ is in
     let same : r.what ≡ d = cc both in
     let Done : Operation → Type 0 = λ e. Does p natives (next w o m arguments x rest below) o m arguments rest below e t in
     subst Done same r.does
-
--- what was read is what the state has
-pub moved : {a b : List Object} {n o : ℕ} {k l : List Value} (F : List Object → ℕ → List Value → Type 0) → a ≡ b → n ≡ o → k ≡ l → F a n k → F b o l
-moved {a} {b} {n} {o} {k} {l} F objects this arguments x =
-    subst (λ (i : List Value). F b o i) arguments (subst (λ (i : ℕ). F b i k) this (subst (λ (i : List Object). F i n k) objects x))
-
--- what it does next is what the step does
-next-does : (w : World) {o m : ℕ} {arguments : List Value} {x : Step} {rest : List Step} {below : List Activation} {d : Operation} → DoesNext (next w o m arguments x rest below) d → operation_of_step w.store.tree o arguments x ≡ Some d
-next-does w {o} {m} {arguments} {x} {rest} {below} {d} n =
-    let stacks : (Body o m arguments (x ∷ rest) ∷ below) ≡ (Body n.object n.method n.arguments (n.step ∷ n.rest) ∷ n.below) = n.is_next in
-    let o_is : n.object ≡ o = cc stacks in
-    let arguments_is : n.arguments ≡ arguments = cc stacks in
-    let x_is : n.step ≡ x = cc stacks in
-    let By : Step → Type 0 = λ y. operation_of_step w.store.tree o arguments y ≡ Some d in
-    subst By x_is (moved (λ objects k l. operation_of_step objects k l n.step ≡ Some d) refl o_is arguments_is n.does)
 
 -- a method begins
 pub does-call : {p : Loaded} {natives : NativeAnswers} {w : World} {o : ℕ} {arguments : List Value} {x : Step} (m : ℕ) (rest : List Step) {y n : ℕ} {given : List Value} → operation_of_step w.store.tree o arguments x ≡ Some (Begin y n given) → Calls p natives w (Body o m arguments (x ∷ rest) ∷ []) (Body o m arguments rest ∷ []) y n given
 does-call {p} {natives} {w} {o} {arguments} {x} m rest {y} {n} {given} is = record { no_lower = omega arith; objects = refl; goes_on = λ below. not-idle w _ below; gives = λ below t b. does-rule p natives w o m arguments x rest (Begin y n given) below t is b }
 
 pub does-call-alone : {p : Loaded} {natives : NativeAnswers} {w : World} {o : ℕ} {arguments : List Value} {x : Step} (m : ℕ) (rest : List Step) {y n : ℕ} {given : List Value} → operation_of_step w.store.tree o arguments x ≡ Some (Begin y n given) → OnlyCalls p natives w (Body o m arguments (x ∷ rest) ∷ []) (Body o m arguments rest ∷ []) y n given
-does-call-alone {p} {natives} {w} {o} {arguments} {x} m rest {y} {n} {given} is = record { next = λ below what does. let both : Some what ≡ Some (Begin y n given) = sym (next-does w does) ∙ is in cc both; begins = λ below t r. rule-does p natives w o m arguments x rest (Begin y n given) below t is r }
+does-call-alone {p} {natives} {w} {o} {arguments} {x} m rest {y} {n} {given} is = record { next = λ below what does. let both : Some what ≡ Some (Begin y n given) = sym does ∙ is in cc both; begins = λ below t r. rule-does p natives w o m arguments x rest (Begin y n given) below t is r }
 
 -- this is written
 pub does-set : {p : Loaded} {natives : NativeAnswers} {w : World} {o : ℕ} {arguments : List Value} {x : Step} (m : ℕ) (rest : List Step) {what : Assigning} → operation_of_step w.store.tree o arguments x ≡ Some (Write what) → Sets p natives w (Body o m arguments (x ∷ rest) ∷ []) (Body o m arguments rest ∷ []) what
 does-set {p} {natives} {w} {o} {arguments} {x} m rest {what} is = record {
   as_high = refl;
-  next = λ below. record { object = o; method = m; arguments = arguments; step = x; rest = rest; below = below; is_next = refl; does = is };
+  next = λ below. is;
   goes_on = λ below. not-idle w _ below;
   gives = λ below t b. does-rule p natives w o m arguments x rest (Write what) below t is b;
   only = λ below t r. rule-does p natives w o m arguments x rest (Write what) below t is r;
@@ -107,7 +92,7 @@ does-told {p} {natives} {w} {v} {o} {arguments} {x} m rest {d} {h} what What n (
 does-told {p} {natives} {w} {v} {o} {arguments} {x} m rest {d} {h} what What n (Err f) is other unasked does told_by room agree some n_is stays =
     let At : World → Type 0 = λ u. StopsIn p natives d h w (Body o m arguments (x ∷ rest) ∷ []) u f in
     let stops : StopsIn p natives d h w (Body o m arguments (x ∷ rest) ∷ []) w f = elim stays.why [
-      | inl none ↦ stops-as none.1 (stops-stuck (not-idle w (Body o m arguments (x ∷ rest))) some (λ below t rule. none.0 (Body o m arguments (x ∷ rest) ∷ below) (Body o m arguments rest ∷ below) t (told_by below t (rule-does p natives w o m arguments x rest what below t is rule))) (λ below written writes. let both : Some what ≡ Some (Write written) = sym is ∙ next-does w writes in let same : what ≡ Write written = cc both in absurd (other written same)) (λ below effects asks. let both : Some what ≡ Some (TakeAnswer effects) = sym is ∙ next-does w asks in let same : what ≡ TakeAnswer effects = cc both in absurd (unasked effects same)))
+      | inl none ↦ stops-as none.1 (stops-stuck (not-idle w (Body o m arguments (x ∷ rest))) some (λ below t rule. none.0 (Body o m arguments (x ∷ rest) ∷ below) (Body o m arguments rest ∷ below) t (told_by below t (rule-does p natives w o m arguments x rest what below t is rule))) (λ below written writes. let both : Some what ≡ Some (Write written) = sym is ∙ writes in let same : what ≡ Write written = cc both in absurd (other written same)) (λ below effects asks. let both : Some what ≡ Some (TakeAnswer effects) = sym is ∙ asks in let same : what ≡ TakeAnswer effects = cc both in absurd (unasked effects same)))
       | inr short ↦ stops-as short (stops-memory (not-idle w (Body o m arguments (x ∷ rest))) some)
     ] in
     record { cases = subst At (sym stays.same) stops }
@@ -146,11 +131,11 @@ of-layer objects o arguments s is does = ap (operation objects o arguments) is �
 lacks-rule : {p : Loaded} {natives : NativeAnswers} {w : World} {o : ℕ} {arguments : List Value} {x : Step} (m : ℕ) (rest : List Step) {d : ℕ} {h : List (Option ℕ)} → 0 < w.left → operation_of_step w.store.tree o arguments x ≡ None → StopsIn p natives d h w (Body o m arguments (x ∷ rest) ∷ []) w BadType
 lacks-rule {p} {natives} {w} {o} {arguments} {x} m rest some none =
     stops-stuck (not-idle w (Body o m arguments (x ∷ rest))) some (λ below t rule.
-    let r : StepRule p natives (next w o m arguments x rest below) o m arguments x rest below t = rule in
+    let r : StepRule p natives (next w o m arguments x rest below) o m arguments x rest below t = step-of p natives (next w o m arguments x rest below) o m arguments x rest below t rule in
     let both : None ≡ Some r.what = sym none ∙ r.is in
     absurd (cc both))
-    (λ below what writes. let both : None ≡ Some (Write what) = sym none ∙ next-does w writes in absurd (cc both))
-    (λ below effects asks. let both : None ≡ Some (TakeAnswer effects) = sym none ∙ next-does w asks in absurd (cc both))
+    (λ below what writes. let both : None ≡ Some (Write what) = sym none ∙ writes in absurd (cc both))
+    (λ below effects asks. let both : None ≡ Some (TakeAnswer effects) = sym none ∙ asks in absurd (cc both))
 
 -- ---- a step uses a rule
 

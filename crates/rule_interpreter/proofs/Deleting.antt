@@ -1,5 +1,5 @@
 -- How deletions are carried out.
-use Rattle.std.{proofs.Common.{◌≡◌, ◌≢◌, ⊎_elim, inl, inr, ℕ, zero, suc, ◌+◌, ◌-◌, ◌<◌, ◌≤◌, eqb, Bool, true, false, IsTrue, List, [], ◌∷◌, ◌++◌, length, take, reverse, cond, Result, Ok, Err, Option, Some, None, slice_get, refl, sym, ap, ◌∙◌, subst, arith, length-append}, specs.Prelude.{is_some, MatchOption}, specs.List.{find}, specs.Option.{option_map}, proofs.lemmas.Bool.{cases_eq, eqb-true}, proofs.lemmas.List.{reverse-append}}
+use Rattle.std.{proofs.Common.{◌≡◌, ◌≢◌, ⊎_elim, inl, inr, ℕ, zero, suc, ◌+◌, ◌-◌, ◌<◌, ◌≤◌, eqb, ◌||◌, Bool, true, false, IsTrue, List, [], ◌∷◌, ◌++◌, length, take, reverse, cond, Result, Ok, Err, Option, Some, None, slice_get, refl, sym, ap, ◌∙◌, subst, arith, length-append}, specs.Prelude.{is_some, MatchOption}, specs.List.{find}, specs.Option.{option_map}, proofs.lemmas.Bool.{cases_eq, eqb-true}, proofs.lemmas.List.{reverse-append}}
 use Rattle.basic_types.specs.declared.value.Value.TheVariants as value
 use Rattle.meta_model.specs.{declared.qobject.TheConstants.{DESTROYED}, Loaded.{Loaded}, Sound.{IsSound}}
 use Rattle.basic_types.specs.Values.{null_has}
@@ -8,7 +8,7 @@ use Rattle.machine_rules.{specs.code.Sound.{AgreeIn, SendsThese}, specs.Destroyi
 use Rattle.prop_bindings.proofs.Leaving.{left_agree}
 use Rattle.delete_later.specs.Ending.{last_of, next_in, first_child_of, IsNext, NoneIsNext}
 use Rattle.trace_entries.specs.{declared.entry.Entry.{Entry}, declared.entry.Entry.TheVariants.{At}, declared.entry.EntryKind.TheVariants.{Died}, declared.fault.Fault.{Fault}, declared.fault.Fault.TheVariants.{TooDeep, InUse}}
-use Rattle.machine_state.specs.{declared.world.World.{World}, Connections.{is_living}, State.{State, Activation, Emit, Destroy}, Worlds.{at}, code.Changing.{ticked, dying, ending, Ticks}}
+use Rattle.machine_state.specs.{declared.world.World.{World}, Connections.{is_living}, State.{State, Activation, Body, Emit, Update, Destroy}, Worlds.{at}, code.Changing.{ticked, dying, ending, Ticks}}
 use Rattle.rule_interpreter.{specs.code.Active.{shows_body}, proofs.Beginning.{one-more}}
 use Rattle.run_context.specs.code.Activating.{entry_of_destroyed}
 
@@ -65,8 +65,15 @@ unbodied-spared objects x stack none o body gone = ⊎_elim
     (λ (other : o ≢ x). sym (other-seen objects x o other) ∙ gone)
     (cases_eq o x)
 
+body-shown : (x : ℕ) (stack : List Activation) → has_body x stack ≡ shows_body x (shows stack)
+body-shown x [] = refl
+body-shown x (Body o m arguments left ∷ below) = ap (λ (b : Bool). eqb o x || b) (body-shown x below)
+body-shown x (Emit o g arguments used last ∷ below) = body-shown x below
+body-shown x (Update places ∷ below) = body-shown x below
+body-shown x (Destroy next torn ∷ below) = body-shown x below
+
 bodiless : (x : ℕ) {active : List (Option ℕ)} (below : List Activation) → shows below ≡ active → shows_body x active ≡ false → has_body x below ≡ false
-bodiless x below e none = ap (shows_body x) e ∙ none
+bodiless x below e none = body-shown x below ∙ ap (shows_body x) e ∙ none
 
 died-next : {p : Loaded} {natives : NativeAnswers} {w : World} {next : Option ℕ} {before torn : List ℕ} {x n : ℕ} {name : List ℕ} (below : List Activation) → Kills p natives w next before torn x → name_of w.store.tree x ≡ Some name → n ≡ suc (length below) → Rule p natives (at w (Destroy next before ∷ below)) (at (died_world w n x name) (announced w x ∷ Destroy (Some x) torn ∷ below))
 died-next {p} {natives} {w} {next} {before} {torn} {x} below kills named depth_is = kills.gives below _ (dies-there w (Destroy next before ∷ below) (Destroy (Some x) torn ∷ below) named depth_is)
@@ -91,7 +98,7 @@ module _ {p : Loaded} {natives : NativeAnswers} {d : ℕ} {active : List (Option
       let s : State = at w (Destroy next before ∷ below) in
       let t : State = at (died_world w (suc (length below)) x name) (announced w x ∷ Destroy (Some x) torn ∷ below) in
       let well : IsWell p s t = record { arguments = λ higher. death-fits p w.store.tree x named; values = (left_agree p w.store.bindings w.store.tree x agree).typed } in
-      let body : has_body x below ≡ true = ap (shows_body x) e ∙ bodied in
+      let body : has_body x below ≡ true = body-shown x below ∙ ap (shows_body x) e ∙ bodied in
       let fatal : ¬ Spares s t = λ spares. living-dead w.store.tree x lives (spares x body (died-dead w.store.tree x named)) in
       (t, died-next below kills named refl, well, fatal))
     where

@@ -6,8 +6,8 @@ use Rattle.object_tree.{specs.declared.life.Life.{Life}, specs.declared.object.O
 use Rattle.binding_graph.specs.{declared.binding.Binding.{Binding}, declared.place.Place.{Place}, Bindings.{without_all}}
 use Rattle.prop_bindings.specs.{declared.plans.assignment.Assignment.{Assignment}, Calls.{AllFit}, Changes.{IsWritten, one, places_in}, Fits.{FitsAt}}
 use Rattle.trace_entries.specs.{declared.fault.Fault.{Fault}, declared.fault.Fault.TheVariants.{BadType}}
-use Rattle.machine_state.specs.{code.Trying.{IsUnplanned}, declared.world.World.{World}, State.{Step, State, Activation, Body, Update}, Telling.{Assigning, Alone, Grouped, IsAssigningTold, writes_of}, Worlds.{at}, code.Changing.{noted, HasWritten}}
-use Rattle.machine_rules.{specs.Operations.{Operation, Write, TakeAnswer, operation_of_step}, specs.Reaches.{Reaches, StopsIn, RunsTo, Sets}, specs.Faults.{WritesDeep}, specs.code.Lacking.{IsAfterFit, LacksFirst}, specs.Next.{DoesNext, WritesIll}, specs.Settling.{Settles, Writes, notified}, specs.code.Sound.{AgreeIn}, specs.There.{HasField, IsField, LacksField}, specs.Writing.{MayWrite, IsUnfit, FitsOrNot, IsUnwritten, missing, ill, unfit, deep}, proofs.ReachingFitting.{fits-field, fits-read}, proofs.Differing.{differ-spared}, proofs.Fields.{field-at, life-unique}, proofs.ReachedStates.{none-spared, reaches-high, ends-after, ends-left, ends-lifted, ends-unchanged, stops-as, stops-stuck, stops-ill-write, stops-deep-write}, specs.Natives.{NativeAnswers}, specs.Good.{shows}}
+use Rattle.machine_state.specs.{code.Trying.{IsUnplanned}, declared.world.World.{World}, State.{State, Activation, Update}, Telling.{Assigning, Alone, Grouped, IsAssigningTold, writes_of}, Worlds.{at}, code.Changing.{noted, HasWritten}}
+use Rattle.machine_rules.{specs.Operations.{Operation, Write, TakeAnswer}, specs.Reaches.{Reaches, StopsIn, RunsTo, Sets}, specs.Faults.{WritesDeep}, specs.code.Lacking.{IsAfterFit, LacksFirst}, specs.Next.{DoesNext, WritesIll}, specs.Settling.{Settles, Writes, notified}, specs.code.Sound.{AgreeIn}, specs.There.{HasField, IsField, LacksField}, specs.Writing.{MayWrite, IsUnfit, FitsOrNot, IsUnwritten, missing, ill, unfit, deep}, proofs.ReachingFitting.{fits-field, fits-read}, proofs.Differing.{differ-spared}, proofs.Fields.{field-at, life-unique}, proofs.ReachedStates.{none-spared, reaches-high, ends-after, ends-left, ends-lifted, ends-unchanged, stops-as, stops-stuck, stops-ill-write, stops-deep-write}, specs.Natives.{NativeAnswers}, specs.Good.{shows}}
 use Rattle.run_context.{specs.code.Activating.{MayNest}, proofs.Linking.{not-true}}
 use Rattle.rule_interpreter.proofs.Beginning.{one-more}
 
@@ -41,25 +41,18 @@ writes-there {p} {n} {what} {changed} {v} w stack over fit h depth_is =
     }
 
 -- a step does one thing
-one-operation : {s : State} {c d : Operation} → DoesNext s c → DoesNext s d → c ≡ d
-one-operation {s} {c} {d} m n =
-    let stacks : (Body m.object m.method m.arguments (m.step ∷ m.rest) ∷ m.below) ≡ (Body n.object n.method n.arguments (n.step ∷ n.rest) ∷ n.below) = sym m.is_next ∙ n.is_next in
-    let object_is : m.object ≡ n.object = cc stacks in
-    let arguments_is : m.arguments ≡ n.arguments = cc stacks in
-    let step_is : m.step ≡ n.step = cc stacks in
-    let by_object : ℕ → Option Operation = λ k. operation_of_step s.objects k n.arguments n.step in
-    let by_arguments : List Value → Option Operation = λ l. operation_of_step s.objects m.object l n.step in
-    let by_step : Step → Option Operation = λ x. operation_of_step s.objects m.object m.arguments x in
-    let both : Some c ≡ Some d = sym m.does ∙ ap by_step step_is ∙ ap by_arguments arguments_is ∙ ap by_object object_is ∙ n.does in
+one-operation : (s : State) {c d : Operation} → DoesNext s c → DoesNext s d → c ≡ d
+one-operation s {c} {d} m n =
+    let both : Some c ≡ Some d = sym m ∙ n in
     cc both
 
 -- what is written next and fits is of no wrong type
 written-fits : {p : Loaded} {natives : NativeAnswers} {what : Assigning} {w : World} {from to : List Activation} → Sets p natives w from to what → AllFit p w.store.tree (writes_of what) → (below : List Activation) → ¬ WritesIll p (at w (from ++ below))
-written-fits {what = what} sets fit below bad =
-    let same : Write bad.what ≡ Write what = one-operation bad.next (sets.next below) in
+written-fits {what = what} {w = w} {from = from} sets fit below bad =
+    let same : Write bad.what ≡ Write what = one-operation (at w (from ++ below)) bad.next (sets.next below) in
     let is : bad.what ≡ what = cc same in
     let among : Contains (writes_of what) bad.set = subst (λ (k : Assigning). Contains (writes_of k) bad.set) is bad.among in
-    bad.ill (fits-read (writes_of what) fit bad.set among bad.is)
+    bad.ill (fits-read (writes_of what) fit bad.set among bad.there.is)
 
 -- .. by one rule
 pub reaches-written : {p : Loaded} {natives : NativeAnswers} {d : ℕ} {h active : List (Option ℕ)} {what : Assigning} {w v : World} {from to : List Activation} {changed : List Place} →
@@ -97,17 +90,17 @@ lacks-there {p} {objects} writes set among none all =
 
 pub stops-unwritten : {p : Loaded} {natives : NativeAnswers} {d : ℕ} {h active : List (Option ℕ)} {what : Assigning} {w : World} {from to : List Activation} {f : Fault} →
     active ≡ shows to ++ h → Sets p natives w from to what → 0 < w.left → IsUnwritten p d active w.store.tree (writes_of what) f → StopsIn p natives d h w from w f
-stops-unwritten {p} {natives} {what = what} {w = w} over sets some (unfit {set = set} among (missing none)) =
+stops-unwritten {p} {natives} {what = what} {w = w} {from = from} over sets some (unfit {set = set} among (missing none)) =
     stops-stuck sets.goes_on some
     (λ below t r. lacks-there (writes_of what) set (after-among among) none (sets.only below t r).there)
     (λ below other next.
-    let same : Write what ≡ Write other = one-operation (sets.next below) next in
+    let same : Write what ≡ Write other = one-operation (at w (from ++ below)) (sets.next below) next in
     let is : what ≡ other = cc same in
     subst (λ (k : Assigning). LacksFirst p w.store.tree (writes_of k)) is (record { set = set; after = among; lacks = none }))
-    (λ below effects next. let same : Write what ≡ TakeAnswer effects = one-operation (sets.next below) next in absurd (cc same))
+    (λ below effects next. let same : Write what ≡ TakeAnswer effects = one-operation (at w (from ++ below)) (sets.next below) next in absurd (cc same))
 stops-unwritten {p} {natives} {what = what} {w = w} {from = from} over sets some (unfit {set = set} among (ill {x = x} {property = property} f not)) =
     stops-ill-write some (λ below.
-    let is : WritesIll p (at w (from ++ below)) = record { what = what; next = sets.next below; set = set; among = after-among among; it = x; property = property; is = f; ill = not } in
+    let is : WritesIll p (at w (from ++ below)) = record { what = what; next = sets.next below; set = set; among = after-among among; there = record { object = x; property = property; is = f }; ill = not } in
     is)
 stops-unwritten {p} {natives} {d} {active = active} {what = what} {w = w} {from = from} {to = to} over sets some (deep fit high) =
     stops-deep-write some (λ below e.

@@ -27,7 +27,7 @@ module _ {N : Type 0} (gives : N → NativeAnswers) (limits : Limits) (heads : L
   ended-shows both (Ok done) machine may runs shown = let no : false ≡ true = shown in absurd (cc no)
   ended-shows both (Err f) machine may runs shown =
       elim runs [
-        | inl halts ↦ record { loaded = both.0; events = both.1; may = may; fault = f; shown = shown; after = machine.world; halts = halts.way }
+        | inl halts ↦ record { loaded = both.0; events = both.1; may = may; fault = f; shown = shown; after = machine.world; halts = record { stack = halts.stack; front = halts.front; cause = halts.cause } }
         | inr stays ↦ let no : false ≡ true = stays.stopped in absurd (cc no)
       ]
 

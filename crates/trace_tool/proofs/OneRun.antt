@@ -68,10 +68,10 @@ module _ {N : Type 0} (gives : N → NativeAnswers) (p : Loaded) (natives : N) (
   took (Ok _) after all = record {
     stack = [];
     left = after.world.left;
-    front = record { taken = events; rest = []; split = sym (append-nil events); answers = all.0; runs = all.1.whole.runs };
+    front = record { taken = events; rest = []; split = sym (append-nil events); answers = all.0; runs = all.1.runs };
   }
   took (Err fault) after all = elim all [
-    | inl halts ↦ record { stack = halts.way.stack; left = after.world.left; front = halts.way.front }
+    | inl halts ↦ record { stack = halts.stack; left = after.world.left; front = halts.front }
     | inr stays ↦ (let no : false ≡ true = stays.stopped in absurd (cc no))
   ]
 
@@ -82,7 +82,7 @@ module _ {N : Type 0} (gives : N → NativeAnswers) (p : Loaded) (natives : N) (
         r ≡ Ok tt → s ≡ Ok tt → a.world.trace ≡ b.world.trace
     same_trace (Ok _) (Ok _) a b x y is also =
         let agree = (start-invariant p steps).sound.agree in
-        let one = one_run (gives natives) once p depth (at (untouched steps) []) steps events x.0 y.0 (at a.world []) (at b.world []) a.world.left b.world.left is_sound agree x.1.whole y.1.whole in
+        let one = one_run (gives natives) once p depth (at (untouched steps) []) steps events x.0 y.0 (at a.world []) (at b.world []) a.world.left b.world.left is_sound agree (record { runs = x.1.runs; ends = x.1.ends }) (record { runs = y.1.runs; ends = y.1.ends }) in
         ap (λ (t : State). t.trace) one.1
     same_trace (Err f) s a b x y is also = absurd (cc is)
     same_trace (Ok _) (Err f) a b x y is also = absurd (cc also)
@@ -100,7 +100,7 @@ module _ {N : Type 0} (gives : N → NativeAnswers) (p : Loaded) (natives : N) (
         Halts gives (begun p natives depth steps) events f b → f ≡ Steps → ⊥
     enough-of a {b} {answers} whole halts e =
         let agree = (start-invariant p steps).sound.agree in
-        let way = halts.way in
+        let way = halts in
         let last : State = at b.world way.stack in
         let cause = stops-spent e way.cause in
         let all : RunsFront p (gives natives) depth (at (untouched steps) []) steps events (at a.world []) a.world.left =
@@ -120,7 +120,7 @@ module _ {N : Type 0} (gives : N → NativeAnswers) (p : Loaded) (natives : N) (
         r ≡ Ok tt → s ≢ Err Steps
     enough (Ok _) (Ok _) a b x y is also = cc also
     enough (Ok _) (Err f) a b x y is also = elim y [
-      | inl halts ↦ enough-of a x.1.whole halts (cc also)
+      | inl halts ↦ enough-of a (record { runs = x.1.runs; ends = x.1.ends }) halts (cc also)
       | inr stays ↦ (let no : false ≡ true = stays.stopped in cc no)
     ]
     enough (Err f) s a b x y is also = cc is
@@ -218,9 +218,9 @@ stopped_is_front gives said p natives depth steps events fault after answers u k
     let agree = (start-invariant p steps).sound.agree in
     let all : RunsFront p (gives natives) depth (at (untouched steps) []) steps events u k =
     record { taken = events; rest = []; split = sym (append-nil events); answers = answers; runs = whole.runs } in
-    elim (one_front_of_answers (gives natives) said p depth (at (untouched steps) []) steps events (at after.world stopped.way.stack) u after.world.left k is_sound agree stopped.way.front all alike also) [
+    elim (one_front_of_answers (gives natives) said p depth (at (untouched steps) []) steps events (at after.world stopped.stack) u after.world.left k is_sound agree stopped.front all alike also) [
       | inl leads ↦ leads.grows
       | inr leads ↦
-          let split : events ≡ (events ++ leads.more) ++ stopped.way.front.rest = stopped.way.front.split ∙ ap (λ (l : List Event). l ++ stopped.way.front.rest) leads.taken in
-          still (nothing-more events leads.more stopped.way.front.rest split).0 whole.ends leads.runs.run
+          let split : events ≡ (events ++ leads.more) ++ stopped.front.rest = stopped.front.split ∙ ap (λ (l : List Event). l ++ stopped.front.rest) leads.taken in
+          still (nothing-more events leads.more stopped.front.rest split).0 whole.ends leads.runs.run
     ]

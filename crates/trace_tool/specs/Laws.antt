@@ -62,4 +62,4 @@ StoppedIsFront {N} gives =
     (said : ℕ → List Action) (p : Loaded) (natives : N) (depth steps : ℕ) (events : List Event) (fault : Fault) (after : Seen N)
     (answers : List Answer) (u : State) (k : ℕ) → IsSound p → (stopped : Halts gives (begun p natives depth steps) events fault after) →
     (whole : RunsWhole p (gives natives) depth (at (untouched steps) []) steps events answers u k) →
-    AnswersAre said stopped.way.front.runs.run → AnswersAre said whole.runs.run → Grows after.world.trace u.trace
+    AnswersAre said stopped.front.runs.run → AnswersAre said whole.runs.run → Grows after.world.trace u.trace

@@ -15,8 +15,8 @@ use Rattle.certificate_lang.specs.declared.certificate.Certificate.{Certificate}
 use Rattle.rank_check.specs.Valid.{IsValid}
 use Rattle.machine_state.specs.{declared.endpoints.Endpoints.{Endpoints}, declared.turn.Turn.{Turn}, Accepting.{accepted}, Connections.{is_living, next_used}, State.{Step, Run, Act, State, IsIdle, Activation, Body, Emit, Update, Destroy}, Turns.{running, reaches_at_once}}
 use Rattle.trace_entries.specs.{declared.refusal.Refusal.{Refusal}, declared.fault.Answer.{Answer}}
-use Rattle.machine_rules.{specs.Connecting.{kept_ends, names_of}, specs.Destroying.{Dies, NextRule, ChildRule, DestroyRule, living_child, Schedules}, specs.Operations.{Operation, Write, Begin, Choose, Connect, Disconnect, Delete, Schedule, TakeAnswer, Nothing, operation_of_step}, specs.Good.{ArgumentsFit, of_living, of_dead, TopFits}, specs.Judgement.{found as finds, holds as so, becomes, goes_on}, specs.Natives.{NativeAnswers}, specs.Rules.{Rule, RuleAt, BodyRule, Does, EmitRule, UpdateRule, NotifiesIf, TurnRule, Serves, Delivers, Arrives, Begins, BeginsIf, begun, with_used, linked, unlinked}, specs.code.Sound.{Waits, SendsThese, MayBeHeard}, specs.There.{IsMember}, specs.Writing.{Announces}, proofs.Delivered.{fit-of, next-delivered, delivered-fits}, proofs.Declared.{living-fits}, proofs.Dying.{died-dead}, proofs.Fields.{member-at, method-unique}, proofs.Lists.{all-append}, proofs.Notifying.{announced-fits}, proofs.Soundness.{AllFit}, proofs.Waiting.{first-waits}, proofs.Scheduling.{schedule-cases}, proofs.Hearing.{AllHeard, nobody, may-be-heard}}
-use Rattle.object_machine.{specs.declared.invoking.Invocation.{Invocation}, specs.declared.invoking.Invocation.TheVariants.{Emit as EmitIt, Call as CallIt}, specs.Takes.{judged, Takes as Taking, accepts, refuses}, specs.Events.{block, invoke}, proofs.Standing.{Invariant}, proofs.CheckedRuns.Invariant.{Level, BodyStands, Stacked, Holds}, proofs.CheckedRuns.Promised.{StepIsPromised, AllIsPromised}, proofs.CheckedRuns.Giving.{does-give, answer-promised}, proofs.Judged.{given-is}, proofs.Judging.Naming.{living-is, living-object}, proofs.CheckedRuns.Leading.{does-led}}
+use Rattle.machine_rules.{specs.Connecting.{kept_ends, names_of}, specs.Destroying.{Dies, NextRule, ChildRule, DestroyRule, living_child, Schedules}, specs.Operations.{Operation, Write, Begin, Choose, Connect, Disconnect, Delete, Schedule, TakeAnswer, Nothing, operation_of_step}, specs.Good.{ArgumentsFit, of_living, of_dead, TopFits}, specs.Judgement.{found as finds, holds as so, becomes, goes_on}, specs.Natives.{NativeAnswers}, specs.Rules.{Rule, RuleAt, BodyRule, Does, EmitRule, UpdateRule, NotifiesIf, TurnRule, Serves, Delivers, Arrives, Begins, BeginsIf, begun, with_used, linked, unlinked}, specs.code.Sound.{Waits, SendsThese, MayBeHeard}, specs.There.{IsMember}, specs.Writing.{Announces}, proofs.Doing.{step-of}, proofs.Delivered.{fit-of, next-delivered, delivered-fits}, proofs.Declared.{living-fits}, proofs.Dying.{died-dead}, proofs.Fields.{member-at, method-unique}, proofs.Lists.{all-append}, proofs.Notifying.{announced-fits}, proofs.Soundness.{AllFit}, proofs.Waiting.{first-waits}, proofs.Scheduling.{schedule-cases}, proofs.Hearing.{AllHeard, nobody, may-be-heard}}
+use Rattle.object_machine.{specs.declared.invoking.Invocation.{Invocation}, specs.declared.invoking.Invocation.TheVariants.{Emit as EmitIt, Call as CallIt}, specs.Takes.{Takes as Taking, accepts, refuses}, specs.Events.{judged, block, invoke}, proofs.Standing.{Invariant}, proofs.CheckedRuns.Invariant.{Level, BodyStands, Stacked, Holds}, proofs.CheckedRuns.Promised.{StepIsPromised, AllIsPromised}, proofs.CheckedRuns.Giving.{does-give, answer-promised}, proofs.Judged.{given-is}, proofs.Judging.Naming.{living-is, living-object}, proofs.CheckedRuns.Leading.{does-led}}
 
 -- What was pushed over so many activations has its arguments, and what is left of natives' answers keeps to their effects.
 pub record Pushes (p : Loaded) (classes : ℕ → Option ℕ) (high : ℕ) (t : State) : Type 0 where
@@ -110,7 +110,9 @@ module _ {p : Loaded} {certificate : Certificate} (valid : IsValid p certificate
 
   pushes-body : (t : State) (n o m : ℕ) (arguments : List Value) (left : List Step) (below : List Activation) {x : Node} (b : BodyStands p s.objects o m arguments left x) → n ≡ suc (length below) → AllByRecursion (StepIsPromised p classes o) left → AllIsPromised p classes below → BodyRule p natives s o m arguments below t left → Pushes p classes n t
   pushes-body t n o m arguments [] below b high left all e = pushes-as e (pushes-none (omega (arith, high)) all)
-  pushes-body t n o m arguments (y ∷ rest) below b high left all rule = pushes-does t n o m arguments y rest below b high left.0 left.1 all rule.what rule.is rule.does
+  pushes-body t n o m arguments (y ∷ rest) below b high left all rule =
+      let r = step-of p natives s o m arguments y rest below t rule in
+      pushes-does t n o m arguments y rest below b high left.0 left.1 all r.what r.is r.does
 
   -- ---- emissions
 
@@ -216,8 +218,8 @@ module _ (p : Loaded) (s : State) (idle : IsIdle s) (classes : ℕ → Option �
   pushes-judged t (Loop name) (goes_on _ free given) = quiet (given-is given) refl
   pushes-judged t (TurnEvent name) (goes_on home is given) = quiet (given-is given) refl
   pushes-judged t (New name class loop) (goes_on _ free (goes_on c is (goes_on home lives (goes_on _ room given)))) = quiet (given-is given) refl
-  pushes-judged t (Adopt parent child) (goes_on a is_parent (goes_on c is_child (goes_on _ owns (goes_on _ over (goes_on _ home (becomes x)))))) = quiet x.gives refl
-  pushes-judged t (Move name loop) (goes_on o lives (goes_on home is (goes_on _ root (goes_on _ alone (becomes x))))) = quiet x.gives refl
+  pushes-judged t (Adopt parent child) (goes_on a is_parent (goes_on c is_child (goes_on _ owns (goes_on _ over (goes_on _ home (goes_on objects (becomes x) given)))))) = quiet (given-is given) refl
+  pushes-judged t (Move name loop) (goes_on o lives (goes_on home is (goes_on _ root (goes_on _ alone (goes_on store (becomes x) given))))) = quiet (given-is given) refl
   pushes-judged t (ConnectEvent e how) (goes_on f both (goes_on _ may given)) = quiet (given-is given) refl
   pushes-judged t (DisconnectEvent e) (goes_on f both (goes_on _ is given)) = quiet (given-is given) refl
   pushes-judged t (Set name property i) (goes_on o lives (goes_on q _ (goes_on v _ (goes_on _ fits (becomes w))))) = pushes-as (w.settles).gives (record { arguments = λ more. tt; promised = (tt, none-promised) })

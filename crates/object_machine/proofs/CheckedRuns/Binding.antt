@@ -103,7 +103,7 @@ module _ {p : Loaded} (sound : IsSound p) (objects : List Object) (typed : AreTy
 pub may-fit : {p : Loaded} {certificate : Certificate} → IsValid p certificate → IsSound p → (s : State) → Agree p s.objects s.bindings → (site target : List ℕ) (sources : List (List ℕ)) (b : Binding) → may_bind p s site target sources (Ok b) → IsFit p s.objects b
 may-fit {p} valid sound s agree site target sources b (goes_on n (finds is) (goes_on _ count (goes_on o lives (goes_on xs all (goes_on _ (so covers) (goes_on _ one given)))))) =
     subst (λ (z : Binding). IsFit p s.objects z) (sym (given-is given))
-    (covered-fits sound s.objects agree.typed n.it n.number o.number xs (sound.sites n.number n.it is.is) ((valid.typed).sites n.number n.it is.is) covers)
+    (covered-fits sound s.objects agree.typed n.it n.number o.number xs (sound.sites n.number n.it is.0) ((valid.typed).sites n.number n.it is.0) covers)
 
 -- so no event asks for one that doesn't
 pub binds-fit : {p : Loaded} {certificate : Certificate} → IsValid p certificate → IsSound p → {s : State} {events : List Event} {b : Binding} → Agree p s.objects s.bindings → BindsNext p s events b → IsFit p s.objects b

@@ -15,7 +15,7 @@ use Rattle.certificate_lang.specs.declared.certificate.Certificate.{Certificate}
 use Rattle.rank_check.specs.Valid.{IsValid}
 use Rattle.machine_state.{specs.Accepting.{accepted}, specs.Connections.{joins_these}, specs.State.{State, IsIdle, Activation}, specs.Worlds.{with_store}, proofs.Due.{all-removed}, specs.Telling.{Alone}}
 use Rattle.machine_rules.{specs.declared.ends.FoundEnds.{FoundEnds}, specs.Good.{IsWell}, specs.Judgement.{Numbered, found as finds, holds as so, becomes, goes_on}, specs.Settling.{Installs}, proofs.Keeps.{class-of-lives}, proofs.Lists.{all-filtered, all-snoc, all-weaken}}
-use Rattle.object_machine.{specs.declared.invoking.Invocation.{Invocation}, specs.declared.invoking.Invocation.TheVariants.{Emit as EmitIt, Call as CallIt}, specs.Takes.{judged, Takes, accepts, refuses}, specs.Events.{may_bind, block, find_ends, invoke}, specs.code.Judgement.{IsLiving}, proofs.CheckedRuns.Invariant.{Stacked, AreClasses, AreOwned, IsOwned, IsWired, IsOf, IsSited, IsCovered, Holds}, proofs.CheckedRuns.Nodes.{named-node, property-node, end-node}, proofs.CheckedRuns.Ladder.{level-at, level-of}, proofs.Changes.{adopted-by, length-moved}, proofs.Judged.{given-is}, proofs.Judging.Naming.{living-is, living-object}, proofs.Moving.{moved-by}, proofs.CheckedRuns.Worlds.{Leaves, classes-left, all-changed, all-left}, proofs.CheckedRuns.Rules.{writes-held, settles-held, alone-low, begun-held, wired-by, deletes-held, schedules-held}}
+use Rattle.object_machine.{specs.declared.invoking.Invocation.{Invocation}, specs.declared.invoking.Invocation.TheVariants.{Emit as EmitIt, Call as CallIt}, specs.Takes.{Takes, accepts, refuses}, specs.Events.{judged, may_bind, block, find_ends, invoke}, specs.code.Judgement.{IsLiving}, proofs.CheckedRuns.Invariant.{Stacked, AreClasses, AreOwned, IsOwned, IsWired, IsOf, IsSited, IsCovered, Holds}, proofs.CheckedRuns.Nodes.{named-node, property-node, end-node}, proofs.CheckedRuns.Ladder.{level-at, level-of}, proofs.Changes.{adopted-by, length-moved}, proofs.Judged.{given-is}, proofs.Judging.Naming.{living-is, living-object}, proofs.Moving.{moved-by}, proofs.CheckedRuns.Worlds.{Leaves, classes-left, all-changed, all-left}, proofs.CheckedRuns.Rules.{writes-held, settles-held, alone-low, begun-held, wired-by, deletes-held, schedules-held}}
 use Rattle.trace_entries.specs.declared.fault.Answer.{Answer}
 
 -- ---- objects change
@@ -177,10 +177,10 @@ module _ {p : Loaded} {certificate : Certificate} (valid : IsValid p certificate
         let Wired_as : FoundEnds → Type 0 = λ k. IsWired p classes (record { number = n; sender = k.ends.sender; signal = k.ends.signal; receiver = k.ends.receiver; method = k.ends.method; kind = how.kind; single = how.single }) in
         let found_covers = subst Covered_by (given-is given) covers in
         let Signal_sig : Sig → Type 0 = λ z. Covers p (a.it).class z (b.it).class e.method how.kind in
-        let Method_sig : Sig → Type 0 = λ z. Covers p (a.it).class (g.it).sig (b.it).class z how.kind in
-        let spelled = subst Method_sig (sym method.signed) (subst Signal_sig (sym (signal.of).signed) found_covers) in
+        let Method_sig : Sig → Type 0 = λ z. Covers p (a.it).class ((signal.0).method).sig (b.it).class z how.kind in
+        let spelled = subst Method_sig (sym method.signed) (subst Signal_sig (sym (signal.0).signed) found_covers) in
         subst Wired_as (sym (given-is given))
-        (wired-by valid sound classes (a.it).class (b.it).class a.number b.number g.number m.number n g.it m.it how.kind how.single (known-living a (living-is sender)) (known-living b (living-is receiver)) (signal.of).is method.is spelled)
+        (wired-by valid sound classes (a.it).class (b.it).class a.number b.number g m n (signal.0).method method.method how.kind how.single (known-living a (living-is sender)) (known-living b (living-is receiver)) (signal.0).is method.is spelled)
 
     -- a binding is covered
     sources-of : (os formals : List ℕ) → AllZip (IsLivingOf p s.objects) os formals → AllZip (IsOf p classes) os formals
@@ -195,7 +195,7 @@ module _ {p : Loaded} {certificate : Certificate} (valid : IsValid p certificate
         let target_is = covers.of_target in
         subst Sited (sym (given-is given)) (record {
           site = n.it;
-          declared = is.is;
+          declared = is.0;
           formula = refl;
           property = refl;
           target = record { class = target_is.class; is = (covered.known).lives o.number target_is.class target_is.is; below = target_is.below };
@@ -204,9 +204,10 @@ module _ {p : Loaded} {certificate : Certificate} (valid : IsValid p certificate
 
     bound-held : (t : State) (b : Binding) → IsSited p classes b → Installs p (accepted s) s.stack b t → Holds p certificate classes t
     bound-held t b sited x =
-        let life = (x.is).life in
-        let class_is : classes b.target.object ≡ Some life.class = (covered.known).lives b.target.object life.class (class-of-lives s.objects b.target.object (x.is).lives) in
-        let r = level-at valid (node life.class (Property b.target.property)) (property-node sound life.class b.target.property x.property (record { class = (x.is).class; is_class = (x.is).is_class; is = (x.is).is_property })) in
+        let field = (x.there).is in
+        let life = field.life in
+        let class_is : classes b.target.object ≡ Some life.class = (covered.known).lives b.target.object life.class (class-of-lives s.objects b.target.object field.lives) in
+        let r = level-at valid (node life.class (Property b.target.property)) (property-node sound life.class b.target.property (x.there).property (record { class = field.class; is_class = field.is_class; is = field.is_property })) in
         let all = all-snoc (IsSited p classes) (filter_kept b) b (all-filtered (IsSited p classes) _ s.bindings covered.sited) sited in
         settles-held valid sound classes {s = accepted s} s.stack [] (level-of valid r.0) (b.target ∷ []) x.objects (replaced s.bindings b) x.changed covered agree stands tt (alone-low valid sound classes b.target life.class r.0 class_is r.1) (x.installed).objects all (x.installed).settled
         (λ q z other e. same-elsewhere q z (λ same. other (inl same)) e) (λ q other none. (x.installed).kept q none) (x.installed).changes x.settles
@@ -229,20 +230,20 @@ module _ {p : Loaded} {certificate : Certificate} (valid : IsValid p certificate
         let Family : State → Type 0 = λ u. Holds p certificate (with-class (length s.objects) c.number classes) u in (
           with-class (length s.objects) c.number classes,
           subst Family (sym (given-is given)) (record {
-            covered = created-covered classes s.objects covered.known c.number (slice_get_within p.classes c.number c.it (is.is).is) z l refl refl refl s.connected.connections s.bindings covered;
+            covered = created-covered classes s.objects covered.known c.number (slice_get_within p.classes c.number c.it (is.0).is) z l refl refl refl s.connected.connections s.bindings covered;
             levels = [];
             stacked = idle-stacked (with-class (length s.objects) c.number classes) (s.objects ++ z ∷ []) s.stack idle.empty;
           }),
         )
-    event-held (Adopt parent child) well (goes_on a is_parent (goes_on c is_child (goes_on _ (so owns) (goes_on _ over (goes_on _ home (becomes x)))))) =
+    event-held (Adopt parent child) well (goes_on a is_parent (goes_on c is_child (goes_on _ (so owns) (goes_on _ over (goes_on _ home (goes_on objects (becomes x) given)))))) =
         let owned : IsOwned p classes a.number c.number = record { above = (a.it).class; is_above = known-living a (living-is is_parent); below = (c.it).class; is_below = known-living c (living-is is_child); owns = owns } in
         let Family : State → Type 0 = λ u. Holds p certificate classes u in
-        (classes, subst Family (sym x.gives) (adopted-by (λ (l : List Object). Holds p certificate classes (record (accepted s) { objects = l })) (record { covered = covered; levels = []; stacked = stands }) (objects-held (moved a.number c.number s.objects) s.queues (moved-leaves s.objects a.number c.number owned)) x.is))
-    event-held (Move name loop) well (goes_on o lives (goes_on home is (goes_on _ root (goes_on _ alone (becomes x))))) =
+        (classes, subst Family (sym (given-is given)) (adopted-by (λ (l : List Object). Holds p certificate classes (record (accepted s) { objects = l })) (record { covered = covered; levels = []; stacked = stands }) (objects-held (moved a.number c.number s.objects) s.queues (moved-leaves s.objects a.number c.number owned)) x))
+    event-held (Move name loop) well (goes_on o lives (goes_on home is (goes_on _ root (goes_on _ alone (goes_on store (becomes x) given))))) =
         let Family : State → Type 0 = λ u. Holds p certificate classes u in (
           classes,
-          subst Family (sym x.gives) (moved-by (λ (stores : Store). Holds p certificate classes (with_store (accepted s) stores)) (record { covered = covered; levels = []; stacked = stands })
-              (λ os alone. objects-held (all_in_loop os home s.objects) (rehomed os home s.queues) (in-loop-leaves home os s.objects)) x.is),
+          subst Family (sym (given-is given)) (moved-by (λ (stores : Store). Holds p certificate classes (with_store (accepted s) stores)) (record { covered = covered; levels = []; stacked = stands })
+              (λ os alone. objects-held (all_in_loop os home s.objects) (rehomed os home s.queues) (in-loop-leaves home os s.objects)) x),
         )
     event-held (Connect e how) well (goes_on f both (goes_on _ (goes_on _ (so covers) rest) given)) =
         let Family : State → Type 0 = λ u. Holds p certificate classes u in (

@@ -10,7 +10,7 @@ use Rattle.certificate_lang.specs.declared.certificate.Certificate.{Certificate}
 use Rattle.rank_check.specs.Valid.{IsValid}
 use Rattle.trace_entries.specs.declared.fault.Answer.{Answer}
 use Rattle.machine_state.specs.{State.{Step, Run, State, Activation, Body}, Worlds.{at, untouched}}
-use Rattle.machine_rules.{specs.Operations.{Write, operation}, specs.Good.{IsWell, IsGood, Spares, has_body}, specs.Natives.{NativeAnswers}, specs.Rules.{Rule}, specs.Faults.{WritesDeep, GoesDeep, GoesFatal}, specs.Next.{LacksValue}, proofs.Lists.{all-filtered, all-snoc}, proofs.Keeps.{lives-of-class}}
+use Rattle.machine_rules.{specs.Operations.{Write, operation}, specs.Good.{IsWell, IsGood, Spares, has_body}, specs.Natives.{NativeAnswers}, specs.Rules.{Rule}, specs.Faults.{WritesDeep, GoesDeep, GoesFatal}, specs.Next.{LacksValue}, proofs.Doing.{Lacking, doing, lacking}, proofs.Lists.{all-filtered, all-snoc}, proofs.Keeps.{lives-of-class}}
 use Rattle.object_machine.{specs.Causes.{BindsLoop}, specs.Runs.{Run as ARun, done, goes, takes, Each, GoodRun, Follows, by_rule, by_event}, specs.Takes.{Takes, accepts, refuses}, proofs.Standing.{Invariant}, proofs.Preservation.{after-rule, after-event}, proofs.CheckedRuns.Invariant.{BodyStands, Level, Stacked, IsSited, Holds, IsStepOf, runs}, proofs.CheckedRuns.Ladder.{falls-to, climbs, no-deeper}, proofs.CheckedRuns.Leading.{does-led, occurs-sound, occurs-in}, proofs.CheckedRuns.Rules.{rule-held, bound-by}, proofs.CheckedRuns.Events.{HoldsSome, takes-held, binding-sited}, proofs.CheckedRuns.Sites.{no-loop}, proofs.CheckedRuns.Lacking.{body-typed, typed-does}, proofs.CheckedRuns.Nodes.{body-named}}
 use Rattle.type_check.specs.Typed.{IsTypedWork}
 use Rattle.object_tree.specs.{declared.object.Object.{Object}, Typed.{AreTyped}}
@@ -97,17 +97,17 @@ module _ {p : Loaded} {certificate : Certificate} (valid : IsValid p certificate
   -- a body on top that writes leaves room for one more
   pub writes-low : {s : State} → Kept s → WritesDeep p certificate.bound s → ⊥
   writes-low {s} kept w =
-      let n = w.next in
+      let n = doing s w.next in
       let held = (kept.0).1 in
       room held.levels (subst (λ (l : List Activation). Stacked p (kept.0).0 s.objects l held.levels) n.is_next held.stacked) (subst (λ (l : List Activation). certificate.bound ≤ length l) n.is_next w.deep)
     where
-      room : (levels : List (Level certificate)) → Stacked p (kept.0).0 s.objects (Body (w.next).object (w.next).method (w.next).arguments ((w.next).step ∷ (w.next).rest) ∷ (w.next).below) levels → certificate.bound ≤ suc (length (w.next).below) → ⊥
+      room : (levels : List (Level certificate)) → Stacked p (kept.0).0 s.objects (Body (doing s w.next).object (doing s w.next).method (doing s w.next).arguments ((doing s w.next).step ∷ (doing s w.next).rest) ∷ (doing s w.next).below) levels → certificate.bound ≤ suc (length (doing s w.next).below) → ⊥
       room [] st deep = absurd st
       room (r ∷ levels) st deep =
           let b = (st.0).stands in
-          let led = does-led valid sound ((kept.1).sound).agree.typed b (w.next).step (Write w.what) (b.steps).0 (w.next).does in
+          let led = does-led valid sound ((kept.1).sound).agree.typed b (doing s w.next).step (Write w.what) (b.steps).0 (doing s w.next).does in
           let up = falls-to valid sound (led.0).0 (st.0).is (led.0).1 in
-          let low = climbs valid (kept.0).0 s.objects r.line r levels (w.next).below refl st.1 st.2 in
+          let low = climbs valid (kept.0).0 s.objects r.line r levels (doing s w.next).below refl st.1 st.2 in
           let fall = (up.2).rank in
           omega (arith, low, fall, deep)
 
@@ -133,10 +133,11 @@ module _ {p : Loaded} {certificate : Certificate} (valid : IsValid p certificate
 
   -- the body on top does something
   pub lacks-not : {s : State} → Kept s → LacksValue s → ⊥
-  lacks-not {s} kept lacking =
+  lacks-not {s} kept value =
       let held = (kept.0).1 in
-      first-does lacking held.levels (subst (λ (l : List Activation). Stacked p (kept.0).0 s.objects l held.levels) lacking.is_next held.stacked)
+      let it = lacking s value in
+      first-does it held.levels (subst (λ (l : List Activation). Stacked p (kept.0).0 s.objects l held.levels) it.is_next held.stacked)
     where
-      first-does : (w : LacksValue s) → (levels : List (Level certificate)) → Stacked p (kept.0).0 s.objects (Body w.object w.method w.arguments (Run w.statement ∷ w.rest) ∷ w.below) levels → ⊥
+      first-does : (w : Lacking s) → (levels : List (Level certificate)) → Stacked p (kept.0).0 s.objects (Body w.object w.method w.arguments (Run w.statement ∷ w.rest) ∷ w.below) levels → ⊥
       first-does w [] st = absurd st
       first-does w (r ∷ levels) st = body-does valid sound ((kept.1).sound).agree.typed (st.0).stands (((st.0).stands).steps).0 w.lacks

@@ -14,7 +14,7 @@ use Rattle.certificate_lang.specs.{declared.certificate.Line.{Line}, declared.ce
 use Rattle.rank_check.specs.Valid.{IsLineOf, Destroys, IsValid}
 use Rattle.machine_state.{specs.declared.endpoints.Endpoints.{Endpoints}, specs.Telling.{Assigning, writes_of}, specs.declared.turn.Turn.{Turn}, specs.Connections.{is_living, next_used, joins_these}, specs.State.{Step, Run, Act, State, Activation, Body, Emit, Update, Destroy}, specs.Turns.{running, reaches_at_once}, proofs.Due.{found-among, all-removed, all-used, used-due, used-among}}
 use Rattle.trace_entries.specs.{declared.refusal.Refusal.{Refusal}, declared.entry.Entry.{Entry}}
-use Rattle.machine_rules.{specs.Connecting.{kept_ends, names_of, named_signal, found_ends, may_connect}, specs.Destroying.{Dies, NextRule, ChildRule, DestroyRule, living_child, Schedules, deleting}, specs.Operations.{Operation, Write, Begin, Choose, Connect, Disconnect, Delete, Schedule, TakeAnswer, Nothing, operation_of_step}, specs.Good.{ArgumentsFit, TopFits, IsWell, Spares, has_body}, specs.Judgement.{holds as so, goes_on}, specs.Natives.{NativeAnswers}, specs.Rules.{Rule, RuleAt, BodyRule, Does, EmitRule, UpdateRule, NotifiesIf, TurnRule, Serves, Delivers, Arrives, BeginsIf, begun, with_used, linked, unlinked, Connects, Disconnects}, specs.Settling.{Settles, Writes}, specs.code.Sound.{AllWait, Waits}, specs.There.{HasField, IsDead, IsMember}, proofs.Differing.{differ-stay, differ-spared}, proofs.Dying.{died-stay, scheduled-stay, scheduled-seen, other-seen}, proofs.Fields.{member-method}, proofs.Inherited.{method-below}, proofs.Keeps.{class-of-lives}, proofs.Lists.{all-append, all-filtered, all-snoc}, proofs.Waiting.{first-waits}, proofs.Scheduling.{schedule-cases}}
+use Rattle.machine_rules.{specs.Connecting.{kept_ends, names_of, named_signal, found_ends, may_connect}, specs.Destroying.{Dies, NextRule, ChildRule, DestroyRule, living_child, Schedules, deleting}, specs.Operations.{Operation, Write, Begin, Choose, Connect, Disconnect, Delete, Schedule, TakeAnswer, Nothing, operation_of_step}, specs.Good.{ArgumentsFit, TopFits, IsWell, Spares, has_body}, specs.Judgement.{holds as so, goes_on}, specs.Natives.{NativeAnswers}, specs.Rules.{Rule, RuleAt, BodyRule, Does, EmitRule, UpdateRule, NotifiesIf, TurnRule, Serves, Delivers, Arrives, BeginsIf, begun, with_used, linked, unlinked, Connects, Disconnects}, specs.Settling.{Settles, Writes}, specs.code.Sound.{AllWait, Waits}, specs.There.{HasField, IsDead, IsMember}, proofs.Doing.{step-of}, proofs.Differing.{differ-stay, differ-spared}, proofs.Dying.{died-stay, scheduled-stay, scheduled-seen, other-seen}, proofs.Fields.{member-method}, proofs.Inherited.{method-below}, proofs.Keeps.{class-of-lives}, proofs.Lists.{all-append, all-filtered, all-snoc}, proofs.Waiting.{first-waits}, proofs.Scheduling.{schedule-cases}}
 use Rattle.object_machine.proofs.{CheckedRuns.Invariant.{Falls, IsNoHigher, Level, NodeLevel, FallsTo, IsStepOf, runs, asks, acts, BodyStands, EmitStands, IsFollower, IsTorn, DestroyStands, Stacked, IsOwned, IsWired, IsSited, IsCovered, Holds}, CheckedRuns.Nodes.{named-node, end-node, body-named, late-named, named-again}, CheckedRuns.Ladder.{higher-none, no-higher-self, level-at, level-of, at-node, falls-along, falls-to, line-from, line-unique}, CheckedRuns.Worlds.{Leaves, classes-left, differ-leaves, scheduled-leaves, died-leaves, SparedIn, stacked-still}, CheckedRuns.Followers.{IsKnown, followers}, CheckedRuns.Leading.{does-led}}
 
 -- the binding of a property is one of the list, and the property is its target
@@ -480,7 +480,8 @@ module _ {p : Loaded} {certificate : Certificate} (valid : IsValid p certificate
       let Family : State → Type 0 = λ v. Held v × SparedIn (Body o m arguments [] ∷ below) s.objects v.objects in
       subst Family (sym e) (record { covered = covered; levels = levels; stacked = st }, same-spared s.objects (Body o m arguments [] ∷ below))
   body-goes natives s t below levels r o m arguments (y ∷ rest) covered agree well high b falls st rule =
-      let g = does-goes natives s t below levels r o m arguments y rest covered agree well high b falls st rule.what rule.is rule.does in
+      let x = step-of p natives s o m arguments y rest below t rule in
+      let g = does-goes natives s t below levels r o m arguments y rest covered agree well high b falls st x.what x.is x.does in
       (g.0, g.1)
 
   -- ---- turns

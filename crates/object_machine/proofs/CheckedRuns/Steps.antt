@@ -8,7 +8,7 @@ use Rattle.rank_check.specs.Valid.{IsValid}
 use Rattle.trace_entries.specs.declared.fault.Answer.{Answer}
 use Rattle.machine_state.specs.{State.{State, Activation, Body}, Worlds.{at, untouched}, Telling.{Assigning, writes_of}}
 use Rattle.prop_bindings.specs.Calls.{AllFit}
-use Rattle.machine_rules.{specs.Operations.{Write}, specs.Good.{IsWell, IsGood}, specs.Natives.{NativeAnswers}, specs.Rules.{Rule}, specs.Next.{WritesNext, WritesIll}, proofs.ReachingFitting.{fits-read}}
+use Rattle.machine_rules.{specs.Operations.{Write}, specs.Good.{IsWell, IsGood}, specs.Natives.{NativeAnswers}, specs.Rules.{Rule}, specs.Next.{WritesNext, WritesIll}, proofs.Doing.{Doing, doing}, proofs.ReachingFitting.{fits-read}}
 use Rattle.object_machine.{specs.Runs.{Run, done, goes, takes, Each, Follows, by_rule, by_event}, specs.Takes.{Takes as Taking}, proofs.Preservation.{after-rule, after-event}, proofs.Standing.{Invariant}, specs.CheckedLaws.{IsFaultless}, proofs.CheckedRuns.Invariant.{Level, Stacked, Holds}, proofs.CheckedRuns.Promised.{AllIsPromised}, proofs.CheckedRuns.Arguments.{rule-pushes, takes-pushes}, proofs.CheckedRuns.Events.{takes-held}, proofs.CheckedRuns.Giving.{does-give}, proofs.CheckedRuns.Kept.{Kept, start-holds, start-invariant, follows-held, lacks-not}, proofs.CheckedRuns.Ladder.{no-deeper}, proofs.CheckedRuns.Rules.{rule-held}, proofs.CheckedRuns.TypedSteps.{rule-agrees, takes-agrees}}
 
 -- what a state of a run keeps
@@ -24,10 +24,13 @@ module _ {p : Loaded} {certificate : Certificate} (valid : IsValid p certificate
 
   -- what the next step writes is of its property's type
   pub writes-fit : {s : State} → Stood p certificate s → (what : Assigning) → WritesNext s what → AllFit p s.objects (writes_of what)
-  writes-fit {s} stood what n =
+  writes-fit {s} stood what next =
       let held = stood.held in
       on-top held.levels (subst (λ (l : List Activation). Stacked p stood.classes s.objects l held.levels) n.is_next held.stacked) (subst (AllIsPromised p stood.classes) n.is_next stood.promised)
     where
+      n : Doing s (Write what)
+      n = doing s next
+
       on-top : (levels : List (Level certificate)) → Stacked p stood.classes s.objects (Body n.object n.method n.arguments (n.step ∷ n.rest) ∷ n.below) levels → AllIsPromised p stood.classes (Body n.object n.method n.arguments (n.step ∷ n.rest) ∷ n.below) → AllFit p s.objects (writes_of what)
       on-top [] st all = absurd st
       on-top (r ∷ levels) st all =
@@ -35,7 +38,7 @@ module _ {p : Loaded} {certificate : Certificate} (valid : IsValid p certificate
 
   -- .. so it is of no wrong type
   pub writes-none : {s : State} → Stood p certificate s → ¬ WritesIll p s
-  writes-none stood ill = ill.ill (fits-read (writes_of ill.what) (writes-fit stood ill.what ill.next) ill.set ill.among ill.is)
+  writes-none stood ill = ill.ill (fits-read (writes_of ill.what) (writes-fit stood ill.what ill.next) ill.set ill.among (ill.there).is)
 
   module _ (accepts : Takes) (natives : NativeAnswers) (promises : Promises p accepts natives) where
     -- what follows is well, and its values are settled

@@ -16,8 +16,8 @@ use Rattle.certificate_lang.specs.declared.certificate.Certificate.{Certificate}
 use Rattle.rank_check.specs.Valid.{IsValid}
 use Rattle.machine_state.specs.{declared.endpoints.Endpoints.{Endpoints}, declared.turn.Turn.{Turn}, Accepting.{accepted}, Connections.{is_living, next_used}, State.{Step, State, IsIdle, Activation, Body, Emit, Update, Destroy}, Turns.{running, reaches_at_once}, Telling.{Assigning, writes_of}}
 use Rattle.trace_entries.specs.{declared.refusal.Refusal.{Refusal}, declared.fault.Answer.{Answer}}
-use Rattle.machine_rules.{specs.Connecting.{kept_ends, names_of}, specs.Destroying.{Dies, NextRule, ChildRule, DestroyRule, living_child, Schedules}, specs.Operations.{Operation, Write, Begin, Choose, Connect, Disconnect, Delete, Schedule, TakeAnswer, Nothing, operation_of_step}, specs.Judgement.{found as finds, holds as so, becomes, goes_on}, specs.Natives.{NativeAnswers}, specs.Rules.{Rule, RuleAt, BodyRule, Does, EmitRule, UpdateRule, NotifiesIf, TurnRule, Serves, Delivers, Arrives, BeginsIf, begun, with_used, linked, unlinked}, specs.Next.{WritesNext}, proofs.Differing.{scheduled-agree}, proofs.Lists.{all-filtered, all-snoc}, proofs.Scheduling.{schedule-cases}}
-use Rattle.object_machine.{specs.declared.invoking.Invocation.{Invocation}, specs.declared.invoking.Invocation.TheVariants.{Emit as EmitIt, Call as CallIt}, specs.Takes.{judged, Takes, accepts, refuses}, specs.Events.{block, invoke}, proofs.Settling.{bound-within}, proofs.CheckedRuns.Invariant.{IsSited, IsCovered}, proofs.CheckedRuns.Binding.{may-fit}, proofs.CheckedRuns.Events.{HoldsSome, binding-sited}, proofs.Judged.{given-is}, proofs.Moving.{stores-agree}, proofs.Judging.Naming.{living-is, living-object}, proofs.CheckedRuns.Nodes.{property-node}, proofs.CheckedRuns.Rules.{bound-by}, proofs.CheckedRuns.Settled.{agree-at, writes-agree, installs-agree}, proofs.CheckedRuns.Sites.{no-loop}}
+use Rattle.machine_rules.{specs.Connecting.{kept_ends, names_of}, specs.Destroying.{Dies, NextRule, ChildRule, DestroyRule, living_child, Schedules}, specs.Operations.{Operation, Write, Begin, Choose, Connect, Disconnect, Delete, Schedule, TakeAnswer, Nothing, operation_of_step}, specs.Judgement.{found as finds, holds as so, becomes, goes_on}, specs.Natives.{NativeAnswers}, specs.Rules.{Rule, RuleAt, BodyRule, Does, EmitRule, UpdateRule, NotifiesIf, TurnRule, Serves, Delivers, Arrives, BeginsIf, begun, with_used, linked, unlinked}, specs.Next.{WritesNext}, proofs.Differing.{scheduled-agree}, proofs.Doing.{does-next, step-of}, proofs.Lists.{all-filtered, all-snoc}, proofs.Scheduling.{schedule-cases}}
+use Rattle.object_machine.{specs.declared.invoking.Invocation.{Invocation}, specs.declared.invoking.Invocation.TheVariants.{Emit as EmitIt, Call as CallIt}, specs.Takes.{Takes, accepts, refuses}, specs.Events.{judged, block, invoke}, proofs.Settling.{bound-within}, proofs.CheckedRuns.Invariant.{IsSited, IsCovered}, proofs.CheckedRuns.Binding.{may-fit}, proofs.CheckedRuns.Events.{HoldsSome, binding-sited}, proofs.Judged.{given-is}, proofs.Moving.{stores-agree}, proofs.Judging.Naming.{living-is, living-object}, proofs.CheckedRuns.Nodes.{property-node}, proofs.CheckedRuns.Rules.{bound-by}, proofs.CheckedRuns.Settled.{agree-at, writes-agree, installs-agree}, proofs.CheckedRuns.Sites.{no-loop}}
 
 -- every value that the next step writes fits its property
 abbrev pub WritesFit : Loaded → State → Type 0
@@ -64,7 +64,7 @@ module _ {p : Loaded} (s t : State) (agree : Agree p s.objects s.bindings) where
 
   does-agrees : (natives : NativeAnswers) (o m : ℕ) (arguments : List Value) (step : Step) (rest : List Step) (below : List Activation) (d : Operation) → s.stack ≡ Body o m arguments (step ∷ rest) ∷ below → operation_of_step s.objects o arguments step ≡ Some d → WritesFit p s → Does p natives s o m arguments rest below d t → Agree p t.objects t.bindings
   does-agrees natives o m arguments step rest below (Write what) at is fit does =
-      let next : WritesNext s what = record { object = o; method = m; arguments = arguments; step = step; rest = rest; below = below; is_next = at; does = is } in
+      let next : WritesNext s what = does-next s at is in
       writes-agree agree does (fit what next)
   does-agrees natives o m arguments step rest below (Begin x n given) at is fit does = begun-agrees s (Body o m arguments rest ∷ below) x does.object n does.method given (does.method).work agree does.gives
   does-agrees natives o m arguments step rest below (Choose chosen) at is fit does = agree-at _ does agree
@@ -77,7 +77,9 @@ module _ {p : Loaded} (s t : State) (agree : Agree p s.objects s.bindings) where
 
   body-agrees : (natives : NativeAnswers) (o m : ℕ) (arguments : List Value) (below : List Activation) (left : List Step) → s.stack ≡ Body o m arguments left ∷ below → WritesFit p s → BodyRule p natives s o m arguments below t left → Agree p t.objects t.bindings
   body-agrees natives o m arguments below [] at fit r = agree-at _ r agree
-  body-agrees natives o m arguments below (step ∷ rest) at fit r = does-agrees natives o m arguments step rest below r.what at r.is fit r.does
+  body-agrees natives o m arguments below (step ∷ rest) at fit rule =
+      let r = step-of p natives s o m arguments step rest below t rule in
+      does-agrees natives o m arguments step rest below r.what at r.is fit r.does
 
   arrives-agrees : (u : State) (stack : List Activation) (home o : ℕ) (x : Object) (m : ℕ) (method : MetaMethod) (arguments : List Value) (b : Bool) → Agree p u.objects u.bindings → Arrives u stack home o x m method arguments t b → Agree p t.objects t.bindings
   arrives-agrees u stack home o x m method arguments true before r = begun-agrees u stack o x m method arguments method.work before r
@@ -175,16 +177,16 @@ module _ {p : Loaded} {certificate : Certificate} (valid : IsValid p certificate
   event-agrees t (Loop name) held idle (goes_on _ free given) = agree-at _ (given-is given) agree
   event-agrees t (TurnEvent name) held idle (goes_on home is given) = agree-at _ (given-is given) agree
   event-agrees t (New name class loop) held idle (goes_on _ free (goes_on c (finds is) (goes_on home lives (goes_on _ room given)))) =
-      agree-at _ (given-is given) (created-agrees name c.number home c.it is.is)
-  event-agrees t (Adopt parent child) held idle (goes_on a is_parent (goes_on c is_child (goes_on _ owns (goes_on _ over (goes_on _ home (becomes x)))))) =
-      agree-at _ x.gives (adopted_agree p s.bindings s.objects x.objects a.number c.number c.it agree x.is)
-  event-agrees t (Move name loop) held idle (goes_on o lives (goes_on home is (goes_on _ root (goes_on _ alone (becomes x))))) =
-      agree-at _ x.gives (stores-agree x.is agree)
+      agree-at _ (given-is given) (created-agrees name c.number home c.it is.0)
+  event-agrees t (Adopt parent child) held idle (goes_on a is_parent (goes_on c is_child (goes_on _ owns (goes_on _ over (goes_on _ home (goes_on objects (becomes x) given)))))) =
+      agree-at _ (given-is given) (adopted_agree p s.bindings s.objects objects a.number c.number c.it agree x)
+  event-agrees t (Move name loop) held idle (goes_on o lives (goes_on home is (goes_on _ root (goes_on _ alone (goes_on store (becomes x) given))))) =
+      agree-at _ (given-is given) (stores-agree x agree)
   event-agrees t (ConnectEvent e how) held idle (goes_on f both (goes_on _ may given)) = agree-at _ (given-is given) agree
   event-agrees t (DisconnectEvent e) held idle (goes_on f both (goes_on _ may given)) = agree-at _ (given-is given) agree
   event-agrees t (Set name property i) held idle (goes_on o lives (goes_on q (finds asked) (goes_on v _ (goes_on _ (so fits) (becomes w))))) =
       let it = living-object o (living-is lives) in
-      writes-agree {s = accepted s} agree w (record { object = it.0; life = o.it; lives = it.1; property = q.it; is_property = asked.is; reads = fits }, tt)
+      writes-agree {s = accepted s} agree w (record { object = it.0; life = o.it; lives = it.1; property = q.it; is_property = asked.0; reads = fits }, tt)
   event-agrees t (Bind site target sources) held idle (goes_on b may (becomes x)) =
       let sited = binding-sited valid sound s idle held.0 (held.1).covered agree site target sources b may in
       installs-agree {s = accepted s} agree (may-fit valid sound s agree site target sources b may) (bind-closes-none held.0 (held.1).covered b sited) (bound-within s site target sources may) x

@@ -7,13 +7,11 @@ use Rattle.object_tree.specs.declared.life.Life.{Life}
 use Rattle.script_lang.specs.declared.event.Event.TheVariants.{Bind}
 use Rattle.trace_entries.specs.declared.refusal.Refusal.TheVariants.{BadSource}
 use Rattle.machine_state.specs.declared.world.World.{World}
-use Rattle.machine_state.specs.Accepting.{accepted}
 use Rattle.machine_state.specs.Worlds.{at}
 use Rattle.machine_rules.specs.Judgement.{Numbered, numbered, found, missing, holds, fails, goes_on, ends}
 use Rattle.object_machine.specs.declared.not_accepted.NotAccepted.{NotAccepted}
-use Rattle.object_machine.specs.code.Judgement.{IsNotAccepted, IsLiving}
-use Rattle.object_machine.specs.Takes.{judged}
-use Rattle.object_machine.specs.Events.{IsSiteOf, may_bind, living, all_living}
+use Rattle.object_machine.specs.code.Judgement.{IsNotAccepted, IsLiving, IsSiteOf}
+use Rattle.object_machine.specs.Events.{judged, may_bind, living, all_living}
 use Rattle.object_machine.proofs.Judged.{then-ends, then-on}
 use Rattle.object_machine.proofs.Judging.Naming.{living-ok}
 
@@ -25,7 +23,7 @@ module _ (p : Loaded) (w : World) (name target : List ℕ) (sources : List (List
   not-bindable x = then-ends x
 
   pub no-site : ((number : ℕ) → ¬ IsSiteNamed p name number) → may_bind p (at w []) name target sources (Err BadSource)
-  no-site none = ends (missing (λ n is. none n.number (record { is = record { item = n.it; is = is.is; has = is.named } })))
+  no-site none = ends (missing (λ n is. none n.number (record { is = record { item = n.it; is = is.0; has = is.1 } })))
 
   module _ (n : Numbered MetaSite) (is : IsSiteOf p name n) where
     pub other-number : (¬ (length sources ≡ length n.it.formals)) → may_bind p (at w []) name target sources (Err BadSource)
@@ -44,4 +42,4 @@ site-found {name = name} site named is =
     let both : Some named.is.item ≡ Some site = sym named.is.is ∙ is in
     let same : named.is.item ≡ site = cc both in
     let Named : MetaSite → Type 0 = λ s. s.name ≡ name in
-    record { is = is; named = subst Named same named.is.has }
+    (is, subst Named same named.is.has)

@@ -7,7 +7,7 @@ use Rattle.script_lang.specs.declared.event.Input.{Input}
 use Rattle.trace_entries.specs.{declared.refusal.Refusal.{Refusal}, declared.refusal.Refusal.TheVariants.{NoMember, BadArgs}}
 use Rattle.machine_state.specs.{declared.world.World.{World}, State.{State}, Worlds.{at}}
 use Rattle.machine_rules.{proofs.Fields.{method-unique}, specs.Judgement.{Numbered, found, missing, holds, fails, becomes, goes_on, ends}}
-use Rattle.object_machine.{specs.declared.invoking.Invocation.{Invocation}, specs.declared.invoking.Invocation.TheVariants.{Emit, Call}, specs.declared.not_accepted.NotAccepted.{NotAccepted}, specs.code.Judgement.{IsNotAccepted, refused, short, IsLiving}, specs.Takes.{judged}, specs.code.Accepted.{AsksFor, invoking}, specs.Events.{invoke, May, IsAskedOf, values}, proofs.Judged.{then-ends, then-on}, proofs.Judging.Naming.{living-ok}}
+use Rattle.object_machine.{specs.declared.invoking.Invocation.{Invocation}, specs.declared.invoking.Invocation.TheVariants.{Emit, Call}, specs.declared.not_accepted.NotAccepted.{NotAccepted}, specs.code.Judgement.{IsNotAccepted, refused, short, IsLiving}, specs.code.Accepted.{AsksFor, invoking}, specs.Events.{judged, invoke, May, IsAskedOf, values}, proofs.Judged.{then-ends, then-on}, proofs.Judging.Naming.{living-ok}}
 
 -- an event that asks something is judged as what it asks
 pub judged-invoking : (p : Loaded) (s : State) {r : Result State Refusal} (a : Invocation) (name called : List ℕ) (inputs : List Input) → invoke p s a name called inputs r → judged p s (invoking a name called inputs) r

@@ -9,7 +9,7 @@ use Rattle.script_lang.specs.declared.event.Event.TheVariants as event
 use Rattle.binding_graph.specs.declared.place.Place.{Place}
 use Rattle.machine_state.specs.{declared.endpoints.Endpoints.{Endpoints}, declared.world.World.{World}, Accepting.{accepted}, State.{State}, Telling.{Alone}, Worlds.{at, with_connection, without_connections}}
 use Rattle.machine_rules.specs.{Judgement.{numbered}, Rules.{Begins}, Settling.{Writes}}
-use Rattle.object_machine.specs.{declared.invoking.Invocation.{Invocation}, declared.invoking.Invocation.TheVariants.{Emit, Call}, Takes.{judged}, Events.{IsSiteOf, connect, disconnect, all_living}, code.Judgement.{IsLiving}}
+use Rattle.object_machine.specs.{declared.invoking.Invocation.{Invocation}, declared.invoking.Invocation.TheVariants.{Emit, Call}, Events.{judged, all_living}, code.Judgement.{IsLiving, IsSiteOf}}
 
 -- the event is accepted, and its effect is that the method begins
 pub record AsksFor (p : Loaded) (w : World) (o m : ℕ) (values : List Value) (e : Event) : Type 0 where
@@ -21,11 +21,11 @@ pub record WritesTo (p : Loaded) (w : World) (place : Place) (value : Value) (e 
 
 -- the event is accepted, and its effect is that the objects and methods of these numbers are connected
 abbrev pub ConnectsThese : Loaded → World → Named (List ℕ) → ConnectionType → Endpoints → Type 0
-ConnectsThese p w e how ends = connect p (at w []) e how (Ok (with_connection (accepted (at w [])) ends how))
+ConnectsThese p w e how ends = judged p (at w []) (event.Connect e how) (Ok (with_connection (accepted (at w [])) ends how))
 
 -- the event is accepted, and its effect is that the objects and methods of these numbers aren't connected any more
 abbrev pub DisconnectsThese : Loaded → World → Named (List ℕ) → Endpoints → Type 0
-DisconnectsThese p w e ends = disconnect p (at w []) e (Ok (without_connections (accepted (at w [])) ends))
+DisconnectsThese p w e ends = judged p (at w []) (event.Disconnect e) (Ok (without_connections (accepted (at w [])) ends))
 
 -- The site is there and has as many formal sources, and the objects live: what is left to be judged is whether the site
 -- covers them, and in which event loops they live.

@@ -7,7 +7,7 @@ use Rattle.script_lang.specs.{declared.event.Event.{Event}, declared.event.Event
 use Rattle.trace_entries.specs.{declared.fault.Fault.{Fault}, declared.refusal.Refusal.{Refusal}, declared.refusal.Refusal.TheVariants.{BadSource, OtherLoop}}
 use Rattle.machine_state.specs.{declared.world.World.{World}, Accepting.{accepted}, State.{State}, Worlds.{at}}
 use Rattle.machine_rules.specs.{Natives.{NativeAnswers}, Judgement.{numbered, Check, Gives, ◌>>=◌, found, holds, fails, gives, becomes, goes_on, ends}, Settling.{Installs}}
-use Rattle.object_machine.{specs.Causes.{BindsNext, Halts, StopsFor, short, brings, binds_ill, binds_loop}, specs.Runs.{is_next}, specs.Takes.{judged}, specs.code.Accepted.{AsksToBind}, specs.Events.{IsSiteOf, may_bind}, proofs.Judging.Naming.{living-ok}}
+use Rattle.object_machine.{specs.Causes.{BindsNext, Halts, StopsFor, short, brings, binds_ill, binds_loop}, specs.Runs.{is_next}, specs.code.Accepted.{AsksToBind}, specs.code.Judgement.{IsSiteOf}, specs.Events.{judged, may_bind}, proofs.Judging.Naming.{living-ok}}
 use Rattle.qt_runtime.{specs.code.Taking.{binding_reason}, proofs.Taken.{idle, no_natives, none-yet, Ready}}
 
 module _ {p : Loaded} {w : World} {name target : List ℕ} {sources : List (List ℕ)} {number o : ℕ} {objects : List ℕ}
@@ -19,7 +19,7 @@ module _ {p : Loaded} {w : World} {name target : List ℕ} {sources : List (List
   site-is : (site : MetaSite) → slice_get p.sites number ≡ Some site → IsSiteOf p name (numbered number site) × (length sources ≡ length site.formals)
   site-is site is =
       let Family : MetaSite → Type 0 = λ x. IsSiteOf p name (numbered number x) × (length sources ≡ length x.formals) in
-      let both : Some asks.site ≡ Some site = sym asks.is.is ∙ is in
+      let both : Some asks.site ≡ Some site = sym asks.is.0 ∙ is in
       let same : asks.site ≡ site = cc both in
       subst Family same (asks.is, asks.many)
 
@@ -53,7 +53,7 @@ module _ {p : Loaded} {w : World} {name target : List ℕ} {sources : List (List
   pub not-bound : (natives : NativeAnswers) (d : ℕ) {f : BindFault} → Ready w → IsNotBound p w.store.tree w.store.bindings number o objects f →
       MatchResult (binding_reason f) (λ k. judged p (at w []) event (Err k)) (λ g. Halts p natives d w (event ∷ []) g w)
   not-bound natives d some (bad_source none) =
-      let judges : may_bind p (at w []) name target sources (Err BadSource) = on-found asks.site asks.is.is (ends (fails (λ covers. none (record { site = asks.site; is = asks.is.is; covers = covers })))) in
+      let judges : may_bind p (at w []) name target sources (Err BadSource) = on-found asks.site asks.is.0 (ends (fails (λ covers. none (record { site = asks.site; is = asks.is.0; covers = covers })))) in
       ends judges
   not-bound natives d some (other_loop sited apart) = ends (on-found sited.site sited.is (goes_on tt (holds sited.covers) (ends (fails apart))))
   not-bound natives d some (bad_type may ill) = halted-before (brings some.some (binds_ill (record { binding = new_binding may; next = next-bind some (may-ok may); ill = ill })))

@@ -8,7 +8,7 @@ use Rattle.trace_entries.specs.declared.fault.Answer.TheVariants as answer
 use Rattle.trace_entries.specs.declared.fault.Fault.{Fault}
 use Rattle.machine_state.specs.{declared.world.World.{World}, Accepting.{accepted}, State.{Activation, Destroy}, Worlds.{at}, code.Changing.{accepting}}
 use Rattle.machine_rules.specs.{Natives.{NativeAnswers}, Judgement.{Numbered, gives, goes_on}, Reaches.{RunsTo}, code.Sound.{IsSoundWorld}}
-use Rattle.object_machine.{specs.declared.not_accepted.NotAccepted.{NotAccepted}, specs.code.Judgement.{IsNotAccepted, IsLiving}, specs.Takes.{judged, accepts}, specs.Events.{living}, proofs.Judged.{then-ends}, proofs.Judging.Naming.{living-ok}, specs.Causes.{Halts}}
+use Rattle.object_machine.{specs.declared.not_accepted.NotAccepted.{NotAccepted}, specs.code.Judgement.{IsNotAccepted, IsLiving}, specs.Takes.{accepts}, specs.Events.{judged, living}, proofs.Judged.{then-ends}, proofs.Judging.Naming.{living-ok}, specs.Causes.{Halts}}
 use Rattle.qt_runtime.{specs.code.Taking.{Took}, proofs.Taken.{idle, Ready, good-pushed}, proofs.Stopping.{took-run}}
 
 -- what an event that is accepted leaves is sound

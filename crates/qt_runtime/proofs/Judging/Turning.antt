@@ -8,7 +8,7 @@ use Rattle.trace_entries.specs.{declared.fault.Fault.{Fault}, declared.refusal.R
 use Rattle.machine_state.specs.{declared.world.World.{World}, Accepting.{accepted}, State.{State}, Worlds.{at, begun_turn}, code.Changing.{accepting_turn}}
 use Rattle.prop_bindings.specs.Fits.{Agree}
 use Rattle.machine_rules.specs.{Natives.{NativeAnswers}, Reaches.{RunsTo}, Judgement.{found, missing, gives, goes_on, ends}, code.Sound.{IsSoundWorld}}
-use Rattle.object_machine.specs.{Takes.{judged, accepts}, Causes.{Halts}}
+use Rattle.object_machine.specs.{Events.{judged}, Takes.{accepts}, Causes.{Halts}}
 use Rattle.qt_runtime.{specs.code.Taking.{Took}, proofs.Taken.{idle, Ready, good-quiet}, proofs.Stopping.{took-turn}}
 
 module _ (p : Loaded) (w : World) (name : List ℕ) where

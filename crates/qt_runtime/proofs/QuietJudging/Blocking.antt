@@ -11,9 +11,8 @@ use Rattle.machine_state.specs.Worlds.{at}
 use Rattle.object_machine.specs.declared.not_accepted.NotAccepted.{NotAccepted}
 use Rattle.machine_rules.specs.Judgement.{Numbered, gives, goes_on, ends}
 use Rattle.object_machine.specs.code.Judgement.{IsNotAccepted, refused, short, IsLiving}
-use Rattle.object_machine.specs.Takes.{judged}
 use Rattle.qt_runtime.specs.code.Quiet.{blocking}
-use Rattle.object_machine.specs.Events.{block, living}
+use Rattle.object_machine.specs.Events.{judged, block, living}
 use Rattle.object_machine.proofs.Judging.Naming.{living-ok}
 
 judged-blocking : (p : Loaded) (s : State) {r : Result State Refusal} (name : List ℕ) (on : Bool) → block s name on r → judged p s (blocking on name) r

@@ -10,7 +10,7 @@ use Rattle.trace_entries.specs.{declared.entry.Entry.{Entry}, declared.entry.Ent
 use Rattle.trace_entries.specs.declared.fault.Answer.TheVariants as answer
 use Rattle.machine_state.{specs.declared.world.World.{World}, specs.Accepting.{accepted, with_entries}, specs.State.{State}, specs.Worlds.{at, store_of, with_store}, specs.code.Changing.{with_scheduled, accepting, accepting_schedule}, proofs.Deferring.{scheduled-now}}
 use Rattle.machine_rules.{specs.Destroying.{scheduled_now}, specs.Judgement.{Numbered, becomes, gives, goes_on}, proofs.Scheduling.{schedules-before}}
-use Rattle.object_machine.{specs.declared.not_accepted.NotAccepted.{NotAccepted}, specs.code.Judgement.{IsNotAccepted, IsLiving}, specs.Takes.{judged}, specs.Events.{living}, proofs.Judged.{then-ends}, proofs.Judging.Naming.{living-ok}}
+use Rattle.object_machine.{specs.declared.not_accepted.NotAccepted.{NotAccepted}, specs.code.Judgement.{IsNotAccepted, IsLiving}, specs.Events.{judged, living}, proofs.Judged.{then-ends}, proofs.Judging.Naming.{living-ok}}
 use Rattle.qt_runtime.{specs.code.Quiet.{TookQuietly}, proofs.QuietWorlds.{quietly-done}}
 
 module _ (p : Loaded) (w : World) (name : List ℕ) where

@@ -8,7 +8,7 @@ use Rattle.machine_state.specs.declared.world.World.{World}
 use Rattle.machine_state.specs.Accepting.{accepted}
 use Rattle.machine_state.specs.Worlds.{at}
 use Rattle.machine_rules.specs.Judgement.{holds, fails, gives, goes_on, ends}
-use Rattle.object_machine.specs.Takes.{judged}
+use Rattle.object_machine.specs.Events.{judged}
 
 module _ (p : Loaded) (w : World) (name : List ℕ) where
   pub loop-exists : (home : ℕ) → HasName w.store.loops.loops name home → judged p (at w []) (Loop name) (Err LoopExists)

@@ -13,7 +13,7 @@ use Rattle.trace_entries.specs.{declared.fault.Answer.{Answer}, declared.fault.F
 use Rattle.trace_entries.specs.declared.fault.Answer.TheVariants as answer
 use Rattle.machine_state.specs.{declared.world.World.{World}, State.{State}, Worlds.{at, after}, code.Changing.{Rejects}}
 use Rattle.machine_rules.specs.{Good.{IsWell}, code.Sound.{IsSoundWorld}}
-use Rattle.object_machine.specs.{declared.not_accepted.NotAccepted.{NotAccepted}, Takes.{judged, IsRefusedAs}}
+use Rattle.object_machine.specs.{declared.not_accepted.NotAccepted.{NotAccepted}, Events.{judged}, Takes.{IsRefusedAs}}
 use Rattle.object_machine.specs.declared.not_accepted.NotAccepted.TheVariants as reason
 
 -- what every machine's world keeps: the program is sound, its parts fit together, and no count is near its limit

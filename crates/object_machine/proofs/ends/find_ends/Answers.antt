@@ -18,8 +18,8 @@ returns-in_default-clause-refused c = refused (no-signal c.args.context.now.meta
 
 pub returns-in_default-method-clause-refused : goal.returns-in_default-method-clause-refused
 returns-in_default-method-clause-refused c =
-    refused (no-method c.args.context.now.meta c.args.world.now.store.tree c.args.named.now _ _ c.in_ok-sender.ensures.found c.in_ok-receiver.ensures.found _ (rw c.deref.ensures at c.in-Some.ensures.1) (rw c.deref-2.ensures at c.in_default-method.ensures.value))
+    refused (no-method c.args.context.now.meta c.args.world.now.store.tree c.args.named.now _ _ c.in_ok-sender.ensures.found c.in_ok-receiver.ensures.found _ (rw c.deref.ensures at c.in-Some.ensures) (rw c.deref-2.ensures at c.in_default-method.ensures.value))
 
 pub returns-clause-found : goal.returns-clause-found
 returns-clause-found c =
-    rw (c.named_signal.ensures, c.new.ensures, c.new-2.ensures) (finds-ends c.args.context.now.meta c.args.world.now.store.tree c.args.named.now _ _ c.in_ok-sender.ensures.found c.in_ok-receiver.ensures.found _ (rw c.deref.ensures at c.in-Some.ensures.1) (rw c.deref-2.ensures at c.in-Some-method.ensures.value))
+    rw (c.named_signal.ensures, c.new.ensures, c.new-2.ensures) (finds-ends c.args.context.now.meta c.args.world.now.store.tree c.args.named.now _ _ c.in_ok-sender.ensures.found c.in_ok-receiver.ensures.found _ (rw c.deref.ensures at c.in-Some.ensures) (rw c.deref-2.ensures at c.in-Some-method.ensures.value))

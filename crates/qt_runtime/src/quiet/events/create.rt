@@ -5,7 +5,7 @@ ghost use Rattle.script_lang.specs.declared.event.Event.TheVariants.{New};
 ghost use Rattle.qt_runtime.specs.code.Quiet.{WorldInvariant, TookQuietly, creation_reason};
 ghost use Rattle.machine_state.specs.Worlds.{at};
 ghost use Rattle.machine_rules.specs.Judgement.{NothingIs};
-ghost use Rattle.object_machine.specs.Events.{create, IsHome};
+ghost use Rattle.object_machine.specs.Events.{judged, IsHome};
 
 use crate::quiet::accepting::{accept_creation, reject};
 use basic_types::{LoopId, Name};
@@ -55,7 +55,7 @@ fn home_of(world: &World, name: &Option<Name>) -> Option<LoopId>
 /// Why the event is refused where there is no such event loop.
 fn refusal_without_loop(context: &RunContext, world: &World, name: &Name, class: &Name) -> Refusal
     ensures { (home : Option (List ℕ)) → NothingIs (IsHome world.now.store.loops.loops home) →
-        create context.now.meta (at world.now []) name.now class.now home (Err result) }
+        judged context.now.meta (at world.now []) (New name.now class.now home) (Err result) }
 {
     match world.find(name) {
         Some(_) => Refusal::NameUsed,

@@ -1,11 +1,12 @@
 use Rattle.std.proofs.Common.{◌≡◌, List, [], ◌∷◌, ◌++◌, length, refl, codes, rules, arith}
 use Rattle.trace_entries.specs.declared.entry.Shown.{Shown}
 use Rattle.std.proofs.lemmas.List.{take_all}
-use Rattle.command_lines.specs.Lines.{arguments_text, value_text}
+use Rattle.std.specs.List.{join_by}
+use Rattle.command_lines.specs.Lines.{value_text}
 use Rattle.command_lines.proofs.Sending.{sent, one_item, none_sent, as_text}
 use Rattle.command_lines.proofs.line.Output+W.arguments.Goals as goal
 
-nothing : (values : List Shown) → length values ≡ 0 → arguments_text values ≡ []
+nothing : (values : List Shown) → length values ≡ 0 → join_by value_text (codes ",") values ≡ []
 nothing [] none = refl
 nothing (v ∷ vs) none = let no : ⊥ = omega (arith, none) in absurd no
 
