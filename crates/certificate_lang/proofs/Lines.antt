@@ -2,10 +2,10 @@
 use Rattle.std.{proofs.Common.{◌≡◌, ◌≢◌, ◌∙◌, ℕ, ◌^◌, ◌<◌, ◌≤◌, Bool, true, false, ◌&&◌, nat_eq, List, [], ◌∷◌, ◌++◌, map, codes, decimal, inl, refl, sym, ap, subst, append_assoc, arith}, specs.List.{AllByRecursion, AllZip, flat_map}, proofs.lemmas.Bool.{eq-eqb, false≢true}, proofs.lemmas.List.{append-nil}, proofs.lemmas.List.Elements.{All-from_recursion}}
 use Rattle.basic_types.specs.{Name.{is_digit, is_name_byte}, Signatures.{IsFreeName}, Spelling.{text_of_sig}, Tokens.{StopsBy}, Words.{IsFree, word_spelling}}
 use Rattle.basic_types.specs.declared.word.Word.TheVariants as word
-use Rattle.texts.specs.{Lines.{AreFrontLines}, Numerals.{value_of}, Pieces.{AreTokens}, declared.token.Token.{Token}}
-use Rattle.token_reading.specs.{Lists.{spell_each}, Literals.{greatest}}
+use Rattle.texts.specs.{Lines.{AreFrontLines}, Numerals.{Numeral, value_of}, Pieces.{AreTokens}, declared.token.Token.{Token}}
+use Rattle.token_reading.specs.{Lists.{spell_each}, Literals.{greatest}, Signatures.{HasPlainReference}}
 use Rattle.texts.specs.declared.token.Token.TheVariants as token
-use Rattle.certificate_lang.{specs.Grammar.{NodeReading, method, property, destruction, of_class, spell_node, tree_of_node, ItemReading, class as item_class, closure as item_closure, spell_item, tree_of_item, HasFewParameters, IsNodeLine}, specs.Reads.{before, AreRows, IsCertificate}, specs.declared.certificate.MemberName.{MemberName}, specs.declared.certificate.NodeName.{NodeName}, specs.declared.certificate.SetItem.{SetItem}, specs.declared.certificate.SetItem.TheVariants.{Class, Closure}, specs.declared.certificate.Line.{Line}, specs.declared.certificate.Certificate.{Certificate}, specs.declared.version.Version.TheVariants.{Two}, specs.Texts.{node_text_of, node_text, listed_text, node_line, certificate_text}, specs.Written.{IsWritableMember, IsWritableItem, IsWritableLine, IsWritable, NodesAreRead}, proofs.Pieces.{IsWritten, ampersand, nothing, blank_then, name_then, dot_then, tilde_then, digits_then, are_digits}, proofs.Signatures.{sig_reading, sig_tree, sig_then}}
+use Rattle.certificate_lang.{specs.Grammar.{NodeReading, method, property, destruction, of_class, spell_node, tree_of_node, ItemReading, class as item_class, closure as item_closure, spell_item, tree_of_item, HasFewParameters, IsNodeLine}, specs.Reads.{before, AreRows, IsCertificate}, specs.declared.certificate.MemberName.{MemberName}, specs.declared.certificate.NodeName.{NodeName}, specs.declared.certificate.SetItem.{SetItem}, specs.declared.certificate.SetItem.TheVariants.{Class, Closure}, specs.declared.certificate.Line.{Line}, specs.declared.certificate.Certificate.{Certificate}, specs.declared.version.Version.TheVariants.{Two}, specs.Texts.{node_text_of, node_text, listed_text, node_line, certificate_text}, specs.Written.{IsWritableMember, IsWritableNode, IsWritableItem, IsWritableLine, IsWritable, NodesAreRead}, proofs.Pieces.{IsWritten, ampersand, nothing, blank_then, name_then, dot_then, tilde_then, digits_then, are_digits}, proofs.Signatures.{sig_reading, sig_tree, sig_then}}
 use Rattle.certificate_lang.specs.declared.certificate.MemberName.TheVariants as member
 
 -- ---- nodes
@@ -14,7 +14,7 @@ reading_of_member class (member.Method x) = of_class class (method (sig_reading 
 reading_of_member class (member.Property name) = of_class class (property name)
 reading_of_member class member.Destruction = destruction class
 
-abbrev reading_of_node : NodeName → NodeReading
+abbrev pub reading_of_node : NodeName → NodeReading
 reading_of_node node = reading_of_member node.class node.member
 
 tree_by : (class : List ℕ) (m : MemberName) → IsWritableMember m → tree_of_node (reading_of_member class m) ≡ record { class = class; member = m }
@@ -22,10 +22,13 @@ tree_by class (member.Method x) h = ap (λ y. let node : NodeName = record { cla
 tree_by class (member.Property name) h = refl
 tree_by class member.Destruction h = refl
 
+pub node_tree : (node : NodeName) → IsWritableNode node → tree_of_node (reading_of_node node) ≡ node
+node_tree node h = tree_by node.class node.member h.member
+
 dotted : (class m rest : List ℕ) → (class ++ codes "." ++ m) ++ rest ≡ class ++ (46 ∷ (m ++ rest))
 dotted class m rest = append_assoc (class ++ codes ".") m rest ∙ append_assoc class (codes ".") (m ++ rest)
 
-node_then : (class : List ℕ) (m : MemberName) → IsFreeName class → IsWritableMember m → (rest : List ℕ) (tokens : List Token) → StopsBy is_name_byte rest → IsWritten rest tokens → IsWritten (node_text_of class m ++ rest) (spell_node (reading_of_member class m) tokens)
+pub node_then : (class : List ℕ) (m : MemberName) → IsFreeName class → IsWritableMember m → (rest : List ℕ) (tokens : List Token) → StopsBy is_name_byte rest → IsWritten rest tokens → IsWritten (node_text_of class m ++ rest) (spell_node (reading_of_member class m) tokens)
 node_then class (member.Method x) free h rest tokens stops w =
     subst (λ (bytes : List ℕ). IsWritten bytes (spell_node (of_class class (method (sig_reading x))) tokens)) (sym (dotted class (text_of_sig x) rest))
     (name_then class (46 ∷ (text_of_sig x ++ rest)) _ free refl (dot_then (text_of_sig x ++ rest) _ (sig_then x h rest tokens w)))
@@ -40,49 +43,60 @@ node_is_read node h =
     record {
       reading = reading_of_node node;
       cut = subst (λ (bytes : List ℕ). AreTokens bytes (spell_node (reading_of_node node) [])) (append-nil (node_text node)) written.cut;
-      tree = tree_by node.class node.member h.member;
+      tree = node_tree node h;
     }
 
 -- ---- the items of a set
-abbrev reading_of_item : SetItem → ItemReading Two
+abbrev pub reading_of_item : SetItem → ItemReading Two
 reading_of_item (Class name) = item_class name
 reading_of_item (Closure name) = item_closure refl name
 
-abbrev set_tokens : List SetItem → List Token
-set_tokens items = spell_each (spell_item Two) (map reading_of_item items) []
+abbrev pub items_tokens : List SetItem → List Token
+items_tokens items = spell_each (spell_item Two) (map reading_of_item items) []
 
-set_tree : (items : List SetItem) → map (tree_of_item Two) (map reading_of_item items) ≡ items
-set_tree [] = refl
-set_tree (Class name ∷ items) = ap (λ (more : List SetItem). Class name ∷ more) (set_tree items)
-set_tree (Closure name ∷ items) = ap (λ (more : List SetItem). Closure name ∷ more) (set_tree items)
+pub items_tree : (items : List SetItem) → map (tree_of_item Two) (map reading_of_item items) ≡ items
+items_tree [] = refl
+items_tree (Class name ∷ items) = ap (λ (more : List SetItem). Class name ∷ more) (items_tree items)
+items_tree (Closure name ∷ items) = ap (λ (more : List SetItem). Closure name ∷ more) (items_tree items)
 
-stops_at_set : (items : List SetItem) → StopsBy is_digit (flat_map listed_text items)
-stops_at_set [] = tt
-stops_at_set (item ∷ items) = refl
+pub digits_stop_at_items : (items : List SetItem) → StopsBy is_digit (flat_map listed_text items)
+digits_stop_at_items [] = tt
+digits_stop_at_items (item ∷ items) = refl
 
 stops_at_items : (items : List SetItem) → StopsBy is_name_byte (flat_map listed_text items)
 stops_at_items [] = tt
 stops_at_items (item ∷ items) = refl
 
-set_written : (items : List SetItem) → AllByRecursion IsWritableItem items → IsWritten (flat_map listed_text items) (set_tokens items)
-set_written [] free = nothing
-set_written (Closure name ∷ items) free =
+pub items_written : (items : List SetItem) → AllByRecursion IsWritableItem items → IsWritten (flat_map listed_text items) (items_tokens items)
+items_written [] free = nothing
+items_written (Closure name ∷ items) free =
     blank_then (126 ∷ (name ++ flat_map listed_text items)) _
-    (tilde_then (name ++ flat_map listed_text items) _ (name_then name (flat_map listed_text items) (set_tokens items) free.0 (stops_at_items items) (set_written items free.1)))
-set_written (Class name ∷ items) free = blank_then (name ++ flat_map listed_text items) _ (name_then name (flat_map listed_text items) (set_tokens items) free.0 (stops_at_items items) (set_written items free.1))
+    (tilde_then (name ++ flat_map listed_text items) _ (name_then name (flat_map listed_text items) (items_tokens items) free.0 (stops_at_items items) (items_written items free.1)))
+items_written (Class name ∷ items) free = blank_then (name ++ flat_map listed_text items) _ (name_then name (flat_map listed_text items) (items_tokens items) free.0 (stops_at_items items) (items_written items free.1))
 
--- ---- lines
+-- ---- numbers
 below : (n : ℕ) → n ≤ greatest → n < 2 ^ 64
 below n h = omega arith
 
+pub value : (n : ℕ) → n ≤ greatest → value_of (decimal n) ≡ n
+value n h = (are_digits n (below n h)).value
+
+abbrev pub numeral : (n : ℕ) → n ≤ greatest → Numeral greatest
+numeral n h = record { digits = decimal n; fits = subst (λ (k : ℕ). k ≤ greatest) (sym (value n h)) h }
+
+pub number_then : (n : ℕ) → n ≤ greatest → (rest : List ℕ) (tokens : List Token) → StopsBy is_digit rest → IsWritten rest tokens → IsWritten (decimal n ++ rest) (token.Number (decimal n) ∷ tokens)
+number_then n h rest tokens stops w =
+    let digits = are_digits n (below n h) in
+    digits_then (decimal n) rest tokens digits.some digits.each stops w
+
+-- ---- lines
 abbrev line_text : Line → List ℕ
 line_text line = node_text line.node ++ (codes " " ++ (decimal line.rank ++ flat_map listed_text line.destroys))
 
-line_written : (line : Line) → IsWritableLine line → IsWritten (line_text line) (spell_node (reading_of_node line.node) (token.Number (decimal line.rank) ∷ set_tokens line.destroys))
+line_written : (line : Line) → IsWritableLine line → IsWritten (line_text line) (spell_node (reading_of_node line.node) (token.Number (decimal line.rank) ∷ items_tokens line.destroys))
 line_written line h =
-    let digits = are_digits line.rank (below line.rank h.rank) in
-    let set = set_written line.destroys h.destroys in
-    let ranked = digits_then (decimal line.rank) (flat_map listed_text line.destroys) (set_tokens line.destroys) digits.some digits.each (stops_at_set line.destroys) set in
+    let set = items_written line.destroys h.destroys in
+    let ranked = number_then line.rank h.rank (flat_map listed_text line.destroys) (items_tokens line.destroys) (digits_stop_at_items line.destroys) set in
     node_then line.node.class line.node.member h.node.class h.node.member (32 ∷ (decimal line.rank ++ flat_map listed_text line.destroys)) _ refl (blank_then (decimal line.rank ++ flat_map listed_text line.destroys) _ ranked)
 
 plain_front : (front : List Token) (t : Token) (after tokens : List Token) → tokens ≡ front ++ t ∷ ampersand ∷ after → AllByRecursion (λ x. x ≢ ampersand) tokens → ⊥
@@ -92,26 +106,29 @@ plain_front [] t after (x ∷ y ∷ rest) e h = let same : y ≡ ampersand = cc 
 plain_front (f ∷ front) t after [] e h = cc
 plain_front (f ∷ front) t after (x ∷ rest) e h = let same : rest ≡ front ++ t ∷ ampersand ∷ after = cc in plain_front front t after rest same h.1
 
+pub no_reference : {bytes : List ℕ} {tokens : List Token} → IsWritten bytes tokens → ¬ HasPlainReference tokens
+no_reference written plain = plain_front plain.front (token.Name plain.name) plain.after _ plain.is written.plain
+
 few : (m : MemberName) → IsWritableMember m → HasFewParameters m
 few (member.Method x) h = h.few
 few (member.Property name) h = tt
 few member.Destruction h = tt
 
-line_is_read : (line : Line) (h : IsWritableLine line) → IsNodeLine Two (spell_node (reading_of_node line.node) (token.Number (decimal line.rank) ∷ set_tokens line.destroys)) line
+pub node_few : (node : NodeName) → IsWritableNode node → HasFewParameters node.member
+node_few node h = few node.member h.member
+
+line_is_read : (line : Line) (h : IsWritableLine line) → IsNodeLine Two (spell_node (reading_of_node line.node) (token.Number (decimal line.rank) ∷ items_tokens line.destroys)) line
 line_is_read line h =
-    let written = line_written line h in
-    let digits = are_digits line.rank (below line.rank h.rank) in
-    let node : tree_of_node (reading_of_node line.node) ≡ line.node = tree_by line.node.class line.node.member h.node.member in
-    let value : value_of (decimal line.rank) ≡ line.rank = digits.value in
+    let node : tree_of_node (reading_of_node line.node) ≡ line.node = node_tree line.node h.node in
     record {
-      reading = record { node = reading_of_node line.node; rank = record { digits = decimal line.rank; fits = let most = h.rank in omega arith }; destroys = map reading_of_item line.destroys };
+      reading = record { node = reading_of_node line.node; rank = numeral line.rank h.rank; destroys = map reading_of_item line.destroys };
       spelled = refl;
       tree =
           ap (λ n. let x : Line = record { node = n; rank = value_of (decimal line.rank); destroys = map (tree_of_item Two) (map reading_of_item line.destroys) } in x) node
-          ∙ ap (λ (k : ℕ). let x : Line = record { node = line.node; rank = k; destroys = map (tree_of_item Two) (map reading_of_item line.destroys) } in x) value
-          ∙ ap (λ (items : List SetItem). let x : Line = record { node = line.node; rank = line.rank; destroys = items } in x) (set_tree line.destroys);
-      few = few line.node.member h.node.member;
-      normal = λ plain. plain_front plain.front (token.Name plain.name) plain.after _ plain.is written.plain;
+          ∙ ap (λ (k : ℕ). let x : Line = record { node = line.node; rank = k; destroys = map (tree_of_item Two) (map reading_of_item line.destroys) } in x) (value line.rank h.rank)
+          ∙ ap (λ (items : List SetItem). let x : Line = record { node = line.node; rank = line.rank; destroys = items } in x) (items_tree line.destroys);
+      few = node_few line.node h.node;
+      normal = no_reference (line_written line h);
     }
 
 -- ---- rows
@@ -124,7 +141,7 @@ row_of node ts later = by node.class node.member
     by class member.Destruction = refl
 
 abbrev line_tokens : Line → List Token
-line_tokens line = spell_node (reading_of_node line.node) (token.Number (decimal line.rank) ∷ set_tokens line.destroys)
+line_tokens line = spell_node (reading_of_node line.node) (token.Number (decimal line.rank) ∷ items_tokens line.destroys)
 
 line_bytes : (line : Line) (rest : List ℕ) → node_line line ++ rest ≡ line_text line ++ (10 ∷ rest)
 line_bytes line rest =
@@ -147,7 +164,7 @@ lines_are_read (line ∷ lines) h =
     let written = line_written line h.0 in
     record {
       cut = (flat_map node_line lines, record { unbroken = written.unbroken; ends = inl (line_bytes line (flat_map node_line lines)) }, more.cut);
-      rows = (line_tokens line, map line_tokens lines, written.cut, more.rows, sym (row_of line.node (token.Number (decimal line.rank) ∷ set_tokens line.destroys) (map line_tokens lines)));
+      rows = (line_tokens line, map line_tokens lines, written.cut, more.rows, sym (row_of line.node (token.Number (decimal line.rank) ∷ items_tokens line.destroys) (map line_tokens lines)));
       each = (line_is_read line h.0, more.each);
     }
 
@@ -162,7 +179,7 @@ same_itself : (xs : List ℕ) → same xs xs ≡ true
 same_itself [] = refl
 same_itself (x ∷ xs) = let one : nat_eq x x ≡ true = eq-eqb x x refl in rw one (same_itself xs)
 
-differs : (xs ys : List ℕ) → same xs ys ≡ false → xs ≢ ys
+pub differs : (xs ys : List ℕ) → same xs ys ≡ false → xs ≢ ys
 differs xs ys other e = false≢true (sym other ∙ (ap (λ (zs : List ℕ). same xs zs) (sym e) ∙ same_itself xs))
 
 certificate_is_free : IsFree (codes "certificate")
@@ -176,7 +193,7 @@ bound_is_free w = differs (codes "bound") (word_spelling w) refl
 certificate_is_name : IsFreeName (codes "certificate")
 certificate_is_name = record { name = (refl, All-from_recursion (λ b. is_name_byte b ≡ true) (codes "ertificate") (refl, (refl, (refl, (refl, (refl, (refl, (refl, (refl, (refl, (refl, tt))))))))))); free = certificate_is_free }
 
-bound_is_name : IsFreeName (codes "bound")
+pub bound_is_name : IsFreeName (codes "bound")
 bound_is_name = record { name = (refl, All-from_recursion (λ b. is_name_byte b ≡ true) (codes "ound") (refl, (refl, (refl, (refl, tt))))); free = bound_is_free }
 
 header_written : IsWritten (codes "certificate 2") (token.Name (codes "certificate") ∷ token.Number (codes "2") ∷ [])
@@ -185,8 +202,7 @@ header_written =
 
 bound_written : (n : ℕ) → n ≤ greatest → IsWritten (codes "bound " ++ decimal n) (token.Name (codes "bound") ∷ token.Number (decimal n) ∷ [])
 bound_written n h =
-    let digits = are_digits n (below n h) in
-    let number : IsWritten (decimal n) (token.Number (decimal n) ∷ []) = subst (λ (bytes : List ℕ). IsWritten bytes (token.Number (decimal n) ∷ [])) (append-nil (decimal n)) (digits_then (decimal n) [] [] digits.some digits.each tt nothing) in
+    let number : IsWritten (decimal n) (token.Number (decimal n) ∷ []) = subst (λ (bytes : List ℕ). IsWritten bytes (token.Number (decimal n) ∷ [])) (append-nil (decimal n)) (number_then n h [] [] tt nothing) in
     name_then (codes "bound") (32 ∷ decimal n) _ bound_is_name refl (blank_then (decimal n) _ number)
 
 pub text_is_read : (certificate : Certificate) → IsWritable certificate → IsCertificate (certificate_text certificate) certificate
@@ -212,6 +228,6 @@ text_is_read certificate h =
         are_rows = (_, _, header.cut, (_, _, second.cut, nodes.rows, refl), refl);
       };
       header = record { numeral = record { digits = codes "2"; fits = omega arith }; spelled = refl; value = refl };
-      bound = record { numeral = record { digits = bound; fits = let value = (are_digits certificate.bound (below certificate.bound h.bound)).value in let most = h.bound in omega arith }; spelled = refl; value = (are_digits certificate.bound (below certificate.bound h.bound)).value };
+      bound = record { numeral = numeral certificate.bound h.bound; spelled = refl; value = value certificate.bound h.bound };
       nodes = nodes.each;
     }

@@ -1,5 +1,5 @@
 -- A text names one node.
-use Rattle.std.proofs.Common.{◌≡◌, [], sym, ◌∙◌}
+use Rattle.std.proofs.Common.{[], sym, ◌∙◌}
 use Rattle.token_reading.specs.code.Cursor.{NotAt}
 use Rattle.texts.specs.declared.symbol.Symbol.TheVariants.{Open}
 use Rattle.texts.proofs.Cut.{same_tokens}

@@ -32,7 +32,7 @@ one_tree_of_node (of_class x m) (of_class y n) r s er es e =
     let same = h.0 in
     (cc, h.1)
 
-one_tree_of_items : (v : Version) → HasOneTree (spell_each (spell_item v)) (map (tree_of_item v)) IsAtEnd
+pub one_tree_of_items : (v : Version) → HasOneTree (spell_each (spell_item v)) (map (tree_of_item v)) IsAtEnd
 one_tree_of_items v [] [] r s er es e = (refl, e)
 one_tree_of_items v [] (y ∷ ys) r s er es e = absurd (item_some v y (spell_each (spell_item v) ys s) (sym er ∙ e))
 one_tree_of_items v (x ∷ xs) [] r s er es e = absurd (item_some v x (spell_each (spell_item v) xs r) (sym es ∙ sym e))
@@ -47,7 +47,7 @@ one_tree_of_items v (closure is x ∷ xs) (closure also y ∷ ys) r s er es e =
     let same = h.0 in
     (cc, h.1)
 
-same_value : (a b : Numeral greatest) → a.digits ≡ b.digits → value_of a.digits ≡ value_of b.digits
+pub same_value : (a b : Numeral greatest) → a.digits ≡ b.digits → value_of a.digits ≡ value_of b.digits
 same_value a b e = ap value_of e
 
 one_tree_of_line : (v : Version) → HasOneTree (spell_line v) (tree_of_line v) IsAtEnd

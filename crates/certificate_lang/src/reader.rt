@@ -6,7 +6,7 @@ ghost use Rattle.certificate_lang.specs.code.Reads.{SplitsRow, SplitsSetting, Re
 
 use crate::certificate::{Certificate, Line};
 use crate::fault::CertificateFault;
-use crate::syntax::{has_few_parameters, line, setting};
+use crate::syntax::{has_few_parameters, line, read_setting};
 use crate::version::Version;
 use sqlite_items::Items;
 use std::alloc::Global;
@@ -76,7 +76,10 @@ fn node_lines(
 }
 
 /// Cuts the first line that isn't empty: the lexer has its tokens then. What follows the line; or `None` where all are empty.
-fn next_row<'a>(lexer: &mut Lexer, text: &'a [u8]) -> Result<Option<&'a [u8]>, CertificateFault>
+///
+/// - `Format`: a line has a byte of no token.
+/// - `Memory`: a growth of memory was refused.
+pub fn next_row<'a>(lexer: &mut Lexer, text: &'a [u8]) -> Result<Option<&'a [u8]>, CertificateFault>
     ensures splits { SplitsRow text.now lexer.new result }
     ensures shorter { IfOk result (λ row.
         IfSome row (λ rest. length rest.now < length text.now)) }
@@ -101,7 +104,7 @@ fn whole_setting(
     ensures { ReadsWholeSetting name.now tokens.now result }
 {
     let mut cursor = Cursor::new(alloc, tokens);
-    let number = setting(&mut cursor, name)?;
+    let number = read_setting(&mut cursor, name)?;
     if cursor.is_empty() {
         Ok(number)
     } else {
@@ -143,8 +146,8 @@ pub enum Row {
 pub fn row_trail(alloc: Global, tokens: &[Token], row: Row) -> Option<Trail> {
     let mut cursor = Cursor::recording(alloc, tokens);
     let is_read = match row {
-        Row::Version => setting(&mut cursor, b"certificate").is_ok(),
-        Row::Bound => setting(&mut cursor, b"bound").is_ok(),
+        Row::Version => read_setting(&mut cursor, b"certificate").is_ok(),
+        Row::Bound => read_setting(&mut cursor, b"bound").is_ok(),
         Row::Node(version) => line(&mut cursor, version).is_ok(),
     };
     if is_read {

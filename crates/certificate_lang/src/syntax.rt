@@ -14,13 +14,13 @@ use basic_types::Sig;
 use sqlite_items::Items;
 use syntax_trees::has_few_types;
 use texts::{Symbol, Token};
-use token_reading::{Cursor, ParseFault, TypePart, Wanted, list};
+use token_reading::{Cursor, GREATEST, ParseFault, TypePart, Wanted, list};
 
-/// The greatest number of a certificate.
-const GREATEST: u32 = 2147483647;
-
-/// `NAME number`, for this name: the number.
-pub fn setting(cursor: &mut Cursor, name: &'static [u8]) -> Result<u32, ParseFault>
+/// Reads `NAME number`, for this name: the number, which is at most 2147483647.
+///
+/// - `Syntax`: the tokens don't begin so.
+/// - `Memory`: a growth of memory was refused.
+pub fn read_setting(cursor: &mut Cursor, name: &'static [u8]) -> Result<u32, ParseFault>
     ensures { ReadsSetting name.now cursor.old result cursor.new }
 {
     match cursor.next_of(&[Wanted::Spelled(name)])? {
@@ -33,9 +33,9 @@ pub fn setting(cursor: &mut Cursor, name: &'static [u8]) -> Result<u32, ParseFau
 pub fn line(cursor: &mut Cursor, version: Version) -> Result<Line, ParseFault>
     ensures { ReadsNodeLine version cursor.old result cursor.new }
 {
-    let node = node(cursor)?;
+    let node = read_node(cursor)?;
     let rank = cursor.number(GREATEST)?;
-    let destroys = items(cursor, version)?;
+    let destroys = read_set_items(cursor, version)?;
     Ok(Line {
         node,
         rank,
@@ -43,9 +43,13 @@ pub fn line(cursor: &mut Cursor, version: Version) -> Result<Line, ParseFault>
     })
 }
 
-/// `~C`, `C.m(T, ..)` or `C.p`.
-fn node(cursor: &mut Cursor) -> Result<NodeName, ParseFault>
-    ensures { ReadsNode cursor.old result cursor.new }
+/// Reads the name of a node: `~C`, `C.m(T, ..)` or `C.p`.
+///
+/// - `Syntax`: the tokens don't begin so.
+/// - `Memory`: a growth of memory was refused.
+pub fn read_node(cursor: &mut Cursor) -> Result<NodeName, ParseFault>
+    ensures reads { ReadsNode cursor.old result cursor.new }
+    ensures shorter { OnOk result (length cursor.new < length cursor.old) }
 {
     if cursor.eat(Symbol::Tilde) {
         let class = cursor.name()?;
@@ -62,7 +66,8 @@ fn node(cursor: &mut Cursor) -> Result<NodeName, ParseFault>
 
 /// `m(T, ..)` or `p`.
 fn member(cursor: &mut Cursor) -> Result<MemberName, ParseFault>
-    ensures { ReadsMember cursor.old result cursor.new }
+    ensures reads { ReadsMember cursor.old result cursor.new }
+    ensures shorter { OnOk result (length cursor.new < length cursor.old) }
 {
     let name = cursor.name()?;
     if !is_at_open(cursor.ahead(&[Wanted::Symbol(Symbol::Open)])) {
@@ -83,8 +88,11 @@ fn is_at_open(tokens: &[Token]) -> bool
     }
 }
 
-/// The items of a destroy set, up to the end.
-fn items(cursor: &mut Cursor, version: Version) -> Result<Items<SetItem>, ParseFault>
+/// Reads the items of a destroy set in this version, up to the end.
+///
+/// - `Syntax`: the tokens are none.
+/// - `Memory`: a growth of memory was refused.
+pub fn read_set_items(cursor: &mut Cursor, version: Version) -> Result<Items<SetItem>, ParseFault>
     ensures { Reads (spell_each (spell_item version)) (map (tree_of_item version)) IsAtEnd cursor.old result cursor.new }
 {
     let mut items = Items::new(cursor.alloc());

@@ -6,7 +6,7 @@ use Rattle.effect_scan.specs.{declared.node.Node.{Node}, Nodes.{nodes_of, IsAt}}
 use Rattle.class_sets.specs.Marks.{IsMarked, Marks}
 use Rattle.type_check.specs.{Wires.{AreFitWires}, Typed.{IsTypedProgram}}
 use Rattle.certificate_lang.specs.{declared.certificate.NodeName.{NodeName}, declared.certificate.SetItem.{SetItem}, declared.certificate.Line.{Line}, declared.certificate.Certificate.{Certificate}}
-use Rattle.rank_check.specs.{declared.causes.Cause.{Cause}, declared.causes.NodeLine.{NodeLine}, declared.causes.Extra.{Extra}, declared.causes.Extra.TheVariants.{Unknown, Twice, Class}, declared.entries.Entry.{Entry}, Names.{IsNodeNamed}, Valid.{StandsFor, AreClassesThere, IsListed, HasEachNode, HasNothingElse}, Causes.{StandsForNoClass, StandsForNone, IsExtra, IsAtPlace}, Checks.{IsCause}, ByNumbers.{IsPlaceOf}}
+use Rattle.rank_check.specs.{declared.causes.Cause.{Cause}, declared.causes.NodeLine.{NodeLine}, declared.causes.Extra.{Extra}, declared.causes.Extra.TheVariants.{Unknown, Twice, Class}, declared.entries.Entry.{Entry}, declared.no.No.{No}, declared.no.No.TheVariants.{Wire, BodyType, Memory}, Names.{IsNodeNamed}, Valid.{StandsFor, AreClassesThere, IsListed, HasEachNode, HasNothingElse}, Causes.{StandsForNoClass, StandsForNone, IsExtra, IsAtPlace}, Checks.{IsCause}, ByNumbers.{IsPlaceOf}}
 
 -- ---- the nodes of lines
 -- the node of this number is named so
@@ -153,6 +153,13 @@ pub record IsReady (p : Loaded) : Type 0 where
 abbrev pub JudgesProgram : Loaded → Result (Unit {0}) Cause → Type 0
 JudgesProgram p (Ok _) = IsReady p
 JudgesProgram p (Err cause) = (certificate : Certificate) → IsCause p certificate cause
+
+-- the condition of the no is one on the program alone, and doesn't hold
+abbrev pub BreaksProgram : Loaded → No → Type 0
+BreaksProgram p Wire = ¬ AreFitWires p
+BreaksProgram p BodyType = AreFitWires p × ¬ IsTypedProgram p
+BreaksProgram p Memory = Unit {0}
+BreaksProgram p reason = ⊥
 
 -- the entries of the nodes, where the lines name each once and nothing else
 abbrev pub GivesEntries : Loaded → Certificate → Result (List Entry) Cause → Type 0

@@ -5,7 +5,7 @@ ghost use Rattle.std.specs.List.{Contains};
 ghost use Rattle.effect_scan.specs.Rows.{row, Edge};
 ghost use Rattle.class_sets.specs.Marks.{IsMarked};
 ghost use Rattle.effect_scan.specs.Scans.{IsScan};
-ghost use Rattle.rank_check.specs.Valid.{RunsBody};
+ghost use Rattle.rank_check.specs.Valid.{RunsBody, HasBody};
 ghost use Rattle.rank_check.specs.ByNumbers.{AreWithin, PassFirst, HasLost, HoldsOwn, IsOwnMistake, Hold, IsMistakeIn};
 
 use crate::causes::{Mistake, NodeLine};
@@ -135,8 +135,18 @@ fn first_unmarked(classes: &[usize], set: &ClassSet) -> Option<usize>
     None
 }
 
-/// Whether the method has a body, which may be that of a native.
-fn runs_body(meta: &Meta, class: usize, method: usize) -> bool
+/// Whether the node is a slot or a native.
+pub fn has_body(meta: &Meta, node: Node) -> bool
+    ensures { IsTrue result ↔ HasBody meta.now node }
+{
+    match node.member {
+        Member::Method(method) => runs_body(meta, node.class, method),
+        Member::Property(_) | Member::Destruction => false,
+    }
+}
+
+/// Whether the method of this number, in the class of this number, has a body, which may be that of a native.
+pub fn runs_body(meta: &Meta, class: usize, method: usize) -> bool
     ensures { IsTrue result ↔ RunsBody meta.now class method }
 {
     match meta.method_at(class, method) {

@@ -2,8 +2,8 @@
 
 ghost use Rattle.std.specs.Prelude.{IfOk, IfErr};
 ghost use Rattle.effect_scan.specs.Scans.{IsScan};
-ghost use Rattle.rank_check.specs.Checks.{Judges, IsCause};
-ghost use Rattle.rank_check.specs.Entries.{IsReady, NamesNodes, JudgesProgram};
+ghost use Rattle.rank_check.specs.Checks.{Judges, IsCause, no_of};
+ghost use Rattle.rank_check.specs.Entries.{IsReady, NamesNodes, JudgesProgram, BreaksProgram};
 ghost use Rattle.rank_check.specs.Valid.{IsValid};
 
 use crate::causes::Cause;
@@ -44,9 +44,11 @@ pub(crate) fn judge_scanned(
     Ok(scan)
 }
 
-/// The first of the conditions on the program alone: its wires fit, its literals, bodies and bindings are typed.
-fn judge_program(alloc: Global, meta: &Meta) -> Result<(), Cause>
-    ensures { JudgesProgram meta.now result }
+/// The first of the conditions on the program alone: its wires fit, its literals, bodies and bindings are typed. What breaks it is
+/// the error: `Wire`, `BodyType`; `Memory` comes only where a growth of memory was refused.
+pub fn judge_program(alloc: Global, meta: &Meta) -> Result<(), Cause>
+    ensures certificates { JudgesProgram meta.now result }
+    ensures program { IfErr result (λ cause. BreaksProgram meta.now (no_of cause)) }
 {
     if let Some(wire) = unfit_wire(meta) {
         return Err(Cause::Wire(wire));

@@ -21,7 +21,10 @@ pub use certificate_lang::{
 pub use checked::{Checked, check, examine};
 pub use class_sets::ClassSet;
 pub use denied::Denied;
-pub use judging::judge;
+pub use destroys::{has_body, runs_body};
+pub use judging::{judge, judge_program};
+pub use naming::node_number;
 pub use no::No;
 pub use ranks::MOST_BOUND;
+pub use sets::destroy_set;
 pub use type_check::{Spot, unfit_wire, untyped};

@@ -111,8 +111,8 @@ fn is_property_named(meta: &Meta, class: usize, property: usize, name: &Name) ->
     }
 }
 
-/// The number of the node of this name, or `None` where there is none.
-fn node_number(meta: &Meta, scan: &Scan, name: &NodeName) -> Option<usize>
+/// The number of the node of this name, by which it is found among all nodes of the program, or `None` where there is none.
+pub fn node_number(meta: &Meta, scan: &Scan, name: &NodeName) -> Option<usize>
     requires { IsScan meta.now scan.now }
     ensures value { LooksUp (IsNumberNamed meta.now name.now) result }
     ensures only { FindsOnly (IsNumberNamed meta.now name.now) result }

@@ -28,7 +28,7 @@ pub fn shared_set(
         let set = empty.copy()?;
         return Ok(Ok(set));
     }
-    match set_of(alloc, meta, scan, items)? {
+    match destroy_set(alloc, meta, scan, items)? {
         Ok(set) => {
             let set = Shared::new(alloc, set)?;
             Ok(Ok(set))
@@ -37,9 +37,9 @@ pub fn shared_set(
     }
 }
 
-/// The set of the classes that these items stand for, or the place of the first one whose class isn't there. Its error is
-/// that memory was refused. Time is linear in the items, each with the classes that it stands for.
-fn set_of(
+/// The set of the classes that these items of a certificate stand for, or the place of the first one whose class isn't there. Its
+/// error is that memory was refused. Time is linear in the items, each with the classes that it stands for.
+pub fn destroy_set(
     alloc: Global,
     meta: &Meta,
     scan: &Scan,

@@ -1,18 +1,17 @@
 //! Walks along edges that no valid certificate allows.
 
-ghost use Rattle.std.specs.Prelude.{◌≡◌, ◌<◌, length, IfOk, IsTrue, ◌↔◌, MatchOption};
+ghost use Rattle.std.specs.Prelude.{length, IfOk, MatchOption};
 ghost use Rattle.effect_scan.specs.Scans.{IsScan};
 ghost use Rattle.effect_scan.specs.declared.node.Node.{Node};
-ghost use Rattle.rank_check.specs.Valid.{HasBody};
 ghost use Rattle.rank_graph.specs.Solutions.{rank_of, leads_of};
 ghost use Rattle.rank_make.specs.Walks.{IsDestroyPath, IsHighChain};
 ghost use Rattle.rank_make.specs.Solved.{IsSolved, EndsItself, NoneEnds, AreLow};
 
 use crate::bounds::first_high;
 use crate::rows::{nodes_at, own_rows};
-use effect_scan::{Member, Node, Scan};
-use meta_model::{Meta, Work};
-use rank_check::MOST_BOUND;
+use effect_scan::{Node, Scan};
+use meta_model::Meta;
+use rank_check::{MOST_BOUND, has_body};
 use rank_graph::{Solution, chain_from, path_to};
 use sqlite_items::Items;
 use std::alloc::{AllocError, Global};
@@ -52,19 +51,6 @@ fn first_ending(meta: &Meta, scan: &Scan, solution: &Solution) -> Option<usize>
         }
     }
     None
-}
-
-/// Whether the node is a slot or a native.
-fn has_body(meta: &Meta, node: Node) -> bool
-    ensures { IsTrue result ↔ HasBody meta.now node }
-{
-    let Member::Method(method) = node.member else {
-        return false;
-    };
-    match meta.method_at(node.class, method) {
-        Some(found) => !matches!(found.work, Work::Signal),
-        None => false,
-    }
 }
 
 /// A chain of more nodes than the greatest bound, if there is one. Its error is that memory was refused.

@@ -8,7 +8,7 @@ use Rattle.effect_scan.specs.Nodes.{nodes_of}
 use Rattle.certificate_lang.specs.declared.certificate.NodeName.{NodeName}
 use Rattle.rank_check.specs.Entries.{IsNumberNamed, place_at}
 use Rattle.settling.specs.declared.certificate.SettlingLine.{SettlingLine}
-use Rattle.settling.specs.code.Lines.{IsLineFor, AreApart, PutsLine, AddsLine, PlacesFirst, PlacesLines}
+use Rattle.settling.specs.code.Lines.{IsLineFor, AreApart, PutsPlace, AddsLine, PlacesFirst, PlacesLines}
 
 pub none_at : (count n : ℕ) → place_at (replicate count None) n ≡ None
 none_at count n =
@@ -48,7 +48,7 @@ module _ (p : Loaded) (lines : List SettlingLine) where
     named_here : (n : ℕ) → IsLineFor p lines i n → IsNumberNamed p line.node n
     named_here n is = subst (λ (l : SettlingLine). IsNumberNamed p l.node n) (same_Some _ _ (sym is.stands ∙ at)) is.named
 
-    module _ (after : List (Option ℕ)) (put : PutsLine p line.node i before after) where
+    module _ (after : List (Option ℕ)) (put : PutsPlace p line.node i before after) where
       same_at : place_at after put.number ≡ Some i
       same_at = ap (λ (ps : List (Option ℕ)). place_at ps put.number) put.put ∙ get_or-set_same before put.number (Some i) None (number_low p put.number _ put.named h.counted)
 

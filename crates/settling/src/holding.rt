@@ -1,17 +1,17 @@
 //! Destroy sets that hold what they have to.
 
-ghost use Rattle.std.specs.Prelude.{ℕ, ◌≡◌, ◌↔◌, ◌<◌, length, IsTrue, MatchBool};
+ghost use Rattle.std.specs.Prelude.{ℕ, ◌≡◌, ◌<◌, length, MatchBool};
 ghost use Rattle.std.specs.List.{Contains};
 ghost use Rattle.effect_scan.specs.Rows.{Edge};
 ghost use Rattle.effect_scan.specs.Scans.{IsScan};
 ghost use Rattle.class_sets.specs.Marks.{IsMarked};
-ghost use Rattle.rank_check.specs.Valid.{RunsBody};
 ghost use Rattle.rank_check.specs.ByNumbers.{HoldsOwn};
 ghost use Rattle.settling.specs.code.ByNumbers.{AreWithin, Hold};
 
 use class_sets::ClassSet;
 use effect_scan::{Member, Node, Scan, row_at};
-use meta_model::{Meta, Work};
+use meta_model::Meta;
+use rank_check::runs_body;
 
 /// Whether each of these sets, in the order of nodes, holds what it has to: the set of each node that its node may lead to; for the
 /// destruction of a class its closure; for a slot or native not its own class.
@@ -73,14 +73,4 @@ fn holds_all(classes: &[usize], set: &ClassSet) -> bool
         }
     }
     true
-}
-
-/// Whether the method has a body, which may be that of a native.
-fn runs_body(meta: &Meta, class: usize, method: usize) -> bool
-    ensures { IsTrue result ↔ RunsBody meta.now class method }
-{
-    match meta.method_at(class, method) {
-        Some(found) => !matches!(found.work, Work::Signal),
-        None => false,
-    }
 }

@@ -3,7 +3,7 @@
 ghost use Rattle.effect_scan.specs.Scans.{IsScan};
 ghost use Rattle.rank_check.specs.Entries.{IsReady};
 ghost use Rattle.settling.specs.Checks.{Judges};
-ghost use Rattle.settling.specs.code.Standings.{JudgesProgram, AreTables};
+ghost use Rattle.settling.specs.code.Standings.{AreTables};
 
 use crate::certificate::SettlingCertificate;
 use crate::falling::edges_fall;
@@ -12,9 +12,8 @@ use crate::resting::{is_bounded, sets_rest};
 use crate::tables::Tables;
 use effect_scan::{Scan, edges_join_nodes};
 use meta_model::Meta;
-use rank_check::No;
+use rank_check::{No, judge_program};
 use std::alloc::Global;
-use type_check::{unfit_wire, untyped};
 
 /// The first condition of a valid settling certificate that doesn't hold, as the error: `Wire`, where a wire's method doesn't fit
 /// its signal; `BodyType`, where a literal, a body or a binding isn't typed; `Missing`, where a node has no line; `Extra`, where a
@@ -27,23 +26,24 @@ use type_check::{unfit_wire, untyped};
 pub fn judge(alloc: Global, meta: &Meta, certificate: &SettlingCertificate) -> Result<(), No>
     ensures { Judges meta.now certificate.now result }
 {
-    judge_program(alloc, meta)?;
+    match judge_program(alloc, meta) {
+        Ok(()) => judge_certificate(alloc, meta, certificate),
+        Err(cause) => Err(cause.no()),
+    }
+}
+
+/// The first of the conditions on the certificate, where those on the program alone hold.
+fn judge_certificate(
+    alloc: Global,
+    meta: &Meta,
+    certificate: &SettlingCertificate,
+) -> Result<(), No>
+    requires { IsReady meta.now }
+    ensures { Judges meta.now certificate.now result }
+{
     let scan = Scan::of(alloc, meta)?;
     let tables = Tables::of(alloc, meta, &scan, certificate)?;
     judge_tables(alloc, meta, &scan, &tables, certificate)
-}
-
-/// The first of the conditions on the program alone: its wires fit, its literals, bodies and bindings are typed.
-fn judge_program(alloc: Global, meta: &Meta) -> Result<(), No>
-    ensures { JudgesProgram meta.now result }
-{
-    if unfit_wire(meta).is_some() {
-        return Err(No::Wire);
-    }
-    match untyped(alloc, meta)? {
-        Some(_) => Err(No::BodyType),
-        None => Ok(()),
-    }
 }
 
 /// The first of the conditions on edges and sets.

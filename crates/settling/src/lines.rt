@@ -1,12 +1,12 @@
 //! The lines of nodes, by their places in the certificate.
 
-ghost use Rattle.std.specs.Prelude.{◌≡◌, ◌&&◌, length, replicate, IfOk, None};
+ghost use Rattle.std.specs.Prelude.{◌≡◌, ◌&&◌, length, IfOk};
 ghost use Rattle.effect_scan.specs.Nodes.{nodes_of};
 ghost use Rattle.effect_scan.specs.Scans.{IsScan};
 ghost use Rattle.settling.specs.code.Lines.{AddsLine, PlacesLines, FindsAll};
 
 use crate::certificate::SettlingLine;
-use crate::naming::node_number;
+use crate::places::{Noted, no_places, note_place};
 use certificate_lang::NodeName;
 use effect_scan::Scan;
 use meta_model::Meta;
@@ -68,27 +68,11 @@ fn add_line(
     requires count { length places.old ≡ length (nodes_of meta.now) }
     ensures { AddsLine meta.now name.now place places.old result places.new }
 {
-    let Some(node) = node_number(meta, scan, name) else {
-        return false;
-    };
-    match places.as_slice()[node] {
-        Some(_) => false,
-        None => {
-            places.set(node, Some(place));
-            true
-        }
+    match note_place(meta, scan, place, name, places) {
+        Noted::First => true,
+        Noted::NoNode => false,
+        Noted::Before(_) => false,
     }
-}
-
-/// No place for each of so many nodes. Its error is that memory was refused.
-pub fn no_places(alloc: Global, count: usize) -> Result<Items<Option<usize>>, AllocError>
-    ensures { IfOk result (λ places. places ≡ replicate count None) }
-{
-    let mut places = Items::new(alloc);
-    for _node in 0..count {
-        places.push(None)?;
-    }
-    Ok(places)
 }
 
 /// The places, or `None` where a node has none. Its error is that memory was refused.

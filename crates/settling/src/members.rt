@@ -6,8 +6,7 @@ ghost use Rattle.effect_scan.specs.Scans.{IsScan};
 ghost use Rattle.settling.specs.code.Members.{AddsMember, AddsMembers, FindsSets};
 
 use crate::certificate::SettlingSet;
-use crate::lines::no_places;
-use crate::naming::node_number;
+use crate::places::{Noted, no_places, note_place};
 use certificate_lang::NodeName;
 use effect_scan::Scan;
 use meta_model::Meta;
@@ -66,14 +65,9 @@ fn add_member(
     requires count { length places.old ≡ length (nodes_of meta.now) }
     ensures { AddsMember meta.now name.now place places.old result places.new }
 {
-    let Some(node) = node_number(meta, scan, name) else {
-        return false;
-    };
-    match places.as_slice()[node] {
-        Some(other) => other == place,
-        None => {
-            places.set(node, Some(place));
-            true
-        }
+    match note_place(meta, scan, place, name, places) {
+        Noted::NoNode => false,
+        Noted::First => true,
+        Noted::Before(other) => other == place,
     }
 }

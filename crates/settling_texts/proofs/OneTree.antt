@@ -1,15 +1,12 @@
 -- No two readings with the same tokens say something else.
 use Rattle.std.proofs.Common.{◌≡◌, ℕ, List, [], ◌∷◌, map, codes, refl, sym, ◌∙◌, ap, subst}
-use Rattle.texts.specs.{Numerals.{Numeral, spell_numeral, value_of}, declared.token.Token.{Token}}
+use Rattle.texts.specs.{Numerals.{spell_numeral}, declared.token.Token.{Token}}
 use Rattle.texts.specs.declared.token.Token.TheVariants as token
 use Rattle.token_reading.{specs.Lists.{spell_each}, specs.Literals.{greatest}, specs.Signatures.{HasPlainReference}, specs.code.Reading.{Found, EndsAnywhere, IsAtEnd}, proofs.OneTree.{HasOneTree}}
-use Rattle.certificate_lang.{specs.Grammar.{NodeReading, destruction, of_class, spell_node, tree_of_node, class, closure, spell_item, tree_of_item, HasFewParameters}, specs.declared.version.Version.TheVariants.{Two}, proofs.Items.{item_some}, proofs.OneTree.{one_tree_of_node}}
+use Rattle.certificate_lang.{specs.Grammar.{NodeReading, destruction, of_class, spell_node, tree_of_node, spell_item, HasFewParameters}, specs.declared.version.Version.TheVariants.{Two}, proofs.OneTree.{same_value, one_tree_of_node, one_tree_of_items}}
 use Rattle.settling_texts.{specs.Grammar.{IsDepth, spell_depth, tree_of_depth, spell_settling_line, tree_of_settling_line, IsSettlingLine, spell_members, tree_of_members, spell_settling_set, tree_of_settling_set, IsSettlingSet, IsRow}, specs.code.Grammar.{HasFewEach}, specs.code.Reads.{IsAtNumber}, specs.declared.row.SettlingRow.{SettlingRow}, specs.declared.syntax.Depth.{Depth}, proofs.Members.{ends_before, node_some}}
 use Rattle.settling.specs.{declared.certificate.SettlingLine.{SettlingLine}, declared.certificate.SettlingSet.{SettlingSet}}
 use Rattle.settling_texts.specs.declared.row.SettlingRow.TheVariants as row
-
-same_value : (a b : Numeral greatest) → a.digits ≡ b.digits → value_of a.digits ≡ value_of b.digits
-same_value a b e = ap value_of e
 
 -- ---- the bound and the step
 
@@ -31,21 +28,6 @@ depth_whole f end = record { reading = f.reading; spelled = f.spelled ∙ ap (λ
 
 -- ---- lines of nodes
 
-one_tree_of_items : HasOneTree (spell_each (spell_item Two)) (map (tree_of_item Two)) IsAtEnd
-one_tree_of_items [] [] r s er es e = (refl, e)
-one_tree_of_items [] (y ∷ ys) r s er es e = absurd (item_some Two y (spell_each (spell_item Two) ys s) (sym er ∙ e))
-one_tree_of_items (x ∷ xs) [] r s er es e = absurd (item_some Two x (spell_each (spell_item Two) xs r) (sym es ∙ sym e))
-one_tree_of_items (class x ∷ xs) (class y ∷ ys) r s er es e =
-    let h : (map (tree_of_item Two) xs ≡ map (tree_of_item Two) ys) × (r ≡ s) = one_tree_of_items xs ys r s er es cc in
-    let same = h.0 in
-    (cc, h.1)
-one_tree_of_items (class x ∷ xs) (closure is y ∷ ys) r s er es e = cc
-one_tree_of_items (closure is x ∷ xs) (class y ∷ ys) r s er es e = cc
-one_tree_of_items (closure is x ∷ xs) (closure also y ∷ ys) r s er es e =
-    let h : (map (tree_of_item Two) xs ≡ map (tree_of_item Two) ys) × (r ≡ s) = one_tree_of_items xs ys r s er es cc in
-    let same = h.0 in
-    (cc, h.1)
-
 one_tree_of_line : HasOneTree spell_settling_line tree_of_settling_line IsAtEnd
 one_tree_of_line a b r s er es e =
     let behind_a = spell_numeral greatest a.rank (spell_numeral greatest a.step (spell_each (spell_item Two) a.destroys r)) in
@@ -56,7 +38,7 @@ one_tree_of_line a b r s er es e =
     let second : a.step.digits ≡ b.step.digits = cc in
     let rank = same_value a.rank b.rank first in
     let step = same_value a.step b.step second in
-    let items = one_tree_of_items a.destroys b.destroys r s er es cc in
+    let items = one_tree_of_items Two a.destroys b.destroys r s er es cc in
     let same_node = node.0 in
     let same_items = items.0 in
     (cc, items.1)

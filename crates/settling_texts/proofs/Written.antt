@@ -1,12 +1,12 @@
 -- A settling certificate's text is read as the certificate.
-use Rattle.std.{proofs.Common.{◌≡◌, ◌≢◌, ◌∙◌, ℕ, ◌≤◌, Bool, true, false, ◌&&◌, nat_eq, List, [], ◌∷◌, ◌++◌, map, codes, decimal, inl, refl, sym, ap, subst, append_assoc, arith}, specs.List.{AllByRecursion, flat_map}, proofs.lemmas.Bool.{eq-eqb, false≢true}, proofs.lemmas.List.{append-nil}, proofs.lemmas.List.Elements.{All-from_recursion}}
+use Rattle.std.{proofs.Common.{◌≡◌, ◌∙◌, ℕ, ◌≤◌, true, List, [], ◌∷◌, ◌++◌, map, codes, decimal, inl, refl, sym, ap, subst, append_assoc, arith}, specs.List.{AllByRecursion, flat_map}, proofs.lemmas.List.{append-nil}, proofs.lemmas.List.Elements.{All-from_recursion}}
 use Rattle.basic_types.specs.{Name.{is_name_byte}, Signatures.{IsFreeName}, Words.{IsFree, word_spelling}}
 use Rattle.basic_types.specs.declared.word.Word.TheVariants as word
 use Rattle.texts.specs.{Numerals.{value_of}, declared.token.Token.{Token}}
 use Rattle.texts.specs.declared.token.Token.TheVariants as token
 use Rattle.token_reading.specs.Literals.{greatest}
-use Rattle.certificate_lang.{specs.Grammar.{IsSetting, spell_node, tree_of_item}, specs.code.Reads.{TakesRow}, specs.declared.certificate.NodeName.{NodeName}, specs.declared.certificate.SetItem.{SetItem}, specs.declared.version.Version.TheVariants.{Two}, proofs.Rows.{all_rows, no_rows, row_taken}, specs.Texts.{node_text, listed_text}, proofs.Pieces.{IsWritten, nothing, blank_then, name_then, digits_then}}
-use Rattle.settling_texts.{specs.Grammar.{IsDepth, IsSettlingLine, IsSettlingSet, IsRow, lines_of, sets_of}, specs.Reads.{IsSettling}, specs.Texts.{depth_line, node_line, listed_node, set_line, settling_text}, specs.Written.{IsWritableLine, IsWritableSet, IsWritable, TextsAreRead}, specs.code.Reads.{AreRows}, specs.declared.row.SettlingRow.{SettlingRow}, proofs.Members.{node_some}, proofs.Certificates.{AreSaid, settling_read}, proofs.Nodes.{value, numeral, number_then, reading_of_node, node_tree, node_then, node_few, nodes_tokens, nodes_tree, nodes_few, digits_stop_at_nodes, nodes_written, reading_of_item, items_tokens, items_tree, digits_stop_at_items, items_written, no_reference}}
+use Rattle.certificate_lang.{specs.Grammar.{IsSetting, spell_node, tree_of_item}, specs.code.Reads.{TakesRow}, specs.declared.certificate.NodeName.{NodeName}, specs.declared.certificate.SetItem.{SetItem}, specs.declared.version.Version.TheVariants.{Two}, proofs.Rows.{all_rows, no_rows, row_taken}, specs.Texts.{node_text, listed_text}, proofs.Pieces.{IsWritten, nothing, blank_then, name_then, digits_then}, proofs.Lines.{value, numeral, number_then, reading_of_node, node_tree, node_then, node_few, reading_of_item, items_tree, digits_stop_at_items, items_tokens, items_written, no_reference, differs, bound_is_name}}
+use Rattle.settling_texts.{specs.Grammar.{IsDepth, IsSettlingLine, IsSettlingSet, IsRow, lines_of, sets_of}, specs.Reads.{IsSettling}, specs.Texts.{depth_line, node_line, listed_node, set_line, settling_text}, specs.Written.{IsWritableLine, IsWritableSet, IsWritable, TextsAreRead}, specs.code.Reads.{AreRows}, specs.declared.row.SettlingRow.{SettlingRow}, proofs.Members.{node_some}, proofs.Certificates.{AreSaid, settling_read}, proofs.Nodes.{nodes_tokens, nodes_tree, nodes_few, digits_stop_at_nodes, nodes_written}}
 use Rattle.settling.specs.{declared.certificate.SettlingLine.{SettlingLine}, declared.certificate.SettlingSet.{SettlingSet}, declared.certificate.SettlingCertificate.{SettlingCertificate}}
 use Rattle.settling_texts.specs.declared.row.SettlingRow.TheVariants as row
 
@@ -57,19 +57,6 @@ line_ends line =
     ∙ ap (λ (bytes : List ℕ). node ++ (32 ∷ bytes)) (append_assoc rank (32 ∷ (step ++ items)) (codes "\n") ∙ ap (λ (bytes : List ℕ). rank ++ (32 ∷ bytes)) (append_assoc step items (codes "\n"))))
 
 -- ---- lines of sets
-abbrev same : List ℕ → List ℕ → Bool
-same [] [] = true
-same [] (y ∷ ys) = false
-same (x ∷ xs) [] = false
-same (x ∷ xs) (y ∷ ys) = nat_eq x y && same xs ys
-
-same_itself : (xs : List ℕ) → same xs xs ≡ true
-same_itself [] = refl
-same_itself (x ∷ xs) = let one : nat_eq x x ≡ true = eq-eqb x x refl in rw one (same_itself xs)
-
-differs : (xs ys : List ℕ) → same xs ys ≡ false → xs ≢ ys
-differs xs ys other e = false≢true (sym other ∙ (ap (λ (zs : List ℕ). same xs zs) (sym e) ∙ same_itself xs))
-
 round_is_free : IsFree (codes "round")
 round_is_free word.Class = differs (codes "round") (codes "class") refl
 round_is_free w = differs (codes "round") (word_spelling w) refl
@@ -167,13 +154,6 @@ settling_is_free w = differs (codes "settling") (word_spelling w) refl
 
 settling_is_name : IsFreeName (codes "settling")
 settling_is_name = record { name = (refl, All-from_recursion (λ b. is_name_byte b ≡ true) (codes "ettling") (refl, (refl, (refl, (refl, (refl, (refl, (refl, tt)))))))); free = settling_is_free }
-
-bound_is_free : IsFree (codes "bound")
-bound_is_free word.Class = differs (codes "bound") (codes "class") refl
-bound_is_free w = differs (codes "bound") (word_spelling w) refl
-
-bound_is_name : IsFreeName (codes "bound")
-bound_is_name = record { name = (refl, All-from_recursion (λ b. is_name_byte b ≡ true) (codes "ound") (refl, (refl, (refl, (refl, tt))))); free = bound_is_free }
 
 abbrev header_tokens : List Token
 header_tokens = token.Name (codes "settling") ∷ token.Number (codes "1") ∷ []

@@ -1,17 +1,16 @@
 //! Reads a settling certificate, line by line.
 
-ghost use Rattle.std.specs.Prelude.{◌≡◌, ◌<◌, [], ◌∷◌, ◌++◌, length, IfOk, IfSome, OnOk};
-ghost use Rattle.certificate_lang.specs.code.Reads.{SplitsRow};
+ghost use Rattle.std.specs.Prelude.{◌≡◌, [], ◌∷◌, ◌++◌, OnOk};
 ghost use Rattle.settling_texts.specs.Grammar.{lines_of, sets_of};
 ghost use Rattle.settling_texts.specs.Reads.{ReadsSettling};
 ghost use Rattle.settling_texts.specs.code.Reads.{SplitsFirst, ReadsRows};
 
 use crate::row::{SettlingRow, header, row, whole_depth};
-use certificate_lang::CertificateFault;
+use certificate_lang::{CertificateFault, next_row};
 use settling::{SettlingCertificate, SettlingLine, SettlingSet};
 use sqlite_items::Items;
 use std::alloc::{AllocError, Global};
-use texts::{Lexer, split_line};
+use texts::Lexer;
 
 /// Reads a settling certificate: `settling 1`, `bound B S`, and behind them, in any order, a line `NODE RANK STEP {ITEM}` for
 /// each node and a line `round R NODE {NODE}` for each set that comes to rest. Nodes and items are read as in a certificate of
@@ -88,21 +87,4 @@ fn first_row<'a>(lexer: &mut Lexer, text: &'a [u8]) -> Result<&'a [u8], Certific
         Some(after) => Ok(after),
         None => Err(CertificateFault::Format),
     }
-}
-
-/// Cuts the first line that isn't empty: the lexer has its tokens then. What follows the line; or `None` where all are empty.
-fn next_row<'a>(lexer: &mut Lexer, text: &'a [u8]) -> Result<Option<&'a [u8]>, CertificateFault>
-    ensures splits { SplitsRow text.now lexer.new result }
-    ensures shorter { IfOk result (λ row.
-        IfSome row (λ rest. length rest.now < length text.now)) }
-{
-    let mut rest = text;
-    while let Some((line, after)) = split_line(rest) {
-        lexer.cut(line)?;
-        if !lexer.is_empty() {
-            return Ok(Some(after));
-        }
-        rest = after;
-    }
-    Ok(None)
 }

@@ -3,10 +3,8 @@
 ghost use Rattle.std.specs.Prelude.{◌↔◌, IsTrue};
 ghost use Rattle.settling_texts.specs.code.Reads.{ReadsHeader, ReadsWholeDepth, ReadsWholeLine, ReadsWholeSet, ReadsRow, IsAtNumber};
 
-use crate::syntax::{
-    Depth, bound_and_step, has_few_parameters, have_few_parameters, line, set, setting,
-};
-use certificate_lang::CertificateFault;
+use crate::syntax::{Depth, bound_and_step, have_few_parameters, line, set};
+use certificate_lang::{CertificateFault, has_few_parameters, read_setting};
 use settling::{SettlingLine, SettlingSet};
 use std::alloc::Global;
 use texts::Token;
@@ -29,7 +27,7 @@ pub fn header(alloc: Global, tokens: &[Token]) -> Result<(), CertificateFault>
     ensures { ReadsHeader tokens.now result }
 {
     let mut cursor = Cursor::new(alloc, tokens);
-    let version = setting(&mut cursor, b"settling")?;
+    let version = read_setting(&mut cursor, b"settling")?;
     if !cursor.is_empty() {
         return Err(CertificateFault::Format);
     }

@@ -7,6 +7,8 @@ use Rattle.certificate_lang.specs.declared.certificate.NodeName.{NodeName}
 use Rattle.rank_check.specs.Entries.{IsNumberNamed, place_at, LacksPlace}
 use Rattle.settling.specs.declared.certificate.SettlingLine.{SettlingLine}
 use Rattle.settling.specs.declared.lines.LinePlaces.{LinePlaces}
+use Rattle.settling.specs.declared.places.Noted.{Noted}
+use Rattle.settling.specs.declared.places.Noted.TheVariants.{NoNode, First, Before}
 
 -- the line at this place is for node n
 pub record IsLineFor (p : Loaded) (lines : List SettlingLine) (k n : ℕ) : Type 0 where
@@ -19,16 +21,30 @@ pub record AreApart (p : Loaded) (lines : List SettlingLine) : Type 0 where
   pub nodes : (k : ℕ) → k < length lines → (n : ℕ) × IsLineFor p lines k n
   pub once : (j k n : ℕ) → IsLineFor p lines j n → IsLineFor p lines k n → j ≡ k
 
--- the node of this name, which is the only one, had no place, and has this one now; or none of this name had no place
-pub record PutsLine (p : Loaded) (name : NodeName) (place : ℕ) (before after : List (Option ℕ)) : Type 0 where
+-- the node of this name, which is the only one, had no place, and has this one now
+pub record PutsPlace (p : Loaded) (name : NodeName) (place : ℕ) (before after : List (Option ℕ)) : Type 0 where
   pub number : ℕ
   pub named : IsNumberNamed p name number
   pub only : (n : ℕ) → IsNumberNamed p name n → n ≡ number
   pub none : place_at before number ≡ None
   pub put : after ≡ slice_set before number (Some place)
 
+-- .. had this place
+pub record HadPlace (p : Loaded) (name : NodeName) (other : ℕ) (before : List (Option ℕ)) : Type 0 where
+  pub number : ℕ
+  pub named : IsNumberNamed p name number
+  pub only : (n : ℕ) → IsNumberNamed p name n → n ≡ number
+  pub had : place_at before number ≡ Some other
+
+-- what came of noting a place for the node of this name
+abbrev pub NotesPlace : Loaded → NodeName → ℕ → List (Option ℕ) → Noted → List (Option ℕ) → Type 0
+NotesPlace p name place before NoNode after = (after ≡ before) × ((n : ℕ) → ¬ IsNumberNamed p name n)
+NotesPlace p name place before First after = PutsPlace p name place before after
+NotesPlace p name place before (Before other) after = (after ≡ before) × HadPlace p name other before
+
+-- the place was put; or no node of this name lacked one
 abbrev pub AddsLine : Loaded → NodeName → ℕ → List (Option ℕ) → Bool → List (Option ℕ) → Type 0
-AddsLine p name place before true after = PutsLine p name place before after
+AddsLine p name place before true after = PutsPlace p name place before after
 AddsLine p name place before false after = (after ≡ before) × ((n : ℕ) → IsNumberNamed p name n → ¬ (place_at before n ≡ None))
 
 -- for each node the place of a line that is for it, where one of the first lines is

@@ -89,10 +89,3 @@ pub record AreTables (p : Loaded) (certificate : SettlingCertificate) (tables : 
 abbrev pub GivesTables : Loaded → SettlingCertificate → Result Tables No → Type 0
 GivesTables p certificate (Ok tables) = AreTables p certificate tables
 GivesTables p certificate (Err reason) = IsReady p → IsNo p certificate reason
-
--- ---- the program
-
--- its own conditions are judged, whatever the certificate
-abbrev pub JudgesProgram : Loaded → Result (Unit {0}) No → Type 0
-JudgesProgram p (Ok _) = IsReady p
-JudgesProgram p (Err reason) = (certificate : SettlingCertificate) → IsNo p certificate reason

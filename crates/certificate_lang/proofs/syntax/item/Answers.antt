@@ -1,4 +1,3 @@
-use Rattle.std.proofs.Common.{sym, ◌∙◌}
 use Rattle.certificate_lang.proofs.Items.{class_reads, closure_found}
 use Rattle.certificate_lang.proofs.syntax.item.Goals as goal
 

@@ -1,12 +1,20 @@
-use Rattle.std.proofs.lemmas.Result.{err_from_is_err_and}
+use Rattle.meta_model.specs.Loaded.{Loaded}
+use Rattle.rank_check.specs.Entries.{BreaksProgram}
+use Rattle.rank_check.specs.declared.no.No.{No}
+use Rattle.rank_check.specs.declared.no.No.TheVariants.{Wire, BodyType, Missing, Extra, Edge, Destroys, Bound, Memory}
+use Rattle.settling.specs.Checks.{IsNo}
+use Rattle.settling.specs.declared.certificate.SettlingCertificate.{SettlingCertificate}
 use Rattle.settling.proofs.judging.judge.Goals as goal
 
-pub returns-in_err-judge_program : goal.returns-in_err-judge_program
-returns-in_err-judge_program c =
-    let p = err_from_is_err_and c.from_residual.result c.from_residual.ensures.1 in
-    rw (p.1, p.2) (c.in_err-judge_program.ensures c.args.certificate.now)
+broken : (p : Loaded) (certificate : SettlingCertificate) (reason : No) → BreaksProgram p reason → IsNo p certificate reason
+broken p certificate Wire h = h
+broken p certificate BodyType h = h
+broken p certificate Missing h = absurd h
+broken p certificate Extra h = absurd h
+broken p certificate Edge h = absurd h
+broken p certificate Destroys h = absurd h
+broken p certificate Bound h = absurd h
+broken p certificate Memory h = tt
 
-pub returns-in_err-tables : goal.returns-in_err-tables
-returns-in_err-tables c =
-    let p = err_from_is_err_and c.from_residual-in_err-tables.result c.from_residual-in_err-tables.ensures.1 in
-    rw (p.1, p.2) (c.in_err-tables.ensures c.in_ok-judge_program.ensures)
+pub returns-in-Err : goal.returns-in-Err
+returns-in-Err c = rw c.no.ensures (broken c.args.meta.now c.args.certificate.now _ c.in-Err.ensures.program)

@@ -1,5 +1,5 @@
 use Rattle.certificate_lang.proofs.Nodes.{destruction_found, of_class_found}
-use Rattle.settling_texts.proofs.syntax.node.Goals as goal
+use Rattle.certificate_lang.proofs.syntax.read_node.Goals as goal
 
 pub returns-then-eat-clause-reads : goal.returns-then-eat-clause-reads
 returns-then-eat-clause-reads c = destruction_found c.if-eat.ensures.found c.in_ok-class.ensures.reads

@@ -2,7 +2,7 @@ use Rattle.std.proofs.Common.{refl, false}
 use Rattle.std.proofs.lemmas.Result.{err_from_is_err_and}
 use Rattle.certificate_lang.proofs.Items.{items_step, items_stuck, items_done}
 use Rattle.certificate_lang.proofs.Certificates.{is_not_so}
-use Rattle.certificate_lang.proofs.syntax.items.Goals as goal
+use Rattle.certificate_lang.proofs.syntax.read_set_items.Goals as goal
 
 pub returns-in_err-item : goal.returns-in_err-item
 returns-in_err-item c =

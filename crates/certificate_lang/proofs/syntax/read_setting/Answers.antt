@@ -2,7 +2,7 @@ use Rattle.std.proofs.Common.{◌∙◌, ap, sym, ◌∷◌, List, ℕ}
 use Rattle.std.specs.Cmp.Lexicographic.{same_text}
 use Rattle.texts.specs.declared.token.Token.TheVariants as token
 use Rattle.certificate_lang.proofs.Nodes.{setting_reads}
-use Rattle.certificate_lang.proofs.syntax.setting.Goals as goal
+use Rattle.certificate_lang.proofs.syntax.read_setting.Goals as goal
 
 pub returns-in-Name : goal.returns-in-Name
 returns-in-Name c =
