@@ -3,8 +3,13 @@ pub mod Circling
 pub mod Collecting
 pub mod Driving
 pub mod Ending
+pub mod Flooring
 pub mod Grouping
+pub mod Ranking
 pub mod Searching
+pub mod Setting
 pub mod Silent
 pub mod States
+pub mod Stepping
+pub mod Taking
 pub mod Walks

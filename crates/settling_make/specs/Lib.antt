@@ -3,3 +3,6 @@ pub mod Searching
 pub mod Circles
 pub mod Inside
 pub mod Collected
+pub mod Fits
+pub mod Ranking
+pub mod Sets

@@ -1,8 +1,7 @@
 //! Slots and natives that may destroy their own object.
 
-ghost use Rattle.std.specs.Prelude.{◌≡◌, ◌↔◌, IfOk, IsTrue, MatchOption};
+ghost use Rattle.std.specs.Prelude.{IfOk, MatchOption};
 ghost use Rattle.effect_scan.specs.Scans.{IsScan};
-ghost use Rattle.rank_check.specs.Valid.{HasBody};
 ghost use Rattle.rank_graph.specs.Solutions.{leads_of};
 ghost use Rattle.settling_make.specs.Circles.{LeadsToEnd, NoneEnds, AreDestroyed};
 ghost use Rattle.settling_make.specs.Components.{AreComponents};
@@ -10,8 +9,9 @@ ghost use Rattle.settling_make.specs.Components.{AreComponents};
 use crate::components::Components;
 use crate::heights::each_itself;
 use crate::outer::{outer_own, outer_rows};
-use effect_scan::{Member, Node, Scan, edges_join_nodes};
-use meta_model::{Meta, Work};
+use effect_scan::{Node, Scan, edges_join_nodes};
+use meta_model::Meta;
+use rank_check::has_body;
 use rank_graph::{Solution, Unranked, solve};
 use std::alloc::{AllocError, Global};
 
@@ -67,17 +67,4 @@ pub fn first_ending(
         }
     }
     None
-}
-
-/// Whether the node is a slot or a native.
-fn has_body(meta: &Meta, node: Node) -> bool
-    ensures { IsTrue result ↔ HasBody meta.now node }
-{
-    let Member::Method(method) = node.member else {
-        return false;
-    };
-    match meta.method_at(node.class, method) {
-        Some(found) => !matches!(found.work, Work::Signal),
-        None => false,
-    }
 }

@@ -81,7 +81,7 @@ fn silent_row(
 }
 
 /// Whether an edge between these nodes lies inside a component and leads to no property.
-fn is_silent(scan: &Scan, found: &Components, number: usize, target: usize) -> bool
+pub fn is_silent(scan: &Scan, found: &Components, number: usize, target: usize) -> bool
     requires { target < length scan.now.nodes }
     ensures { IsTrue result ↔ IsSilentEnd scan.now.nodes found.now.numbers number target }
 {
