@@ -1,0 +1,5 @@
+pub mod Writes
+pub mod Levels
+pub mod Written
+pub mod Deaths
+pub mod Handed

@@ -1,0 +1,57 @@
+//! What holds where a settling certificate is valid.
+
+ghost use Rattle.settled_runs.specs.Deaths.{DeathsKeep};
+ghost use Rattle.settled_runs.specs.Handed.{ValueIsHanded};
+ghost use Rattle.settled_runs.specs.Levels.{LevelsAreShallow, LevelsCarryOne};
+ghost use Rattle.settled_runs.specs.Written.{WrittenOnce, WrittenStay, WrittenStayWithin};
+ghost use Rattle.settled_runs.specs.Writes.{FollowersAreLow, FollowersLeave, NothingFollows};
+
+use settling::stacks_are_shallow;
+
+/// What changes with properties that are written or bound is no higher than these: by its rank, its step and its destroy set.
+pub fn followers_are_low()
+    ensures { FollowersAreLow }
+{}
+
+/// What changes with a property of a set has a lower step, by what the set adds for each object.
+pub fn followers_leave()
+    ensures { FollowersLeave }
+{}
+
+/// Nothing follows from writes that leave what properties had, or that no binding reads.
+pub fn nothing_follows()
+    ensures { NothingFollows }
+{}
+
+/// Levels that stand above one another are no more than the certificate's bound, and its step for each object that was made.
+pub fn levels_are_shallow()
+    ensures { LevelsAreShallow }
+{
+    stacks_are_shallow();
+}
+
+/// Levels of one set carry one value, as it reads.
+pub fn levels_carry_one()
+    ensures { LevelsCarryOne }
+{}
+
+/// No level of a set has written a place that reads otherwise than what the set carries.
+pub fn written_once()
+    ensures { WrittenOnce }
+{}
+
+/// What levels wrote stays, whatever is written from above them: outside of the set of the highest one, or within it.
+pub fn written_stay()
+    ensures outside { WrittenStay }
+    ensures within { WrittenStayWithin }
+{}
+
+/// Levels stay, with what they wrote, where objects die.
+pub fn deaths_keep()
+    ensures { DeathsKeep }
+{}
+
+/// A statement that hands its value on does what it does with what the first argument reads as.
+pub fn value_is_handed()
+    ensures { ValueIsHanded }
+{}
