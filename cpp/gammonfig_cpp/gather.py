@@ -14,7 +14,8 @@ from .cleaning import clean
 from .errors import ReadError
 from .facts import Cache, read_unit
 from .model import Class, Facts
-from .precompiled import LEAST, Headers, kept, kind_of, parse
+from .libraries import kinds_of
+from .precompiled import LEAST, Headers, Kind, kept, parse
 from .units import Unit
 
 # The classes of libraries that this process has read: the next unit needn't read them again.
@@ -64,7 +65,8 @@ def gather(units: list[Unit], roots: list[str], cache: Cache | None, jobs: int, 
     missing = [unit for unit in units if unit not in found]
     bar = Bar(len(missing), quiet)
     with tempfile.TemporaryDirectory(prefix='gammonfig-headers') as own:
-        headers = _headers_for(missing, cache.folder if cache is not None else own)
+        kinds = kinds_of(units, roots) if missing else {}
+        headers = _headers_for({unit: kinds[unit] for unit in missing}, cache.folder if cache is not None else own, jobs)
         for unit, facts in _read_all(missing, roots, jobs, headers):
             found[unit] = facts
             if cache is not None and not facts.errors:
@@ -75,15 +77,14 @@ def gather(units: list[Unit], roots: list[str], cache: Cache | None, jobs: int, 
     return [found[unit] for unit in units]
 
 
-def _headers_for(units: list[Unit], folder: str) -> dict[Unit, Headers | None]:
+def _headers_for(kinds: dict[Unit, Kind | None], folder: str, jobs: int) -> dict[Unit, Headers | None]:
     """The headers that units share: those that are kept, and where enough units are to be read new ones."""
-    kinds = {unit: kind_of(unit) for unit in units}
     counts = Counter(kind for kind in kinds.values() if kind is not None)
     found = {kind: kept(kind, folder) for kind in counts}
     wanted = [kind for kind, count in counts.items() if found[kind] is None and count >= LEAST]
     if wanted:
-        # In a process of its own: its memory goes with it.
-        with ProcessPoolExecutor(1) as pool:
+        # In processes of their own: their memory goes with them.
+        with ProcessPoolExecutor(max(1, min(jobs, len(wanted)))) as pool:
             try:
                 for kind, done in zip(wanted, pool.map(parse, wanted, [folder] * len(wanted))):
                     found[kind] = kept(kind, folder) if done else None

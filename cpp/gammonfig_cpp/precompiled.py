@@ -1,11 +1,12 @@
-"""Qt's headers, parsed once for all units that are compiled alike: most of the time that reading takes goes into them."""
+"""Headers of Qt and of other libraries, parsed once for all units that are compiled alike: most of the time that reading takes goes into
+them."""
 from __future__ import annotations
 
 import hashlib
 import os
 import pickle
 import re
-from dataclasses import dataclass
+from dataclasses import dataclass, replace
 
 from .cleaning import mark_used
 from .libclang import cindex, version
@@ -21,15 +22,32 @@ ONCE = '-fpch-instantiate-templates'
 MODULE = re.compile(r'Qt[A-Z]\w*$')
 
 
+@dataclass(frozen=True, order=True)
+class Library:
+    """A header of a library beside Qt, and the folder that has it; none where the compiler finds it by itself."""
+    folder: str
+    name: str
+
+
 @dataclass(frozen=True)
 class Kind:
-    """What units have in common that can share headers: the modules of Qt that they may include, and the flags that decide what those say."""
+    """What units have in common that can share headers: the modules of Qt that they may include, the flags that decide what those say, and
+    the headers of other libraries that enough of them include."""
     modules: tuple[str, ...]
     flags: tuple[str, ...]
+    libraries: tuple[Library, ...] = ()
 
     def name(self) -> str:
-        words = '\0'.join((*self.modules, '', *self.flags, '', *ANNOTATIONS, ONCE, '', version()))
+        libraries = [word for it in self.libraries for word in (it.folder, it.name)]
+        words = '\0'.join((*self.modules, '', *self.flags, '', *libraries, '', *ANNOTATIONS, ONCE, '', version()))
         return 'headers-' + hashlib.sha256(words.encode()).hexdigest()[:40]
+
+    def text(self) -> str:
+        return ''.join(f'#include <{name}>\n' for name in (*(f'{it}/{it}' for it in self.modules), *(it.name for it in self.libraries)))
+
+    def folders(self) -> list[str]:
+        """The flags by which its libraries are found."""
+        return [word for folder in dict.fromkeys(it.folder for it in self.libraries if it.folder) for word in ('-isystem', folder)]
 
 
 @dataclass(frozen=True)
@@ -82,20 +100,30 @@ def kept(kind: Kind, folder: str) -> Headers | None:
 
 
 def parse(kind: Kind, folder: str) -> bool:
-    """Parses the headers of a kind, and keeps them; false where that can't be done, and each unit reads them by itself."""
+    """Parses the headers of a kind, and keeps them; those of Qt alone where those of libraries don't go together. False where that can't be
+    done, and each unit reads them by itself."""
     try:
-        return _parse(kind, os.path.join(folder, kind.name()))
+        path = os.path.join(folder, kind.name())
+        return _parse(kind, path) or (bool(kind.libraries) and _parse(replace(kind, libraries=()), path))
     except (OSError, cindex.TranslationUnitLoadError, cindex.TranslationUnitSaveError):
         return False
 
 
+def write_once(path: str, text: str) -> None:
+    """Writes a file where it doesn't say so already: clang compares its time."""
+    try:
+        with open(path, encoding='utf-8') as file:
+            if file.read() == text:
+                return
+    except OSError:
+        pass
+    with open(path, 'w', encoding='utf-8') as file:
+        file.write(text)
+
+
 def _parse(kind: Kind, path: str) -> bool:
-    text = ''.join(f'#include <{module}/{module}>\n' for module in kind.modules)
-    # The file has to stay as it is: clang compares its time.
-    if not os.path.exists(path + '.h'):
-        with open(path + '.h', 'w', encoding='utf-8') as file:
-            file.write(text)
-    tree = cindex.Index.create().parse(path + '.h', args=['-x', 'c++-header', *kind.flags, *ANNOTATIONS, ONCE],
+    write_once(path + '.h', kind.text())
+    tree = cindex.Index.create().parse(path + '.h', args=['-x', 'c++-header', *kind.flags, *kind.folders(), *ANNOTATIONS, ONCE],
                                        options=cindex.TranslationUnit.PARSE_INCOMPLETE)
     if any(found.severity >= ERROR for found in tree.diagnostics):
         return False

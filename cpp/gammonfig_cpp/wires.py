@@ -233,23 +233,26 @@ class Wires:
         return emitted - elsewhere
 
     def _of_qt(self) -> None:
-        """What Qt connects by itself, where somebody listens to where it leads."""
-        whole = self.whole
+        """What Qt connects by itself, where somebody listens to where it leads, or the application has the function."""
+        whole, program = self.whole, self.program
         for _ in range(3):
-            heard = {w.signal for w in self.program.wires}
+            heard, senders = {w.signal for w in program.wires}, {w.sender for w in program.wires}
             for sender, signal, receiver, other in self.calling.qt.table.wires:
                 for a in whole.by_name.get(sender, ()):
                     for b in whole.by_name.get(receiver, ()):
                         one, two = whole.signal(a, signal), whole.signal(b, other)
-                        present = self.calling.is_present(a) and self.calling.is_present(b)
-                        if one is None or two is None or not present or ('signal', two) not in heard:
+                        # What Qt makes itself, as the selection of a view, is there where somebody is connected to it.
+                        if one is None or not all(self.calling.is_present(it) or Element('class', it) in senders for it in (a, b)):
                             continue
-                        self._add_of_qt(a, one, b, two)
+                        if two is None:
+                            for on, key in self.calling.callbacks(Element('class', b), other):
+                                self._add_of_qt(a, one, on, key)
+                        elif ('signal', two) in heard:
+                            self._add_of_qt(a, one, program.of_class(b), program.signal(two))
 
-    def _add_of_qt(self, a: str, one: str, b: str, two: str) -> None:
-        program = self.program
-        wire = Wire(program.of_class(a), program.signal(one), program.of_class(b),
-                    self.fitting(program.signal(one), program.signal(two)), 'direct', None, 'Qt connects them by itself')
+    def _add_of_qt(self, a: str, one: str, receiver: Element, key: Key) -> None:
+        program, signal = self.program, self.program.signal(one)
+        wire = Wire(program.of_class(a), signal, receiver, self.fitting(signal, key), 'direct', None, 'Qt connects them by itself')
         known = (wire.sender, wire.signal, wire.receiver, wire.method)
         if known not in self.of_qt:
             self.of_qt.add(known)

@@ -322,6 +322,13 @@ def test_an_item_is_told_of_by_its_list() -> None:
         assert [it for it in ('m_one', 'm_other') if any(it in line or 'to_QListWidget.' in line for line in told)] == lists, (slot, told)
 
 
+def test_a_selection_of_a_view_ends_an_editor() -> None:
+    found = case('widgets')
+    start = 'wire QItemSelectionModel currentChanged(QString, QString) -> Cells setData_with(QString, QString) direct;'
+    assert any(wire.startswith(start) for wire in found.wires()), 'Qt itself makes the selection: somebody is connected to it'
+    assert found.body('setData_with') == ['call this.setData(current, "", 0);']
+
+
 def test_members_that_lead_to_nothing() -> None:
     whole, lean = case('connects'), case('connects', lean=True)
     assert 'slot byMember()' in whole.text

@@ -88,7 +88,7 @@ def test_a_table() -> None:
     assert table.entries[('QTimer', 'start')].posts == ['timeout']
     assert table.entries[('QDialog', 'done')].emits == ['accepted', 'finished', 'rejected']
     assert table.entries[('QMenu', 'exec')].modal and not table.entries[('QDialog', 'done')].modal
-    assert table.wires == [('QAction', 'triggered', 'QMenu', 'triggered')]
+    assert table.wires == [('QAction', 'triggered', 'QMenu', 'triggered'), ('QItemSelectionModel', 'currentChanged', 'QAbstractItemModel', 'setData')]
 
 
 @pytest.mark.parametrize('line', ['QAction.trigger', 'QAction emits x', 'QAction.trigger emit x', 'QAction.trigger emits', 'QAction.trigger emits a b',

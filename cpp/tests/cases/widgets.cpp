@@ -52,3 +52,12 @@ private:
     QListWidget *m_one = new QListWidget(this);
     QListWidget *m_other = new QListWidget(this);
 };
+
+class Cells : public QStandardItemModel {
+    Q_OBJECT
+public:
+    void watch(QTreeView *view) { connect(view->selectionModel(), &QItemSelectionModel::selectionChanged, this, &Cells::edited); }
+    bool setData(const QModelIndex &, const QVariant &, int) override { emit edited(); return true; }
+signals:
+    void edited();
+};

@@ -91,7 +91,7 @@ def facts(calls: list[Called], headers: Headers) -> list[Fact]:
                 chain, function = headers.public(note.handlers_classes), note.handler
                 declared = chain[-1] if chain else ""
             if chain:
-                classes = headers.public(note.classes) if note.kind == "signal" else []
+                classes = headers.public(note.classes) if note.kind in ("signal", "called") else []
                 told = note.kind != "called" or note.whose != "other" or note.classes not in (["QWidget"], ["QObject"])
                 found.append(Fact(chain, function, declared, clause, name, names, call.place(), note.name, told, classes))
     return found
@@ -121,7 +121,7 @@ def by_others(fact: Fact, lines: list[Line], table: Table) -> bool:
 
 
 def wired(fact: Fact, emitted: set[tuple[str, str]], table: Table) -> bool:
-    """Whether Qt's own connections bring the signal about, from another one that came."""
+    """Whether Qt's own connections bring the signal about, or call the function, from another signal that came."""
     return any(
         name == fact.signal and to in fact.classes and (cls, signal) in emitted for cls, signal, to, name in table.wires
     )
@@ -157,7 +157,7 @@ def allowed(fact: Fact, table: Table, headers: Headers, emitted: set[tuple[str, 
             used.add((line.cls, line.function, "modal", ""))
             good = True
     if good or fact.clause not in SIGNALS:
-        return good
+        return good or (fact.clause == "calls" and wired(fact, emitted, table))
     notified = fact.name in headers.notified(fact.chain[0], fact.function)
     return notified or wired(fact, emitted, table) or by_others(fact, lines, table)
 
@@ -180,7 +180,7 @@ def compare(calls: list[Called], table: Table, headers: Headers) -> tuple[list[F
     for call in calls:
         these = facts([call], headers)
         mark_posted(call, table, headers, used)
-        emitted = {(cls, it.signal) for it in these if it.signal for cls in it.classes}
+        emitted = {(cls, it.signal) for it in these if it.clause in SIGNALS for cls in it.classes}
         for fact in these:
             if not allowed(fact, table, headers, emitted, used) and fact.told:
                 line = table.line(fact.chain, fact.function)
@@ -191,10 +191,12 @@ def compare(calls: list[Called], table: Table, headers: Headers) -> tuple[list[F
 
 
 def wires_that_came(calls: list[Called], table: Table, headers: Headers) -> set[tuple[str, str, str, str]]:
-    """Qt's own connections of which both signals came in one call."""
+    """Qt's own connections of which the signal and what it leads to came in one call."""
     found: set[tuple[str, str, str, str]] = set()
     for call in calls:
-        came = {(cls, it.name) for it in call.notes if it.once and it.kind == "signal" for cls in headers.public(it.classes)}
-        if len(came) > 1:
-            found |= {it for it in table.wires if (it[0], it[1]) in came and (it[2], it[3]) in came}
+        came = {kind: {(cls, it.name) for it in call.notes if it.once and it.kind == kind for cls in headers.public(it.classes)}
+                for kind in ("signal", "called")}
+        if came["signal"]:
+            led_to = came["signal"] | came["called"]
+            found |= {it for it in table.wires if (it[0], it[1]) in came["signal"] and (it[2], it[3]) in led_to}
     return found

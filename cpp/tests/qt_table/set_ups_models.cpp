@@ -83,6 +83,30 @@ template <class T> T *view(Scene &s)
     return it;
 }
 
+// Its own model, whose values an editor of a view sets.
+class Edited : public QStandardItemModel
+{
+public:
+    using QStandardItemModel::QStandardItemModel;
+    bool setData(const QModelIndex &, const QVariant &, int) override
+    {
+        recorder::calledOf("QAbstractItemModel", "setData");
+        return true;
+    }
+};
+
+QTableView *edited(Scene &s)
+{
+    auto *it = new QTableView;
+    s.model = s.other(new Edited(3, 2));
+    it->setModel(s.model);
+    s.other(it->selectionModel());
+    it->setCurrentIndex(s.model->index(0, 0));
+    it->show();
+    it->edit(s.model->index(0, 0));
+    return it;
+}
+
 QListWidget *list(Scene &s)
 {
     auto *it = new QListWidget;
@@ -153,6 +177,7 @@ void setUpModels()
     SET_UP(QItemSelectionModel, "a row chosen", auto *it = new QItemSelectionModel(s.filledModel());
            it->setCurrentIndex(s.model->index(0, 0), QItemSelectionModel::ClearAndSelect | QItemSelectionModel::Rows); return it;)
     SET_UP(QItemSelectionModel, "of a view", auto *it = s.other(view<QTreeView>(s)); return it->selectionModel();)
+    SET_UP(QItemSelectionModel, "of a view with an open editor", auto *it = s.other(edited(s)); return it->selectionModel();)
     SET_UP(QListView, "filled", return view<QListView>(s);)
     SET_UP(QTableView, "filled", return view<QTableView>(s);)
     SET_UP(QTreeView, "filled", return view<QTreeView>(s);)

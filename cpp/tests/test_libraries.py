@@ -1,0 +1,71 @@
+"""Headers of libraries beside Qt that many units include: which are shared, and by whom."""
+import pathlib
+
+from reading import flags
+from gammonfig_cpp.facts import read_unit
+from gammonfig_cpp.libraries import kinds_of
+from gammonfig_cpp.precompiled import LEAST, Library, kept, parse
+from gammonfig_cpp.units import Unit
+
+HEADER = '#pragma once\nnamespace {name} {{ inline int value() {{ return 1; }} }}\n'
+UNIT = '''#include <QObject>
+#include "shared.h"
+class C{number} : public QObject {{
+    Q_OBJECT
+signals:
+    void told(int);
+public:
+    void f() {{ emit told(lib::value()); }}
+}};
+'''
+
+
+def project(folder: pathlib.Path, count: int, broken: bool = False) -> list[Unit]:
+    """So many units that include a library's header by one of the application's, and one that includes nothing of it."""
+    (folder / 'app').mkdir()
+    (folder / 'other' / 'lib').mkdir(parents=True)
+    for name in ('lib', 'rare'):
+        (folder / 'other' / 'lib' / f'{name}.hpp').write_text(HEADER.format(name=name))
+    if broken:
+        (folder / 'other' / 'lib' / 'lib.hpp').write_text('#ifndef READY\n#error not alone\n#endif\n' + HEADER.format(name='lib'))
+    ready = '#define READY\n' if broken else ''
+    (folder / 'app' / 'shared.h').write_text(f'#ifndef SHARED_H\n#define SHARED_H\n{ready}#include <lib/lib.hpp>\n#ifdef NEVER\n'
+                                             '#include <lib/never.hpp>\n#endif\n#endif\n')
+    for number in range(count):
+        (folder / 'app' / f'u{number}.cpp').write_text(UNIT.format(number=number) + ('#include <lib/rare.hpp>\n' if number == 0 else ''))
+    (folder / 'app' / 'alone.cpp').write_text('#include <QObject>\n')
+    given = (*flags('Qt6Core'), '-isystem', str(folder / 'other'), '-I' + str(folder / 'app'))
+    return [Unit(str(path), given) for path in sorted((folder / 'app').glob('*.cpp'))]
+
+
+def test_what_enough_units_include(tmp_path: pathlib.Path) -> None:
+    alone, *units = project(tmp_path, LEAST)
+    kinds = kinds_of([alone, *units], [str(tmp_path / 'app')])
+    libraries = {unit: kind.libraries for unit, kind in kinds.items() if kind is not None}
+    assert libraries[alone] == (), 'it includes none of them'
+    assert {libraries[unit] for unit in units} == {(Library(str(tmp_path / 'other'), 'lib/lib.hpp'),)}
+
+
+def test_what_few_units_include(tmp_path: pathlib.Path) -> None:
+    kinds = kinds_of(project(tmp_path, LEAST - 1), [str(tmp_path / 'app')])
+    assert {kind.libraries for kind in kinds.values() if kind is not None} == {()}
+
+
+def test_a_unit_says_the_same(tmp_path: pathlib.Path) -> None:
+    roots = [str(tmp_path / 'app')]
+    units = project(tmp_path, LEAST)
+    kind = kinds_of(units, roots)[units[-1]]
+    assert kind is not None and parse(kind, str(tmp_path))
+    headers = kept(kind, str(tmp_path))
+    assert headers is not None and any(name.endswith('lib/lib.hpp') for name in headers.files)
+    one, other = read_unit(units[-1], roots, {}, headers), read_unit(units[-1], roots, {})
+    assert not one.errors and one.functions == other.functions
+
+
+def test_headers_that_do_not_go_together(tmp_path: pathlib.Path) -> None:
+    """Those of Qt are shared then."""
+    units = project(tmp_path, LEAST, broken=True)
+    kind = kinds_of(units, [str(tmp_path / 'app')])[units[-1]]
+    assert kind is not None and kind.libraries and parse(kind, str(tmp_path))
+    headers = kept(kind, str(tmp_path))
+    assert headers is not None and not any(name.endswith('lib.hpp') for name in headers.files)
