@@ -12,7 +12,7 @@ ROOT = os.path.dirname(os.path.dirname(os.path.abspath(__file__)))
 MAP = f"{ROOT}/docs/map.md"
 PART = re.compile(r"(?<=^## The crates\n)(.*?)(?=^## )", re.M | re.S)
 ABOUT = """
-In the order of `crates.txt`, the lowest first. Each name leads to the crate's page: what it is, and where to begin. `.ci/crate_list.py --write` makes this list of these pages.
+In the order of `crates.txt`, the lowest first. `.ci/crate_list.py --write` makes this list of the crates' pages.
 """
 LONGEST = 280
 

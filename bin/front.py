@@ -64,8 +64,8 @@ class Front:
             return self.read(given[1:])
         try:
             call = words.parse(given)
-        except words.NoCommand:
-            return self.usage(given)
+        except words.NoCommand as reason:
+            return self.usage(given, str(reason))
         return self.do(call) if call.command.program else self.do_here(call, given)
 
     # ---- what the front does itself
@@ -103,12 +103,14 @@ class Front:
             told = f"proved with {identity.split()[0]}"
         self.streams.write_output(f"{NAME} {VERSION}, {told}\n".encode())
 
-    def usage(self, given: list[str]) -> None:
+    def usage(self, given: list[str], reason: str = "") -> None:
         """What is no command is told by a line on standard output, as the programs tell it, and its right form on standard error."""
         write_to(1, b"usage\n")
         command = words.command_of(given[0]) if given else None
         if given:
             say("this is no command: " + " ".join(map(texts.shown, given)))
+        if reason:
+            say(reason)
         write_to(2, (pages().usage(command) if command else pages().help_text()).encode())
         raise Ended(1)
 

@@ -7,11 +7,10 @@ import re
 Files = dict  # of the names of texts to the names of their files, as bytes
 
 LINE = re.compile(rb"[^\n]*\n|[^\n]+")
-PLACED = re.compile(rb"<stdin>:\d+:\d+: ")
-WARNED = re.compile(rb"<stdin>(:(?:\d+:\d+:)? warning: .*)", re.S)
+PLACED = re.compile(rb"<stdin>:(\d+):(\d+: .*)", re.S)
+UNPLACED = re.compile(rb"<stdin>(: (?:error|warning|note): .*)", re.S)
 # The place behind a line that is PLACED.
 OWN = re.compile(rb" at line (\d+), column (\d+) of the ([a-z]+)\n?")
-BOTH = re.compile(rb" at line \d+, column \d+ of the input \(line (\d+), column (\d+) of the ([a-z]+)\)\n?")
 # What is said of a line of a text: the text, and the line's number and what follows it with a blank or a colon in front.
 LINES = [
     (b"certificate", re.compile(rb"line (\d+) of the certificate(.*)", re.S), b""),
@@ -26,10 +25,10 @@ NUMBERED = re.compile(rb"qt_tools: (text \d+), line (\d+), column (\d+):(.*)", r
 
 class Naming:
     """Takes what a program says, line by line, and gives it with the files' names. Where the program has another name than the one
-    that a user knows, which is `known`, that stands in its place."""
+    that a user knows, which is `known`, that stands in its place. `begins` has the line of the input with which each text begins."""
 
-    def __init__(self, files: Files, known: bytes = b""):
-        self.files, self.known, self.first = files, known, b""
+    def __init__(self, files: Files, known: bytes = b"", begins: dict[bytes, int] | None = None):
+        self.files, self.known, self.begins, self.first = files, known, begins or {b"program": 1}, b""
 
     def line(self, line: bytes) -> bytes:
         """What is to be said at this line, which has its newline. A line with a place waits for the one behind it."""
@@ -37,19 +36,24 @@ class Naming:
         if before:
             own = OWN.fullmatch(line)
             if own and own[3] in self.files:
-                return b"%s:%s:%s: " % (self.files[own[3]], own[1], own[2]) + before[PLACED.match(before).end() :]
-            return before + self.line(line)
-        if b"program" in self.files:
-            warned = WARNED.fullmatch(line)
-            if warned:
-                return self.files[b"program"] + warned[1]
-        if PLACED.match(line):
+                return b"%s:%s:%s: " % (self.files[own[3]], own[1], own[2]) + PLACED.fullmatch(before)[2].split(b": ", 1)[1]
+            return self.placed(before) + self.line(line)
+        unplaced = UNPLACED.fullmatch(line)
+        if unplaced and b"program" in self.files:
+            return self.files[b"program"] + unplaced[1]
+        if PLACED.fullmatch(line):
             self.first = line
             return b""
-        both = BOTH.fullmatch(line)
-        if both and both[3] in self.files:
-            return b" at %s:%s:%s\n" % (self.files[both[3]], both[1], both[2])
         return self.named(line)
+
+    def placed(self, line: bytes) -> bytes:
+        """A line with a place of the input, which is one of the text that the line is in."""
+        found = PLACED.fullmatch(line)
+        at = int(found[1])
+        text = max((it for it in self.begins if self.begins[it] <= at), key=self.begins.__getitem__, default=b"")
+        if text not in self.files:
+            return line
+        return b"%s:%d:%s" % (self.files[text], at - self.begins[text] + 1, found[2])
 
     def named(self, line: bytes) -> bytes:
         """A line that says which line of a text it speaks of."""
@@ -65,7 +69,7 @@ class Naming:
     def end(self) -> bytes:
         """What still waits when no line follows."""
         before, self.first = self.first, b""
-        return before
+        return self.placed(before) if before else b""
 
     def whole(self, text: bytes) -> bytes:
         """All that a program said, with the files' names."""

@@ -16,7 +16,7 @@ come to depend on itself, or an object be destroyed while one of its own slots r
 """
 MORE = """`./gammonfig help WORD` has the options of each. Without files the texts come from standard input, with a line `%%` between
 two of them: ./gammonfig run < examples/checked.txt. A file named `-` is standard input.
-GAMMONFIG_EXPLAIN=1 in the environment tells after a run why events were refused. Until `./gammonfig prove` is done an
+GAMMONFIG_EXPLAIN=1 in the environment tells after a run of all refused events. Until `./gammonfig prove` is done an
 unproved program answers, which is built in a minute or two; GAMMONFIG_PROVED=1 lets none of that kind answer,
 GAMMONFIG_TRY=1 no other.
 

@@ -33,6 +33,7 @@ class Given:
     def __init__(self, front, call: words.Call):
         self.front, self.call = front, call
         self.words, self.input, self.files, self.rounds, self.placed, self.program = [], None, {}, [], b"", None
+        self.begins: dict[bytes, int] = {}
         names, held = list(call.files), list(call.texts)
         if held[:1] == ["program"]:
             names[0] = placed.program_of(names[0])
@@ -86,6 +87,7 @@ class Given:
             if name != texts.STANDARD_INPUT and not (text == "program" and self.call.has_parts()):
                 self.files[text.encode()] = texts.shown(name).encode()
         self.rounds = several.rounds(self.call, names, found)
+        self.begins = texts.begins_of(held, found)
         if not self.rounds:
             self.take(texts.joined(self.one_program(names, held, found) if self.call.has_parts() else found))
 
@@ -170,7 +172,7 @@ def named(front, path: str, own: list[str], given: Given, call: words.Call, clos
     """Runs the program beside this process, and names the files in what it says. What a session writes names lines too, and around
     places lines of files may be asked for, and scripts beside findings: that is written behind the run, and where it fails it ends
     as the program does then. Gives how the program ended."""
-    names = naming.Naming(given.files, NAME.encode())
+    names = naming.Naming(given.files, NAME.encode(), given.begins)
     ours, theirs = os.pipe2(os.O_CLOEXEC)
     changed, output = {2: theirs}, None
     if call.command.word == "session" or call.has(words.CONTEXT.name) or call.has(words.WITNESS.name) or given.program:

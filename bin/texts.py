@@ -95,6 +95,15 @@ def joined(texts: list[bytes]) -> bytes:
     return b"%%\n".join(it if not it or it.endswith(b"\n") else it + b"\n" for it in texts)
 
 
+def begins_of(names: list[str], texts: list[bytes]) -> dict[bytes, int]:
+    """The line of their input with which each of the texts begins, by the text's name; of two with one name that of the first."""
+    begins, line = {}, 1
+    for name, text in zip(names, texts):
+        begins.setdefault(name.encode(), line)
+        line += text.count(b"\n") + (1 if not text or text.endswith(b"\n") else 2)
+    return begins
+
+
 def shown(name: str) -> str:
     """A name as it can stand in a line of text: bytes that aren't text and letters that a terminal takes for orders are
     written by their numbers."""

@@ -47,6 +47,7 @@ class Command:
 
 STEPS = Option("--steps", "the most rules that a run carries out, 1,000,000 without it", "M", MOST_STEPS)
 UNCHECKED = Option("--unchecked", "needs no certificate; at most N activations nest, from 1 to 256", "N", MOST_NESTED)
+STRICT = Option("--strict", "the exit status is 3 where an event is refused that no comment in its line expects")
 RECORD = Option("--record", "writes what came of each event into the script, as comments", group="form")
 WIDE = Option("--wide", "takes a program as large as one that a tool writes: 8,192 classes, 16,384 wires, 32 MiB", first=True)
 PLACES = Option("--places", "tells places by this file, and without it by NAME.places beside NAME.gf", "FILE", text="places")
@@ -70,8 +71,8 @@ COMMANDS = [
             texts=("program",), statuses=((0, "a certificate is written"), USAGE, REFUSED, (3, "the program has no certificate")), page="docs/commands.md"),
     Command("check", PROGRAM, "whether a certificate is valid: `yes`, or `no` and a number", "check app.gf app.gfc", (WIDE, PLACES),
             texts=("program", "certificate"), statuses=((0, "it is valid"), USAGE, REFUSED, INVALID), page="docs/certificate.md"),
-    Command("run", PROGRAM, "checks, then runs a script: the trace of each event", "run app.gf app.gfc session.gfs", (WIDE, UNCHECKED, STEPS),
-            ("program", "certificate", "script"), statuses=((0, "the run took all events"), USAGE, REFUSED, INVALID, (4, "a fault stopped the run")), page="docs/commands.md"),
+    Command("run", PROGRAM, "checks, then runs a script: the trace of each event", "run app.gf app.gfc session.gfs", (WIDE, STRICT, UNCHECKED, STEPS),
+            ("program", "certificate", "script"), statuses=((0, "the run took all events"), USAGE, REFUSED, (3, "the certificate isn't valid, or with `--strict` an event was refused unexpectedly"), (4, "a fault stopped the run")), page="docs/commands.md"),
     Command("session", TOOLS, "runs a script as a test of what its comments expect", "session app.gf app.gfc session.gfs",
             (WIDE, Option("--tap", "writes the outcomes as TAP", group="form"), RECORD, UNCHECKED, STEPS), ("program", "certificate", "script"), many=True,
             statuses=((0, "each event went as expected"), USAGE, REFUSED, INVALID, (5, "events went otherwise")), page="docs/session.md",
@@ -125,7 +126,7 @@ COMMANDS = [
 
 
 class NoCommand(Exception):
-    """The words are no command line."""
+    """The words are no command line, for a reason that may be told in a sentence."""
 
 
 class Excluded(Fault):
@@ -205,6 +206,14 @@ def is_number(digits: str, most: int) -> bool:
     return digits.isascii() and digits.isdigit() and 0 < len(significant) <= len(str(most)) and int(significant) <= most
 
 
+def wrong_count(call: Call, texts: list[str]) -> str:
+    """Why the files are too few or too many for these texts."""
+    command, count = call.command, len(call.files)
+    told = f"`{command.word}` takes {', '.join(f'a {it}' for it in texts) or 'no file'}, and {count} {'file is' if count == 1 else 'files are'} named"
+    without = "certificate" in texts and UNCHECKED in command.options and count == len(texts) - 1
+    return told + (f"; without a certificate it is `{command.word} {UNCHECKED.name} {MOST_NESTED}`" if without else "")
+
+
 def texts_of(call: Call) -> list[str]:
     """What the files hold, a text each."""
     command, count = call.command, len(call.files)
@@ -220,7 +229,7 @@ def texts_of(call: Call) -> list[str]:
     if command.numbered:
         return [f"text {it + 1}" for it in range(count)]
     if (count > len(texts) and not command.many) or (0 < count < (command.least or len(texts))):
-        raise NoCommand
+        raise NoCommand(wrong_count(call, texts))
     if any(it.text == "list" and call.has(it.name) for it in command.options) and not count:
         raise NoCommand
     if call.has("--rules") and (count or len(call.values) > 1):

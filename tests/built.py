@@ -28,7 +28,12 @@ EXPLAINED = re.compile(rb"(usage|memory|refused \d+|fault \d+|no \d+|no)\b")
 # What is told beside a yes: warnings, and but for runs how deep the chains go.
 WARNED = rb"(?:<stdin>:(?:[0-9]+:[0-9]+:)? warning: .*\n){1,20}(?:and [0-9]+ more warnings?\n)?"
 DEPTH = rb"([0-9]+) members, deepest chain ([0-9]+): (.*)\n"
-BESIDE_YES = re.compile(rb"(?:" + WARNED + rb")?(?:" + DEPTH + rb")?")
+EXCERPT = rb" at line [0-9]+, column [0-9]+ of the (?:program|script)\n  \| .*\n  \| *\^\n"
+ESCAPES = rb"(?:<stdin>:[0-9]+:[0-9]+: warning: a text has no escapes.*\n" + EXCERPT + rb"){0,2}"
+BESIDE_YES = re.compile(ESCAPES + rb"(?:" + WARNED + rb")?(?:" + DEPTH + rb")?")
+# What is told of refused events, unasked, in front of all else.
+REFUSED_EVENT = rb"<stdin>:[0-9]+:[0-9]+: warning: event [0-9]+ refused [0-9]+: .*\n" + EXCERPT + rb"(?:help: .*\n)?"
+REFUSED_EVENTS = re.compile(rb"(?:(?:" + REFUSED_EVENT + rb")+(?:and [0-9]+ more events? w(?:as|ere) refused: .*\n)?)?")
 # So many failures are told in full.
 TOLD = 20
 
@@ -60,14 +65,20 @@ class Answer:
     def contradicts_itself(self):
         """Whether standard error says another thing than the output's last line does, or what is told beside a yes where there
         is none."""
-        told = EXPLAINED.match(self.errors)
+        errors = behind_refused(self.errors)
+        told = EXPLAINED.match(errors)
         last = self.output.splitlines()[-1:] or [b""]
-        if self.status != 0 and self.errors and BESIDE_YES.match(self.errors)[0]:
+        if self.status != 0 and errors and BESIDE_YES.match(errors)[0]:
             return True
         return bool(told) and not re.match(re.escape(told[1]) + rb"\b", last[0])
 
     def __str__(self):
         return f"status {self.status}, output {shown(self.output)}, standard error {shown(self.errors)}"
+
+
+def behind_refused(errors):
+    """What is told behind the refused events."""
+    return errors[REFUSED_EVENTS.match(errors).end() :]
 
 
 def shown(text):

@@ -1,6 +1,7 @@
 #!/usr/bin/env python3
 """Compares the words that the files of editors/ colour with those of the language: the reserved words as the crate `basic_types`
-spells them, the names that begin a statement, the other words that begin an event, and those of a certificate.
+spells them, the names that begin a statement, the other words that begin an event, and those of a certificate. And that both editors
+find the place of each finding that the case files of explanations have.
 
 Usage: tests/editors/run.py. The last line is `N passed, M failed`."""
 import json
@@ -11,6 +12,7 @@ import sys
 sys.dont_write_bytecode = True
 sys.path.insert(0, os.path.dirname(os.path.dirname(os.path.abspath(__file__))))
 import built
+import case_files
 
 EDITORS = f"{built.ROOT}/editors"
 GRAMMAR = f"{EDITORS}/vscode/syntaxes/gammonfig.tmLanguage.json"
@@ -61,6 +63,40 @@ def is_pattern(text):
         return False
 
 
+# How a command answers that finds something at a place, and what stands at no place: `QObject`'s own members, and what is only declared.
+FOUND = re.compile(rb"refused |no ")
+UNPLACED = {"explanations/natives_and_ends"}
+
+
+def in_vim():
+    """The patterns of a line with a place, as Vim's `errorformat` has them."""
+    source = text(f"{EDITORS}/vim/compiler/gammonfig.vim")
+    forms = re.search(r"^CompilerSet errorformat=(.*)$", source, re.M)[1].replace("\\ ", " ").split(",")
+    parts = {"%f": r"(.+?)", "%l": r"(\d+)", "%c": r"(\d+)", "%t": r"\w", "%m": r"(.*)"}
+    return [re.compile("".join(parts.get(it, re.escape(it)) for it in re.split(r"(%\w)", form))) for form in forms if not form.startswith("%-G")]
+
+
+def places(package):
+    """For each editor, what tells whether it finds a place in a line."""
+    forms, pattern = in_vim(), package["problemMatchers"][0]["pattern"]
+    matcher = re.compile(pattern["regexp"])
+    count = [pattern[it] for it in ("file", "line", "column", "severity", "message")]
+    return {"Vim": lambda line: any(it.fullmatch(line) for it in forms), "VS Code": lambda line: count == [1, 2, 3, 4, 5] and matcher.fullmatch(line)}
+
+
+def check_places(count, package):
+    for name, finds in places(package).items():
+        for topic in case_files.topics():
+            cases = case_files.cases_of(f"{case_files.FOLDER}/{topic}.cases") if topic.startswith("explanations/") else []
+            for case in cases:
+                told = (case.text("errors") or b"").decode("utf-8", "replace").splitlines()
+                placed = [line for line in told if re.match(r"<stdin>:\d", line)]
+                lost = [line for line in placed if not finds(line.replace("<stdin>", "a b.gf", 1))]
+                count.check(not lost, lambda: f"{name} finds no place in {lost}")
+                if FOUND.match(case.text("output") or b"") and told and topic not in UNPLACED:
+                    count.check(bool(placed), lambda: f"{topic}, {case.title}: nothing has a place")
+
+
 def main():
     count = built.Count()
     found = (len(reserved()), len(statements()), len(events()))
@@ -79,6 +115,7 @@ def main():
     count.check(endings == set(package["languages"][0]["extensions"]), lambda: f"endings: {endings}")
     for pattern in json.loads(text(GRAMMAR))["patterns"]:
         count.check(is_pattern(pattern["match"]), lambda: f"no pattern: {pattern['match']}")
+    check_places(count, package)
     count.end()
 
 

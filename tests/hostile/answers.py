@@ -129,10 +129,12 @@ class Wanted:
         return getattr(self, f"why_not_{self.words[0]}")(answer)
 
     def why_not_told(self, answer):
-        """Beside a yes stand warnings and, but for runs, how deep the chains go; beside another success nothing."""
+        """Beside a yes stand warnings and, but for runs, how deep the chains go; beside another success nothing; and in front of
+        that refused events."""
+        errors = built.behind_refused(answer.errors) if self.words[0] == "run" else answer.errors
         if self.words == ["meta"] or "--unchecked" in self.words or sum(map(len, self.parts)) > LARGEST_TOLD:
-            return "nothing was judged, and something is told" if answer.errors else None
-        told = built.BESIDE_YES.fullmatch(answer.errors)
+            return "nothing was judged, and something is told" if errors else None
+        told = built.BESIDE_YES.fullmatch(errors)
         if not told or (told[1] is None) != (self.words[0] == "run"):
             return "this isn't what is told beside a yes"
         return self.why_not_deep(answer, told) if self.words == ["certify"] else None

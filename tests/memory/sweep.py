@@ -87,7 +87,8 @@ class Refusals:
         self.fronts = self.row.fronts()
         answer, self.requests, _ = self.refused("0")
         is_ample = self.requests is not None and answer == self.row.ample
-        self.told = {b"", answer.errors}
+        behind = built.behind_refused(answer.errors)
+        self.told = {b"", answer.errors, behind, answer.errors[: len(answer.errors) - len(behind)]}
         if not count.check(is_ample, lambda: f"{self.row.name}, nothing refused, by {self.program}: {answer}"):
             return
         last = self.last_that_matters(count)

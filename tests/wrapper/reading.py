@@ -125,11 +125,10 @@ class Reading:
         files = {b"program": b"a\\1\\g<0>.gf", b"script": b"s", b"certificate": b"c", b"list": b"l", b"effects": b"e", b"text 2": b"t"}
         for line, wanted in (
             (b"<stdin>:9:3: error: x\n at line 4, column 5 of the program\n", b"a\\1\\g<0>.gf:4:5: error: x\n"),
-            (b"<stdin>:9:3: error: x\n<stdin>:1:1: error: y\n", b"<stdin>:9:3: error: x\n<stdin>:1:1: error: y\n"),
-            (b"<stdin>:9:3: error: x", b"<stdin>:9:3: error: x"),
+            (b"<stdin>:9:3: error: x\n<stdin>:1:1: note: y\n", b"a\\1\\g<0>.gf:9:3: error: x\na\\1\\g<0>.gf:1:1: note: y\n"),
+            (b"<stdin>:9:3: error: x", b"a\\1\\g<0>.gf:9:3: error: x"),
             (b"<stdin>:9:3: warning: x\n", b"a\\1\\g<0>.gf:9:3: warning: x\n"),
             (b"<stdin>: warning: x\n", b"a\\1\\g<0>.gf: warning: x\n"),
-            (b" at line 9, column 3 of the input (line 4, column 5 of the script)\n", b" at s:4:5\n"),
             (b"line 7 of the certificate gives\n", b"c:7 gives\n"),
             (b"qt_tools: line 7 of the script, expects\n", b"s:7: expects\n"),
             (b"qt_tools: line 7 of the list: x\n", b"l:7: x\n"),
@@ -140,6 +139,9 @@ class Reading:
         ):
             self.same(f"{line} with names", naming.Naming(files).whole(line), wanted)
             self.same(f"{line} without names", naming.Naming({}).whole(line), line)
+        begins = texts.begins_of(["program", "certificate", "script"], [b"a\nb", b"", b"c\n"])
+        for line, wanted in ((b"<stdin>:2:1: x\n", b"a\\1\\g<0>.gf:2:1: x\n"), (b"<stdin>:4:1: x\n", b"c:1:1: x\n"), (b"<stdin>:5:2: x\n", b"s:1:2: x\n")):
+            self.same(f"{line} of several texts", naming.Naming(files, b"", begins).whole(line), wanted)
         self.same("another name", naming.Naming({}, b"known").whole(b"qt_tools: x\ny qt_tools: z\n"), b"known: x\ny qt_tools: z\n")
 
     # ---- ./gammonfig

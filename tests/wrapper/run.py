@@ -121,6 +121,7 @@ class Tests:
         self.check(["certify", "parted.gf"], 2, "", "parted.gf:6: a line `%%`")
         for words in (["certify", "app.gf", "app.gfc"], ["run", "app.gf", "session.gfs"], ["run", "--unchecked", "257", "app.gf"]):
             self.check(words, 1, USAGE, "this is no command")
+        self.check(["run", "app.gf", "session.gfs"], 1, USAGE, "`run` takes a program, a certificate, a script, and 2 files are named; without a certificate it is `run --unchecked 256`")
         for words in (["run", "--steps", "0"], ["certify", "--fast"], ["draw", "app.gf"], ["graph", "--json", "app.gf", "app.gf"]):
             self.check(words, 1, USAGE, "this is no command")
         self.check([], 1, USAGE, "a runtime of signals and slots")

@@ -3,6 +3,7 @@
 ghost use Rattle.std.specs.Prelude.{map, IfOk, IfSome};
 ghost use Rattle.diagnostics.specs.Likely.{FindsEdits, IsLikely};
 
+use crate::printed::Printed;
 use std::alloc::{AllocError, Global};
 use std::str;
 use strsim::osa_distance;
@@ -38,6 +39,22 @@ pub fn nearest<'a>(
         }
     }
     Ok(found)
+}
+
+/// That the word may be meant which differs the least from a name, if one does so in few letters.
+pub fn did_you_mean(
+    alloc: Global,
+    name: &[u8],
+    words: &[&[u8]],
+) -> Result<Option<String>, AllocError> {
+    match nearest(alloc, name, words)? {
+        Some(word) => {
+            let word = Printed(word);
+            let text = format!(in alloc; "did you mean `{word}`?")?;
+            Ok(Some(text))
+        }
+        None => Ok(None),
+    }
 }
 
 /// How many letters of a word differ from a name's, if they are so few at most.

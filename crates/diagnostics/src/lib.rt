@@ -13,10 +13,9 @@ mod place;
 mod printed;
 mod spans;
 
-pub use edits::nearest;
-pub use excerpt::{push_excerpt, push_place};
+pub use edits::{did_you_mean, nearest};
 pub use flaw::Flaw;
-pub use line::has_tokens;
+pub use line::{has_tokens, number_behind};
 pub use meanings::meaning;
 pub use message::{Severity, TextKind, push_flaw};
 pub use other_text::{OtherPlace, OtherPlaces, PlacesFault, read_places};

@@ -4,6 +4,7 @@ ghost use Rattle.std.specs.Prelude.{IfOk};
 ghost use Rattle.diagnostics.specs.Blank.{TellsTokens};
 
 use std::alloc::{AllocError, Global};
+use std::str;
 use texts::{LexFault, tokens};
 
 /// Whether there is more in a line than blanks and a comment.
@@ -15,4 +16,21 @@ pub fn has_tokens(alloc: Global, line: &[u8]) -> Result<bool, AllocError>
         Err(LexFault::BadByte) => Ok(true),
         Err(LexFault::Memory) => Err(AllocError),
     }
+}
+
+/// What a text has in front of these words and a number, which end it, without blanks at its ends, and the number.
+pub fn number_behind<'t>(text: &'t [u8], words: &str) -> Option<(&'t [u8], u8)> {
+    let text = text.trim_ascii();
+    let digits = text
+        .iter()
+        .rev()
+        .take_while(|byte| byte.is_ascii_digit())
+        .count();
+    let at = text.len().checked_sub(digits)?;
+    let number = str::from_utf8(text.get(at..)?).ok()?.parse::<u8>().ok()?;
+    let front = text
+        .get(..at)?
+        .trim_ascii_end()
+        .strip_suffix(words.as_bytes())?;
+    Some((front.trim_ascii_end(), number))
 }

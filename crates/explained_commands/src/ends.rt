@@ -1,12 +1,12 @@
 //! What a command writes on standard output, what is reported of its end on standard error, and its exit status.
 
-ghost use Rattle.std.specs.Prelude.{◌≡◌, ◌↔◌, map, false, IsTrue};
+ghost use Rattle.std.specs.Prelude.{◌≡◌, ◌↔◌, ◌∷◌, [], codes, map, IsTrue};
 ghost use Rattle.explained_commands.specs.Judged.{IsUnjudged};
 ghost use Rattle.trace_tool.specs.Commands.{WritesCommand};
 
 use crate::explain::explanation;
-use crate::remarks::{is_judged, remarks_on};
-use crate::reports::{fault_report, refusal_report};
+use crate::remarks::{is_judged, may_run, remarks_on};
+use crate::reports::{fault_report, has_unexpected, refusal_report};
 use std::alloc::{AllocError, Global};
 use std::io::{Read, Write};
 use trace_tool::{
@@ -20,9 +20,10 @@ const SUCCESS: u8 = 0;
 const MOST_EXPLAINED: usize = 8388608;
 
 /// Does what the words say, on any object machine, as `trace_tool`'s `command` does, and then writes to `errors` what a
-/// person needs of this end: why events were refused, where `tells_refusals` asks for it, what another answer than success
-/// means, or what is reported beside a yes, and why the input can't be read or the output can't be written. Where that fails nothing else changes.
-/// Where nothing is judged (`meta`, `run --unchecked`) nothing is reported beside success.
+/// person needs of this end: of the first `most_refusals` refused events why they were, what another answer than success
+/// means, or what is reported beside a yes, and why the input can't be read or the output can't be written. Where that fails
+/// nothing else changes. Where nothing is judged (`meta`, `run --unchecked`) nothing but refused events is reported beside
+/// success, and of `meta` nothing. `is_unexpected` gets whether an event was refused and no comment in its line expects that.
 pub fn explained_command<
     N: FittingNatives,
     M: ObjectMachine<Natives = N>,
@@ -36,19 +37,27 @@ pub fn explained_command<
     natives: N,
     writer: &mut W,
     errors: &mut E,
-    tells_refusals: bool,
+    most_refusals: usize,
+    is_unexpected: &mut bool,
 ) -> Result<u8, WriteFault>
     ensures answers { let said = map (λ word. word.now) words.now in
         let heads = N.heads natives in
         WritesCommand N.gives heads natives said (R.remaining reader.old)
         (W.contents writer.old) (W.contents writer.new) result }
     ensures silent { let said = map (λ word. word.now) words.now in
-        IsUnjudged said → result ≡ Ok 0 → tells_refusals ≡ false → errors.new ≡ errors.old }
+        IsUnjudged said → result ≡ Ok 0 → most_refusals ≡ 0 → errors.new ≡ errors.old }
+    ensures meta { let said = map (λ word. word.now) words.now in
+        said ≡ codes "meta" ∷ [] → result ≡ Ok 0 → errors.new ≡ errors.old }
 {
     let answered = answer::<N, M, R, W>(alloc, words, reader, natives, writer);
     match answered.carried.written {
         Ok(status) => {
-            tell_end(alloc, words, &answered, status, tells_refusals, errors);
+            tell_end(alloc, words, &answered, status, most_refusals, errors);
+            *is_unexpected = has_unexpected(
+                alloc,
+                explained_input(&answered),
+                answered.carried.refused.as_slice(),
+            );
             Ok(status)
         }
         Err(fault) => {
@@ -58,21 +67,22 @@ pub fn explained_command<
     }
 }
 
-/// Writes what a person needs of what the words come to, with this exit status: why events were refused, where that is asked
-/// for, and what another answer than success means, or what is reported beside a yes.
+/// Writes what a person needs of what the words come to, with this exit status: why the first events were refused, and what another answer than success means, or what is reported beside a yes.
 fn tell_end<M: ObjectMachine, E: Write>(
     alloc: Global,
     words: &[&str],
     answered: &Answered<M>,
     status: u8,
-    tells_refusals: bool,
+    most_refusals: usize,
     errors: &mut E,
 )
-    ensures { let said = map (λ word. word.now) words.now in
-        IsUnjudged said → status ≡ 0 → tells_refusals ≡ false → errors.new ≡ errors.old }
+    ensures silent { let said = map (λ word. word.now) words.now in
+        IsUnjudged said → status ≡ 0 → most_refusals ≡ 0 → errors.new ≡ errors.old }
+    ensures meta { let said = map (λ word. word.now) words.now in
+        said ≡ codes "meta" ∷ [] → status ≡ 0 → errors.new ≡ errors.old }
 {
-    if tells_refusals {
-        tell_refusals(alloc, answered, errors);
+    if most_refusals > 0 && may_run(words) {
+        tell_refusals(alloc, answered, most_refusals, errors);
     }
     if status != SUCCESS {
         explain(alloc, words, answered, errors);
@@ -98,12 +108,17 @@ fn explained_input<M: Drop>(answered: &Answered<M>) -> Option<&[u8]> {
     }
 }
 
-/// Writes why events of a run were refused, if any were.
-fn tell_refusals<M: Drop, E: Write>(alloc: Global, answered: &Answered<M>, errors: &mut E) {
+/// Writes why the first events of a run were refused, if any were.
+fn tell_refusals<M: Drop, E: Write>(
+    alloc: Global,
+    answered: &Answered<M>,
+    most: usize,
+    errors: &mut E,
+) {
     let refused = answered.carried.refused.as_slice();
     tell(
         errors,
-        refusal_report(alloc, explained_input(answered), refused),
+        refusal_report(alloc, explained_input(answered), refused, most),
     );
 }
 

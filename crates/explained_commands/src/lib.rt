@@ -2,11 +2,12 @@
 #![tactic(auto)]
 
 mod ends;
+mod escapes;
 mod explain;
 mod explanations;
 mod remarks;
 mod reports;
 
 pub use ends::{explained_command, tell_fault};
-pub use reports::{EXPLAIN, is_asked};
+pub use reports::{EXPLAIN, FIRST_REFUSALS, is_asked};
 pub use trace_tool::WriteFault;

@@ -1,8 +1,9 @@
 //! What is reported beside a yes, from what the words came to.
 
-ghost use Rattle.std.specs.Prelude.{◌↔◌, map, IsTrue};
+ghost use Rattle.std.specs.Prelude.{◌↔◌, ◌≡◌, ◌∷◌, [], codes, map, IsTrue};
 ghost use Rattle.explained_commands.specs.Judged.{IsUnjudged};
 
+use crate::escapes::push_escapes;
 use program_flaws::{Ranked, Yes, told_beside};
 use std::alloc::{AllocError, Global};
 use texts::split_at_line;
@@ -14,12 +15,24 @@ pub const PARTING: &[u8] = b"%%";
 /// Whether a command whose words these are judges a program where it succeeds: `meta` doesn't, and neither does
 /// `run --unchecked`.
 pub fn is_judged(words: &[&str]) -> bool
-    ensures { let said = map (λ word. word.now) words.now in IsTrue result → IsUnjudged said → ⊥ }
+    ensures judged { let said = map (λ word. word.now) words.now in IsTrue result → IsUnjudged said → ⊥ }
+    ensures meta { IsTrue result → map (λ word. word.now) words.now ≡ codes "meta" ∷ [] → ⊥ }
 {
     match words {
         [] => false,
         [only] => *only != "meta",
         [_, second, ..] => *second != "--unchecked",
+    }
+}
+
+/// Whether the words may be those of a run; `meta` alone is none.
+pub fn may_run(words: &[&str]) -> bool
+    ensures { IsTrue result → map (λ word. word.now) words.now ≡ codes "meta" ∷ [] → ⊥ }
+{
+    match words {
+        [] => false,
+        [only] => *only != "meta",
+        [_, _, ..] => true,
     }
 }
 
@@ -38,7 +51,16 @@ pub fn remarks_on<M: Drop>(
         Some((program, _)) => program,
         None => input,
     };
-    told_beside(alloc, program, yes)
+    let mut text = String::new(alloc);
+    push_escapes(&mut text, alloc, input)?;
+    if let Some(told) = told_beside(alloc, program, yes)? {
+        text.push_str(told.as_str())?;
+    }
+    if text.is_empty() {
+        Ok(None)
+    } else {
+        Ok(Some(text))
+    }
 }
 
 /// The yes that this is, if it is one.

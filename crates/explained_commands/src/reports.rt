@@ -3,8 +3,10 @@
 
 mod active;
 mod asked;
+mod blame;
 mod events;
 mod faults;
+mod known;
 mod refusals;
 mod script;
 mod suspects;
@@ -12,4 +14,4 @@ mod suspects;
 pub use asked::{EXPLAIN, is_asked};
 pub use events::{EventLine, event_line};
 pub use faults::fault_report;
-pub use refusals::refusal_report;
+pub use refusals::{FIRST_REFUSALS, has_unexpected, refusal_report};

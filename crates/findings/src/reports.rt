@@ -15,4 +15,4 @@ pub use junit::junit_report;
 pub use names::FileNames;
 pub use rules::rules_report;
 pub use sarif::sarif_report;
-pub use text::text_report;
+pub use text::{push_finding, text_report};

@@ -3,14 +3,19 @@
 #![tactic(auto)]
 
 use basic_types::Value;
-use explained_commands::{EXPLAIN, WriteFault, explained_command, is_asked, tell_fault};
+use explained_commands::{
+    EXPLAIN, FIRST_REFUSALS, WriteFault, explained_command, is_asked, tell_fault,
+};
 use native_slots::built_in::{class, doubled, effects, twice};
 use native_slots::{NativeSlot, Natives};
 use qt_runtime::Machine;
-use std::alloc::AllocError;
+use std::alloc::{AllocError, Global};
 use std::io::{ErrorKind, Write};
 use std::process::ExitCode;
 use std::{env, io};
+
+/// The exit status of a run with `--strict` in which an event was refused that no comment expects.
+const UNEXPECTED: u8 = 3;
 
 fn main(rt: HostRuntime) -> ExitCode {
     match start(&rt) {
@@ -54,19 +59,50 @@ fn answer(rt: &HostRuntime, words: &[&str]) -> Result<ExitCode, AllocError> {
     })?;
     let mut slots = Vec::new(alloc);
     slots.push(NativeSlot::new(class, sig, effects, work))?;
+    let tells_all = env::var(rt, EXPLAIN).is_ok_and(|value| is_asked(value.as_str()));
+    let most_refusals = if tells_all {
+        usize::MAX
+    } else {
+        FIRST_REFUSALS
+    };
     let mut reader = rt.reader();
     let mut writer = io::writer(rt);
     let mut errors = rt.stderr();
+    let mut is_unexpected = false;
+    let (words, is_strict) = without_strict(alloc, words)?;
     let ended = explained_command::<Natives, Machine<Natives>, _, _, _>(
         alloc,
-        words,
+        words.as_slice(),
         &mut reader,
         Natives::of(slots),
         &mut writer,
         &mut errors,
-        env::var(rt, EXPLAIN).is_ok_and(|value| is_asked(value.as_str())),
+        most_refusals,
+        &mut is_unexpected,
     );
+    let ended = match ended {
+        Ok(0) if is_strict && is_unexpected => Ok(UNEXPECTED),
+        ended => ended,
+    };
     Ok(flushed(ended, &mut writer, &mut errors))
+}
+
+/// The words without a `--strict` right behind `run`, and whether there was one.
+fn without_strict<'w>(
+    alloc: Global,
+    words: &[&'w str],
+) -> Result<(Vec<&'w str>, bool), AllocError> {
+    let mut left: Vec<&'w str> = Vec::new(alloc);
+    let mut is_strict = false;
+    for word in words {
+        let is_behind_run = left.last().is_some_and(|last: &&str| *last == "run");
+        if *word == "--strict" && is_behind_run && !is_strict {
+            is_strict = true;
+        } else {
+            left.push(*word)?;
+        }
+    }
+    Ok((left, is_strict))
 }
 
 /// The process's exit status: the command's, once all that it wrote has left the process too. Where that fails, the

@@ -1,12 +1,10 @@
 //! A certificate beside its program, and what breaks a condition.
 
 use crate::edge::push_edge;
-use crate::ill_typed::untyped_text;
 use crate::names::{class_text, node_text, text_of};
 use crate::node_name::node_name_text;
 use crate::rows::{cause_place, line_place};
 use crate::source::ProgramSource;
-use crate::wire::unfit_text;
 use effect_scan::{Node, Numbering};
 use rank_check::{
     Cause, Certificate, Extra, Line, Loose, MemberName, Mistake, NodeLine, NodeName, Rise, SetItem,
@@ -48,8 +46,8 @@ impl<'s> Compared<'s> {
     /// What breaks the condition.
     fn sentence_of(&self, cause: Cause) -> Result<String, AllocError> {
         match cause {
-            Cause::Wire(place) => unfit_text(self.source, place),
-            Cause::BodyType(spot) => untyped_text(self.source, spot),
+            // Those of the program are findings of their own.
+            Cause::Wire(_) | Cause::BodyType(_) => Ok(String::new(self.source.alloc)),
             Cause::Missing(node) => self.missing(node),
             Cause::Extra(extra) => self.extra(extra),
             Cause::Edge(rise) => self.rise(rise),

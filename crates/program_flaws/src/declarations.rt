@@ -3,6 +3,7 @@
 mod declarations;
 mod finding;
 mod flaws;
+mod further;
 mod likely;
 mod natives;
 mod sentence;
@@ -13,4 +14,6 @@ mod walk;
 mod words;
 
 pub use flaws::declaration_flaw;
+pub use further::{FurtherFlaw, further_declaration_flaws};
 pub use natives::native_flaw;
+pub use walk::{first_token, nth_word};

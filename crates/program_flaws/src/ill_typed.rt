@@ -7,17 +7,9 @@ use edge_reasons::Numbered;
 use effect_scan::{Member, Node};
 use meta_model::Statement;
 use std::alloc::AllocError;
-use type_check::{Flaw, Spot, flaw_at};
+use type_check::{Flaw, Spot};
 
-/// What isn't typed at the spot, and what has to be of which type; nothing where all is typed there.
-pub fn untyped_text(source: ProgramSource<'_>, spot: Spot) -> Result<String, AllocError> {
-    match flaw_at(source.alloc, source.meta, spot)? {
-        Some(flaw) => flaw_text(source, spot, flaw),
-        None => Ok(String::new(source.alloc)),
-    }
-}
-
-/// The same of this flaw, which is the spot's.
+/// What isn't typed at the spot, which has this flaw, and what has to be of which type.
 pub fn flaw_text(source: ProgramSource<'_>, spot: Spot, flaw: Flaw) -> Result<String, AllocError> {
     match spot {
         Spot::Node(node) => match node.member {

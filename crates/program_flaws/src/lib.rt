@@ -1,15 +1,13 @@
-//! What is wrong with a program for which no certificate is valid, for a person: the wire, the member or the binding by
-//! name; what leads from one member to the next; and what to write instead. And what breaks the condition of a check's no.
+//! What is wrong with a program, for a person: the declaration, the wire, the member or the binding by name; what leads from
+//! one member to the next; and what to write instead. And what breaks the condition of a check's no.
 #![tactic(auto)]
 
 mod compared;
 mod declarations;
 mod edge;
-mod explain;
 mod ill_typed;
 mod names;
 mod node_name;
-mod reasons;
 mod rows;
 mod source;
 mod statement;
@@ -17,12 +15,10 @@ mod warned;
 mod wire;
 
 pub use compared::cause_text;
-pub use declarations::{declaration_flaw, native_flaw};
+pub use declarations::{FurtherFlaw, declaration_flaw, further_declaration_flaws, native_flaw};
 pub use edge::push_edge;
-pub use explain::broken_condition;
-pub use ill_typed::{flaw_text, untyped_text};
+pub use ill_typed::flaw_text;
 pub use names::{class_text, node_text, property_text, sig_text, text_of};
-pub use reasons::{breaking, missing_certificate};
 pub use rows::cause_place;
 pub use source::{ProgramSource, declarations_of, declaring_class, meta_of};
 pub use warned::{OwnSlot, Ranked, Warning, Yes, told_beside, warning_text, warnings};

@@ -192,6 +192,7 @@ fn tell_judged<'x>(
     let names = FileNames {
         program: name(given, said.program, b"program"),
         certificate: name(given, said.certificate, b"certificate"),
+        certificate_lines: 0,
         places: Some(places),
     };
     if said.form == VerdictFormat::Edges {

@@ -1,9 +1,9 @@
 //! What a script expects of its events: by a comment behind an event how it is answered, and by comments below it what the
 //! run writes of it.
 
+use diagnostics::{has_tokens, number_behind};
 use std::alloc::{AllocError, Global};
-use std::str;
-use texts::{LexFault, split_line, tokens};
+use texts::split_line;
 use thiserror::Error;
 
 /// How a line begins that expects a line of the trace.
@@ -75,7 +75,7 @@ pub fn expectations(alloc: Global, script: &[u8]) -> Result<Vec<Expected<'_>>, E
             };
             event.expect(alloc, number, wanted)?;
             current = Some(event);
-        } else if has_event(alloc, line)? {
+        } else if has_tokens(alloc, line)? {
             keep(&mut events, current)?;
             current = Some(Expected::of(alloc, number, line));
         }
@@ -105,10 +105,10 @@ impl<'t> Expected<'t> {
             comments: Vec::new(alloc),
             last: number,
         };
-        if let Some((event, refusal)) = split_number(text, REFUSED) {
+        if let Some((event, refusal)) = number_behind(text, REFUSED) {
             expected.event = event;
             expected.answer = ExpectedAnswer::Refused(refusal);
-        } else if let Some((event, fault)) = split_number(text, FAULT) {
+        } else if let Some((event, fault)) = number_behind(text, FAULT) {
             expected.event = event;
             expected.fault = Some(fault);
         }
@@ -143,29 +143,4 @@ impl<'t> Expected<'t> {
 pub fn wanted_line(line: &[u8]) -> Option<&[u8]> {
     let wanted = line.trim_ascii().strip_prefix(MARK.as_bytes())?;
     Some(wanted.trim_ascii())
-}
-
-/// What a text has in front of these words and a number, which end it, and the number.
-fn split_number<'t>(text: &'t [u8], words: &str) -> Option<(&'t [u8], u8)> {
-    let digits = text
-        .iter()
-        .rev()
-        .take_while(|byte| byte.is_ascii_digit())
-        .count();
-    let at = text.len().checked_sub(digits)?;
-    let number = str::from_utf8(text.get(at..)?).ok()?.parse::<u8>().ok()?;
-    let event = text
-        .get(..at)?
-        .trim_ascii_end()
-        .strip_suffix(words.as_bytes())?;
-    Some((event.trim_ascii_end(), number))
-}
-
-/// Whether there is more in a line than blanks and a comment.
-fn has_event(alloc: Global, line: &[u8]) -> Result<bool, AllocError> {
-    match tokens(alloc, line) {
-        Ok(tokens) => Ok(!tokens.is_empty()),
-        Err(LexFault::BadByte) => Ok(true),
-        Err(LexFault::Memory) => Err(AllocError),
-    }
 }

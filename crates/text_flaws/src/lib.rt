@@ -2,12 +2,14 @@
 #![tactic(auto)]
 
 mod bytes;
+mod further;
 mod limits;
 mod lines;
 mod parts;
 mod program;
 mod unexpected;
 
+pub use further::further_program_flaws;
 pub use limits::script_size_flaw;
 pub use lines::{certificate_flaw, script_flaw};
-pub use program::{program_flaw, wire_flaw};
+pub use program::program_flaw;

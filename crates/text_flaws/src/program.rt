@@ -7,9 +7,9 @@ use crate::limits::{count_flaw, depth_flaw, parameters_flaw, program_size_flaw, 
 use crate::parts::{plain_tokens, whole, within};
 use crate::unexpected::{TokenizedText, Unexpected};
 use class_lang::{Limits, program_trail};
-use diagnostics::{Flaw, meaning};
+use diagnostics::Flaw;
 use std::alloc::{AllocError, Global};
-use texts::{PlaceFault, PlacedToken, Token, Word, placed_tokens};
+use texts::{PlaceFault, placed_tokens};
 use token_reading::Trail;
 
 /// What is wrong with a program that was read by these limits and is refused for the reason of this number, where that has a
@@ -75,47 +75,4 @@ fn flaw_in(
 fn trail_of(alloc: Global, text: &[u8]) -> Result<Trail, AllocError> {
     let tokens = plain_tokens(alloc, text)?;
     whole(program_trail(alloc, tokens.as_slice()))
-}
-
-/// The wire of this number, counted from 1, as one that doesn't fit.
-pub fn wire_flaw(alloc: Global, text: &[u8], number: usize) -> Result<Option<Flaw>, AllocError>
-    ensures { IfOk result (λ flaw. IfSome flaw (λ f. f.at ≤ length text.now)) }
-{
-    let wire = match placed_tokens(alloc, text) {
-        Ok(placed) => wire_place(placed.as_slice(), number),
-        Err(PlaceFault::BadByte(_)) => None,
-        Err(PlaceFault::Memory) => return Err(AllocError),
-    };
-    match wire {
-        Some(at) => Ok(within(0, text.len(), Some(unfit_wire(alloc, at)?))),
-        None => Ok(None),
-    }
-}
-
-/// The wire at this place, as one that doesn't fit.
-fn unfit_wire(alloc: Global, at: usize) -> Result<Flaw, AllocError> {
-    let sentence = String::from_str(alloc, meaning(70).unwrap_or(""))?;
-    Flaw::with_advice(alloc, at, sentence, None)
-}
-
-/// Where the wire of this number, counted from 1, begins.
-fn wire_place(tokens: &[PlacedToken], number: usize) -> Option<usize> {
-    let mut left = number.saturating_sub(1);
-    for placed in tokens {
-        if is_wire(&placed.token) {
-            if left == 0 {
-                return Some(placed.at);
-            }
-            left -= 1;
-        }
-    }
-    None
-}
-
-/// Whether a wire begins with the token.
-fn is_wire(token: &Token) -> bool {
-    match token {
-        Token::Word(word) => *word == Word::Wire,
-        _ => false,
-    }
 }

@@ -29,10 +29,23 @@ pub fn gather_certificate(
     };
     match judge(alloc, located.source.meta, &certificate) {
         Ok(()) => Ok(()),
-        Err(Cause::Memory) => Err(AllocError),
-        Err(Cause::Wire(_) | Cause::BodyType(_)) => Ok(()),
-        Err(cause) => {
-            let finding = cause_finding(located, text, &certificate, cause)?;
+        Err(cause) => gather_cause(located, text, &certificate, cause, found),
+    }
+}
+
+/// Adds what breaks a condition of the check, where that lies in the certificate, which has this text.
+pub fn gather_cause(
+    located: Located<'_>,
+    text: &[u8],
+    certificate: &Certificate,
+    cause: Cause,
+    found: &mut Verdict,
+) -> Result<(), AllocError> {
+    match cause {
+        Cause::Memory => Err(AllocError),
+        Cause::Wire(_) | Cause::BodyType(_) => Ok(()),
+        cause => {
+            let finding = cause_finding(located, text, certificate, cause)?;
             push(located, found, finding)
         }
     }

@@ -9,7 +9,7 @@ ghost use Rattle.verdicts.specs.Statuses.{HasStatus, IsRefusedAs};
 use crate::certificate::gather_certificate;
 use crate::judged::judged_finding;
 use crate::program::{Located, ProgramPlaces, gather_program, program_remarks};
-use crate::refusal::refusal_finding;
+use crate::refusal::{add_further, refusal_finding};
 use class_lang::{Limits, read_within};
 use effect_scan::Scan;
 use findings::{Edge, Finding, FindingSeverity, LevelChange, Levels, PlacedEdge, Rule, Verdict};
@@ -329,7 +329,8 @@ fn gather(
         Ok(loaded) => loaded,
         Err(refusal) => {
             let finding = refusal_finding(alloc, limits, texts.program, &refusal)?;
-            return found.push(FindingSeverity::Error, finding);
+            found.push(FindingSeverity::Error, finding)?;
+            return add_further(alloc, texts.program, &refusal, found);
         }
     };
     let places = ProgramPlaces::of(alloc, texts.program)?;

@@ -2,10 +2,12 @@
 #![tactic(auto)]
 
 mod certificate;
+mod errors;
 mod judged;
 mod judging;
 mod program;
 mod refusal;
 
+pub use errors::found_errors;
 pub use judging::{AcceptedEdges, Texts, verdict};
 pub use program::{Located, ProgramPlaces};

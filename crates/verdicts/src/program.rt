@@ -16,7 +16,7 @@ mod typing_flaws;
 mod walks;
 
 pub use places::{DeclaredMember, Located, ProgramPlaces};
-pub use program::{gather_program, program_remarks};
+pub use program::{gather_program, program_errors, program_remarks};
 pub use sentences::MessageWithHelp;
 pub use walks::{
     DirectedGraph, Hop, Hops, components, components_of_nodes, is_marked, marks, set_mark,

@@ -2,11 +2,11 @@
 
 use class_lang::Limits;
 use diagnostics::{Flaw, TextPlace, meaning};
-use findings::{Finding, JudgedText, Rule};
+use findings::{Finding, FindingSeverity, JudgedText, Rule, Verdict};
 use program_commands::Refusal;
-use program_flaws::declaration_flaw;
+use program_flaws::{FurtherFlaw, declaration_flaw, further_declaration_flaws};
 use std::alloc::{AllocError, Global};
-use text_flaws::{certificate_flaw, program_flaw};
+use text_flaws::{certificate_flaw, further_program_flaws, program_flaw};
 
 /// Why the text is refused, which is this refusal's; a program was read by these limits.
 pub fn refusal_finding(
@@ -39,6 +39,33 @@ pub fn refusal_finding(
             chain: Vec::new(alloc),
         }),
     }
+}
+
+/// So many flaws are told behind the first one.
+const MOST_FURTHER: usize = 19;
+
+/// Adds what else is wrong with the program, which is refused so, as far as that can be told apart.
+pub fn add_further(
+    alloc: Global,
+    text: &[u8],
+    refusal: &Refusal,
+    found: &mut Verdict,
+) -> Result<(), AllocError> {
+    let kind = JudgedText::Program;
+    if let Refusal::Text(_) = refusal {
+        let number = refusal.number().unwrap_or(0);
+        for flaw in further_program_flaws(alloc, text, number, MOST_FURTHER)? {
+            let finding = flaw_finding(alloc, text, Rule::of_refusal(number), kind, flaw)?;
+            found.push(FindingSeverity::Error, finding)?;
+        }
+        return Ok(());
+    }
+    for further in further_declaration_flaws(alloc, text, MOST_FURTHER)? {
+        let FurtherFlaw { number, flaw } = further;
+        let finding = flaw_finding(alloc, text, Rule::of_refusal(number), kind, flaw)?;
+        found.push(FindingSeverity::Error, finding)?;
+    }
+    Ok(())
 }
 
 /// The flaw as a finding.

@@ -1,7 +1,7 @@
 //! What command lines answer.
 
 use basic_types::Value;
-use explained_commands::{WriteFault, explained_command};
+use explained_commands::{FIRST_REFUSALS, WriteFault, explained_command};
 use native_slots::built_in::{class, doubled, effects, twice};
 use native_slots::{NativeSlot, Natives};
 use qt_runtime::Machine;
@@ -30,6 +30,12 @@ pub fn answered(
     let mut slots = Vec::new(alloc);
     slots.push(NativeSlot::new(class, sig, effects, work))?;
     let natives = Natives::of(slots);
+    let mut is_unexpected = false;
+    let most_refusals = if tells_refusals {
+        usize::MAX
+    } else {
+        FIRST_REFUSALS
+    };
     let mut reader = input;
     match explained_command::<Natives, Machine<Natives>, _, _, _>(
         alloc,
@@ -38,7 +44,8 @@ pub fn answered(
         natives,
         output,
         errors,
-        tells_refusals,
+        most_refusals,
+        &mut is_unexpected,
     ) {
         Ok(status) => Ok(status),
         Err(WriteFault::Failed(fault)) => Err(fault),

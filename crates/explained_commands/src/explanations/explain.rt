@@ -2,14 +2,25 @@
 
 use class_lang::Limits;
 use diagnostics::{Flaw, Severity, Span, TextKind, meaning, push_flaw, text_spans};
+use effect_scan::{Member, Node};
+use findings::{FileNames, FindingSeverity, push_finding};
 use meta_model::Meta;
 use program_commands::{Outcome, Refusal, Why};
-use program_flaws::{broken_condition, declaration_flaw, missing_certificate, native_flaw};
+use program_flaws::{FurtherFlaw, declaration_flaw, further_declaration_flaws, native_flaw};
 use rank_check::Denied;
 use script_lang::ScriptFault;
 use std::alloc::{AllocError, Global};
-use text_flaws::{certificate_flaw, program_flaw, script_flaw, script_size_flaw, wire_flaw};
+use text_flaws::{
+    certificate_flaw, further_program_flaws, program_flaw, script_flaw, script_size_flaw,
+};
 use trace_entries::Fault;
+use verdicts::found_errors;
+
+/// What places call the input.
+const INPUT: &[u8] = b"<stdin>";
+
+/// So many errors are told.
+const MOST_TOLD: usize = 20;
 
 /// Adds what a command that runs nothing, and reads a program by these limits, comes to on this input, or why a program doesn't
 /// run, for a person: what it means, in one sentence; and where the input is at fault, what is wrong there, its line and column in the input and in its text,
@@ -49,11 +60,10 @@ fn push_refusal(
     };
     let about = meaning(number).unwrap_or("");
     if let Refusal::Check(denied) = refusal {
-        writeln!(text, "no {number}: {about}")?;
-        return match input {
-            Some(input) => push_broken(text, alloc, input, denied),
-            None => Ok(()),
-        };
+        if let Some(input) = input {
+            push_errors(text, alloc, input, denied.meta(), Some(denied))?;
+        }
+        return writeln!(text, "no {number}: {about}");
     }
     if let Some(input) = input {
         push_place_of(text, alloc, limits, input, refusal)?;
@@ -75,9 +85,31 @@ fn push_place_of(
         return Ok(());
     };
     let source = source_of(input, span);
-    match flaw_of(alloc, limits, source, refusal)? {
-        Some(flaw) => push_flaw(text, Severity::Error, input, span, kind, &flaw),
-        None => Ok(()),
+    let Some(flaw) = flaw_of(alloc, limits, source, refusal)? else {
+        return Ok(());
+    };
+    push_flaw(text, Severity::Error, input, span, kind, &flaw)?;
+    for flaw in further_flaws(alloc, source, refusal)? {
+        push_flaw(text, Severity::Error, input, span, kind, &flaw)?;
+    }
+    Ok(())
+}
+
+/// What else is wrong with that text.
+fn further_flaws(alloc: Global, source: &[u8], refusal: &Refusal) -> Result<Vec<Flaw>, AllocError> {
+    let number = refusal.number().unwrap_or(0);
+    let most = MOST_TOLD.saturating_sub(1);
+    match refusal {
+        Refusal::Text(_) => further_program_flaws(alloc, source, number, most),
+        Refusal::Loading(_) => {
+            let mut flaws = Vec::new(alloc);
+            for further in further_declaration_flaws(alloc, source, most)? {
+                let FurtherFlaw { number: _, flaw } = further;
+                flaws.push(flaw)?;
+            }
+            Ok(flaws)
+        }
+        _ => Ok(Vec::new(alloc)),
     }
 }
 
@@ -111,29 +143,6 @@ fn flaw_of(
     }
 }
 
-/// Adds what breaks the condition that the check denied.
-fn push_broken(
-    text: &mut String,
-    alloc: Global,
-    input: &[u8],
-    denied: &Denied,
-) -> Result<(), AllocError> {
-    let spans = text_spans(alloc, input)?;
-    let spans = spans.as_slice();
-    let (Some(program), Some(certificate)) = (
-        TextKind::Program.span(spans),
-        TextKind::Certificate.span(spans),
-    ) else {
-        return Ok(());
-    };
-    let program = source_of(input, program);
-    let certificate = source_of(input, certificate);
-    match broken_condition(alloc, program, certificate, denied)? {
-        Some(reason) => text.push_str(reason.as_str()),
-        None => Ok(()),
-    }
-}
-
 /// Adds why a program has no certificate, and what leads to that.
 fn push_missing(
     text: &mut String,
@@ -145,24 +154,50 @@ fn push_missing(
     let Some(about) = meaning_of_reason(why) else {
         return Ok(());
     };
-    let Some(input) = input else {
-        return writeln!(text, "no certificate: {about}");
-    };
+    if let Some(input) = input {
+        push_errors(text, alloc, input, meta, None)?;
+    }
+    writeln!(text, "no certificate: {about}")
+}
+
+/// Adds the errors that `verdict` finds in the input's program, which loads as this, and in the certificate that was denied.
+fn push_errors(
+    text: &mut String,
+    alloc: Global,
+    input: &[u8],
+    meta: &Meta,
+    denied: Option<&Denied>,
+) -> Result<(), AllocError> {
     let spans = text_spans(alloc, input)?;
-    let Some(span) = TextKind::Program.span(spans.as_slice()) else {
+    let spans = spans.as_slice();
+    let Some(program) = TextKind::Program.span(spans) else {
         return Ok(());
     };
-    let source = source_of(input, span);
-    if let Why::Wire(place) = why {
-        if let Some(flaw) = wire_flaw(alloc, source, place.saturating_add(1))? {
-            push_flaw(text, Severity::Error, input, span, TextKind::Program, &flaw)?;
-        }
+    let certificate = TextKind::Certificate.span(spans).unwrap_or(program);
+    let judged = match denied {
+        Some(denied) => Some((source_of(input, certificate), denied)),
+        None => None,
+    };
+    let found = found_errors(alloc, source_of(input, program), meta, judged)?;
+    let names = FileNames {
+        program: INPUT,
+        certificate: INPUT,
+        certificate_lines: lines_before(input, certificate.begin),
+        places: None,
+    };
+    for finding in found.errors.iter().take(MOST_TOLD) {
+        push_finding(text, alloc, FindingSeverity::Error, finding, names)?;
     }
-    writeln!(text, "no certificate: {about}")?;
-    match missing_certificate(alloc, source, meta, why)? {
-        Some(reason) => text.push_str(reason.as_str()),
-        None => Ok(()),
+    match found.error_count().saturating_sub(MOST_TOLD) {
+        0 => Ok(()),
+        more => writeln!(text, "and {more} more errors, which `verdict` tells"),
     }
+}
+
+/// How many lines stand in front of this byte.
+fn lines_before(input: &[u8], at: usize) -> usize {
+    let front = input.get(..at).unwrap_or(&[]);
+    front.iter().filter(|byte| **byte == b'\n').count()
 }
 
 /// What a reason says, in one sentence; running out of memory says nothing of the program.
@@ -174,17 +209,25 @@ fn meaning_of_reason(why: &Why) -> Option<&'static str> {
         Why::BodyType(_) => Some(
             "a literal, a body or a binding isn't typed: a value is given where another type is asked",
         ),
+        Why::Cycle(nodes) if are_properties(nodes.as_slice()) => Some(
+            "there is a cycle: each of these properties follows the next one, and so without end",
+        ),
         Why::Cycle(_) => Some(
-            "each of these members may call the next one at once, and so without end: a `queued` wire in the place of a direct one breaks the chain",
+            "there is a cycle: each of these members can call the next one at once, and so one another without end",
         ),
         Why::DestroyPath(_) => Some(
-            "a slot may lead at once to the deletion of an object of its own class, while it runs: `later` in the place of `delete` puts that off",
+            "a slot can lead at once to the deletion of an object of its own class, while it runs",
         ),
-        Why::TooHigh(_) => Some(
-            "a chain of direct calls may be longer than 256: a `queued` wire breaks it",
-        ),
+        Why::TooHigh(_) => Some("a chain of direct calls can be longer than 256"),
         Why::Memory => None,
     }
+}
+
+/// Whether all of these are properties.
+fn are_properties(nodes: &[Node]) -> bool {
+    nodes
+        .iter()
+        .all(|node: &Node| matches!(node.member, Member::Property(_)))
 }
 
 /// The bytes of a text of the input.

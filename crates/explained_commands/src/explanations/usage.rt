@@ -27,7 +27,7 @@ pub fn push_usage(
             text,
             "usage: the texts of the input may have {LARGEST_INPUT} bytes together, and it has more"
         )?,
-        UsageFault::Texts(wanted) => push_number(text, alloc, input, wanted)?,
+        UsageFault::Texts(wanted) => push_number(text, alloc, words, input, wanted)?,
     }
     text.push_str(COMMANDS)
 }
@@ -36,6 +36,7 @@ pub fn push_usage(
 fn push_number(
     text: &mut String,
     alloc: Global,
+    words: &[&str],
     input: Option<&[u8]>,
     wanted: usize,
 ) -> Result<(), AllocError> {
@@ -47,6 +48,11 @@ fn push_number(
         text,
         "usage: the command takes {wanted} texts, and the input has {found}"
     )?;
+    if wanted == 3 && found == 2 && words.contains(&"run") {
+        text.push_str(
+            "`run` takes a program, its certificate and a script: without a certificate it is `run --unchecked 256`\n",
+        )?;
+    }
     match spoilt_parting(input) {
         Some(line) => writeln!(
             text,

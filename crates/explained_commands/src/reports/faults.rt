@@ -41,17 +41,20 @@ pub fn fault_report(
     let event = last_event(trace);
     let suspects = suspects(alloc, script, event, fault)?;
     let last = event.number;
+    let number = fault.number();
     if suspects.last && last > 0 {
-        writeln!(&mut text, "in event {last}")?;
-        push_line(&mut text, alloc, script, last)?;
+        let sentence = format!(in alloc; "fault {number} in event {last}")?;
+        push_event(&mut text, alloc, script, last, sentence)?;
     }
     if suspects.next {
         let next = last.saturating_add(1);
-        if suspects.last {
-            text.push_str("or, where that had ended, ")?;
-        }
-        writeln!(&mut text, "as event {next} was to be taken")?;
-        push_line(&mut text, alloc, script, next)?;
+        let or = if suspects.last {
+            "or, where that had ended, "
+        } else {
+            ""
+        };
+        let sentence = format!(in alloc; "{or}fault {number} as event {next} was to be taken")?;
+        push_event(&mut text, alloc, script, next, sentence)?;
     }
     if suspects.last {
         push_active(&mut text, alloc, trace)?;
@@ -118,20 +121,21 @@ fn nature_of(alloc: Global, script: Script<'_>, number: u64) -> Result<Option<Na
     }
 }
 
-/// Adds an event's line, where it is known.
-fn push_line(
+/// Adds a sentence on an event, with the event's line, where it is known.
+fn push_event(
     text: &mut String,
     alloc: Global,
     script: Option<Script<'_>>,
     event: u64,
+    sentence: String,
 ) -> Result<(), AllocError> {
-    let Some(script) = script else {
-        return Ok(());
-    };
-    match script.event_line(alloc, event)? {
-        Some(found) => script.push_line(text, found),
-        None => Ok(()),
+    if let Some(script) = script
+        && let Some(found) = script.event_line(alloc, event)?
+    {
+        return script.push_event(text, found, sentence);
     }
+    text.push_str(sentence.as_str())?;
+    text.push('\n')
 }
 
 /// Adds the lines of what was begun, of which the middle is left out where there are many.

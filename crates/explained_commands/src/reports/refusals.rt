@@ -1,12 +1,26 @@
 //! What is reported of refused events.
 
-use crate::reports::script::Script;
-use diagnostics::meaning;
+use crate::reports::blame::{Blame, blame_of};
+use crate::reports::known::KnownNames;
+use diagnostics::{
+    Flaw, Printed, Severity, Span, TextKind, has_tokens, meaning, number_behind, push_flaw,
+    text_spans,
+};
+use program_flaws::declarations_of;
+use sqlite_items::Items;
 use std::alloc::{AllocError, Global};
+use syntax_trees::Program;
+use texts::{PlaceFault, PlacedToken, placed_tokens, split_line};
 use trace_entries::Entry;
 
-/// So many refused events are reported.
-const MOST_TOLD: usize = 100;
+/// So many refused events are reported where not all are asked for.
+pub const FIRST_REFUSALS: usize = 5;
+
+/// So many get the part that is wrong, and a guess at what was meant.
+const MOST_GUESSED: usize = 20;
+
+/// What comes before a number at the end of an event that is meant to be refused.
+const EXPECTED: &str = "// refused";
 
 /// An event that was refused, and why.
 #[derive(Clone, Copy, Debug, PartialEq, Eq)]
@@ -17,30 +31,41 @@ struct RefusedEvent {
     reason: u8,
 }
 
-/// What is reported of the events that were refused in a run with this trace: of each of the first 100 what its reason
-/// means, and its line, where the input is known; and how many more there were. `None` where no event was refused.
+/// What is reported of the events that were refused in a run with this trace: of each of the first so many its place, what its
+/// reason means, the part that is wrong and what may be meant, and how many more there are. Where not all are asked for those
+/// are left out that a comment expects. Where the input isn't known neither place nor part is reported. `None` where there is
+/// nothing to report.
 pub fn refusal_report(
     alloc: Global,
     input: Option<&[u8]>,
     trace: &[Entry],
+    most: usize,
 ) -> Result<Option<String>, AllocError> {
     let refused = refused_events(alloc, trace)?;
     if refused.is_empty() {
         return Ok(None);
     }
-    let script = match input {
-        Some(input) => Some(Script::of(alloc, input)?),
-        None => None,
-    };
     let mut text = String::new(alloc);
-    for refused in refused.as_slice().iter().take(MOST_TOLD) {
-        push_refusal(&mut text, alloc, script, *refused)?;
+    let untold = match input {
+        Some(input) => {
+            let script = RefusedScript::of(alloc, input)?;
+            script.push_refusals(&mut text, refused.as_slice(), most)?
+        }
+        None => push_unplaced(&mut text, refused.as_slice(), most)?,
+    };
+    match untold {
+        0 => {}
+        1 => text.push_str("and 1 more event was refused: `GAMMONFIG_EXPLAIN=1` tells all\n")?,
+        more => writeln!(
+            &mut text,
+            "and {more} more events were refused: `GAMMONFIG_EXPLAIN=1` tells all"
+        )?,
     }
-    let untold = refused.len().saturating_sub(MOST_TOLD);
-    if untold > 0 {
-        writeln!(&mut text, "and {untold} more events were refused")?;
+    if text.is_empty() {
+        Ok(None)
+    } else {
+        Ok(Some(text))
     }
-    Ok(Some(text))
 }
 
 /// The refused events of a trace, in their order.
@@ -57,21 +82,201 @@ fn refused_events(alloc: Global, trace: &[Entry]) -> Result<Vec<RefusedEvent>, A
     Ok(refused)
 }
 
-/// Adds what is reported of a refused event.
-fn push_refusal(
+/// Adds what is reported of the first of these events where the script isn't known, and answers how many are left.
+fn push_unplaced(
     text: &mut String,
+    refused: &[RefusedEvent],
+    most: usize,
+) -> Result<usize, AllocError> {
+    for refused in refused.iter().take(most) {
+        let RefusedEvent { event, reason } = *refused;
+        let about = meaning(reason).unwrap_or("");
+        writeln!(text, "event {event} refused {reason}: {about}")?;
+    }
+    Ok(refused.len().saturating_sub(most))
+}
+
+/// The script of an input, whose events were refused, and the input's program.
+#[derive(Drop)]
+struct RefusedScript<'a> {
     alloc: Global,
-    script: Option<Script<'_>>,
-    refused: RefusedEvent,
-) -> Result<(), AllocError> {
-    let RefusedEvent { event, reason } = refused;
-    let about = meaning(reason).unwrap_or("");
-    writeln!(text, "event {event} refused {reason}: {about}")?;
-    let Some(script) = script else {
-        return Ok(());
+    input: &'a [u8],
+    span: Span,
+    program: Option<Program>,
+}
+
+impl<'a> RefusedScript<'a> {
+    /// The script of this input, which is its last text.
+    fn of(alloc: Global, input: &'a [u8]) -> Result<RefusedScript<'a>, AllocError> {
+        let spans = text_spans(alloc, input)?;
+        let whole = Span {
+            begin: 0,
+            end: input.len(),
+        };
+        let program = TextKind::Program.span(spans.as_slice()).unwrap_or(whole);
+        Ok(RefusedScript {
+            alloc,
+            input,
+            span: TextKind::Script.span(spans.as_slice()).unwrap_or(whole),
+            program: declarations_of(alloc, input.get(program.begin..program.end).unwrap_or(&[]))?,
+        })
+    }
+
+    /// Adds what is reported of the first so many of these events, and answers how many are left.
+    fn push_refusals(
+        &self,
+        text: &mut String,
+        refused: &[RefusedEvent],
+        most: usize,
+    ) -> Result<usize, AllocError> {
+        let script = self.input.get(self.span.begin..).unwrap_or(&[]);
+        let mut known = KnownNames::new(self.alloc)?;
+        let mut left = script;
+        let mut event = 0u64;
+        let mut told = 0usize;
+        let mut untold = 0usize;
+        let mut next = 0usize;
+        while let Some((line, rest)) = split_line(left) {
+            let at = script.len().saturating_sub(left.len());
+            left = rest;
+            let tokens = line_tokens(self.alloc, line)?;
+            if tokens.is_empty() {
+                continue;
+            }
+            event = event.saturating_add(1);
+            let Some(found) = refused.get(next) else {
+                break;
+            };
+            if found.event != event {
+                known.take(line, tokens.as_slice())?;
+                continue;
+            }
+            next = next.saturating_add(1);
+            if most <= FIRST_REFUSALS && is_expected(line, found.reason) {
+                continue;
+            }
+            if told == most {
+                untold = untold.saturating_add(1);
+                continue;
+            }
+            told = told.saturating_add(1);
+            let wrong = if told <= MOST_GUESSED {
+                let program = self.program.as_ref();
+                blame_of(
+                    self.alloc,
+                    found.reason,
+                    line,
+                    tokens.as_slice(),
+                    &known,
+                    program,
+                )?
+            } else {
+                Blame::whole()
+            };
+            self.push_refusal(text, *found, line, at, tokens.as_slice(), wrong)?;
+        }
+        Ok(untold)
+    }
+
+    /// Adds what is reported of an event, whose line begins at this byte of the script and has these tokens.
+    fn push_refusal(
+        &self,
+        text: &mut String,
+        refused: RefusedEvent,
+        line: &[u8],
+        at: usize,
+        tokens: &[PlacedToken],
+        wrong: Blame,
+    ) -> Result<(), AllocError> {
+        let RefusedEvent { event, reason } = refused;
+        let Blame { token, advice } = wrong;
+        let about = meaning(reason).unwrap_or("");
+        let mut sentence = format!(in self.alloc; "event {event} refused {reason}: {about}")?;
+        let mut inner = 0usize;
+        if let Some(placed) = tokens.get(token) {
+            inner = placed.at;
+            if token > 0 {
+                let part = Printed(line.get(placed.at..placed.end).unwrap_or(&[]));
+                write!(&mut sentence, ": `{part}`")?;
+            }
+        }
+        let flaw = Flaw {
+            at: at.saturating_add(inner),
+            sentence,
+            advice,
+        };
+        push_flaw(
+            text,
+            Severity::Warning,
+            self.input,
+            self.span,
+            TextKind::Script,
+            &flaw,
+        )
+    }
+}
+
+/// Whether a comment at the end of an event's line expects that it is refused with this number.
+fn is_expected(line: &[u8], reason: u8) -> bool {
+    match number_behind(line, EXPECTED) {
+        Some((_, number)) => number == reason,
+        None => false,
+    }
+}
+
+/// Whether an event was refused in a run with this trace, and no comment in its line expects that. Where the script isn't known, or
+/// there is no memory to look, none does.
+pub fn has_unexpected(alloc: Global, input: Option<&[u8]>, trace: &[Entry]) -> bool {
+    let Ok(refused) = refused_events(alloc, trace) else {
+        return true;
     };
-    match script.event_line(alloc, event)? {
-        Some(found) => script.push_line(text, found),
-        None => Ok(()),
+    if refused.is_empty() {
+        return false;
+    }
+    match input {
+        Some(input) => finds_unexpected(alloc, input, refused.as_slice()).unwrap_or(true),
+        None => true,
+    }
+}
+
+/// Whether no comment expects one of these events to be refused.
+fn finds_unexpected(
+    alloc: Global,
+    input: &[u8],
+    refused: &[RefusedEvent],
+) -> Result<bool, AllocError> {
+    let spans = text_spans(alloc, input)?;
+    let begin = match TextKind::Script.span(spans.as_slice()) {
+        Some(span) => span.begin,
+        None => 0,
+    };
+    let mut left = input.get(begin..).unwrap_or(&[]);
+    let mut event = 0u64;
+    let mut next = 0usize;
+    while let Some((line, rest)) = split_line(left) {
+        left = rest;
+        let Some(found) = refused.get(next) else {
+            return Ok(false);
+        };
+        if !has_tokens(alloc, line)? {
+            continue;
+        }
+        event = event.saturating_add(1);
+        if found.event == event {
+            if !is_expected(line, found.reason) {
+                return Ok(true);
+            }
+            next = next.saturating_add(1);
+        }
+    }
+    Ok(next < refused.len())
+}
+
+/// The tokens of an event's line, which is cut into them.
+fn line_tokens(alloc: Global, line: &[u8]) -> Result<Items<PlacedToken>, AllocError> {
+    match placed_tokens(alloc, line) {
+        Ok(tokens) => Ok(tokens),
+        Err(PlaceFault::BadByte(_)) => Ok(Items::new(alloc)),
+        Err(PlaceFault::Memory) => Err(AllocError),
     }
 }

@@ -3,7 +3,7 @@
 ghost use Rattle.std.specs.Prelude.{◌≤◌, length};
 
 use crate::reports::events::{EventLine, event_line};
-use diagnostics::{push_excerpt, push_place, text_spans};
+use diagnostics::{Flaw, Severity, Span, TextKind, push_flaw, text_spans};
 use std::alloc::{AllocError, Global};
 
 /// A script, which is an input's last text.
@@ -38,19 +38,30 @@ impl<'a> Script<'a> {
         event_line(alloc, self.text, event)
     }
 
-    /// Adds where the line of an event is: its place in the input and in the script, and the line.
-    pub fn push_line(self, text: &mut String, line: EventLine<'_>) -> Result<(), AllocError> {
-        let inner = line
-            .at
-            .saturating_add(indent(line.line))
-            .min(self.text.len());
-        let at = self.begin.saturating_add(inner).min(self.input.len());
-        text.push_str(" at ")?;
-        push_place(text, self.input, at)?;
-        text.push_str(" of the input (")?;
-        push_place(text, self.text, inner)?;
-        text.push_str(" of the script)\n")?;
-        push_excerpt(text, self.input, at)
+    /// Adds a sentence on an event that has this line, with its place and the line.
+    pub fn push_event(
+        self,
+        text: &mut String,
+        line: EventLine<'_>,
+        sentence: String,
+    ) -> Result<(), AllocError> {
+        let span = Span {
+            begin: self.begin,
+            end: self.input.len(),
+        };
+        let flaw = Flaw {
+            at: line.at.saturating_add(indent(line.line)),
+            sentence,
+            advice: None,
+        };
+        push_flaw(
+            text,
+            Severity::Error,
+            self.input,
+            span,
+            TextKind::Script,
+            &flaw,
+        )
     }
 }
 

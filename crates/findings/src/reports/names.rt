@@ -12,6 +12,8 @@ pub struct FileNames<'n> {
     pub program: &'n [u8],
     /// Its certificate.
     pub certificate: &'n [u8],
+    /// How many lines stand in front of the certificate in what is called so.
+    pub certificate_lines: usize,
     /// What places of the program stand for in another text, from which a tool wrote it; where they stand for something,
     /// that is told.
     pub places: Option<&'n OtherPlaces<'n>>,

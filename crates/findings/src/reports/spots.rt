@@ -31,8 +31,21 @@ pub fn told_at<'n>(
             let (line, column) = (other.other_line, other.other_column);
             (other.file, Some(TextPlace { line, column }))
         }
-        None => (names.of(text), place),
+        None => (names.of(text), in_file(names, text, place)),
     }
+}
+
+/// The place in what the text is called, which may have lines in front of the text.
+fn in_file(names: FileNames<'_>, text: JudgedText, place: Option<TextPlace>) -> Option<TextPlace> {
+    let TextPlace { line, column } = place?;
+    let before = match text {
+        JudgedText::Program => 0,
+        JudgedText::Certificate => names.certificate_lines,
+    };
+    Some(TextPlace {
+        line: line.saturating_add(before),
+        column,
+    })
 }
 
 /// What is said of a step: of one that stands in the other text, by the words that stand there, and under which conditions it is

@@ -26,8 +26,8 @@ pub fn text_report(
     Ok(text)
 }
 
-/// Adds a finding.
-fn push_finding(
+/// Adds a finding: its line, and what stands below it.
+pub fn push_finding(
     text: &mut String,
     alloc: Global,
     severity: FindingSeverity,

@@ -68,7 +68,7 @@ fn of_offence(
 }
 
 /// The flaw, in words.
-fn told_flaw(told: &ReportedOffence, offence: &Offence) -> Result<Flaw, AllocError> {
+pub fn told_flaw(told: &ReportedOffence, offence: &Offence) -> Result<Flaw, AllocError> {
     let finding = told.finding(offence)?;
     let advice = advice_on(told, offence, finding.advice)?;
     told.flaw(finding.sentence.as_str(), advice)

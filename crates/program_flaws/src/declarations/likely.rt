@@ -1,7 +1,7 @@
 //! Declared names that are like one that isn't there.
 
 use basic_types::Name;
-use diagnostics::{Printed, nearest};
+use diagnostics::did_you_mean;
 use std::alloc::{AllocError, Global};
 use syntax_trees::{Class, Formal, Parameter, Program};
 
@@ -11,16 +11,7 @@ pub fn likely(alloc: Global, program: &Program, name: &Name) -> Result<Option<St
     if names.iter().any(|other| *other == name.bytes()) {
         return Ok(None);
     }
-    match nearest(alloc, name.bytes(), names.as_slice())? {
-        Some(other) => Ok(Some(meant(alloc, other)?)),
-        None => Ok(None),
-    }
-}
-
-/// That this name may be meant.
-fn meant(alloc: Global, name: &[u8]) -> Result<String, AllocError> {
-    let name = Printed(name);
-    format!(in alloc; "did you mean `{name}`?")
+    did_you_mean(alloc, name.bytes(), names.as_slice())
 }
 
 /// The names that the program declares.

@@ -38,7 +38,7 @@ pub fn unfit_type(
     name: usize,
 ) -> Result<DeclarationFlaw, AllocError> {
     match unfit {
-        Unfit::Unknown => missing(told, name, " isn't a type", kind_advice(told.name)),
+        Unfit::Unknown => missing(told, name, " isn't a type", unknown_advice(told)),
         Unfit::ClassAlone => {
             let advice = "put a `*` behind the class";
             let words = " is a class, and objects are told by pointers to them";
@@ -116,6 +116,21 @@ fn kind_at(declared: DeclarationRef<'_>, name: usize) -> Option<&QType> {
         }
     }
     None
+}
+
+/// What to write in place of a type that isn't there.
+fn unknown_advice(told: &ReportedOffence) -> Option<&'static str> {
+    match told.declared {
+        DeclarationRef::Property(_, property) if is_value_type(property.name.bytes()) => Some(
+            "the type comes first, and then the name: write `property int x;`",
+        ),
+        _ => kind_advice(told.name),
+    }
+}
+
+/// Whether values are of the type of this name.
+fn is_value_type(name: &[u8]) -> bool {
+    name == b"int".as_slice() || name == b"bool".as_slice() || name == b"QString".as_slice()
 }
 
 /// What to write in place of a type that C++ or Qt has.

@@ -1,87 +1,44 @@
-//! The declarations of a program, in the order of its text.
+//! Where the declarations of a program begin in its text.
 
 use class_outlines::{Declaration, Member};
 use texts::{PlacedToken, Token, Word};
 
-/// How many declarations were met in a text; members are those of the last class.
-#[derive(Clone, Copy)]
-struct DeclarationCounts {
-    classes: usize,
-    properties: usize,
-    signals: usize,
-    slots: usize,
-    wires: usize,
-    owns: usize,
-    sites: usize,
-}
-
-impl DeclarationCounts {
-    /// None was met.
-    fn new() -> DeclarationCounts {
-        DeclarationCounts {
-            classes: 0,
-            properties: 0,
-            signals: 0,
-            slots: 0,
-            wires: 0,
-            owns: 0,
-            sites: 0,
+/// The token, from this one on, that is one of these words for the time of this number, counted from 0.
+pub fn nth_word(
+    tokens: &[PlacedToken],
+    from: usize,
+    words: &[Word],
+    number: usize,
+) -> Option<usize> {
+    let mut left = number;
+    for at in from..tokens.len() {
+        if let Some(placed) = tokens.get(at)
+            && let Token::Word(found) = &placed.token
+            && words.contains(found)
+        {
+            if left == 0 {
+                return Some(at);
+            }
+            left -= 1;
         }
     }
-
-    /// The declaration that begins with this token, which is the next one of the text; `None` where none does.
-    fn next(&mut self, token: &Token) -> Option<Declaration> {
-        let Token::Word(word) = token else {
-            return None;
-        };
-        match word {
-            Word::Class => {
-                self.properties = 0;
-                self.signals = 0;
-                self.slots = 0;
-                Some(Declaration::Class(count(&mut self.classes)))
-            }
-            Word::Property => {
-                let member = Member::Property(count(&mut self.properties));
-                Some(self.member(member))
-            }
-            Word::Signal => {
-                let member = Member::Signal(count(&mut self.signals));
-                Some(self.member(member))
-            }
-            Word::Slot | Word::Native => {
-                let member = Member::Slot(count(&mut self.slots));
-                Some(self.member(member))
-            }
-            Word::Wire => Some(Declaration::Wire(count(&mut self.wires))),
-            Word::Owns => Some(Declaration::Owns(count(&mut self.owns))),
-            Word::Binding => Some(Declaration::Site(count(&mut self.sites))),
-            _ => None,
-        }
-    }
-
-    /// The member, of the last class.
-    fn member(&self, member: Member) -> Declaration {
-        Declaration::Member(self.classes.saturating_sub(1), member)
-    }
-}
-
-/// One more; its number is how many there were.
-fn count(so_far: &mut usize) -> usize {
-    let number = *so_far;
-    *so_far = number.saturating_add(1);
-    number
+    None
 }
 
 /// Which of the tokens the declaration begins with.
 pub fn first_token(tokens: &[PlacedToken], declaration: Declaration) -> Option<usize> {
-    let mut walk = DeclarationCounts::new();
-    for (at, placed) in tokens.iter().enumerate() {
-        if let Some(next) = walk.next(&placed.token)
-            && next == declaration
-        {
-            return Some(at);
+    match declaration {
+        Declaration::Class(number) => nth_word(tokens, 0, &[Word::Class], number),
+        Declaration::Member(class, member) => {
+            let class = nth_word(tokens, 0, &[Word::Class], class)?;
+            match member {
+                Member::Property(own) => nth_word(tokens, class, &[Word::Property], own),
+                Member::Signal(own) => nth_word(tokens, class, &[Word::Signal], own),
+                Member::Slot(own) => nth_word(tokens, class, &[Word::Slot, Word::Native], own),
+            }
         }
+        Declaration::Wire(number) => nth_word(tokens, 0, &[Word::Wire], number),
+        Declaration::Owns(number) => nth_word(tokens, 0, &[Word::Owns], number),
+        Declaration::Site(number) => nth_word(tokens, 0, &[Word::Binding], number),
     }
-    None
 }

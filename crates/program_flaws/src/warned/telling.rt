@@ -1,7 +1,7 @@
 //! How warnings are reported.
 
 use crate::warned::ranked::Ranked;
-use crate::warned::spot::TextAnchor;
+use crate::warned::spot::warned_byte;
 use crate::warned::warning::Warning;
 use crate::{node_text, property_text, wire_text};
 use diagnostics::TextPlace;
@@ -44,7 +44,7 @@ impl Subject<'_> {
     /// Adds the warning's line, with its place in the program, which is the input's first text, where it has one.
     fn push_warning(&self, told: &mut String, warning: &Warning) -> Result<(), AllocError> {
         told.push_str("<stdin>:")?;
-        if let Some(at) = TextAnchor::of(self.meta, warning).find(self.tokens) {
+        if let Some(at) = warned_byte(self.meta, warning, self.tokens) {
             let TextPlace { line, column } = TextPlace::of(self.text, at.min(self.text.len()));
             write!(told, "{line}:{column}:")?;
         }

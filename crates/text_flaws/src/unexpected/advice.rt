@@ -7,7 +7,7 @@ use crate::unexpected::habits::{
 use crate::unexpected::pattern::{fits, start_of};
 use crate::unexpected::source::ShownTokens;
 use crate::unexpected::unexpected::Unexpected;
-use diagnostics::{Printed, TextPlace, nearest};
+use diagnostics::{TextPlace, did_you_mean};
 use std::alloc::{AllocError, Global};
 use texts::{Symbol, Token, Word};
 use token_reading::Wanted;
@@ -147,16 +147,7 @@ fn misspelled(alloc: Global, unexpected: Unexpected) -> Result<Option<String>, A
     }
     let words = wanted_words(alloc, unexpected)?;
     let name = unexpected.source.spelled(unexpected.at);
-    match nearest(alloc, name, words.as_slice())? {
-        Some(word) => Ok(Some(likely(alloc, word)?)),
-        None => Ok(None),
-    }
-}
-
-/// That this word may be meant.
-fn likely(alloc: Global, word: &[u8]) -> Result<String, AllocError> {
-    let word = Printed(word);
-    format!(in alloc; "did you mean `{word}`?")
+    did_you_mean(alloc, name, words.as_slice())
 }
 
 /// The words that could come.

@@ -28,6 +28,8 @@ enum HabitContext {
     Setting,
     /// Anywhere in a line of a script or a certificate.
     Line,
+    /// The first token of a program.
+    First,
     /// A name, and no value.
     Name,
     /// The root of a path, and no value.
@@ -40,6 +42,8 @@ enum HabitContext {
     Open,
     /// A `,`, and no end.
     Comma,
+    /// The `,` between the parts of a statement.
+    Part,
     Semicolon,
     Arrow,
     /// The `=` of a `set`.
@@ -69,6 +73,8 @@ pub fn in_lines() -> &'static [Habit] {
         Event "^ binding $name $name $name/$end" => "the event is called `bind`: write `bind @1..@`";
         Event "^ class/wire/owns/binding" => "this is a program: it stands in front of the script, and a line `%%` between them";
         Event "^ certificate/bound/~" => "this is a certificate: it stands between the program and the script, with a line `%%` behind it";
+        Event "^ $name = new $name" => "an object is made by `new`: write `new @0@ @3@`";
+        Event "^ $name = $name (" => "an object is made by `new`: write `new @0@ @2@`";
         Event "^ $name $name = new" => "an object is made by `new`: write `new @1@ @0@`";
         Event "^ $name * $name = new" => "an object is made by `new`: write `new @2@ @0@`";
         Event "^ $path (" => "a slot is called by `call`, a signal emitted by `emit`: write `call @0..@`";
@@ -96,6 +102,7 @@ pub fn of_declarations() -> &'static [Habit] {
     habits! {
         Declaration "^ }" => "this `}` closes nothing";
         Declaration "^ ;" => "leave this `;` out: at most one follows a class";
+        First "^ new/loop/turn/adopt/move/bind/block/unblock $name" => "this is a script: the program stands in front of it, and a line `%%` between them";
         Declaration "^ certificate/bound $number" => "this is a certificate: the program stands in front of it, and a line `%%` between them";
         Declaration "^ new/loop/turn/adopt/move/bind/block/unblock $name" => "this is an event: events stand in the script, behind the program and a line `%%`";
         Declaration "^ set/emit/call/if/connect/disconnect/delete/later/group" => "this stands in the body of a slot, or is an event of a script";
@@ -140,6 +147,8 @@ pub fn in_members() -> &'static [Habit] {
         Any "unsigned/signed/long/short int/long/char/short ^ $any" => "each number is an `int`: leave `@-2@` out";
         Type "std ^ : : $name" => "there is no `std::@2@`: a type is `int`, `bool`, `QString`, or a pointer to a class";
         Type "^ <" => "there are no templates and no lists: a type is `int`, `bool`, `QString`, or a pointer to a class";
+        Name "property $name ^ : $name" => "the type comes first, and then the name: write `property @1@ @-1@;`";
+        Any "signal/slot/native .. $name ^ : $name" => "a parameter's type comes first, and then its name: write `@1@ @-1@`";
         Literal "^ nullptr/NULL/Q_NULLPTR" => "write `null`";
         Literal "^ ;" => "a value is missing before this";
         Literal "^ $name/this" => "a property's first value is a literal";
@@ -188,6 +197,8 @@ pub fn in_declarations() -> &'static [Habit] {
 /// Those of what begins no statement.
 pub fn of_statements() -> &'static [Habit] {
     habits! {
+        Statement "if .. { ^ return ;" => "there is no `return`: turn the condition round, and put what follows into the block: write `if (!(..)) { .. }`";
+        Statement "^ $path = new" => "a body makes no objects: the event `new` of a script does";
         Statement "^ return/while/for/switch/do/break/continue/goto/try/throw/foreach" => "a body has neither loops nor `return`";
         Statement "^ Qt/QScopedPropertyUpdateGroup" => "properties are updated together by `group { set ..; }`";
         Statement "^ QObject : : connect/disconnect" => "write `@3@ a, s(), b, m(), queued;`";
@@ -230,14 +241,15 @@ pub fn in_statements() -> &'static [Habit] {
         Brace "else ^ if" => "`else` is followed by a block: write `else { if (..) { .. } }`";
         Brace "else ^ group" => "`else` is followed by a block: write `else { group { .. } }`";
         Brace "else ^ $any" => "`else` is followed by a block: write `else { @0..@; }`";
+        Brace "if .. ) ^ return ;" => "there is no `return`: turn the condition round, and put what follows into the block: write `if (!(..)) { .. }`";
         Brace "if .. ) ^ if/group" => "the block of an `if` has braces, also around one statement: write `{ @0@ .. }`";
         Brace "if .. ) ^ $any" => "the block of an `if` has braces, also around one statement: write `{ @0..@; }`";
         Open "if ^ $any" => "the condition of an `if` stands in parentheses: write `if (@0..@) { .. }`";
         Name "connect/disconnect/delete/later ^ (" => "there are no parentheses behind this word";
         Any "SIGNAL/SLOT ( $name ^ (" => "there is no `@-3@`: write the signature alone";
         Name "connect/disconnect .. ^ &" => "a signal or a slot is told by its signature, as `s(int)`";
-        Comma "connect .. ) ^ ;" => "a connection gives its kind: write `auto`, `direct` or `queued` at the end";
-        Comma "connect/disconnect .. ^ $any" => "the parts of a connection have commas between them: write `connect a, s(), b, m(), queued;`";
+        Part "connect .. ) ^ ;" => "a connection gives its kind: write `auto`, `direct` or `queued` at the end";
+        Part "connect/disconnect .. ^ $any" => "the parts of a connection have commas between them: write `connect a, s(), b, m(), queued;`";
         Semicolon "connect .. ^ unique/single" => "a comma stands in front of `@0@`";
         Semicolon "connect .. single ^ ," => "`unique` stands before `single`";
     }
@@ -315,7 +327,7 @@ impl HabitContext {
         let wanted = match self {
             HabitContext::Any | HabitContext::Setting | HabitContext::Line | HabitContext::Number =>
                 return None,
-            HabitContext::Declaration => Wanted::Word(Word::Wire),
+            HabitContext::Declaration | HabitContext::First => Wanted::Word(Word::Wire),
             HabitContext::Member => Wanted::Word(Word::Property),
             HabitContext::Statement => Wanted::Word(Word::Emit),
             HabitContext::Set => Wanted::Word(Word::Set),
@@ -329,7 +341,7 @@ impl HabitContext {
             HabitContext::Type => Wanted::Symbol(Symbol::Ampersand),
             HabitContext::Brace => Wanted::Symbol(Symbol::OpenBrace),
             HabitContext::Open => Wanted::Symbol(Symbol::Open),
-            HabitContext::Comma => Wanted::Symbol(Symbol::Comma),
+            HabitContext::Comma | HabitContext::Part => Wanted::Symbol(Symbol::Comma),
             HabitContext::Semicolon => Wanted::Symbol(Symbol::Semicolon),
             HabitContext::Arrow => Wanted::Symbol(Symbol::Arrow),
             HabitContext::Assign => Wanted::Symbol(Symbol::Assign),
@@ -344,7 +356,9 @@ impl HabitContext {
             HabitContext::Set => Some(Wanted::Word(Word::Emit)),
             HabitContext::Line => Some(Wanted::Word(Word::Wire)),
             HabitContext::Literal | HabitContext::Open => Some(Wanted::Symbol(Symbol::Not)),
-            HabitContext::Comma | HabitContext::Assign => Some(Wanted::Symbol(Symbol::Semicolon)),
+            HabitContext::Comma | HabitContext::Part | HabitContext::Assign => {
+                Some(Wanted::Symbol(Symbol::Semicolon))
+            }
             HabitContext::Name | HabitContext::Object | HabitContext::Number => Some(Wanted::Text),
             _ => None,
         }
@@ -355,6 +369,8 @@ impl HabitContext {
         match self {
             HabitContext::Setting => unexpected.is_in_line() && unexpected.wants_spelled(),
             HabitContext::Line => unexpected.is_in_line(),
+            HabitContext::First => unexpected.at == 0,
+            HabitContext::Part => !unexpected.is_in_line(),
             HabitContext::Number => unexpected.wants_number(),
             _ => true,
         }

@@ -2,6 +2,7 @@
 
 use crate::program::places::Located;
 use crate::program::search::ProgramSearch;
+use crate::program::sentences::{MAY_BE_FALSE, doubted_help};
 use crate::program::walks::{marks, set_mark};
 use effect_scan::Node;
 use findings::{Finding, JudgedText, Rule, Verdict};
@@ -42,10 +43,9 @@ fn chain_finding(located: Located<'_>, nodes: &[Node]) -> Result<Finding, AllocE
         )?;
         place = located.node_place(*first);
     }
-    let help = Some(String::from_str(
-        alloc,
-        "make a wire on the way `queued`, or let a slot emit a signal that a `queued` wire takes on",
-    )?);
+    let advice =
+        "make a wire on the way `queued`, or let a slot emit a signal that a `queued` wire takes on";
+    let help = doubted_help(alloc, advice, MAY_BE_FALSE)?;
     Ok(Finding {
         rule: Rule::ChainTooLong,
         message,

@@ -2,11 +2,11 @@
 
 use crate::program::places::Located;
 use crate::program::search::ProgramSearch;
-use crate::program::sentences::push_names;
+use crate::program::sentences::{BINDINGS_MAY_BE_FALSE, MAY_BE_FALSE, doubted_help, push_names};
 use crate::program::walks::{DirectedGraph, components, components_of_nodes};
 use effect_scan::{Member, Node};
 use findings::{ChainStep, Edge, Finding, JudgedText, Link, PlacedEdge, Rule, TextPlace, Verdict};
-use program_flaws::{breaking, node_text};
+use program_flaws::node_text;
 use std::alloc::AllocError;
 use std::collections::BTreeSet;
 
@@ -182,7 +182,7 @@ impl ComponentCycles<'_> {
             has_link(chain.as_slice(), Link::Wire),
             has_link(chain.as_slice(), Link::Binding),
         );
-        let help = Some(String::from_str(alloc, advice)?);
+        let help = doubted_help(alloc, advice, doubt(cycle))?;
         // Where others are accepted it is told by the edge that isn't.
         let place = if self.has_accepted {
             chain.first().and_then(|step: &ChainStep| step.place)
@@ -197,6 +197,18 @@ impl ComponentCycles<'_> {
             place,
             chain,
         })
+    }
+}
+
+/// Why a cycle of these nodes may be a false alarm.
+fn doubt(cycle: &[Node]) -> &'static str {
+    let is_bound = cycle
+        .iter()
+        .all(|node: &Node| matches!(node.member, Member::Property(_)));
+    if is_bound {
+        BINDINGS_MAY_BE_FALSE
+    } else {
+        MAY_BE_FALSE
     }
 }
 
@@ -217,6 +229,17 @@ fn cycle_text(located: Located<'_>, cycle: &[Node], members: usize) -> Result<St
         }
     }
     Ok(text)
+}
+
+/// How to break a cycle on which wires lead from one node to the next, or bindings, or neither.
+fn breaking(is_wired: bool, is_bound: bool) -> &'static str {
+    if is_wired {
+        "make one of these wires `queued`: then its slot runs later, when the event loop turns, and the chain ends there"
+    } else if is_bound {
+        "a binding may not come to read what it is for: leave one of these properties out of an expression"
+    } else {
+        "in the place of one of these statements, emit a signal that a `queued` wire takes to the next slot"
+    }
 }
 
 /// Where a cycle is reported: at its first wire, where it has one.

@@ -3,6 +3,7 @@
 
 use crate::program::places::{DeclaredMember, Located};
 use crate::program::search::ProgramSearch;
+use crate::program::sentences::{DELETION_MAY_BE_FALSE, doubted_help};
 use crate::program::walks::{Hops, marks};
 use edge_reasons::{Reason, reason_for};
 use effect_scan::{Member, Node, row_at};
@@ -236,10 +237,9 @@ fn destroy_path(located: Located<'_>, members: &DeletingMembers) -> Result<Findi
             "; {count} slots and natives lead to this deletion of an object that they may run in"
         )?;
     }
-    let help = Some(String::from_str(
-        alloc,
-        "write `later` in the place of `delete`, or make a wire on the way `queued`: then the deletion waits until the slot has returned",
-    )?);
+    let advice =
+        "write `later` in the place of `delete`, or make a wire on the way `queued`: then the deletion waits until the slot has returned";
+    let help = doubted_help(alloc, advice, DELETION_MAY_BE_FALSE)?;
     Ok(Finding {
         rule: Rule::DestroyPath,
         message,

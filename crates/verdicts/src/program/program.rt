@@ -2,7 +2,7 @@
 
 use crate::program::chains::gather_chain;
 use crate::program::cycles::gather_cycles;
-use crate::program::deletions::{deletions, gather_deletions};
+use crate::program::deletions::{Deletion, deletions, gather_deletions};
 use crate::program::places::Located;
 use crate::program::remarks::remarks;
 use crate::program::search::ProgramSearch;
@@ -28,13 +28,40 @@ pub fn gather_program(
         graph: &graph,
         components: components.as_slice(),
     };
+    let deletions = gather_errors(search, accepted, found)?;
+    remarks(search, deletions.as_slice())
+}
+
+/// Adds what is wrong with the program, and nothing else.
+pub fn program_errors(located: Located<'_>, found: &mut Verdict) -> Result<(), AllocError> {
+    let alloc = located.source.alloc;
+    let scan = Scan::of(alloc, located.source.meta)?;
+    let graph = DirectedGraph::of(alloc, &scan)?;
+    let components = components(&graph)?;
+    let search = ProgramSearch {
+        located,
+        scan: &scan,
+        graph: &graph,
+        components: components.as_slice(),
+    };
+    gather_errors(search, &[], found)?;
+    Ok(())
+}
+
+/// Adds what is wrong with the program, and answers what deletes objects in it; cycles on the list are counted alone.
+fn gather_errors(
+    search: ProgramSearch<'_>,
+    accepted: &[Edge],
+    found: &mut Verdict,
+) -> Result<Vec<Deletion>, AllocError> {
+    let located = search.located;
     gather_wires(located, found)?;
-    gather_types(located, scan.nodes(), found)?;
+    gather_types(located, search.scan.nodes(), found)?;
     gather_cycles(search, accepted, found)?;
     let deletions = deletions(search)?;
     gather_deletions(located, deletions.as_slice(), found)?;
     gather_chain(search, found)?;
-    remarks(search, deletions.as_slice())
+    Ok(deletions)
 }
 
 /// What is worth a warning or a note in a program that has a certificate, whose nodes and edges these are.

@@ -34,6 +34,28 @@ impl MessageWithHelp {
     }
 }
 
+/// Why what is said of calls and values may be a false alarm, and what to do then.
+pub const MAY_BE_FALSE: &str =
+    "This may be a false alarm: where values come to rest, or the objects are never the same, use a `queued` wire, or a class for each role";
+
+/// Why what is said of bindings may be one.
+pub const BINDINGS_MAY_BE_FALSE: &str =
+    "This may be a false alarm: where the objects are never the same, declare a class for each role";
+
+/// Why what is said of a deletion may be one.
+pub const DELETION_MAY_BE_FALSE: &str =
+    "This may be a false alarm: where the object is never the one that is deleted, declare a class for each role";
+
+/// What to do about a finding, and why it may be a false alarm.
+pub fn doubted_help(
+    alloc: Global,
+    advice: &str,
+    doubt: &str,
+) -> Result<Option<String>, AllocError> {
+    let help = format!(in alloc; "{advice}. {doubt}")?;
+    Ok(Some(help))
+}
+
 /// Adds the names of the nodes, or of the first of them, and how many more there are.
 pub fn push_names(
     text: &mut String,

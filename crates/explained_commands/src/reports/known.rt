@@ -1,0 +1,160 @@
+//! What a run has made by an event, and what its program declares, by names.
+
+use std::alloc::{AllocError, Global};
+use syntax_trees::{Class, Program};
+use texts::PlacedToken;
+
+/// The event loop that is there from the beginning.
+const MAIN: &[u8] = b"main";
+
+/// An object that an event made.
+#[derive(Clone, Copy)]
+struct MadeObject<'a> {
+    name: &'a [u8],
+    class: &'a [u8],
+}
+
+/// The objects and event loops that the events before one made.
+#[derive(Drop)]
+pub struct KnownNames<'a> {
+    alloc: Global,
+    objects: Vec<MadeObject<'a>>,
+    loops: Vec<&'a [u8]>,
+}
+
+/// The token of this number, counted from 0, as it is spelled; nothing where there is none.
+pub fn spelled<'l>(line: &'l [u8], tokens: &[PlacedToken], number: usize) -> &'l [u8] {
+    match tokens.get(number) {
+        Some(placed) => line.get(placed.at..placed.end).unwrap_or(&[]),
+        None => &[],
+    }
+}
+
+impl<'a> KnownNames<'a> {
+    /// What is there before the first event.
+    pub fn new(alloc: Global) -> Result<KnownNames<'a>, AllocError> {
+        let mut loops = Vec::new(alloc);
+        loops.push(MAIN)?;
+        Ok(KnownNames {
+            alloc,
+            objects: Vec::new(alloc),
+            loops,
+        })
+    }
+
+    /// Takes what the event of this line made, which was accepted.
+    pub fn take(&mut self, line: &'a [u8], tokens: &[PlacedToken]) -> Result<(), AllocError> {
+        let verb = spelled(line, tokens, 0);
+        if verb == b"new".as_slice() {
+            self.objects.push(MadeObject {
+                name: spelled(line, tokens, 1),
+                class: spelled(line, tokens, 2),
+            })?;
+        } else if verb == b"loop".as_slice() {
+            self.loops.push(spelled(line, tokens, 1))?;
+        }
+        Ok(())
+    }
+
+    /// The class of which the object was made, if it was.
+    pub fn class_of(&self, name: &[u8]) -> Option<&'a [u8]> {
+        let found = self.objects.iter().find(|object| object.name == name)?;
+        Some(found.class)
+    }
+
+    /// The objects.
+    pub fn object_names(&self) -> Result<Vec<&'a [u8]>, AllocError> {
+        let mut names = Vec::new(self.alloc);
+        for object in self.objects.iter() {
+            names.push(object.name)?;
+        }
+        Ok(names)
+    }
+
+    /// The event loops.
+    pub fn loop_names(&self) -> &[&'a [u8]] {
+        self.loops.as_slice()
+    }
+}
+
+/// A sort of members.
+#[derive(Clone, Copy, Debug, PartialEq, Eq)]
+pub enum MemberSort {
+    Property,
+    Signal,
+    /// Slots and natives.
+    Slot,
+    /// What a connection calls.
+    Method,
+}
+
+/// The class of this name.
+fn class_named<'p>(program: &'p Program, name: &[u8]) -> Option<&'p Class> {
+    program
+        .classes
+        .as_slice()
+        .iter()
+        .find(|class| class.name.bytes() == name)
+}
+
+/// The names of the classes.
+pub fn class_names(alloc: Global, program: &Program) -> Result<Vec<&[u8]>, AllocError> {
+    let mut names = Vec::new(alloc);
+    names.push(b"QObject".as_slice())?;
+    for class in program.classes.as_slice() {
+        names.push(class.name.bytes())?;
+    }
+    Ok(names)
+}
+
+/// The names of the members of this sort that objects of the class have.
+pub fn member_names<'p>(
+    alloc: Global,
+    program: &'p Program,
+    class: &[u8],
+    sort: MemberSort,
+) -> Result<Vec<&'p [u8]>, AllocError> {
+    let mut names = Vec::new(alloc);
+    let mut next = class_named(program, class);
+    // A base stands before its class, so there are no more.
+    for _ in program.classes.as_slice() {
+        let Some(class) = next else {
+            break;
+        };
+        add_members(&mut names, class, sort)?;
+        next = match &class.base {
+            Some(base) => class_named(program, base.bytes()),
+            None => None,
+        };
+    }
+    match sort {
+        MemberSort::Property => names.push(b"objectName".as_slice())?,
+        MemberSort::Signal => names.push(b"destroyed".as_slice())?,
+        MemberSort::Slot | MemberSort::Method => names.push(b"deleteLater".as_slice())?,
+    }
+    Ok(names)
+}
+
+/// Adds the names of the members of this sort that the class declares.
+fn add_members<'p>(
+    names: &mut Vec<&'p [u8]>,
+    class: &'p Class,
+    sort: MemberSort,
+) -> Result<(), AllocError> {
+    if sort == MemberSort::Property {
+        for property in class.properties.as_slice() {
+            names.push(property.name.bytes())?;
+        }
+    }
+    if sort == MemberSort::Signal || sort == MemberSort::Method {
+        for signal in class.signals.as_slice() {
+            names.push(signal.name.bytes())?;
+        }
+    }
+    if sort == MemberSort::Slot || sort == MemberSort::Method {
+        for slot in class.slots.as_slice() {
+            names.push(slot.name.bytes())?;
+        }
+    }
+    Ok(())
+}
