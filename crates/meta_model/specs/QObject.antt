@@ -5,12 +5,12 @@ use Rattle.basic_types.specs.declared.sig.Sig.{Sig}
 use Rattle.basic_types.specs.Normal.{pointer_type}
 use Rattle.basic_types.specs.Types.{value_type}
 
+abbrev pub destroyed : Sig
+destroyed = record { name = codes "destroyed"; types = pointer_type (codes "QObject") false ∷ [] }
+
 -- a signature, by its parts
 abbrev pub sig_of : List ℕ → List QType → Sig
 sig_of name types = record { name = name; types = types }
-
-abbrev pub destroyed : Sig
-destroyed = sig_of (codes "destroyed") (pointer_type (codes "QObject") false ∷ [])
 
 abbrev pub destroyed_alone : Sig
 destroyed_alone = sig_of (codes "destroyed") []
