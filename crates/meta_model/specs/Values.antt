@@ -1,5 +1,6 @@
 -- Which values have a type, and which one a property of the type has by itself (docs/language.md, "Values").
-use Rattle.std.specs.Prelude.{ℕ, false, pos, List, [], ◌∷◌, Option, None}
+use Rattle.std.specs.Prelude.{ℕ, false, pos, List, [], Option, None}
+use Rattle.std.specs.List.{AllZip}
 use Rattle.basic_types.specs.declared.value.Value.{Value}
 use Rattle.basic_types.specs.declared.value.Value.TheVariants as value
 use Rattle.basic_types.specs.Values.{Types, Has as AnyHas}
@@ -19,10 +20,7 @@ Has p class v T = AnyHas value_types class (Below p) v T
 
 -- as many values as types, each of its type
 abbrev pub HaveTypes : Loaded → (ℕ → Option ℕ) → List Value → List ValueType → Type 0
-HaveTypes p class [] [] = Unit {0}
-HaveTypes p class [] (T ∷ Ts) = ⊥
-HaveTypes p class (v ∷ vs) [] = ⊥
-HaveTypes p class (v ∷ vs) (T ∷ Ts) = Has p class v T × HaveTypes p class vs Ts
+HaveTypes p class vs Ts = AllZip (Has p class) vs Ts
 
 -- what a property of this type is at first where no literal is given, and what it reads as where a path led to null
 abbrev pub default : ValueType → Value

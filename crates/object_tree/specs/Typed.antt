@@ -1,12 +1,13 @@
 -- Objects whose properties have values of their types (docs/machine.md, "What every run keeps").
 use Rattle.std.specs.Prelude.{ℕ, List, map}
+use Rattle.std.specs.List.{AllZip}
 use Rattle.basic_types.specs.declared.value.Value.{Value}
 use Rattle.meta_model.specs.declared.object.MetaObject.{MetaObject}
 use Rattle.meta_model.specs.declared.object.MetaProperty.{MetaProperty}
 use Rattle.meta_model.specs.declared.object.ValueType.{ValueType}
 use Rattle.meta_model.specs.Loaded.{Loaded}
 use Rattle.meta_model.specs.Members.{IsClass, IsProperty}
-use Rattle.meta_model.specs.Values.{Has, HaveTypes}
+use Rattle.meta_model.specs.Values.{Has}
 use Rattle.object_tree.specs.declared.life.Life.{Life}
 use Rattle.object_tree.specs.declared.object.Object.{Object}
 use Rattle.object_tree.specs.Objects.{Lives, class_of}
@@ -18,7 +19,7 @@ ReadsAs p objects v kind = Has p (class_of objects) (seen objects v) kind
 
 -- as they read, there are as many values as types, each of its type
 abbrev pub ReadAs : Loaded → List Object → List Value → List ValueType → Type 0
-ReadAs p objects values kinds = HaveTypes p (class_of objects) (map (seen objects) values) kinds
+ReadAs p objects values kinds = AllZip (Has p (class_of objects)) (map (seen objects) values) kinds
 
 -- the class is there, and the values are as many as its properties, each of its type
 pub record IsTyped (p : Loaded) (objects : List Object) (life : Life) : Type 0 where
