@@ -1,7 +1,7 @@
 -- Relations between classes, and what is related by way of others.
 use Rattle.std.{proofs.Common.{◌≡◌, ◌≢◌, ◌↔◌, ◌⊎◌, inl, inr, ℕ, zero, suc, ◌+◌, ◌-◌, ◌<◌, ◌≤◌, Bool, true, false, List, [], ◌∷◌, ◌++◌, length, get_or, set, take, slice_get, Option, Some, None, refl, sym, ap, ◌∙◌, subst, arith, get_or-set_same, get_or-set_other}, specs.List.{Contains, AllZip}, proofs.lemmas.Bool.{cases_eq, cases_lt}, proofs.lemmas.List.{take_all, length-set, length-append, get_or_past, get_or_default, get_or_append_left, get_or-append_right}, proofs.Math.Seq.{get_or-append_seam}, proofs.lemmas.Option.{slice_get_within, slice_get_past, none-some}}
 use Rattle.class_sets.{specs.Marks.{IsMarked, Marks}, proofs.Firsts.{first_more}, proofs.Marking.{not_marked, marked_inside}}
-use Rattle.meta_model.{specs.declared.object.MetaObject.{MetaObject}, specs.declared.object.MetaOwns.{MetaOwns}, specs.Loaded.{Loaded}, specs.Members.{IsClass, Below, Owns, same, under}, proofs.InLists.{in_list, place_in}, proofs.OneAnswer.{below_absent}}
+use Rattle.meta_model.{specs.declared.object.MetaObject.{MetaObject}, specs.declared.object.MetaOwns.{MetaOwns}, specs.Loaded.{Loaded}, specs.Members.{IsClass, Below, Owns, same, under}, proofs.InLists.{in_list, place_in, owned_by, owns_of}, proofs.OneAnswer.{below_absent}}
 use Rattle.effect_scan.{specs.Rows.{row}, specs.code.Adding.{Joins, AmongFirst}, specs.code.Places.{IsLineage, Lists}, specs.Destroying.{Closure, itself, child, AreClosures}, specs.code.Relations.{marks_of, Holds, IsSquare, IsEmpty, Extends, OwnsRows, IsOwned, IsOwn, Passes, Chains, one, more, IsClosed, Closing, AreListed}, proofs.Adding.{among_more, among_all, edge_inside}}
 
 -- ---- all rows
@@ -324,14 +324,16 @@ module _ (p : Loaded) where
   -- what the lists of classes below say of owners
   pub owned_is : (lineage : List (List ℕ)) (i j : ℕ) → IsLineage p lineage → IsOwned lineage p.owns i j ↔ Owns p i j
   owned_is lineage i j l = (
-    λ h. record {
+    λ h. owns_of (record {
       owns = h.item;
       declared = in_list p.owns h.place h.item h.is;
-      by = record { parent = (l.members h.item.parent i).0 h.leads.0; child = (l.members h.item.child j).0 h.leads.1 };
-    },
+      parent = (l.members h.item.parent i).0 h.leads.0;
+      child = (l.members h.item.child j).0 h.leads.1;
+    }),
     λ h.
-        let at = place_in p.owns h.owns h.declared in
-        record { place = at.0; item = h.owns; is = at.1; leads = ((l.members h.owns.parent i).1 h.by.parent, (l.members h.owns.child j).1 h.by.child) },
+        let o = owned_by h in
+        let at = place_in p.owns o.owns o.declared in
+        record { place = at.0; item = o.owns; is = at.1; leads = ((l.members o.owns.parent i).1 o.parent, (l.members o.owns.child j).1 o.child) },
   )
 
   -- the relation that is closed: owners, and each class with itself
@@ -354,7 +356,7 @@ module _ (p : Loaded) where
       )
 
   owner_first : (i j : ℕ) → Owns p i j → i < length p.classes
-  owner_first i j h = below_first i h.owns.parent h.by.parent
+  owner_first i j h = let o = owned_by h in below_first i o.owns.parent o.parent
 
   itself_at : (c : ℕ) → c < length p.classes → Closure p c c
   itself_at c inside = let at = is_class c inside in itself at.1

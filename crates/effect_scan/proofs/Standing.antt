@@ -2,7 +2,7 @@
 use Rattle.std.{proofs.Common.{◌≡◌, ◌≢◌, ◌⊎◌, inl, inr, ℕ, zero, suc, ◌+◌, ◌-◌, ◌<◌, ◌≤◌, false, Bool, cond, List, [], ◌∷◌, ◌++◌, length, map, take, slice_get, Option, Some, None, refl, sym, ap, ◌∙◌, subst, arith}, specs.Option.{option_and_then, option_map}, specs.List.{AllZip}, proofs.lemmas.Bool.{cases_eq, cases_lt, ne_eqb}, proofs.lemmas.List.Elements.{All-contains}, proofs.lemmas.Option.{slice_get_within, slice_get-map, same_Some, none-some}}
 use Rattle.basic_types.specs.declared.qtype.QType.{QType}
 use Rattle.syntax_trees.specs.declared.syntax.Expr.{Expr}
-use Rattle.meta_model.{specs.declared.object.ValueType.{ValueType}, specs.declared.object.MetaRoot.{MetaRoot}, specs.declared.object.MetaRoot.TheVariants.{This, Parameter}, specs.declared.object.Step.{Step}, specs.declared.object.MetaPath.{MetaPath}, specs.declared.object.Statement.{Statement}, specs.declared.object.Statement.TheViews.{out-Statement}, specs.declared.object.Work.{Work}, specs.declared.object.Work.TheVariants.{Signal, Slot, Native}, specs.declared.effects.MetaEffects.{MetaEffects}, specs.declared.object.MetaMethod.{MetaMethod}, specs.declared.object.MetaObject.{MetaObject}, specs.declared.object.MetaProperty.{MetaProperty}, specs.declared.qobject.TheConstants.{DESTROYED, DESTROYED_ALONE, OBJECT_NAME_CHANGED}, specs.Loaded.{Loaded}, specs.Members.{IsClass, IsMethod, IsProperty, Below, same, under}, specs.Root.{root_methods}, specs.Sound.{IsSound, HasRoot, this_has, parameter_has, Leads, here, on, LeadsToClass, IsSoundStatement, set_sound, emit_sound, call_sound, if_sound, delete_sound, group_sound, AreSound, next_sound, IsSoundWork, IsPlainProperty, IsPlainSignal, AreSoundEffects, IsSoundMethod, IsSoundSource}, specs.Kinds.{IsKind}, proofs.InLists.{place_in}, specs.Sites.{paths_in}, proofs.Zips.{get_front, zip_right}}
+use Rattle.meta_model.{specs.declared.object.ValueType.{ValueType}, specs.declared.object.MetaRoot.{MetaRoot}, specs.declared.object.MetaRoot.TheVariants.{This, Parameter}, specs.declared.object.Step.{Step}, specs.declared.object.MetaPath.{MetaPath}, specs.declared.object.Statement.{Statement}, specs.declared.object.Statement.TheViews.{out-Statement}, specs.declared.object.Work.{Work}, specs.declared.object.Work.TheVariants.{Signal, Slot, Native}, specs.declared.effects.MetaEffects.{MetaEffects}, specs.declared.object.MetaMethod.{MetaMethod}, specs.declared.object.MetaObject.{MetaObject}, specs.declared.object.MetaProperty.{MetaProperty}, specs.declared.qobject.TheConstants.{DESTROYED, DESTROYED_ALONE, OBJECT_NAME_CHANGED}, specs.Loaded.{Loaded}, specs.Members.{IsClass, IsMethod, IsProperty, Below, same, under}, specs.Root.{root_methods}, specs.Sound.{IsSound, HasRoot, this_has, parameter_has, Leads, here, on, LeadsToClass, IsSoundStatement, set_sound, emit_sound, call_sound, if_sound, delete_sound, group_sound, AreSound, next_sound, IsSoundWork, IsPlainProperty, IsPlainSignal, AreSoundEffects, IsSoundMethod, IsSoundSource}, specs.Kinds.{IsKind}, proofs.InLists.{place_in, owned_by}, specs.Sites.{paths_in}, proofs.Zips.{get_front, zip_right}}
 use Rattle.meta_model.specs.declared.object.ValueType.TheVariants as type
 use Rattle.meta_model.specs.declared.object.Statement.TheOpen as layer
 use Rattle.effect_scan.{specs.declared.node.Node.{Node}, specs.declared.node.Member.{Member}, specs.declared.effect.Reach.{Reach}, specs.declared.effect.Effect.{Effect}, specs.Nodes.{node, named, shape_of, class_nodes, nodes_from}, specs.Numbering.{IsPlaceIn}, specs.Effects.{reach_of_type, reach_of_root, reach_after, reach_of, effect_on, effect_of, Occurs, here as first, after, chosen, otherwise, grouped, NativeHas, WorkHas}, specs.Destroying.{Closure, itself, child}, specs.Edges.{AtOrBelow, ReachedAs, by_work, by_wire, by_notify, by_site, by_destruction}, specs.Laws.{IsNode, EdgesJoinNodes}, proofs.Numbered.{stands, stands_after, place_low}, proofs.Relating.{below_first, below_last, is_class}, proofs.Whole.{made}}
@@ -271,7 +271,7 @@ module _ {p : Loaded} (sound : IsSound p) where
 
   closure_there : (c d : ℕ) → Closure p c d → d < length p.classes
   closure_there c d (itself is) = slice_get_within p.classes c _ is.is
-  closure_there c d (child closure owns) = below_first p d owns.owns.child owns.by.child
+  closure_there c d (child closure owns) = let o = owned_by owns in below_first p d o.owns.child o.child
 
   closure_from : (c d : ℕ) → Closure p c d → c < length p.classes
   closure_from c d (itself is) = slice_get_within p.classes c _ is.is

@@ -7,7 +7,7 @@ use Rattle.meta_model.specs.declared.object.MetaOwns.{MetaOwns}
 use Rattle.meta_model.specs.Loaded.{Loaded}
 use Rattle.meta_model.specs.Members.{Below, same, under, base_of, Covers, Owns}
 use Rattle.meta_model.specs.code.Declared.{OwnsFrom, Joins, CoversFrom}
-use Rattle.meta_model.proofs.InLists.{in_list, place_in}
+use Rattle.meta_model.proofs.InLists.{in_list, place_in, covered_by, covers_of, owned_by, owns_of}
 use Rattle.meta_model.proofs.OneAnswer.{below_itself}
 
 there_is : {X : Type 0} (xs : List X) (c : ℕ) → c < length xs → (x : X) × (slice_get xs c ≡ Some x)
@@ -49,31 +49,30 @@ module _ (p : Loaded) where
       here c from =
           let stands = from.1 in
           let one : stands.holds.item ≡ stands.belongs.item = same_Some _ _ (sym stands.holds.is ∙ stands.belongs.is) in
-          record {
+          owns_of (record {
             owns = stands.belongs.item;
             declared = in_list p.owns from.0 stands.belongs.item stands.belongs.is;
-            by = record {
-              parent = subst (Below p c) (sym stands.belongs.has) (itself c stands.there);
-              child = subst (λ (o : MetaOwns). Below p d o.child) one stands.holds.has;
-            };
-          }
+            parent = subst (Below p c) (sym stands.belongs.has) (itself c stands.there);
+            child = subst (λ (o : MetaOwns). Below p d o.child) one stands.holds.has;
+          })
 
       above : (c b : ℕ) → base_of p c ≡ Some b → Owns p b d → Owns p c d
-      above c b base o = record { owns = o.owns; declared = o.declared; by = record { parent = under base o.by.parent; child = o.by.child } }
+      above c b base h = let o = owned_by h in owns_of (record { owns = o.owns; declared = o.declared; parent = under base o.parent; child = o.child })
 
       only : (c : ℕ) → Owns p c d → OwnsFrom p c d ⊎ ((b : ℕ) × (base_of p c ≡ Some b) × Owns p b d)
-      only c o =
+      only c h =
+          let o = owned_by h in
           let at = place_in p.owns o.owns o.declared in
-          elim (split c o.owns.parent o.by.parent) [
+          elim (split c o.owns.parent o.parent) [
             | inl own ↦ inl (
               at.0,
               record {
                 there = own.1;
                 belongs = record { item = o.owns; is = at.1; has = sym own.0 };
-                holds = record { item = o.owns; is = at.1; has = o.by.child };
+                holds = record { item = o.owns; is = at.1; has = o.child };
               },
             )
-            | inr up ↦ inr (up.0, up.1, record { owns = o.owns; declared = o.declared; by = record { parent = up.2; child = o.by.child } })
+            | inr up ↦ inr (up.0, up.1, owns_of (record { owns = o.owns; declared = o.declared; parent = up.2; child = o.child }))
           ]
 
   pub covers_inherited : (signal : Sig) (d : ℕ) (method : Sig) (kind : Kind) → Inherits p (λ c. Covers p c signal d method kind) (λ c. CoversFrom p c signal d method kind)
@@ -84,7 +83,7 @@ module _ (p : Loaded) where
           let stands = from.1 in
           let one : stands.holds.item ≡ stands.belongs.item = same_Some _ _ (sym stands.holds.is ∙ stands.belongs.is) in
           let joins : Joins p signal d method kind stands.belongs.item = subst (Joins p signal d method kind) one stands.holds.has in
-          record {
+          covers_of (record {
             wire = stands.belongs.item;
             declared = in_list p.wires from.0 stands.belongs.item stands.belongs.is;
             by = record {
@@ -94,17 +93,20 @@ module _ (p : Loaded) where
               to = joins.to;
               same_kind = joins.same_kind;
             };
-          }
+          })
 
       above : (c b : ℕ) → base_of p c ≡ Some b → Covers p b signal d method kind → Covers p c signal d method kind
-      above c b base o = record {
-        wire = o.wire;
-        declared = o.declared;
-        by = record { sender = under base o.by.sender; receiver = o.by.receiver; from = o.by.from; to = o.by.to; same_kind = o.by.same_kind };
-      }
+      above c b base h =
+          let o = covered_by h in
+          covers_of (record {
+            wire = o.wire;
+            declared = o.declared;
+            by = record { sender = under base o.by.sender; receiver = o.by.receiver; from = o.by.from; to = o.by.to; same_kind = o.by.same_kind };
+          })
 
       only : (c : ℕ) → Covers p c signal d method kind → CoversFrom p c signal d method kind ⊎ ((b : ℕ) × (base_of p c ≡ Some b) × Covers p b signal d method kind)
-      only c o =
+      only c h =
+          let o = covered_by h in
           let at = place_in p.wires o.wire o.declared in
           elim (split c o.wire.sender o.by.sender) [
             | inl own ↦ inl (
@@ -118,10 +120,10 @@ module _ (p : Loaded) where
             | inr up ↦ inr (
               up.0,
               up.1,
-              record {
+              covers_of (record {
                 wire = o.wire;
                 declared = o.declared;
                 by = record { sender = up.2; receiver = o.by.receiver; from = o.by.from; to = o.by.to; same_kind = o.by.same_kind };
-              },
+              }),
             )
           ]

@@ -1,6 +1,7 @@
 -- Classes and their members, by name, signature and number (Qt 6, "The Meta-Object System"; docs/machine.md,
 -- "Meta-objects").
 use Rattle.std.specs.Prelude.{◌≡◌, ◌<◌, ◌≤◌, ℕ, List, [], ◌∷◌, length, Option, None, Some, slice_get, ◌⊎◌}
+use Rattle.std.specs.List.{Any}
 use Rattle.std.specs.Option.{option_and_then}
 use Rattle.basic_types.specs.declared.sig.Sig.{Sig}
 use Rattle.basic_types.specs.declared.kind.Kind.{Kind}
@@ -100,10 +101,6 @@ pub record Declares (p : Loaded) (c m : ℕ) : Type 0 where
   pub after : method_offset p c ≤ m
   pub within : m < method_count p c
 
-abbrev pub IsIn : {X : Type 0} → X → List X → Type 0
-IsIn x [] = ⊥
-IsIn x (y ∷ ys) = (x ≡ y) ⊎ IsIn x ys
-
 -- the wire covers a connection between objects of these two classes, which are its classes or below them, with these
 -- signatures and this kind
 pub record CoversBy (p : Loaded) (c : ℕ) (signal : Sig) (d : ℕ) (method : Sig) (kind : Kind) (wire : MetaWire) : Type 0 where
@@ -114,18 +111,14 @@ pub record CoversBy (p : Loaded) (c : ℕ) (signal : Sig) (d : ℕ) (method : Si
   pub same_kind : wire.kind ≡ kind
 
 -- a wire of the program covers the connection
-pub record Covers (p : Loaded) (c : ℕ) (signal : Sig) (d : ℕ) (method : Sig) (kind : Kind) : Type 0 where
-  pub wire : MetaWire
-  pub declared : IsIn wire p.wires
-  pub by : CoversBy p c signal d method kind wire
+abbrev pub Covers : Loaded → ℕ → Sig → ℕ → Sig → Kind → Type 0
+Covers p c signal d method kind = Any (CoversBy p c signal d method kind) p.wires
 
--- an object of class c may be the parent of one of class d by this declaration, whose classes they are or are below
-pub record OwnsBy (p : Loaded) (c d : ℕ) (owns : MetaOwns) : Type 0 where
-  pub parent : Below p c owns.parent
-  pub child : Below p d owns.child
+-- an object of class c may be the parent of one of class d: the program declares so for these or for classes above them
+abbrev pub Owns : Loaded → ℕ → ℕ → Type 0
+Owns p c d = Any (λ (owns : MetaOwns). Below p c owns.parent × Below p d owns.child) p.owns
 
--- an object of class c may be the parent of one of class d by a declaration of the program
-pub record Owns (p : Loaded) (c d : ℕ) : Type 0 where
-  pub owns : MetaOwns
-  pub declared : IsIn owns p.owns
-  pub by : OwnsBy p c d owns
+-- ---- a part of these, by recursion
+abbrev pub IsIn : {X : Type 0} → X → List X → Type 0
+IsIn x [] = ⊥
+IsIn x (y ∷ ys) = (x ≡ y) ⊎ IsIn x ys

@@ -5,6 +5,7 @@ use Rattle.std.proofs.lemmas.List.{length-replicate, take_all}
 use Rattle.std.proofs.lemmas.Option.{slice_get_within}
 use Rattle.meta_model.specs.Loaded.{Loaded}
 use Rattle.meta_model.specs.Members.{IsClassNamed}
+use Rattle.meta_model.proofs.InLists.{owned_by}
 use Rattle.effect_scan.specs.Rows.{row}
 use Rattle.effect_scan.specs.Destroying.{Closure, itself, child, AreClosures}
 use Rattle.effect_scan.proofs.Relating.{below_first}
@@ -47,7 +48,7 @@ no_items p items set none empty = record {
 -- a closure is of classes
 pub closure_low : (p : Loaded) (c d : ℕ) → Closure p c d → d < length p.classes
 closure_low p c d (itself is) = slice_get_within p.classes c _ is.is
-closure_low p c d (child closure owns) = below_first p d owns.owns.child owns.by.child
+closure_low p c d (child closure owns) = let o = owned_by owns in below_first p d o.owns.child o.child
 
 pub row_low : (p : Loaded) (closures : List (List ℕ)) → AreClosures p closures → (c d count : ℕ) → count ≡ length p.classes → Contains (row closures c) d → d < count
 row_low p closures are c d count e held = let low = closure_low p c d ((are.members c d).0 held) in omega arith

@@ -2,6 +2,7 @@
 use Rattle.std.{proofs.Common.{◌≡◌, ◌≢◌, ◌⊎◌, inl, inr, ℕ, suc, ◌+◌, ◌-◌, ◌<◌, ◌||◌, eqb, cond, Bool, true, false, IsTrue, List, [], ◌∷◌, ◌++◌, map, not, take, length, Result, Ok, Err, Option, Some, None, slice_get, refl, sym, ap, ◌∙◌, subst, arith}, specs.List.{AllByRecursion, find}, proofs.lemmas.Bool.{cases_eq, eqb-true, cases_Bool}, proofs.lemmas.Option.{same_Some, none-some}}
 use Rattle.basic_types.specs.{declared.kind.Kind.{Kind}, declared.kind.Kind.TheVariants.{Auto, Direct, Queued}, declared.value.Value.{Value}}
 use Rattle.syntax_trees.specs.declared.connection.ConnectionType.{ConnectionType}
+use Rattle.meta_model.proofs.InLists.{covered_by}
 use Rattle.meta_model.specs.{declared.effects.MetaEffects.{MetaEffects}, declared.object.MetaMethod.{MetaMethod}, declared.object.Statement.{Statement}, declared.object.Work.{Work}, declared.object.Work.TheVariants.{Signal, Slot, Native}, declared.qobject.TheConstants.{DESTROYED}, Loaded.{Loaded}, Members.{IsMethod, Below, Covers}, Sound.{IsSound}}
 use Rattle.connections.specs.{declared.connection.Connection.{Connection}, Connected.{touches}}
 use Rattle.event_loops.specs.{declared.item.Item.{Item}, declared.item.Item.TheVariants.{Call, Deletion}, declared.item.Posted.{Posted}, Queues.{Queues, items_at, is_before, taken_before}}
@@ -297,7 +298,8 @@ module _ {p : Loaded} {certificate : Certificate} (valid : IsValid p certificate
 
   pub wired-by : (from to a b g m number : ℕ) (signal method : MetaMethod) (kind : Kind) (single : Bool) → classes a ≡ Some from → classes b ≡ Some to → IsMethod p from g signal → IsMethod p to m method → Covers p from signal.sig to method.sig kind →
       IsWired p classes (record { number = number; sender = a; signal = named_signal g; receiver = b; method = m; kind = kind; single = single })
-  wired-by from to a b g m number signal method kind single is_from is_to has_signal has_method covers =
+  wired-by from to a b g m number signal method kind single is_from is_to has_signal has_method wired =
+      let covers = covered_by wired in
       let by = covers.by in
       let same_signal : g ≡ (covers.wire).signal = one-signature sound has_signal (method-below sound by.sender (by.from).is) (sym (by.from).signed) in
       let same_method : m ≡ (covers.wire).method = one-signature sound has_method (method-below sound by.receiver (by.to).is) (sym (by.to).signed) in
