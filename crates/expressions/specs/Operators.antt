@@ -21,50 +21,35 @@ unary Not (Truth b) = Some (Truth (not b))
 unary Minus (Int z) = number (neg_ℤ z)
 unary op v = None
 
--- byte by byte
-abbrev pub same_text : List ℕ → List ℕ → Bool
-same_text = pointwise nat_eq
-
--- both null, or both one object
-abbrev pub same_reference : Option ℕ → Option ℕ → Bool
-same_reference = option_eq nat_eq
-
--- whether two values of one sort are the same
+-- whether two values of one sort are the same: texts byte by byte; references that are both null, or both to one object
 abbrev pub equal : Value → Value → Option Bool
 equal (Int a) (Int b) = Some (int_eq a b)
 equal (Truth a) (Truth b) = Some ((a && b) || (not a && not b))
-equal (Text a) (Text b) = Some (same_text a b)
-equal (Ref a) (Ref b) = Some (same_reference a b)
+equal (Text a) (Text b) = Some (pointwise nat_eq a b)
+equal (Ref a) (Ref b) = Some (option_eq nat_eq a b)
 equal a b = None
 
-abbrev pub on_numbers : (ℤ → ℤ → Value) → Value → Value → Option Value
-on_numbers f (Int a) (Int b) = Some (f a b)
-on_numbers f v w = None
-
-abbrev pub on_truths : (Bool → Bool → Bool) → Value → Value → Option Value
-on_truths f (Truth a) (Truth b) = Some (Truth (f a b))
-on_truths f v w = None
-
 -- texts are joined, and as many bytes of the front kept as a text may have
-abbrev pub plus : Value → Value → Option Value
-plus (Int a) (Int b) = number (a +ℤ b)
-plus (Text a) (Text b) = Some (Text (take longest_text (a ++ b)))
-plus v w = None
-
 abbrev pub binary : Binary → Value → Value → Option Value
-binary Add v w = plus v w
-binary Subtract v w = on_numbers (λ a b. Int (saturate_signed w32 (a -ℤ b))) v w
-binary Multiply v w = on_numbers (λ a b. Int (saturate_signed w32 (a *ℤ b))) v w
-binary Less v w = on_numbers (λ a b. Truth (int_lt a b)) v w
-binary AtMost v w = on_numbers (λ a b. Truth (not (int_lt b a))) v w
-binary Greater v w = on_numbers (λ a b. Truth (int_lt b a)) v w
-binary AtLeast v w = on_numbers (λ a b. Truth (not (int_lt a b))) v w
+binary Add (Int a) (Int b) = number (a +ℤ b)
+binary Add (Text a) (Text b) = Some (Text (take longest_text (a ++ b)))
+binary Subtract (Int a) (Int b) = number (a -ℤ b)
+binary Multiply (Int a) (Int b) = number (a *ℤ b)
+binary Less (Int a) (Int b) = Some (Truth (int_lt a b))
+binary AtMost (Int a) (Int b) = Some (Truth (not (int_lt b a)))
+binary Greater (Int a) (Int b) = Some (Truth (int_lt b a))
+binary AtLeast (Int a) (Int b) = Some (Truth (not (int_lt a b)))
 binary Equal v w = option_map (λ b. Truth b) (equal v w)
 binary Different v w = option_map (λ b. Truth (not b)) (equal v w)
-binary And v w = on_truths (λ a b. a && b) v w
-binary Or v w = on_truths (λ a b. a || b) v w
+binary And (Truth a) (Truth b) = Some (Truth (a && b))
+binary Or (Truth a) (Truth b) = Some (Truth (a || b))
+binary op v w = None
 
 -- what the operator makes of two texts; only joining them takes memory, which may be refused
 abbrev pub AnswersTexts : {E : Type 0} → Binary → List ℕ → List ℕ → Result (Option Value) E → Type 0
 AnswersTexts op a b (Ok answer) = answer ≡ binary op (Text a) (Text b)
 AnswersTexts op a b (Err _) = op ≡ Add
+
+-- ---- a part of these, of which the types of expressions speak too
+abbrev pub same_text : List ℕ → List ℕ → Bool
+same_text = pointwise nat_eq

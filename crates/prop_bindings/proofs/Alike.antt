@@ -1,10 +1,10 @@
 -- Whether an expression has a value, and of what sort, is a matter of the sorts of what it reads.
-use Rattle.std.{proofs.Common.{◌≡◌, ◌≢◌, ℕ, ℤ, Bool, false, zero, suc, List, [], ◌∷◌, Option, None, Some, refl, ap, sym, ◌∙◌, subst}, specs.Prelude.{slice_get, pos}, specs.Option.{option_map, option_and_then}, proofs.lemmas.Option.{same_Some}}
+use Rattle.std.{proofs.Common.{◌≡◌, ◌≢◌, ℕ, Bool, false, zero, suc, List, [], ◌∷◌, Option, None, Some, refl, ap, sym, ◌∙◌, subst}, specs.Prelude.{slice_get, pos}, specs.Option.{option_map, option_and_then}, proofs.lemmas.Option.{same_Some}}
 use Rattle.basic_types.specs.{declared.value.Value.{Value}, Values.{number_has, truth_has, text_has, null_has, object_has}}
 use Rattle.basic_types.specs.declared.value.Value.TheVariants as value
 use Rattle.syntax_trees.specs.{declared.syntax.Unary.{Unary}, declared.syntax.Unary.TheVariants.{Not, Minus}, declared.syntax.Binary.{Binary}, declared.syntax.Binary.TheVariants.{Add, Subtract, Multiply, Less, AtMost, Greater, AtLeast, Equal, Different, And, Or}, declared.syntax.Expr.{Expr}, declared.syntax.Expr.TheViews.{roll-Expr}, declared.syntax.Expr.TheFolds.{fold-roll-Expr, ind-Expr, map-Expr}}
 use Rattle.syntax_trees.specs.declared.syntax.Expr.TheOpen as layer
-use Rattle.expressions.specs.{Operators.{unary, binary, plus, on_numbers, on_truths, equal}, Evaluation.{value as value_in, value_step}}
+use Rattle.expressions.specs.{Operators.{unary, binary, equal}, Evaluation.{value as value_in, value_step}}
 use Rattle.meta_model.specs.{declared.object.ValueType.{ValueType}, Loaded.{Loaded}, Values.{Has}}
 use Rattle.meta_model.specs.declared.object.ValueType.TheVariants as type
 use Rattle.object_tree.specs.{declared.object.Object.{Object}, Seen.{seen}, Typed.{ReadsAs, ReadAs}}
@@ -34,36 +34,6 @@ unary-sort Minus (value.Bool b) = refl
 unary-sort Minus (value.Text t) = refl
 unary-sort Minus (value.Ref r) = refl
 
-numbers-sort : (f : ℤ → ℤ → Value) → ((a b c d : ℤ) → sort_of (f a b) ≡ sort_of (f c d)) → (v w : Value) → sort_in (on_numbers f v w) ≡ sort_in (on_numbers f (sort_of v) (sort_of w))
-numbers-sort f h (value.Int a) (value.Int b) = ap Some (h a b (pos 0) (pos 0))
-numbers-sort f h (value.Int a) (value.Bool b) = refl
-numbers-sort f h (value.Int a) (value.Text b) = refl
-numbers-sort f h (value.Int a) (value.Ref b) = refl
-numbers-sort f h (value.Bool a) w = refl
-numbers-sort f h (value.Text a) w = refl
-numbers-sort f h (value.Ref a) w = refl
-
-truths-sort : (f : Bool → Bool → Bool) (v w : Value) → sort_in (on_truths f v w) ≡ sort_in (on_truths f (sort_of v) (sort_of w))
-truths-sort f (value.Bool a) (value.Int b) = refl
-truths-sort f (value.Bool a) (value.Bool b) = refl
-truths-sort f (value.Bool a) (value.Text b) = refl
-truths-sort f (value.Bool a) (value.Ref b) = refl
-truths-sort f (value.Int a) w = refl
-truths-sort f (value.Text a) w = refl
-truths-sort f (value.Ref a) w = refl
-
-plus-sort : (v w : Value) → sort_in (plus v w) ≡ sort_in (plus (sort_of v) (sort_of w))
-plus-sort (value.Int a) (value.Int b) = refl
-plus-sort (value.Int a) (value.Bool b) = refl
-plus-sort (value.Int a) (value.Text b) = refl
-plus-sort (value.Int a) (value.Ref b) = refl
-plus-sort (value.Text a) (value.Int b) = refl
-plus-sort (value.Text a) (value.Bool b) = refl
-plus-sort (value.Text a) (value.Text b) = refl
-plus-sort (value.Text a) (value.Ref b) = refl
-plus-sort (value.Bool a) w = refl
-plus-sort (value.Ref a) w = refl
-
 equal-sort : (f : Bool → Bool) (v w : Value) → sort_in (option_map (λ (b : Bool). value.Bool (f b)) (equal v w)) ≡ sort_in (option_map (λ (b : Bool). value.Bool (f b)) (equal (sort_of v) (sort_of w)))
 equal-sort f (value.Int a) (value.Int b) = refl
 equal-sort f (value.Int a) (value.Bool b) = refl
@@ -83,17 +53,19 @@ equal-sort f (value.Ref a) (value.Text b) = refl
 equal-sort f (value.Ref a) (value.Ref b) = refl
 
 binary-sort : (op : Binary) (v w : Value) → sort_in (binary op v w) ≡ sort_in (binary op (sort_of v) (sort_of w))
-binary-sort Add v w = plus-sort v w
-binary-sort Subtract v w = numbers-sort _ (λ a b c d. refl) v w
-binary-sort Multiply v w = numbers-sort _ (λ a b c d. refl) v w
-binary-sort Less v w = numbers-sort _ (λ a b c d. refl) v w
-binary-sort AtMost v w = numbers-sort _ (λ a b c d. refl) v w
-binary-sort Greater v w = numbers-sort _ (λ a b c d. refl) v w
-binary-sort AtLeast v w = numbers-sort _ (λ a b c d. refl) v w
+binary-sort Add (value.Int a) (value.Int b) = refl
+binary-sort Add (value.Text a) (value.Text b) = refl
+binary-sort Subtract (value.Int a) (value.Int b) = refl
+binary-sort Multiply (value.Int a) (value.Int b) = refl
+binary-sort Less (value.Int a) (value.Int b) = refl
+binary-sort AtMost (value.Int a) (value.Int b) = refl
+binary-sort Greater (value.Int a) (value.Int b) = refl
+binary-sort AtLeast (value.Int a) (value.Int b) = refl
 binary-sort Equal v w = equal-sort (λ b. b) v w
 binary-sort Different v w = equal-sort _ v w
-binary-sort And v w = truths-sort _ v w
-binary-sort Or v w = truths-sort _ v w
+binary-sort And (value.Bool a) (value.Bool b) = refl
+binary-sort Or (value.Bool a) (value.Bool b) = refl
+binary-sort op v w = refl
 
 unary-alike : (op : Unary) (v w : Value) → sort_of v ≡ sort_of w → BothAlike (unary op v) (unary op w)
 unary-alike op v w h = unary-sort op v ∙ ap (λ (x : Value). sort_in (unary op x)) h ∙ sym (unary-sort op w)
