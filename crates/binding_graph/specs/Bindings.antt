@@ -33,13 +33,6 @@ source_place sources s = option_map (λ o. property_of o s.property) (slice_get 
 abbrev pub read_by : Binding → List Place
 read_by b = filter_map (source_place b.sources) (named_in b.formula)
 
-abbrev pub Reads : Binding → Place → Type 0
-Reads b p = In p (read_by b)
-
--- the binding reads one of these
-abbrev pub reads_any : Binding → List Place → Bool
-reads_any b ps = list_any (is_in ps) (read_by b)
-
 -- the value of the binding's expression, where e gives the values of properties
 abbrev pub value_of : Binding → (Place → Option Value) → Option Value
 value_of b e = value (λ s. option_and_then e (source_place b.sources s)) b.formula
@@ -68,17 +61,13 @@ without_all (p ∷ ps) bs = without_all ps (without p bs)
 abbrev pub replaced : List Binding → Binding → List Binding
 replaced bs b = without b.target bs ++ b ∷ []
 
--- the object is the binding's target or one of its sources
-abbrev pub touches : ℕ → Binding → Bool
-touches o b = eqb b.target.object o || is_among o b.sources
-
--- what is left once an object is dead
-abbrev pub dropped : ℕ → List Binding → List Binding
-dropped o bs = filter (λ b. not (touches o b)) bs
-
 -- the objects that the binding joins: that of its target, and its sources
 abbrev pub joined_by : Binding → List ℕ
 joined_by b = b.target.object ∷ b.sources
+
+-- what is left once an object is dead: the bindings that don't join it
+abbrev pub dropped : ℕ → List Binding → List Binding
+dropped o bs = filter (λ b. not (is_among o (joined_by b))) bs
 
 -- one of them is among these objects, and another isn't
 abbrev pub leads_out : List ℕ → Binding → Bool
@@ -95,8 +84,8 @@ Settled F e = (p : Place) (b : Binding) → F p ≡ Some b → e p ≡ value_of 
 
 -- a chain of bindings leads from one property to another
 pub data Chain (F : Place → Option Binding) : Place → Place → Type 0 where
-  direct : {p q : Place} (b : Binding) → F q ≡ Some b → Reads b p → Chain F p q
-  further : {p m q : Place} (b : Binding) → Chain F p m → F q ≡ Some b → Reads b m → Chain F p q
+  direct : {p q : Place} (b : Binding) → F q ≡ Some b → In p (read_by b) → Chain F p q
+  further : {p m q : Place} (b : Binding) → Chain F p m → F q ≡ Some b → In m (read_by b) → Chain F p q
 
 -- a chain leads from one of these properties to another
 abbrev pub ChainFrom : (Place → Option Binding) → List Place → Place → Type 0
@@ -105,3 +94,15 @@ ChainFrom F ps q = (p : Place) × In p ps × Chain F p q
 -- a chain leads from a property back to itself
 abbrev pub Loop : (Place → Option Binding) → Type 0
 Loop F = (p : Place) × Chain F p p
+
+-- ---- parts of these, as the code asks them
+abbrev pub Reads : Binding → Place → Type 0
+Reads b p = In p (read_by b)
+
+-- the binding reads one of these
+abbrev pub reads_any : Binding → List Place → Bool
+reads_any b ps = list_any (is_in ps) (read_by b)
+
+-- the object is the binding's target or one of its sources
+abbrev pub touches : ℕ → Binding → Bool
+touches o b = eqb b.target.object o || is_among o b.sources
