@@ -83,6 +83,20 @@ module _ (going : ℕ → Bool) where
   pub gathered-over : (home : ℕ) (loops : List Loop) → gathered going home loops ≡ change home (with_items (λ _. items_at loops home ++ those_going going (items_elsewhere home loops))) (map (without_going going) loops)
   gathered-over home loops = put-over (items_at loops home ++ those_going going (items_elsewhere home loops)) home loops
 
+-- the list at a place is taken out, those that go leave all others and come after its own, and it is put back
+pub gathered-by : (going : ℕ → Bool) (home : ℕ) (loops cleared left last : List Loop) (own all empty : List Posted) → empty ≡ []
+    → cleared ≡ change home (with_items (λ _. empty)) loops → own ≡ items_at loops home → left ≡ map (without_going going) cleared
+    → all ≡ own ++ those_going going (all_items cleared) → last ≡ change home (with_items (λ _. all)) left → last ≡ gathered going home loops
+gathered-by going home loops cleared left last own all empty none clear was stays moved put =
+    let out : cleared ≡ change home (with_items (λ _. [])) loops = clear ∙ ap (λ (items : List Posted). change home (with_items (λ _. items)) loops) none in
+    let whole : all ≡ items_at loops home ++ those_going going (items_elsewhere home loops) =
+    moved
+    ∙ ap (λ (items : List Posted). items ++ those_going going (all_items cleared)) was
+    ∙ ap (λ (ls : List Loop). items_at loops home ++ those_going going (all_items ls)) out in
+    put
+    ∙ ap (λ (ls : List Loop). change home (with_items (λ _. all)) ls) (stays ∙ ap (map (without_going going)) out)
+    ∙ ap (λ (items : List Posted). change home (with_items (λ _. items)) (map (without_going going) (change home (with_items (λ _. [])) loops))) whole
+
 -- those for these objects go
 pub gathered-rehomed : (objects : List ℕ) (going : ℕ → Bool) → ((o : ℕ) → going o ≡ list_any (λ k. eqb o k) objects) → (home : ℕ) (s : Queues) → gathered going home s.loops ≡ (rehomed objects home s).loops
 gathered-rehomed objects going is home s =

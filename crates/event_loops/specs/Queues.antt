@@ -1,7 +1,7 @@
 -- The event loops with the items that wait in them, as plain lists (Qt 6, "Threads and QObjects": each thread has an event
 -- loop of its own, in which the objects live that are served by it).
 use Rattle.std.specs.Prelude.{◌≡◌, ℕ, zero, suc, ◌+◌, ◌≤◌, not, nat_lt, eqb, Bool, List, [], ◌∷◌, ◌++◌, map, filter, Option, Some, slice_get, codes, if◌then◌else◌}
-use Rattle.std.specs.List.{list_any}
+use Rattle.std.specs.List.{flat_map, list_any}
 use Rattle.std.specs.Option.{option_map}
 use Rattle.event_loops.specs.declared.item.Item.{Item}
 use Rattle.event_loops.specs.declared.item.Item.TheVariants.{Call, Deletion}
@@ -67,10 +67,6 @@ without_first test (p ∷ items) = if test p then items else p ∷ without_first
 abbrev pub with_items : (List Posted → List Posted) → Loop → Loop
 with_items f l = record l { items = f l.items }
 
--- a loop without the items that pass the test
-abbrev pub without : (Posted → Bool) → Loop → Loop
-without test l = with_items (filter (λ p. not (test p))) l
-
 -- an item more, with the next number, in the loop at a place
 abbrev pub posted_to : ℕ → Item → Queues → Queues
 posted_to home item s = record {
@@ -84,7 +80,7 @@ taken_before home number s = record s { loops = change home (with_items (without
 
 -- the items for an object leave all loops
 abbrev pub dropped : ℕ → Queues → Queues
-dropped object s = record s { loops = map (without (λ p. is_for object p.item)) s.loops }
+dropped object s = record s { loops = map (with_items (filter (λ p. not (is_for object p.item)))) s.loops }
 
 -- a loop more, with no items, which comes last
 abbrev pub with_loop : List ℕ → Queues → Queues
@@ -95,24 +91,27 @@ with_loop name s = record s { loops = s.loops ++ record { name = name; items = [
 abbrev pub is_for_any : List ℕ → Posted → Bool
 is_for_any objects p = list_any (λ o. is_for o p.item) objects
 
--- the items of all loops, loop by loop as these were added
-abbrev pub all_items : List Loop → List Posted
-all_items [] = []
-all_items (l ∷ loops) = l.items ++ all_items loops
-
--- the items of all loops but the one at a place
+-- the items of all loops but the one at a place, loop by loop as these were added
 abbrev pub items_elsewhere : ℕ → List Loop → List Posted
-items_elsewhere home loops = all_items (change home (with_items (λ items. [])) loops)
+items_elsewhere home loops = flat_map (λ (l : Loop). l.items) (change home (with_items (λ items. [])) loops)
 
 -- the items for these objects leave all loops but the one at a place, whose own stay where they are; there they come last, in
 -- the order in which they stood, loop by loop
 abbrev pub rehomed : List ℕ → ℕ → Queues → Queues
 rehomed objects home s = record s {
   loops = change home (with_items (λ items. items_at s.loops home ++ filter (is_for_any objects) (items_elsewhere home s.loops)))
-      (map (without (is_for_any objects)) s.loops);
+      (map (with_items (filter (λ p. not (is_for_any objects p)))) s.loops);
 }
 
 -- ---- parts of these, each as the code does it
+-- the items of all loops
+abbrev pub all_items : List Loop → List Posted
+all_items loops = flat_map (λ (l : Loop). l.items) loops
+
+-- a loop without the items that pass the test
+abbrev pub without : (Posted → Bool) → Loop → Loop
+without test l = with_items (filter (λ p. not (test p))) l
+
 abbrev pub name_at : List Loop → ℕ → Option (List ℕ)
 name_at loops home = option_map (λ (l : Loop). l.name) (slice_get loops home)
 
