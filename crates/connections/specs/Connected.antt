@@ -11,10 +11,6 @@ pub record Connected : Type 0 where
   pub connections : List Connection
   pub last : ℕ
 
--- no connection was made yet
-abbrev pub unconnected : Connected
-unconnected = record { connections = []; last = 0 }
-
 -- of this sender and signal
 abbrev pub is_of : ℕ → ℕ → Connection → Bool
 is_of sender signal c = eqb c.sender sender && eqb c.signal signal
@@ -82,3 +78,7 @@ removed_in test h = record {
 abbrev pub Rises : ℕ → List Connection → ℕ → Type 0
 Rises low [] last = low ≤ last
 Rises low (c ∷ connections) last = (low < c.number) × Rises c.number connections last
+
+-- no connection was made yet
+abbrev pub unconnected : Connected
+unconnected = record { connections = []; last = 0 }

@@ -3,14 +3,13 @@
 use Rattle.std.specs.Prelude.{◌≡◌, ℕ, ◌<◌, [], length, Option, None, Some, if◌then◌else◌}
 use Rattle.object_tree.specs.declared.life.Life.{Life}
 use Rattle.object_tree.specs.Objects.{life_of, change_life, scheduled}
-use Rattle.connections.specs.Connected.{unconnected}
 use Rattle.event_loops.specs.declared.item.Item.TheVariants.{Deletion}
 use Rattle.event_loops.specs.Queues.{start, posted_to}
 use Rattle.delete_later.specs.declared.store.Store.{Store}
 
 -- no objects, connections and bindings, and nothing waits in the only loop, `main`
 abbrev pub empty : Store
-empty = record { tree = []; connections = unconnected; loops = start; bindings = [] }
+empty = record { tree = []; connections = record { connections = []; last = 0 }; loops = start; bindings = [] }
 
 -- an object that lives does so in a loop that is there
 abbrev pub IsHoused : ℕ → Store → Type 0
