@@ -12,20 +12,13 @@ use Rattle.delete_later.specs.declared.fault.MoveFault.{MoveFault}
 use Rattle.delete_later.specs.declared.fault.MoveFault.TheVariants.{NoLoop, HasParent, Bound, Memory}
 use Rattle.delete_later.specs.declared.store.Store.{Store}
 
--- these objects live in this loop, and what waits for them does so there; all else is as it was
-abbrev pub moved_to : List ℕ → ℕ → Store → Store
-moved_to objects home s = record s {
-  tree = all_in_loop objects home s.tree;
-  loops = rehomed objects home s.loops;
-}
-
--- the object and its living descendants, reached through living objects, go to another loop; no binding joins one of them
--- with another object
+-- the object and its living descendants, reached through living objects, go to another loop, and so does what waits for
+-- them; no binding joins one of them with another object
 pub record Moves (object home : ℕ) (old new : Store) : Type 0 where
   pub objects : List ℕ
   pub below : AreBelow old.tree object objects
   pub alone : lead_out objects old.bindings ≡ false
-  pub moved : new ≡ moved_to objects home old
+  pub moved : new ≡ record old { tree = all_in_loop objects home old.tree; loops = rehomed objects home old.loops }
 
 -- a binding joins one of the object and its living descendants with another object
 pub record IsBoundOut (object : ℕ) (s : Store) : Type 0 where
@@ -56,3 +49,11 @@ MovesOrNot object home old (Err fault) new = IsNotMoved object home old fault ×
 -- what agreed goes on to: the objects of a binding still live in one loop
 abbrev pub StayAgreeing : Store → Store → Type 0
 StayAgreeing old new = (p : Loaded) → Agree p old.tree old.bindings → Agree p new.tree new.bindings
+
+-- ---- a part of these, as the code does it
+-- these objects live in this loop, and what waits for them does so there; all else is as it was
+abbrev pub moved_to : List ℕ → ℕ → Store → Store
+moved_to objects home s = record s {
+  tree = all_in_loop objects home s.tree;
+  loops = rehomed objects home s.loops;
+}
