@@ -2,7 +2,7 @@
 use Rattle.std.specs.Prelude.{ℕ, List, Option, None, Some, slice_get}
 use Rattle.std.specs.Option.{option_map, option_map_or}
 use Rattle.basic_types.specs.declared.value.Value.{Value}
-use Rattle.basic_types.specs.declared.value.Value.TheVariants.{Int, Bool as Truth, Text, Ref}
+use Rattle.basic_types.specs.declared.value.Value.TheVariants.{Ref}
 use Rattle.object_tree.specs.declared.life.Life.{Life}
 use Rattle.object_tree.specs.declared.object.Object.{Object}
 
@@ -13,10 +13,8 @@ seen_reference objects (Some o) = option_map_or (λ (x : Object). option_map (λ
 
 -- a value as it reads
 abbrev pub seen : List Object → Value → Value
-seen objects (Int n) = Int n
-seen objects (Truth b) = Truth b
-seen objects (Text t) = Text t
 seen objects (Ref r) = Ref (seen_reference objects r)
+seen objects v = v
 
 -- ---- a part of these, as the code asks it
 -- what a reference to this object refers to
