@@ -56,17 +56,13 @@ abbrev pub lasting : List Assignment → List Assignment
 lasting [] = []
 lasting (a ∷ rest) = cond (is_in (places_in rest) a.place) (lasting rest) (a ∷ lasting rest)
 
--- each of them has it
-abbrev pub HaveLasting : List Object → List Assignment → Type 0
-HaveLasting objects writes = AllByRecursion (λ (a : Assignment). values_in objects a.place ≡ Some a.value) (lasting writes)
-
 -- The bindings of the written properties go, and each has the value that is written last. All bound properties have their
 -- expressions' values, and every other one keeps its own.
 pub record IsWritten (bs cs : List Binding) (old new : List Object) (writes : List Assignment) (changed : List Place)
     : Type 0 where
   pub bindings : cs ≡ without_all (places_in writes) bs
   pub objects : DifferInValues old new
-  pub written : HaveLasting new writes
+  pub written : AllByRecursion (λ (a : Assignment). values_in new a.place ≡ Some a.value) (lasting writes)
   pub settled : Settled (binding_at cs) (values_in new)
   pub kept : (q : Place) → binding_at cs q ≡ None → (¬ In q (places_in writes)) → values_in new q ≡ values_in old q
   pub changes : AreChanged old new (in_order (places_in writes) bs) changed
@@ -80,3 +76,8 @@ pub record IsInstalled (bs cs : List Binding) (old new : List Object) (b : Bindi
   pub settled : Settled (binding_at cs) (values_in new)
   pub kept : (q : Place) → binding_at cs q ≡ None → values_in new q ≡ values_in old q
   pub changes : AreChanged old new (in_order (b.target ∷ []) bs) changed
+
+-- ---- a part of a write
+-- each property has the value that is written last
+abbrev pub HaveLasting : List Object → List Assignment → Type 0
+HaveLasting objects writes = AllByRecursion (λ (a : Assignment). values_in objects a.place ≡ Some a.value) (lasting writes)
