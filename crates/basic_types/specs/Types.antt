@@ -7,11 +7,11 @@ use Rattle.basic_types.specs.declared.sig.Sig.{Sig}
 abbrev pub value_type : List ℕ → QType
 value_type name = record { name = name; constant = false; pointer = false }
 
--- the front is a prefix of the list
-abbrev pub BeginsWith : List QType → List QType → Type 0
-BeginsWith types front = (rest : List QType) × (types ≡ front ++ rest)
-
 -- A slot fits a signal whose types begin with the slot's (Qt 6, "Signals & Slots": a slot may have a shorter
 -- signature than the signal that it receives).
 abbrev pub Fits : Sig → Sig → Type 0
-Fits signal slot = BeginsWith signal.types slot.types
+Fits signal slot = (rest : List QType) × (signal.types ≡ slot.types ++ rest)
+
+-- the front is a prefix of the list
+abbrev pub BeginsWith : List QType → List QType → Type 0
+BeginsWith types front = (rest : List QType) × (types ≡ front ++ rest)
