@@ -7,5 +7,6 @@ pub mod Normal
 pub mod Tokens
 pub mod Signatures
 pub mod Spelling
+pub mod Lists
 pub mod Laws
 pub mod code

@@ -3,6 +3,7 @@
 use Rattle.std.specs.Prelude.{◌≡◌, ℕ, zero, suc, ◌+◌, ◌≤◌, not, nat_lt, eqb, Bool, List, [], ◌∷◌, ◌++◌, map, filter, Option, Some, slice_get, codes, if◌then◌else◌}
 use Rattle.std.specs.List.{flat_map, list_any}
 use Rattle.std.specs.Option.{option_map}
+pub use Rattle.basic_types.specs.Lists.{change}
 use Rattle.event_loops.specs.declared.item.Item.{Item}
 use Rattle.event_loops.specs.declared.item.Item.TheVariants.{Call, Deletion}
 use Rattle.event_loops.specs.declared.item.Posted.{Posted}
@@ -39,12 +40,6 @@ abbrev pub items_at : List Loop → ℕ → List Posted
 items_at [] home = []
 items_at (l ∷ loops) zero = l.items
 items_at (l ∷ loops) (suc home) = items_at loops home
-
--- the loops with the one at a place changed; where there is none, nothing changes
-abbrev pub change : ℕ → (Loop → Loop) → List Loop → List Loop
-change home f [] = []
-change zero f (l ∷ loops) = f l ∷ loops
-change (suc home) f (l ∷ loops) = l ∷ change home f loops
 
 -- the object that an item is for
 abbrev pub receiver_of : Item → ℕ

@@ -3,6 +3,7 @@
 use Rattle.std.specs.Prelude.{◌≡◌, ◌≢◌, ℕ, zero, suc, Bool, true, List, [], ◌∷◌, Option, None, Some, slice_get, slice_set}
 use Rattle.std.specs.Option.{option_map, option_and_then}
 use Rattle.basic_types.specs.declared.value.Value.{Value}
+pub use Rattle.basic_types.specs.Lists.{change}
 use Rattle.object_tree.specs.declared.life.Life.{Life}
 use Rattle.object_tree.specs.declared.object.Object.{Object}
 
@@ -50,12 +51,6 @@ class_with [] class zero = Some class
 class_with [] class (suc o) = None
 class_with (x ∷ xs) class zero = option_map (λ (l : Life). l.class) x.life
 class_with (x ∷ xs) class (suc o) = class_with xs class o
-
--- the objects with one of them changed; a number of no object changes nothing
-abbrev pub change : ℕ → (Object → Object) → List Object → List Object
-change n f [] = []
-change zero f (x ∷ xs) = f x ∷ xs
-change (suc n) f (x ∷ xs) = x ∷ change n f xs
 
 -- the objects with the life of one of them changed; a number of no living object changes nothing
 abbrev pub change_life : ℕ → (Life → Life) → List Object → List Object
