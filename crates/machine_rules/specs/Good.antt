@@ -11,7 +11,7 @@ use Rattle.object_tree.specs.Typed.{ReadAs, AreTyped}
 use Rattle.binding_graph.specs.Bindings.{binding_at, Loop, Settled}
 use Rattle.prop_bindings.specs.Values.{values_in}
 use Rattle.machine_rules.specs.There.{IsMember, IsDead}
-use Rattle.machine_rules.specs.Next.{LacksValue, WritesIll}
+use Rattle.machine_rules.specs.Next.{LacksAt, WritesIll}
 use Rattle.machine_state.specs.State.{State, Activation, Body, Emit}
 
 -- ---- arguments
@@ -30,10 +30,9 @@ pub data EmissionFits (p : Loaded) (objects : List Object) (o g : ℕ) (argument
 
 -- the activation on top of the stack has arguments that fit; an update and a deletion have none
 abbrev pub TopFits : Loaded → List Object → List Activation → Type 0
-TopFits p objects [] = Unit {0}
 TopFits p objects (Body o m arguments left ∷ below) = ArgumentsFit p objects o m arguments
 TopFits p objects (Emit o g arguments used last ∷ below) = EmissionFits p objects o g arguments
-TopFits p objects (_ ∷ below) = Unit {0}
+TopFits p objects _ = Unit {0}
 
 -- the types that `destroyed(QObject*)` declares, in every class
 abbrev pub destroyed_kinds : List ValueType
@@ -85,7 +84,7 @@ AreSettled t = Settled (binding_at t.bindings) (values_in t.objects)
 -- what it writes are values of their properties' types, also one that a later write of the same group hides
 pub record IsTyped (p : Loaded) (t : State) : Type 0 where
   pub values : AreTyped p t.objects
-  pub has_values : ¬ LacksValue t
+  pub has_values : ¬ LacksAt t.objects t.stack
   pub fits : ¬ WritesIll p t
 
 -- ---- parts of these, for proofs

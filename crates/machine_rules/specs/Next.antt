@@ -16,15 +16,11 @@ abbrev pub next_operation : List Object → List Activation → Option Operation
 next_operation objects (Body o m arguments (step ∷ rest) ∷ below) = operation_of_step objects o arguments step
 next_operation objects _ = None
 
--- what is going on is a body whose next step does this
-abbrev pub DoesNext : State → Operation → Type 0
-DoesNext s what = next_operation s.objects s.stack ≡ Some what
-
 -- the next step writes a value for an object's property that is not of its type. What follows from the property need
 -- have no values then, so this is said of the step, and not of what it makes.
 pub record WritesIll (p : Loaded) (s : State) : Type 0 where
   pub what : Assigning
-  pub next : DoesNext s (Write what)
+  pub next : next_operation s.objects s.stack ≡ Some (Write what)
   pub set : Assignment
   pub among : Contains (writes_of what) set
   pub there : HasField p s.objects set.place
@@ -36,10 +32,14 @@ abbrev pub LacksAt : List Object → List Activation → Type 0
 LacksAt objects (Body o m arguments (Run statement ∷ rest) ∷ below) = operation objects o arguments (out-Statement statement) ≡ None
 LacksAt objects _ = ⊥
 
+-- ---- parts of these, for faults and proofs
+
 abbrev pub LacksValue : State → Type 0
 LacksValue s = LacksAt s.objects s.stack
 
--- ---- a part of these, for faults and proofs
+-- what is going on is a body whose next step does this
+abbrev pub DoesNext : State → Operation → Type 0
+DoesNext s what = next_operation s.objects s.stack ≡ Some what
 
 -- what is going on is a body whose next step writes this
 abbrev pub WritesNext : State → Assigning → Type 0

@@ -1,5 +1,5 @@
 -- What the steps of a body do: the statements of a slot, and what a native does (docs/machine.md, "Rules").
-use Rattle.std.specs.{Prelude.{ℕ, true, false, List, [], ◌∷◌, Option, None, Some, slice_get, slice_set}, Option.{option_and_then, option_map}}
+use Rattle.std.specs.{Prelude.{ℕ, if◌then◌else◌, List, [], ◌∷◌, Option, None, Some, slice_get, slice_set}, Option.{option_and_then, option_map}}
 use Rattle.basic_types.specs.declared.value.Value.{Value}
 use Rattle.basic_types.specs.declared.value.Value.TheVariants as value
 use Rattle.syntax_trees.specs.{declared.connection.ConnectionType.{ConnectionType}, declared.syntax.Expr.{Expr}}
@@ -48,20 +48,16 @@ on_ends act ends sender receiver =
 
 -- the block that a condition chooses
 abbrev pub chosen_by : List Statement → List Statement → Option Value → Option Operation
-chosen_by block other (Some (value.Bool true)) = Some (Choose block)
-chosen_by block other (Some (value.Bool false)) = Some (Choose other)
+chosen_by block other (Some (value.Bool holds)) = Some (Choose (if holds then block else other))
 chosen_by block other _ = None
 
 -- ---- sets, alone and in groups
 
 -- what a `set` writes, for the object o and the arguments of a call; nothing where its path leads to null
-abbrev pub set_at : List Object → ℕ → List Value → MetaPath → ℕ → Expr MetaPath → Option (Option Assignment)
-set_at objects o arguments path q e =
+abbrev pub set_in : List Object → ℕ → List Value → layer.Statement-F Statement → Option (Option Assignment)
+set_in objects o arguments (layer.Set path q e) =
     led_to None (λ x. option_map (λ new. Some (record { place = property_of x q; value = new })) (value_of objects o arguments e))
     (path_value objects o arguments path)
-
-abbrev pub set_in : List Object → ℕ → List Value → layer.Statement-F Statement → Option (Option Assignment)
-set_in objects o arguments (layer.Set path q e) = set_at objects o arguments path q e
 set_in objects o arguments _ = None
 
 -- the objects once a set of a group is done, before anything follows from it
@@ -87,7 +83,8 @@ operation_of_set (Some a) = Write (Alone a.place a.value)
 -- What a statement of a body of object o does. `None`: it lacks a value that it needs, or its path leads to no object,
 -- or its condition is no truth value.
 abbrev pub operation : List Object → ℕ → List Value → layer.Statement-F Statement → Option Operation
-operation objects o arguments (layer.Set path q e) = option_map operation_of_set (set_at objects o arguments path q e)
+operation objects o arguments (layer.Set path q e) =
+    option_map operation_of_set (set_in objects o arguments (layer.Set path q e))
 operation objects o arguments (layer.Group sets) = option_map (λ found. Write (Grouped found)) (sets_in objects o arguments sets)
 operation objects o arguments (layer.Emit g es) = option_map (λ given. Begin o g given) (values_of objects o arguments es)
 operation objects o arguments (layer.Call path n es) =
@@ -111,7 +108,11 @@ operation_of_step objects o arguments (Run statement) = operation objects o argu
 operation_of_step objects o arguments (Ask effects) = Some (TakeAnswer effects)
 operation_of_step objects o arguments (Act effects action) = operation_of_action o effects action
 
--- ---- a part of these, for proofs
+-- ---- parts of these, for proofs
+
+-- a `set` of a property that its path leads to
+abbrev pub set_at : List Object → ℕ → List Value → MetaPath → ℕ → Expr MetaPath → Option (Option Assignment)
+set_at objects o arguments path q e = set_in objects o arguments (layer.Set path q e)
 
 -- what is done with the object that a path leads to; on null nothing is done
 abbrev pub on_object : (ℕ → Option Operation) → Option Value → Option Operation
