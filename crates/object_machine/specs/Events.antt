@@ -1,5 +1,5 @@
 -- The events of a script: what each asks for, in this order, and what it does (docs/machine.md, "Events").
-use Rattle.std.specs.Prelude.{◌≡◌, ◌≢◌, ℕ, ◌+◌, ◌<◌, Bool, true, false, List, [], ◌∷◌, ◌++◌, length, slice_get, Option, None, Some, Result}
+use Rattle.std.specs.Prelude.{◌≡◌, ◌≢◌, ℕ, ◌+◌, ◌<◌, Bool, true, false, List, [], ◌∷◌, ◌++◌, length, slice_get, Option, None, Some, MatchOption, Result}
 use Rattle.basic_types.specs.{declared.value.Value.{Value}, declared.value.Value.TheVariants.{Ref}, declared.sig.Sig.{Sig}}
 use Rattle.syntax_trees.specs.{Literals.{literal_value}, declared.connection.Endpoints.{Endpoints as Named}}
 use Rattle.meta_model.specs.{declared.object.MetaMethod.{MetaMethod}, declared.object.Work.TheVariants.{Signal}, Loaded.{Loaded}, Members.{IsMethod, HasSig, IsClass, Owns, IsProperty}, declared.object.MetaObject.{MetaObject}, declared.object.MetaProperty.{MetaProperty}, declared.site.MetaSite.{MetaSite}, declared.qobject.TheConstants.{OBJECT_NAME_CHANGED}}
@@ -44,29 +44,18 @@ values objects (i ∷ inputs) = value objects i >>= λ v. values objects inputs 
 
 -- ---- what a connect or a disconnect names (Qt 6, "Signals & Slots")
 
--- the class's signal of this signature
-abbrev pub IsSignalOf : Loaded → ℕ → Sig → ℕ → Type 0
-IsSignalOf p class sig g = (has : HasSig p class sig g) × (has.method.work ≡ Signal)
-
 -- the objects and their methods, with the classes of the objects
 abbrev pub find_ends : Loaded → List Object → Named (List ℕ) → Result FoundEnds Refusal → Type 0
 find_ends p objects e =
     living objects e.sender >>= λ a.
     living objects e.receiver >>= λ b.
-    Find NoMember (IsSignalOf p a.it.class e.signal) >>= λ g.
+    Find NoMember (λ (g : ℕ). (is : HasSig p a.it.class e.signal g) × (is.method.work ≡ Signal)) >>= λ g.
     Find NoMember (HasSig p b.it.class e.method) >>= λ m.
     Gives (record {
       from = a.it.class;
       to = b.it.class;
       ends = record { sender = a.number; signal = named_signal g; receiver = b.number; method = m };
     })
-
--- ---- what a `new` names
-
--- the loop of this name; where none is named, `main`
-abbrev pub IsHome : List Loop → Option (List ℕ) → ℕ → Type 0
-IsHome loops None home = home ≡ main
-IsHome loops (Some name) home = IsLoop loops name home
 
 -- ---- what a `bind` names
 
@@ -124,12 +113,11 @@ judged p s (event.Loop name) =
 judged p s (event.Turn name) =
     Find NoLoop (IsLoop s.queues.loops name) >>= λ home.
     Gives (record (accepted s) { turn = Some (record { home = home; limit = s.queues.posted + 1 }) })
--- `new O C` and `new O C L`: an object of the class, in the loop that is named, whose properties have the values that they
--- start with
+-- `new O C` and `new O C L`: an object of the class, in the loop that is named or in `main`, with its first values
 judged p s (event.New name class loop) =
     Check NameUsed (IsFree s.objects name) >>= λ _.
     Find NoClass (λ (c : Numbered MetaObject). IsClass p c.number c.it × (c.it.name ≡ class)) >>= λ c.
-    Find NoLoop (IsHome s.queues.loops loop) >>= λ home.
+    Find NoLoop (λ (home : ℕ). MatchOption loop (home ≡ main) (λ name. IsLoop s.queues.loops name home)) >>= λ home.
     Check TooManyObjects (length s.objects < most_objects) >>= λ _.
     Gives (record (accepted s) { objects = s.objects ++ fresh name c.number home (initial_values c.it) ∷ [] })
 -- `adopt P O` (Qt 6, `QObject::setParent`): the first object becomes the second's parent
@@ -186,3 +174,13 @@ judged p s (event.Delete name) =
 judged p s (event.Later name) =
     living s.objects name >>= λ o.
     Becomes (λ t. Schedules (accepted s) s.stack o.number t (Some o.it))
+
+-- ---- parts of these, for proofs
+
+-- the class's signal of this signature
+abbrev pub IsSignalOf : Loaded → ℕ → Sig → ℕ → Type 0
+IsSignalOf p class sig g = (is : HasSig p class sig g) × (is.method.work ≡ Signal)
+
+-- the loop of this name; where none is named, `main`
+abbrev pub IsHome : List Loop → Option (List ℕ) → ℕ → Type 0
+IsHome loops name home = MatchOption name (home ≡ main) (λ known. IsLoop loops known home)
