@@ -19,13 +19,9 @@ use Rattle.machine_rules.specs.declared.ends.FoundEnds.{FoundEnds}
 use Rattle.machine_rules.specs.Judgement.{Check, ◌>>=◌}
 use Rattle.machine_rules.specs.There.{IsMember}
 
--- the signal that a spelling names: `destroyed()` is `destroyed(QObject*)`
-abbrev pub named_signal : ℕ → ℕ
-named_signal g = if eqb g DESTROYED_ALONE then DESTROYED else g
-
--- the ends that a connection keeps, of those that are spelled
+-- the ends that a connection keeps, of those that are spelled: `destroyed()` is `destroyed(QObject*)`
 abbrev pub kept_ends : Endpoints → Endpoints
-kept_ends ends = record ends { signal = named_signal ends.signal }
+kept_ends ends = record ends { signal = if eqb ends.signal DESTROYED_ALONE then DESTROYED else ends.signal }
 
 -- a connection may be made from a signal to a method, as both are spelled
 abbrev pub may_connect : Loaded → Connected → FoundEnds → Sig → Sig → ConnectionType → Result (Unit {0}) Refusal → Type 0
@@ -33,10 +29,6 @@ may_connect p connected found signal method how =
     Check NotWired (Covers p found.from signal found.to method how.kind) >>= λ _.
     Check Incompatible (Fits signal method) >>= λ _.
     Check Exists (¬ IsTrue (how.unique && are_joined found.ends connected))
-
--- the connections between two ends may be removed
-abbrev pub may_disconnect : Connected → Endpoints → Result (Unit {0}) Refusal → Type 0
-may_disconnect connected ends = Check NoConnection (IsTrue (are_joined ends connected))
 
 -- ---- what statements name
 
@@ -56,3 +48,13 @@ names_of there = record { sender = there.sender.name; signal = there.signal.sig;
 -- the ends that are kept of those that are spelled, with the classes of their objects
 abbrev pub found_ends : {p : Loaded} {objects : List Object} {ends : Endpoints} → AreThere p objects ends → FoundEnds
 found_ends {ends = ends} there = record { from = there.sends.life.class; to = there.receives.life.class; ends = kept_ends ends }
+
+-- ---- parts of these, as the code does them
+
+-- the signal that a spelling names
+abbrev pub named_signal : ℕ → ℕ
+named_signal g = if eqb g DESTROYED_ALONE then DESTROYED else g
+
+-- the connections between two ends may be removed
+abbrev pub may_disconnect : Connected → Endpoints → Result (Unit {0}) Refusal → Type 0
+may_disconnect connected ends = Check NoConnection (IsTrue (are_joined ends connected))

@@ -1,18 +1,18 @@
 -- What may follow a state by one rule, beside the taking of events (docs/machine.md, "Rules"). No rule is forbidden
 -- because activations would nest too deep, a value is of a wrong type or an object dies while a body of it is active: those
 -- are faults of a run, and not of a rule.
-use Rattle.std.specs.{Prelude.{◌≡◌, ℕ, suc, List, [], ◌∷◌, ◌++◌, length, take, map, Option, None, Some, Result, Ok, Err, Bool, true, false, MatchOption}, List.{AllZip, find}}
+use Rattle.std.specs.{Prelude.{◌≡◌, ℕ, suc, List, [], ◌∷◌, ◌++◌, length, take, map, Option, None, Some, Result, Ok, Err, Bool, true, false, IsTrue, MatchOption}, List.{AllZip, find}}
 use Rattle.basic_types.specs.declared.value.Value.{Value}
 use Rattle.syntax_trees.specs.{declared.connection.ConnectionType.{ConnectionType}, declared.connection.Endpoints.{Endpoints as Named}}
 use Rattle.meta_model.specs.{declared.object.Work.{Work}, declared.object.Work.TheVariants.{Signal, Slot, Native}, declared.object.MetaMethod.{MetaMethod}, declared.object.MetaProperty.{MetaProperty}, Loaded.{Loaded}, Members.{IsMethod}, declared.effects.MetaEffects.{MetaEffects}}
 use Rattle.event_loops.specs.{declared.item.Item.{Item}, declared.item.Item.TheVariants.{Call, Deletion}, declared.item.Posted.{Posted}, Queues.{HasName, items_at, is_before, posted_to, taken_before}}
 use Rattle.object_tree.specs.{declared.object.Object.{Object}, Objects.{life_of, home_of, stored}, declared.life.Life.{Life}}
 use Rattle.connections.specs.declared.connection.Connection.{Connection}
-use Rattle.trace_entries.specs.{declared.entry.Entry.{Entry}, declared.entry.Entry.TheVariants.{At}, declared.entry.EntryKind.{EntryKind}, declared.entry.Shown.{Shown}, declared.entry.ShownAction.{ShownAction}, declared.refusal.Refusal.{Refusal}, Refusals.{refusal_number}}
+use Rattle.trace_entries.specs.{declared.entry.Entry.{Entry}, declared.entry.Entry.TheVariants.{At}, declared.entry.EntryKind.{EntryKind}, declared.entry.Shown.{Shown}, declared.entry.ShownAction.{ShownAction}, declared.refusal.Refusal.{Refusal}, declared.refusal.Refusal.TheVariants.{NoConnection}, Refusals.{refusal_number}}
 use Rattle.trace_entries.specs.declared.entry.EntryKind.TheVariants as entry_kind
 use Rattle.native_slots.specs.declared.action.Action.{Action}
-use Rattle.machine_state.specs.{declared.endpoints.Endpoints.{Endpoints}, Worlds.{with_connection, without_connections}, Connections.{silences, next_used, after_use}, Objects.{all_shown}, State.{Step, Run, Ask, Act, State, Activation, Body, Emit, Update, Destroy}, Turns.{running, reaches_at_once}, declared.turn.Turn.{Turn}}
-use Rattle.machine_rules.specs.{There.{IsMember, IsField}, Connecting.{AreThere, kept_ends, names_of, found_ends, may_connect, may_disconnect}, Destroying.{deleting, DestroyRule, Schedules}, Settling.{Writes}, Operations.{Operation, Write, Begin, Choose, Connect, Disconnect, Delete, Schedule, TakeAnswer, Nothing, operation_of_step}, Natives.{NativeAnswers, MayAnswer, IsShownAs}}
+use Rattle.machine_state.specs.{declared.endpoints.Endpoints.{Endpoints}, Worlds.{with_connection, without_connections}, Connections.{are_joined, silences, next_used, after_use}, Objects.{all_shown}, State.{Step, Run, Ask, Act, State, Activation, Body, Emit, Update, Destroy}, Turns.{running, reaches_at_once}, declared.turn.Turn.{Turn}}
+use Rattle.machine_rules.specs.{There.{IsMember, IsField}, Judgement.{Check}, Connecting.{AreThere, kept_ends, names_of, found_ends, may_connect}, Destroying.{deleting, DestroyRule, Schedules}, Settling.{Writes}, Operations.{Operation, Write, Begin, Choose, Connect, Disconnect, Delete, Schedule, TakeAnswer, Nothing, operation_of_step}, Natives.{NativeAnswers, MayAnswer, IsShownAs}}
 use Rattle.binding_graph.specs.declared.place.Place.{Place}
 
 -- what begins with a method: the emission of a signal, the body of a slot, or of a native, which begins with its answer
@@ -85,7 +85,7 @@ pub record Connects (p : Loaded) (s : State) (stack : List Activation) (ends : E
 pub record Disconnects (p : Loaded) (s : State) (stack : List Activation) (ends : Endpoints) (t : State) : Type 0 where
   pub kept : AreThere p s.objects (kept_ends ends)
   pub answer : Result (Unit {0}) Refusal
-  pub judged : may_disconnect s.connected (kept_ends ends) answer
+  pub judged : Check NoConnection (IsTrue (are_joined (kept_ends ends) s.connected)) answer
   pub gives : t ≡ answered s (without_connections s (kept_ends ends)) stack (entry_kind.Disconnected (names_of kept)) answer
 
 -- A native's answer is taken, and written down; its actions come next. Which one it is, is the native's choice.

@@ -1,5 +1,6 @@
 -- How values are written down (docs/machine.md, "Objects").
 use Rattle.std.specs.Prelude.{ℕ, List, map, Option, None, Some}
+use Rattle.std.specs.Option.{option_and_then}
 use Rattle.basic_types.specs.declared.value.Value.{Value}
 use Rattle.basic_types.specs.declared.value.Value.TheVariants as value
 use Rattle.object_tree.specs.declared.object.Object.{Object}
@@ -13,17 +14,18 @@ abbrev pub shown_name : Option (List ℕ) → Shown
 shown_name None = show.Null
 shown_name (Some name) = show.Object name
 
--- a reference is written down as the object's name
-abbrev pub shown_reference : List Object → Option ℕ → Shown
-shown_reference objects None = show.Null
-shown_reference objects (Some o) = shown_name (name_of objects o)
-
--- a value is written down as it reads
+-- a value is written down as it reads, and a reference as the object's name
 abbrev pub shown : List Object → Value → Shown
 shown objects (value.Int n) = show.Int n
 shown objects (value.Bool b) = show.Bool b
 shown objects (value.Text t) = show.Text t
-shown objects (value.Ref r) = shown_reference objects (seen_reference objects r)
+shown objects (value.Ref r) = shown_name (option_and_then (name_of objects) (seen_reference objects r))
 
 abbrev pub all_shown : List Object → List Value → List Shown
 all_shown objects values = map (shown objects) values
+
+-- ---- a part of these, as the code does it
+
+-- a reference that reads so
+abbrev pub shown_reference : List Object → Option ℕ → Shown
+shown_reference objects reads = shown_name (option_and_then (name_of objects) reads)

@@ -1,5 +1,5 @@
 -- The events of a script: what each asks for, in this order, and what it does (docs/machine.md, "Events").
-use Rattle.std.specs.Prelude.{◌≡◌, ◌≢◌, ℕ, ◌+◌, ◌<◌, Bool, true, false, List, [], ◌∷◌, ◌++◌, length, slice_get, Option, None, Some, MatchOption, Result}
+use Rattle.std.specs.Prelude.{◌≡◌, ◌≢◌, ℕ, ◌+◌, ◌<◌, Bool, true, false, IsTrue, List, [], ◌∷◌, ◌++◌, length, slice_get, Option, None, Some, MatchOption, Result}
 use Rattle.basic_types.specs.{declared.value.Value.{Value}, declared.value.Value.TheVariants.{Ref}, declared.sig.Sig.{Sig}}
 use Rattle.syntax_trees.specs.{Literals.{literal_value}, declared.connection.Endpoints.{Endpoints as Named}}
 use Rattle.meta_model.specs.{declared.object.MetaMethod.{MetaMethod}, declared.object.Work.TheVariants.{Signal}, Loaded.{Loaded}, Members.{IsMethod, HasSig, IsClass, Owns, IsProperty}, declared.object.MetaObject.{MetaObject}, declared.object.MetaProperty.{MetaProperty}, declared.site.MetaSite.{MetaSite}, declared.qobject.TheConstants.{OBJECT_NAME_CHANGED}}
@@ -12,9 +12,9 @@ use Rattle.script_lang.specs.declared.event.Event.{Event}
 use Rattle.script_lang.specs.declared.event.Event.TheVariants as event
 use Rattle.script_lang.specs.declared.event.Input.{Input}
 use Rattle.script_lang.specs.declared.event.Input.TheVariants as input
-use Rattle.trace_entries.specs.{declared.refusal.Refusal.{Refusal}, declared.refusal.Refusal.TheVariants.{NoObject, Dead, NoMember, LoopExists, NoLoop, NameUsed, NoClass, TooManyObjects, NotOwned, Cycle, OtherLoop, BadArgs, BadSource, HasParent, Bound}}
-use Rattle.machine_state.specs.{Accepting.{accepted}, State.{State}, Worlds.{store_of, with_store, with_connection, without_connections}, Turns.{main}, Telling.{Alone}}
-use Rattle.machine_rules.specs.{Judgement.{Numbered, Find, Gives, ◌>>=◌, Check, Becomes}, declared.ends.FoundEnds.{FoundEnds}, Connecting.{named_signal, may_connect, may_disconnect}, Settling.{Writes, Installs}, Rules.{Begins}, Destroying.{deleting, Schedules}}
+use Rattle.trace_entries.specs.{declared.refusal.Refusal.{Refusal}, declared.refusal.Refusal.TheVariants.{NoObject, Dead, NoMember, LoopExists, NoLoop, NameUsed, NoClass, TooManyObjects, NotOwned, Cycle, OtherLoop, BadArgs, BadSource, HasParent, Bound, NoConnection}}
+use Rattle.machine_state.specs.{Accepting.{accepted}, State.{State}, Connections.{are_joined}, Worlds.{store_of, with_store, with_connection, without_connections}, Turns.{main}, Telling.{Alone}}
+use Rattle.machine_rules.specs.{Judgement.{Numbered, Find, Gives, ◌>>=◌, Check, Becomes}, declared.ends.FoundEnds.{FoundEnds}, Connecting.{kept_ends, may_connect}, Settling.{Writes, Installs}, Rules.{Begins}, Destroying.{deleting, Schedules}}
 use Rattle.object_machine.specs.{declared.invoking.Invocation.{Invocation}, declared.invoking.Invocation.TheVariants.{Emit, Call}}
 
 -- ---- the objects that events name
@@ -54,7 +54,7 @@ find_ends p objects e =
     Gives (record {
       from = a.it.class;
       to = b.it.class;
-      ends = record { sender = a.number; signal = named_signal g; receiver = b.number; method = m };
+      ends = kept_ends (record { sender = a.number; signal = g; receiver = b.number; method = m });
     })
 
 -- ---- what a `bind` names
@@ -147,7 +147,7 @@ judged p s (event.Connect e how) =
 -- `disconnect A S B M` (Qt 6, `QObject::disconnect`): all connections between the two are removed, of whatever kind
 judged p s (event.Disconnect e) =
     find_ends p s.objects e >>= λ f.
-    may_disconnect s.connected f.ends >>= λ _.
+    Check NoConnection (IsTrue (are_joined f.ends s.connected)) >>= λ _.
     Gives (without_connections (accepted s) f.ends)
 -- `set O.P V` (Qt 6, "The Property System"): the property is written, and all values follow
 judged p s (event.Set name property i) =
