@@ -1,5 +1,5 @@
 -- Where `run` accepts, it refuses nothing unless memory runs out, and runs what it accepts.
-use Rattle.std.proofs.Common.{◌≡◌, ◌≢◌, ℕ, ◌⊎◌, inl, inr, List, None, Result, Ok, Err, refl, ap}
+use Rattle.std.proofs.Common.{◌≡◌, ◌≢◌, ℕ, ◌⊎◌, inl, inr, List, None, Result, Ok, Err, refl, ap, sym, ◌∙◌}
 use Rattle.certificate_lang.specs.declared.certificate.Certificate.{Certificate}
 use Rattle.meta_model.specs.Loaded.{Loaded}
 use Rattle.native_slots.{specs.declared.head.NativeHead.{NativeHead}, specs.declared.misfit.Misfit.{Misfit}, specs.Misfits.{Fits}, proofs.Telling.{one_misfit}}
@@ -7,10 +7,11 @@ use Rattle.rank_check.specs.Checks.{Checking}
 use Rattle.script_lang.{specs.Reads.{ReadsScript}, specs.declared.event.Event.{Event}, specs.declared.fault.ScriptFault.{ScriptFault}, proofs.OneAnswer.{one_result}}
 use Rattle.script_lang.specs.declared.fault.ScriptFault.TheVariants as of_script
 use Rattle.machine_rules.specs.Natives.{NativeAnswers}
-use Rattle.program_commands.{specs.declared.refusal.Refusal.{Refusal}, specs.Refusals.{refusal_number, script_number}, proofs.Once.{OneOf, one_first, one_is, goes_with, loads_once, certified_once, check_once, check_short, never_denied, IsShortCheck, IsShortResult, never_short, same_short, short_refusal}}
+use Rattle.program_commands.{specs.declared.refusal.Refusal.{Refusal}, specs.Refusals.{refusal_number, script_number, memory_line}, proofs.Once.{OneOf, one_first, one_is, goes_with, loads_once, certified_once, check_once, check_short, never_denied, IsShortCheck, IsShortResult, never_short, same_short, short_refusal}}
 use Rattle.program_commands.specs.declared.refusal.Refusal.TheVariants as refusal
 use Rattle.class_lang.specs.declared.size.Limits.{Limits}
-use Rattle.trace_tool.specs.{declared.any_machine.outcome.Outcome.{Outcome}, Outcomes.{IsShort}, Commands.{Accepting, Accepts, AcceptedComesTo, MayRun, RunComesTo, refused}}
+use Rattle.trace_tool.specs.{declared.any_machine.outcome.Outcome.{Outcome}, Outcomes.{IsShort, answer_of}, Commands.{Accepting, Accepts, AcceptedComesTo, MayRun, RunComesTo, refused}}
+use Rattle.trace_tool.proofs.Preparing.{told-status}
 use Rattle.object_machine.specs.Seen.{Seen}
 
 -- ---- each step comes to one thing
@@ -62,12 +63,16 @@ short_refused r is = let s = short_refusal r is in record { line = s.line; statu
 
 -- ---- what is written where `run` accepts
 
+short_answer : {N : Type 0} (outcome : Outcome (Seen N)) → IsShort outcome → answer_of outcome ≡ (memory_line, 1)
+short_answer outcome short =
+    ap (λ (text : List ℕ). (text, (answer_of outcome).1)) short.line ∙ ap (λ (status : ℕ). (memory_line, status)) (sym (told-status outcome) ∙ short.status_is)
+
 pub accepted_comes : {N : Type 0} {limits : Limits} {gives : N → NativeAnswers} {heads : List NativeHead} {natives : N} {program certificate script : List ℕ} {loaded : Loaded} {read : Certificate} {events : List Event} {steps : ℕ} {outcome : Outcome (Seen N)} →
     Accepts limits heads program certificate script loaded read events → RunComesTo limits gives heads natives program certificate script steps outcome →
     AcceptedComesTo gives natives loaded read events steps outcome
-accepted_comes {limits = limits} {heads = heads} {program = program} {certificate = certificate} {script = script} {loaded = loaded} {read = read} {events = events} accepts comes =
+accepted_comes {limits = limits} {heads = heads} {program = program} {certificate = certificate} {script = script} {loaded = loaded} {read = read} {events = events} {outcome = outcome} accepts comes =
     let checked : Checking = record { program = loaded; certificate = read } in
     elim (goes_with IsShortResult IsShort (accepting_once limits heads program certificate script) short_refused never_short (checked, events) accepts comes) [
-      | inl short ↦ inr short
+      | inl short ↦ inr (short_answer outcome short)
       | inr runs ↦ inl runs
     ]

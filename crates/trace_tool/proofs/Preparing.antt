@@ -7,8 +7,9 @@ use Rattle.trace_entries.specs.{Faults.{number_of as fault_number}, declared.ent
 use Rattle.machine_rules.specs.Natives.{NativeAnswers}
 use Rattle.object_machine.specs.{Claims.{HasItsArguments, IsEverAcyclic, SparesActive, IsEverShallow, IsEverTyped, IsEverSettled}, Checked.{IsChecked, Claims, StopsAtLimit}, Seen.{Seen, AreKept, RunsAll, begun, with_front}}
 use Rattle.program_commands.specs.Refusals.{fault_line}
+use Rattle.command_lines.specs.declared.input.InputFault.TheVariants as input
 use Rattle.command_lines.specs.{Failing.{HasFailed}, Lines.{entry_line, trace_text}, Sent.{TakesWith}, declared.output.Output.{Output}, declared.usage.UsageFault.TheVariants.{Words}, declared.watched.Failing.{Failing}}
-use Rattle.trace_tool.{specs.Failed.{IfUnread}, specs.Outcomes.{Writes, outcome_text, outcome_status, run_text, run_status, seen_outcome}, specs.declared.any_machine.outcome.Outcome.{Outcome}, specs.declared.any_machine.outcome.Outcome.TheVariants.{Usage, NoInput, Program, Ran as OfRun, Memory}, specs.declared.any_machine.outcome.Ran.{Ran}, specs.Commands.{Runs, RunsFaultless, ran, ran_faultless}, specs.Prepared.{RunsSo, Prepares, ComesOf, ComesOfRun, CarriesOut, seen_prepared, with_gone}, specs.code.Streaming.{Streams}, specs.declared.any_machine.prepared.Prepared.{Prepared}, specs.declared.any_machine.prepared.Prepared.TheVariants.{Done, Ready as OfReady}, specs.declared.any_machine.prepared.Ready.{Ready}, proofs.Answering.{ends_at_limit, claims_of}}
+use Rattle.trace_tool.{specs.Failed.{IfUnread}, specs.Outcomes.{Writes, answer_of, run_answer, outcome_text, outcome_status, run_text, run_status, seen_outcome}, specs.declared.any_machine.outcome.Outcome.{Outcome}, specs.declared.any_machine.outcome.Outcome.TheVariants.{Usage, NoInput, Program, Ran as OfRun, Memory}, specs.declared.any_machine.outcome.Ran.{Ran}, specs.Commands.{Runs, RunsFaultless, ran, ran_faultless}, specs.Prepared.{RunsSo, Prepares, ComesOf, ComesOfRun, CarriesOut, seen_prepared, with_gone}, specs.code.Streaming.{Streams}, specs.declared.any_machine.prepared.Prepared.{Prepared}, specs.declared.any_machine.prepared.Prepared.TheVariants.{Done, Ready as OfReady}, specs.declared.any_machine.prepared.Ready.{Ready}, proofs.Answering.{ends_at_limit, claims_of}}
 
 -- ---- what is prepared
 
@@ -60,11 +61,26 @@ carried-at-once {M} {N} seen gives {ComesTo = ComesTo} is came x =
     let At : Prepared M → Type 0 = λ p. (end : Outcome (Seen N)) → ComesOf gives (seen_prepared seen p) end → ComesTo end in
     carried-as (subst At (sym is) (λ end same. subst ComesTo (sym same) came)) x
 
+-- what is seen of an outcome has the exit status of the outcome
+pub told-status : {N : Type 0} (outcome : Outcome (Seen N)) → outcome_status outcome ≡ (answer_of outcome).1
+told-status (Usage fault) = refl
+told-status (NoInput (input.Unread reason)) = refl
+told-status (NoInput input.Memory) = refl
+told-status (Program outcome) = refl
+told-status (OfRun end) = run-told end.machine.world.trace end.ended
+  where
+    run-told : (trace : List Entry) (ended : Result (Unit {0}) Fault) → run_status ended ≡ (run_answer trace ended).1
+    run-told trace (Ok done) = refl
+    run-told trace (Err fault) = refl
+told-status Memory = refl
+
 -- .. and was written
 pub carried-writes : {N E : Type 0} {ComesTo : Outcome (Seen N) → Type 0} {before after : Option (List ℕ)} {left : Outcome (Seen N)} {written answer : Result ℕ E} {writing : Failing} → CarriesOut ComesTo before after left written writing → answer ≡ written → Writes ComesTo before after answer
-carried-writes {E = E} {ComesTo = ComesTo} {before = before} {after = after} {left = left} x is =
+carried-writes {N = N} {E = E} {ComesTo = ComesTo} {before = before} {after = after} {left = left} {written = written} x is =
     let At : Result ℕ E → Type 0 = λ r. Writes ComesTo before after r in
-    subst At (sym is) (record { outcome = with_gone x.gone left; comes = x.comes; takes = x.takes })
+    let told : Outcome (Seen N) = with_gone x.gone left in
+    let takes = subst (λ (status : ℕ). TakesWith before after (outcome_text told) status written) (told-status told) x.takes in
+    subst At (sym is) (record { outcome = told; comes = x.comes; takes = takes })
 
 -- .. with no exit status only where a write failed
 pub carried-failed : {N E : Type 0} {ComesTo : Outcome (Seen N) → Type 0} {before after : Option (List ℕ)} {left : Outcome (Seen N)} {written answer : Result ℕ E} {writing noted : Failing} → CarriesOut ComesTo before after left written writing → answer ≡ written → noted ≡ writing → OnErr answer (HasFailed noted)

@@ -1,6 +1,6 @@
 -- What runs and command lines come to (docs/commands.md). Memory may run out outside a run at any time before the run;
 -- that it comes only where a growth of memory was refused is not stated here.
-use Rattle.std.specs.{Prelude.{◌≡◌, ℕ, ◌<◌, ◌≤◌, ◌⊎◌, Bool, true, false, List, [], ◌∷◌, length, take, Option, Result, Ok, Err, IfErr, IfSome}, Borrow.{Bor}}
+use Rattle.std.specs.{Prelude.{◌≡◌, ℕ, ◌<◌, ◌≤◌, ◌⊎◌, Bool, true, false, List, [], ◌∷◌, length, take, codes, Option, Result, Ok, Err, IfErr, IfSome}, Borrow.{Bor}}
 use Rattle.certificate_lang.specs.declared.certificate.Certificate.{Certificate}
 use Rattle.class_lang.specs.{Limits.{standard, wide}, declared.size.Limits.{Limits}}
 use Rattle.meta_model.specs.Loaded.{Loaded}
@@ -9,9 +9,9 @@ use Rattle.rank_check.specs.Checks.{Checking, Examines}
 use Rattle.script_lang.specs.{Reads.{ReadsScript}, declared.event.Event.{Event}}
 use Rattle.machine_rules.specs.Natives.{NativeAnswers}
 use Rattle.object_machine.specs.{Checked.{Claims, IsLimit}, Seen.{Seen, RunsAll, begun}}
-use Rattle.program_commands.specs.{declared.outcome.Outcome.{Outcome as ProgramOutcome}, declared.outcome.Outcome.TheVariants.{Refused}, declared.refusal.Refusal.{Refusal}, declared.refusal.Refusal.TheVariants.{Script, Check as OfCheck, Natives as OfNatives}, Commands.{CheckComesTo, CertifyComesTo, MetaComesTo}, Loading.{LoadsProgram, LoadsCertified}, Outcomes.{IsShortAs}, Steps.{First, Is, Gives}}
+use Rattle.program_commands.specs.{declared.outcome.Outcome.{Outcome as ProgramOutcome}, declared.outcome.Outcome.TheVariants.{Refused}, declared.refusal.Refusal.{Refusal}, declared.refusal.Refusal.TheVariants.{Script, Check as OfCheck, Natives as OfNatives}, Commands.{CheckComesTo, CertifyComesTo, MetaComesTo}, Loading.{LoadsProgram, LoadsCertified}, Steps.{First, Is, Gives}}
 use Rattle.command_lines.specs.{Cut.{AreTexts}, Words.{IsLine, IsNoLine}, declared.input.InputFault.{InputFault}, declared.usage.UsageFault.{UsageFault}, declared.usage.UsageFault.TheVariants.{Words, TooLarge, Texts}, declared.words.Command.{Command}, declared.words.Command.TheVariants.{Meta, Certify, Check, Run, RunUnchecked}, declared.words.CommandLine.{CommandLine}}
-use Rattle.trace_tool.specs.{Outcomes.{Writes, outcome_status, outcome_text}, declared.any_machine.outcome.Outcome.{Outcome}, declared.any_machine.outcome.Outcome.TheVariants.{Usage, NoInput, Program, Ran as OfRun, Memory}, declared.any_machine.outcome.Ran.{Ran}}
+use Rattle.trace_tool.specs.{Outcomes.{Writes, answer_of}, declared.any_machine.outcome.Outcome.{Outcome}, declared.any_machine.outcome.Outcome.TheVariants.{Usage, NoInput, Program, Ran as OfRun, Memory}, declared.any_machine.outcome.Ran.{Ran}}
 
 -- a program is refused, and doesn't run
 abbrev pub refused : {M : Type 0} → Refusal → Outcome M
@@ -70,7 +70,8 @@ RunComesTo limits gives heads natives program certificate script steps =
 -- where it accepts: the run of this program for these events; or, where memory runs out, `memory`
 abbrev pub AcceptedComesTo : {N : Type 0} → (N → NativeAnswers) → N → Loaded → Certificate → List Event → ℕ → Outcome (Seen N) → Type 0
 AcceptedComesTo gives natives loaded read events steps outcome =
-    RunsFaultless gives (begun loaded natives read.bound steps) events outcome ⊎ IsShortAs outcome_text outcome_status outcome
+    RunsFaultless gives (begun loaded natives read.bound steps) events outcome
+    ⊎ (answer_of outcome ≡ (codes "memory\n", 1))
 
 -- ---- command lines
 
