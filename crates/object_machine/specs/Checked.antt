@@ -11,7 +11,6 @@ use Rattle.machine_state.specs.Worlds.{at, untouched}
 use Rattle.machine_rules.specs.Natives.{NativeAnswers}
 use Rattle.object_machine.specs.Laws.{in_front}
 use Rattle.object_machine.specs.Runs.{Run}
-use Rattle.object_machine.specs.Claims.{HasItsArguments, IsEverAcyclic, SparesActive, IsEverShallow, IsEverTyped, IsEverSettled}
 use Rattle.object_machine.specs.Seen.{Seen}
 
 -- the machine has come to its world by a run from the beginning, which also wrote down the lines that it has let go
@@ -28,15 +27,6 @@ pub record IsChecked {N : Type 0} (gives : N → NativeAnswers) (m : Seen N) : T
   pub valid : IsValid m.program certificate
   pub bound : m.depth ≡ certificate.bound
   pub came : m.stopped ≡ false → HasCome gives m
-
--- all claims
-pub record Claims {N : Type 0} (gives : N → NativeAnswers) (m : Seen N) : Type 0 where
-  pub arguments : HasItsArguments gives m
-  pub acyclic : IsEverAcyclic gives m
-  pub spared : SparesActive gives m
-  pub shallow : IsEverShallow gives m
-  pub typed : IsEverTyped gives m
-  pub settled : IsEverSettled gives m
 
 -- no rule is left, or memory was refused: this says nothing of the program
 pub data IsLimit : Fault → Type 0 where

@@ -3,7 +3,8 @@ use Rattle.std.proofs.Common.{◌≡◌, ℕ, inl, inr, true, false, List, [], �
 use Rattle.std.specs.Prelude.{IfErr}
 use Rattle.meta_model.specs.Loaded.{Loaded}
 use Rattle.machine_rules.specs.Natives.{NativeAnswers}
-use Rattle.object_machine.specs.Checked.{Claims, IsLimit, StopsAtLimit}
+use Rattle.object_machine.specs.Checked.{IsLimit, StopsAtLimit}
+use Rattle.object_machine.specs.Claims.{Claims}
 use Rattle.object_machine.specs.Seen.{Seen, begun}
 use Rattle.trace_entries.specs.declared.fault.Fault.{Fault}
 use Rattle.command_lines.specs.Cut.{AreTexts}

@@ -10,7 +10,7 @@ use Rattle.rank_check.specs.Checks.{Checking}
 use Rattle.rank_check.specs.Valid.{IsValid}
 use Rattle.script_lang.specs.declared.event.Event.{Event}
 use Rattle.machine_rules.specs.Natives.{NativeAnswers, KeepPromises}
-use Rattle.object_machine.specs.Checked.{Claims}
+use Rattle.object_machine.specs.Claims.{Claims}
 use Rattle.object_machine.specs.Seen.{Seen, begun}
 use Rattle.qt_runtime.proofs.Checking.{begun-claims}
 use Rattle.program_commands.proofs.Stepping.{went}

@@ -5,7 +5,7 @@ use Rattle.meta_model.specs.Loaded.{Loaded}
 use Rattle.native_slots.specs.Promises.{Takes}
 use Rattle.trace_entries.specs.{Faults.{number_of as fault_number}, declared.entry.Entry.{Entry}, declared.fault.Fault.{Fault}}
 use Rattle.machine_rules.specs.Natives.{NativeAnswers}
-use Rattle.object_machine.specs.{Claims.{HasItsArguments, IsEverAcyclic, SparesActive, IsEverShallow, IsEverTyped, IsEverSettled}, Checked.{IsChecked, Claims, StopsAtLimit}, Seen.{Seen, AreKept, RunsAll, begun, with_front}}
+use Rattle.object_machine.specs.{Claims.{Claims, HasItsArguments, IsEverAcyclic, SparesActive, IsEverShallow, IsEverTyped, IsEverSettled}, Checked.{IsChecked, StopsAtLimit}, Seen.{Seen, AreKept, RunsAll, begun, with_front}}
 use Rattle.program_commands.specs.Refusals.{fault_line}
 use Rattle.command_lines.specs.declared.input.InputFault.TheVariants as input
 use Rattle.command_lines.specs.{Failing.{HasFailed}, Lines.{entry_line, trace_text}, Sent.{TakesWith}, declared.output.Output.{Output}, declared.usage.UsageFault.TheVariants.{Words}, declared.watched.Failing.{Failing}}

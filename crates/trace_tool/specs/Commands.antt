@@ -8,7 +8,7 @@ use Rattle.native_slots.specs.{declared.head.NativeHead.{NativeHead}, Misfits.{F
 use Rattle.rank_check.specs.Checks.{Checking, Examines}
 use Rattle.script_lang.specs.{Reads.{ReadsScript}, declared.event.Event.{Event}}
 use Rattle.machine_rules.specs.Natives.{NativeAnswers}
-use Rattle.object_machine.specs.{Checked.{Claims, IsLimit}, Seen.{Seen, RunsAll, begun}}
+use Rattle.object_machine.specs.{Checked.{IsLimit}, Claims.{Claims}, Seen.{Seen, RunsAll, begun}}
 use Rattle.program_commands.specs.{declared.outcome.Outcome.{Outcome as ProgramOutcome}, declared.outcome.Outcome.TheVariants.{Refused}, declared.refusal.Refusal.{Refusal}, declared.refusal.Refusal.TheVariants.{Script, Check as OfCheck, Natives as OfNatives}, Commands.{CheckComesTo, CertifyComesTo, MetaComesTo}, Loading.{LoadsProgram, LoadsCertified}, Steps.{First, Is, Gives}}
 use Rattle.command_lines.specs.{Cut.{AreTexts}, Words.{IsLine, IsNoLine}, declared.input.InputFault.{InputFault}, declared.usage.UsageFault.{UsageFault}, declared.usage.UsageFault.TheVariants.{Words, TooLarge, Texts}, declared.words.Command.{Command}, declared.words.Command.TheVariants.{Meta, Certify, Check, Run, RunUnchecked}, declared.words.CommandLine.{CommandLine}}
 use Rattle.trace_tool.specs.{Outcomes.{Writes, answer_of}, declared.any_machine.outcome.Outcome.{Outcome}, declared.any_machine.outcome.Outcome.TheVariants.{Usage, NoInput, Program, Ran as OfRun, Memory}, declared.any_machine.outcome.Ran.{Ran}}

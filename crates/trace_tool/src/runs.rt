@@ -1,6 +1,6 @@
 //! The commands `run` and `run --unchecked`.
 
-ghost use Rattle.std.specs.Prelude.{◌<◌, ◌≤◌, ◌^◌, List, map, OnErr};
+ghost use Rattle.std.specs.Prelude.{◌<◌, ◌≤◌, ◌^◌, List, length, map, OnErr};
 ghost use Rattle.meta_model.specs.Loaded.{Loaded};
 ghost use Rattle.certificate_lang.specs.declared.certificate.Certificate.{Certificate};
 ghost use Rattle.texts.specs.Limits.{most_depth};
@@ -9,7 +9,8 @@ ghost use Rattle.trace_tool.specs.Outcomes.{Writes};
 ghost use Rattle.class_lang.specs.Limits.{standard};
 ghost use Rattle.command_lines.specs.Failing.{HasFailed};
 ghost use Rattle.trace_tool.specs.Commands.{Accepts, AcceptedComesTo, RunComesTo, UncheckedRunComesTo};
-ghost use Rattle.object_machine.specs.Claims.{HasItsArguments, IsEverAcyclic, IsEverSettled, IsEverShallow, IsEverTyped, SparesActive};
+ghost use Rattle.machine_rules.specs.Good.{AreSettled, HasArguments, IsAcyclic, IsTyped, Spares};
+ghost use Rattle.object_machine.specs.Seen.{InEachRun};
 ghost use Rattle.trace_tool.specs.Accepted.{WhereAccepted};
 
 use crate::any_machine::{Outcome, Sent, prepare_run, prepare_unchecked_run, sent};
@@ -80,22 +81,22 @@ pub fn run<W: Write>(
     ensures failed { OnErr result.status (HasFailed result.writing) }
     ensures arguments { let heads = map (λ slot. slot.head) natives.slots.items in
         WhereAccepted standard heads natives program.now certificate.now script.now steps
-        (HasItsArguments ⟦<Natives as Answering>⟧.gives) }
+        (λ m. InEachRun ⟦<Natives as Answering>⟧.gives m (HasArguments m.program)) }
     ensures acyclic { let heads = map (λ slot. slot.head) natives.slots.items in
         WhereAccepted standard heads natives program.now certificate.now script.now steps
-        (IsEverAcyclic ⟦<Natives as Answering>⟧.gives) }
+        (λ m. InEachRun ⟦<Natives as Answering>⟧.gives m (λ s t. IsAcyclic t)) }
     ensures spared { let heads = map (λ slot. slot.head) natives.slots.items in
         WhereAccepted standard heads natives program.now certificate.now script.now steps
-        (SparesActive ⟦<Natives as Answering>⟧.gives) }
+        (λ m. InEachRun ⟦<Natives as Answering>⟧.gives m Spares) }
     ensures shallow { let heads = map (λ slot. slot.head) natives.slots.items in
         WhereAccepted standard heads natives program.now certificate.now script.now steps
-        (IsEverShallow ⟦<Natives as Answering>⟧.gives) }
+        (λ m. InEachRun ⟦<Natives as Answering>⟧.gives m (λ s t. length t.stack ≤ m.depth)) }
     ensures typed { let heads = map (λ slot. slot.head) natives.slots.items in
         WhereAccepted standard heads natives program.now certificate.now script.now steps
-        (IsEverTyped ⟦<Natives as Answering>⟧.gives) }
+        (λ m. InEachRun ⟦<Natives as Answering>⟧.gives m (λ s t. IsTyped m.program t)) }
     ensures settled { let heads = map (λ slot. slot.head) natives.slots.items in
         WhereAccepted standard heads natives program.now certificate.now script.now steps
-        (IsEverSettled ⟦<Natives as Answering>⟧.gives) }
+        (λ m. InEachRun ⟦<Natives as Answering>⟧.gives m (λ s t. AreSettled t)) }
 {
     let prepared = prepare_run::<Natives, Machine<Natives>>(
         alloc,
