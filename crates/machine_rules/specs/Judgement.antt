@@ -29,15 +29,17 @@ pub data Gives {X : Type 0} (x : X) : Result X Refusal → Type 0 where
 pub data Becomes {X : Type 0} (Is : X → Type 0) : Result X Refusal → Type 0 where
   becomes : {x : X} → Is x → Becomes Is (Ok x)
 
--- one step, and with what it gives the next
-pub data Then {X Y : Type 0} (First : Result X Refusal → Type 0)
-    (Next : X → Result Y Refusal → Type 0) : Result Y Refusal → Type 0 where
-  goes_on : (x : X) {r : Result Y Refusal} → First (Ok x) → Next x r → Then First Next r
-  ends : {k : Refusal} → First (Err k) → Then First Next (Err k)
-
 infixl 10 ◌>>=◌
-abbrev pub ◌>>=◌ : {X Y : Type 0} → (Result X Refusal → Type 0) → (X → Result Y Refusal → Type 0) → Result Y Refusal → Type 0
-first >>= next = Then first next
+-- one step, and with what it gives the next
+pub data ◌>>=◌ {X Y : Type 0} (First : Result X Refusal → Type 0)
+    (Next : X → Result Y Refusal → Type 0) : Result Y Refusal → Type 0 where
+  goes_on : (x : X) {r : Result Y Refusal} → First (Ok x) → Next x r → (First >>= Next) r
+  ends : {k : Refusal} → First (Err k) → (First >>= Next) (Err k)
+
+-- ---- parts of these, for proofs
+
+abbrev pub Then : {X Y : Type 0} → (Result X Refusal → Type 0) → (X → Result Y Refusal → Type 0) → Result Y Refusal → Type 0
+Then First Next = First >>= Next
 
 -- nothing is so
 abbrev pub NothingIs : {X : Type 0} → (X → Type 0) → Type 0

@@ -1,5 +1,5 @@
 -- What the steps of a body do: the statements of a slot, and what a native does (docs/machine.md, "Rules").
-use Rattle.std.specs.{Prelude.{ℕ, if◌then◌else◌, List, [], ◌∷◌, Option, None, Some, slice_get, slice_set}, Option.{option_and_then, option_map}}
+use Rattle.std.specs.{Prelude.{ℕ, if◌then◌else◌, List, [], ◌∷◌, Option, None, Some, slice_get, slice_set}, Option.{option_and_then, option_map, option_map_or}}
 use Rattle.basic_types.specs.declared.value.Value.{Value}
 use Rattle.basic_types.specs.declared.value.Value.TheVariants as value
 use Rattle.syntax_trees.specs.{declared.connection.ConnectionType.{ConnectionType}, declared.syntax.Expr.{Expr}}
@@ -75,8 +75,7 @@ sets_in objects o arguments (s ∷ sets) =
 
 -- a set alone
 abbrev pub operation_of_set : Option Assignment → Operation
-operation_of_set None = Nothing
-operation_of_set (Some a) = Write (Alone a.place a.value)
+operation_of_set set = option_map_or (λ (a : Assignment). Write (Alone a.place a.value)) set Nothing
 
 -- ---- statements
 

@@ -1,5 +1,6 @@
 -- What paths and expressions of a body give (docs/language.md, "Expressions").
-use Rattle.std.specs.Prelude.{ℕ, List, [], ◌∷◌, Option, None, Some, slice_get}
+use Rattle.std.specs.Prelude.{ℕ, List, Option, None, Some, slice_get}
+use Rattle.std.specs.List.{fold}
 use Rattle.std.specs.Option.{option_and_then, option_map}
 use Rattle.basic_types.specs.declared.value.Value.{Value}
 use Rattle.basic_types.specs.declared.value.Value.TheVariants as value
@@ -26,14 +27,11 @@ step_value objects s (value.Ref None) = Some (default s.kind)
 step_value objects s (value.Ref (Some o)) = option_map (seen objects) (stored objects o s.property)
 step_value objects s _ = None
 
-abbrev pub steps_value : List Object → List Step → Option Value → Option Value
-steps_value objects [] found = found
-steps_value objects (s ∷ steps) found = steps_value objects steps (option_and_then (step_value objects s) found)
-
 -- the value that a path leads to, for the object o and the arguments of a call: each value on the way is read
 abbrev pub path_value : List Object → ℕ → List Value → MetaPath → Option Value
 path_value objects o arguments path =
-    steps_value objects path.steps (option_map (seen objects) (root_value o arguments path.root))
+    fold (λ found s. option_and_then (step_value objects s) found)
+    (option_map (seen objects) (root_value o arguments path.root)) path.steps
 
 -- the value that an expression has, for the object o and the arguments of a call
 abbrev pub value_of : List Object → ℕ → List Value → Expr MetaPath → Option Value
@@ -41,3 +39,9 @@ value_of objects o arguments e = Evaluation.value (path_value objects o argument
 
 abbrev pub values_of : List Object → ℕ → List Value → List (Expr MetaPath) → Option (List Value)
 values_of objects o arguments es = values (path_value objects o arguments) es
+
+-- ---- a part of these, as the code does it
+
+-- where these steps lead from what has been found
+abbrev pub steps_value : List Object → List Step → Option Value → Option Value
+steps_value objects steps found = fold (λ before s. option_and_then (step_value objects s) before) found steps

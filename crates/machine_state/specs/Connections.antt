@@ -1,6 +1,7 @@
 -- The connections that are made and removed, and those that an emission uses (docs/machine.md, "Rules").
-use Rattle.std.specs.Prelude.{ℕ, ◌&&◌, not, eqb, if◌then◌else◌, Bool, false, List, Option, None, Some, is_some}
+use Rattle.std.specs.Prelude.{ℕ, ◌&&◌, not, eqb, if◌then◌else◌, Bool, false, List, Option, None, is_some}
 use Rattle.std.specs.List.{find, list_any}
+use Rattle.std.specs.Option.{option_map_or}
 use Rattle.meta_model.specs.declared.qobject.TheConstants.{DESTROYED}
 use Rattle.object_tree.specs.declared.life.Life.{Life}
 use Rattle.object_tree.specs.declared.object.Object.{Object}
@@ -33,8 +34,7 @@ parted ends connected = removed (joins_these ends) connected
 -- the emission of an object that lives this life calls nothing: the object lives and is blocked (Qt 6,
 -- `QObject::blockSignals`), and the signal isn't `destroyed`
 abbrev pub silences : Option Life → ℕ → Bool
-silences None g = false
-silences (Some l) g = l.blocked && not (eqb g DESTROYED)
+silences life g = option_map_or (λ (l : Life). l.blocked && not (eqb g DESTROYED)) life false
 
 -- the object lives
 abbrev pub is_living : List Object → ℕ → Bool

@@ -1,6 +1,6 @@
 -- How values are written down (docs/machine.md, "Objects").
-use Rattle.std.specs.Prelude.{ℕ, List, map, Option, None, Some}
-use Rattle.std.specs.Option.{option_and_then}
+use Rattle.std.specs.Prelude.{ℕ, List, map, Option}
+use Rattle.std.specs.Option.{option_and_then, option_map_or}
 use Rattle.basic_types.specs.declared.value.Value.{Value}
 use Rattle.basic_types.specs.declared.value.Value.TheVariants as value
 use Rattle.object_tree.specs.declared.object.Object.{Object}
@@ -9,22 +9,22 @@ use Rattle.object_tree.specs.Seen.{seen_reference}
 use Rattle.trace_entries.specs.declared.entry.Shown.{Shown}
 use Rattle.trace_entries.specs.declared.entry.Shown.TheVariants as show
 
--- a name, or null where there is none
-abbrev pub shown_name : Option (List ℕ) → Shown
-shown_name None = show.Null
-shown_name (Some name) = show.Object name
-
--- a value is written down as it reads, and a reference as the object's name
+-- a value is written down as it reads, and a reference as the object's name or as null
 abbrev pub shown : List Object → Value → Shown
 shown objects (value.Int n) = show.Int n
 shown objects (value.Bool b) = show.Bool b
 shown objects (value.Text t) = show.Text t
-shown objects (value.Ref r) = shown_name (option_and_then (name_of objects) (seen_reference objects r))
+shown objects (value.Ref r) =
+    option_map_or show.Object (option_and_then (name_of objects) (seen_reference objects r)) show.Null
 
 abbrev pub all_shown : List Object → List Value → List Shown
 all_shown objects values = map (shown objects) values
 
--- ---- a part of these, as the code does it
+-- ---- parts of these, as the code does them
+
+-- a name, or null where there is none
+abbrev pub shown_name : Option (List ℕ) → Shown
+shown_name name = option_map_or show.Object name show.Null
 
 -- a reference that reads so
 abbrev pub shown_reference : List Object → Option ℕ → Shown

@@ -1,6 +1,7 @@
 -- Which event loop runs, and how a connection reaches its receiver (docs/machine.md, "Event loops"; Qt 6, "Threads and
 -- QObjects", "Signals and Slots Across Threads").
-use Rattle.std.specs.Prelude.{ℕ, eqb, Bool, true, false, Option, None, Some}
+use Rattle.std.specs.Prelude.{ℕ, eqb, Bool, true, false, Option}
+use Rattle.std.specs.Option.{option_map_or}
 use Rattle.basic_types.specs.declared.kind.Kind.{Kind}
 use Rattle.basic_types.specs.declared.kind.Kind.TheVariants.{Auto, Direct, Queued}
 use Rattle.machine_state.specs.declared.turn.Turn.{Turn}
@@ -11,8 +12,7 @@ main = 0
 
 -- the loop that runs: outside a turn it is `main`
 abbrev pub running : Option Turn → ℕ
-running None = main
-running (Some turn) = turn.home
+running turn = option_map_or (λ (t : Turn). t.home) turn main
 
 -- A connection of this kind calls its receiver at once, where the receiver lives in the loop `home` and the loop `runs`
 -- runs. Where it doesn't, a call is posted to the receiver's loop. Neither the sender's loop nor the moment of connecting
