@@ -27,7 +27,8 @@ one-living objects name = one-then (one-find (λ a b f g. g.only a f.named)) (λ
 
 pub one-all-living : (objects : List Object) (names : List (List ℕ)) → HasOneAnswer (all_living objects names)
 one-all-living objects [] = one-gives []
-one-all-living objects (name ∷ names) = one-then (one-living objects name) (λ o. one-then (one-all-living objects names) (λ os. one-gives _))
+one-all-living objects (name ∷ names) =
+    one-then (one-then (one-living objects name) (λ o. one-gives _)) (λ o. one-then (one-all-living objects names) (λ os. one-gives _))
 
 pub one-value : (objects : List Object) (i : Input) → HasOneAnswer (value objects i)
 one-value objects (input.Literal l) = one-gives _

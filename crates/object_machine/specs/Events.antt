@@ -26,21 +26,16 @@ living objects name =
     Find Dead (λ l. life_of objects o ≡ Some l) >>= λ l.
     Gives (record { number = o; it = l })
 
--- the living objects of these names, in their order
-abbrev pub all_living : List Object → List (List ℕ) → Result (List ℕ) Refusal → Type 0
-all_living objects [] = Gives []
-all_living objects (name ∷ names) =
-    living objects name >>= λ o. all_living objects names >>= λ os. Gives (o.number ∷ os)
+-- each of these is judged so, in their order
+abbrev pub each : {X Y : Type 0} → (X → Result Y Refusal → Type 0) → List X → Result (List Y) Refusal → Type 0
+each judge [] = Gives []
+each judge (x ∷ xs) = judge x >>= λ y. each judge xs >>= λ ys. Gives (y ∷ ys)
 
 -- ---- the values that a script writes: a literal, or the name of a living object
 
 abbrev pub value : List Object → Input → Result Value Refusal → Type 0
 value objects (input.Literal l) = Gives (literal_value l)
 value objects (input.Object name) = living objects name >>= λ o. Gives (Ref (Some o.number))
-
-abbrev pub values : List Object → List Input → Result (List Value) Refusal → Type 0
-values objects [] = Gives []
-values objects (i ∷ inputs) = value objects i >>= λ v. values objects inputs >>= λ vs. Gives (v ∷ vs)
 
 -- ---- what a connect or a disconnect names (Qt 6, "Signals & Slots")
 
@@ -66,7 +61,7 @@ may_bind p s site target sources =
     Find BadSource (λ (n : Numbered MetaSite). (slice_get p.sites n.number ≡ Some n.it) × (n.it.name ≡ site)) >>= λ n.
     Check BadSource (length sources ≡ length n.it.formals) >>= λ _.
     living s.objects target >>= λ o.
-    all_living s.objects sources >>= λ xs.
+    each (λ name. living s.objects name >>= λ x. Gives x.number) sources >>= λ xs.
     Check BadSource (CoversBinding p s.objects n.it o.number xs) >>= λ _.
     Check OtherLoop (InOneLoop s.objects o.number xs) >>= λ _.
     Gives (binding_of n.it n.number o.number xs)
@@ -91,7 +86,7 @@ abbrev pub invoke : Loaded → State → Invocation → List ℕ → List ℕ �
 invoke p s invocation name called inputs =
     living s.objects name >>= λ o.
     Find NoMember (IsAskedOf p o.it.class invocation called (length inputs)) >>= λ m.
-    values s.objects inputs >>= λ vs.
+    each (value s.objects) inputs >>= λ vs.
     Check BadArgs (ReadAs p s.objects vs m.it.kinds) >>= λ _.
     Becomes (Begins p (accepted s) s.stack o.number m.number vs)
 
@@ -176,6 +171,13 @@ judged p s (event.Later name) =
     Becomes (λ t. Schedules (accepted s) s.stack o.number t (Some o.it))
 
 -- ---- parts of these, for proofs
+
+-- the living objects of these names, in their order
+abbrev pub all_living : List Object → List (List ℕ) → Result (List ℕ) Refusal → Type 0
+all_living objects names = each (λ name. living objects name >>= λ x. Gives x.number) names
+
+abbrev pub values : List Object → List Input → Result (List Value) Refusal → Type 0
+values objects inputs = each (value objects) inputs
 
 -- the class's signal of this signature
 abbrev pub IsSignalOf : Loaded → ℕ → Sig → ℕ → Type 0

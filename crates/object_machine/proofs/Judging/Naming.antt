@@ -31,10 +31,10 @@ living-object {objects} o x = lives-of-life objects o.number o.it x.lives
 
 -- one more object
 pub living-snoc : (objects : List Object) (front : List (List ℕ)) (os : List ℕ) (name : List ℕ) (o : Numbered Life) → all_living objects front (Ok os) → living objects name (Ok o) → all_living objects (front ++ name ∷ []) (Ok (os ++ o.number ∷ []))
-living-snoc objects [] os name o gives x = goes_on o x (goes_on [] gives gives)
+living-snoc objects [] os name o gives x = goes_on o.number (goes_on o x gives) (goes_on [] gives gives)
 living-snoc objects (other ∷ front) os name o (goes_on u a (goes_on us b gives)) x = goes_on u a (goes_on (us ++ o.number ∷ []) (living-snoc objects front us name o b x) gives)
 
 -- one that isn't accepted behind those that are
 pub living-end : (objects : List Object) (front : List (List ℕ)) (os : List ℕ) (name : List ℕ) (rest : List (List ℕ)) (n : NotAccepted) → all_living objects front (Ok os) → IsNotAccepted (living objects name) n → IsNotAccepted (all_living objects (front ++ name ∷ rest)) n
-living-end objects [] os name rest n a x = then-ends x
+living-end objects [] os name rest n a x = then-ends (then-ends x)
 living-end objects (other ∷ front) os name rest n (goes_on u a (goes_on us b gives)) x = then-on u a (then-ends (living-end objects front us name rest n b x))
