@@ -1,7 +1,7 @@
 //! The bodies of slots.
 
+use crate::classes::{Import, Placed};
 use crate::effects::{Effects, Statement, Value};
-use moc_classes::{Import, Placed};
 use std::alloc::AllocError;
 
 /// Adds the body of a slot, whose parameters have these names: what effects say, the write of its property, or none that is

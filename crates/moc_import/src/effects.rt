@@ -11,6 +11,7 @@ mod scanner;
 mod slots;
 mod statements;
 
+use crate::classes::{Import, push_plain};
 use crate::effects::fault::LineFault;
 use crate::effects::line::EffectLine;
 use crate::effects::lookup::Lookup;
@@ -18,7 +19,6 @@ use crate::effects::slots::slot_of;
 use crate::effects::statements::statement;
 pub use body::{Statement, Value};
 pub use line::Line;
-use moc_classes::{Import, push_plain};
 pub use reading::lines;
 pub use slots::{added_slots, named_properties};
 use std::alloc::{AllocError, Global};

@@ -2,14 +2,15 @@
 #![tactic(auto)]
 
 mod bodies;
+mod classes;
 mod effects;
 mod summary;
 mod writing;
 
+pub use crate::classes::ImportFault;
+use crate::classes::{BORDER, Catalogue, Choice, Import, MocFile, files};
 pub use crate::effects::Mistake;
 use crate::effects::{Effects, Line, added_slots, lines, named_properties};
-pub use moc_classes::ImportFault;
-use moc_classes::{BORDER, Catalogue, Choice, Import, MocFile, files};
 use std::alloc::Global;
 pub use summary::Summary;
 

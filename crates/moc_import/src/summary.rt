@@ -1,7 +1,7 @@
 //! How much was imported, and how much was left out.
 
+use crate::classes::{Import, LeftOut, Missing, Placed, Sort};
 use crate::effects::Effects;
-use moc_classes::{Import, LeftOut, Missing, Placed, Sort};
 
 /// How much was imported, and how much was left out.
 #[derive(Clone, Copy, Debug, Default, PartialEq, Eq)]

@@ -1,12 +1,12 @@
 //! What is written: class declarations, with comments on what isn't as in C++.
 
 use crate::bodies::push_body;
-use crate::effects::Effects;
-use basic_types::is_name;
-use moc_classes::{
+use crate::classes::{
     Import, Listed, Mapped, Method, Missing, MocMethod, NoClass, Placed, Property, QOBJECT, Sort,
     full_name, is_free, push_plain,
 };
+use crate::effects::Effects;
+use basic_types::is_name;
 use std::alloc::{AllocError, Global};
 
 /// The class declarations, one after another, each with what is left out of it.

@@ -1,6 +1,6 @@
 //! Bodies, as effects give them.
 
-use moc_classes::{Catalogue, Kind, Parameter};
+use crate::classes::{Catalogue, Kind, Parameter};
 use std::alloc::{AllocError, Global};
 
 /// A statement of a body. Paths begin at the slot's object.

@@ -1,7 +1,7 @@
 //! What is wrong with a line of effects.
 
+use crate::classes::LeftOut;
 use crate::effects::near::Near;
-use moc_classes::LeftOut;
 use std::alloc::AllocError;
 use thiserror::Error;
 

@@ -1,7 +1,7 @@
 //! The lines of a text of effects.
 
+use crate::classes::MocMethod;
 use crate::effects::fault::LineFault;
-use moc_classes::MocMethod;
 
 /// A line that isn't empty.
 #[derive(Drop)]

@@ -1,8 +1,8 @@
 //! What paths of effects lead to.
 
+use crate::classes::{Catalogue, Import, Kind, Missing};
 use crate::effects::fault::LineFault;
 use crate::effects::near::Near;
-use moc_classes::{Catalogue, Import, Kind, Missing};
 use std::alloc::{AllocError, Global};
 
 /// The property that every object has.

@@ -1,8 +1,8 @@
 //! Which signals and slots effects name.
 
+use crate::classes::{Kind, Mapped, Method, mapped_type};
 use crate::effects::fault::LineFault;
 use crate::effects::lookup::{Lookup, MemberSort, SoughtMember};
-use moc_classes::{Kind, Mapped, Method, mapped_type};
 use std::alloc::{AllocError, Global};
 
 /// The slot that every object has.

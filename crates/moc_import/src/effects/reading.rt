@@ -8,11 +8,11 @@
 //! types  = "(" [TYPE {"," TYPE}] ")"
 //! ```
 
+use crate::classes::{MocArgument, MocMethod};
 use crate::effects::fault::LineFault;
 use crate::effects::line::{Effect, EffectLine, Line, Verb};
 use crate::effects::scanner::{Scanner, first_word};
 use basic_types::is_name;
-use moc_classes::{MocArgument, MocMethod};
 use std::alloc::{AllocError, Global};
 
 /// So many things a line names at most: a class that is declared has fewer members than this.

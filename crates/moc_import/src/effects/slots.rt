@@ -1,10 +1,10 @@
 //! The slots that lines of effects name.
 
+use crate::classes::{Catalogue, LeftOut, Method, MocMethod, Parameter, Placed, parameters_of};
 use crate::effects::fault::LineFault;
 use crate::effects::line::{EffectLine, Line, Verb, split_path};
 use crate::effects::lookup::Lookup;
 use crate::effects::near::Near;
-use moc_classes::{Catalogue, LeftOut, Method, MocMethod, Parameter, Placed, parameters_of};
 use std::alloc::{AllocError, Global};
 
 /// The slots of the lines, each with its class's number, where that is imported.

@@ -1,10 +1,10 @@
 //! Effects as statements.
 
+use crate::classes::{Parameter, Placed};
 use crate::effects::body::{Statement, Value, next_value, values};
 use crate::effects::fault::LineFault;
 use crate::effects::line::{Effect, Verb, split_path};
 use crate::effects::lookup::{Lookup, MemberSort, SoughtMember};
-use moc_classes::{Parameter, Placed};
 use std::alloc::Global;
 
 /// The statement that an effect is in the body of this slot.

@@ -1,9 +1,11 @@
 //! Which members are imported, class by class.
 
-use crate::catalogue::{Catalogue, Listed};
-use crate::kinds::Kind;
-use crate::members::{LeftOut, Members, Method, Property, Sort, parameters_of, property_of};
-use crate::moc::{MocClass, MocMethod, MocProperty};
+use crate::classes::catalogue::{Catalogue, Listed};
+use crate::classes::kinds::Kind;
+use crate::classes::members::{
+    LeftOut, Members, Method, Property, Sort, parameters_of, property_of,
+};
+use crate::classes::moc::{MocClass, MocMethod, MocProperty};
 use std::alloc::{AllocError, Global};
 
 /// Which members are wanted.

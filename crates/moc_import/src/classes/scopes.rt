@@ -1,6 +1,6 @@
 //! Names of C++, with their scopes.
 
-use crate::moc::MocClass;
+use crate::classes::moc::MocClass;
 
 /// The class's name without its scope.
 pub fn own_name(class: &MocClass) -> &str {

@@ -1,5 +1,4 @@
 //! What Qt's meta-object compiler writes of C++ headers, and which of its classes and members the language can have.
-#![tactic(auto)]
 
 mod catalogue;
 mod class_names;
@@ -18,7 +17,7 @@ pub use fault::ImportFault;
 pub use importing::{Choice, Import, Missing, Placed};
 pub use kinds::{Kind, Mapped, mapped_type};
 pub use members::{LeftOut, Members, Method, Parameter, Property, Sort, is_free, parameters_of};
-pub use moc::{MocArgument, MocBase, MocClass, MocEnum, MocFile, MocMethod, MocProperty};
+pub use moc::{MocArgument, MocFile, MocMethod};
 pub use plain::push_plain;
 pub use reading::{BORDER, files};
-pub use scopes::{full_name, own_name};
+pub use scopes::full_name;

@@ -1,7 +1,7 @@
 //! Classes by their names.
 
-use crate::moc::MocClass;
-use crate::scopes::{full_name, last_part, own_name};
+use crate::classes::moc::MocClass;
+use crate::classes::scopes::{full_name, last_part, own_name};
 use indexmap::IndexMap;
 use std::alloc::{AllocError, Global};
 

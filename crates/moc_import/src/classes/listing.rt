@@ -1,9 +1,9 @@
 //! Which classes are imported, in which order, and under which names.
 
-use crate::catalogue::{Listed, NoClass, QOBJECT, may_be_class};
-use crate::class_names::ClassNames;
-use crate::moc::MocClass;
-use crate::scopes::{full_name, is_called, nearness, own_name};
+use crate::classes::catalogue::{Listed, NoClass, QOBJECT, may_be_class};
+use crate::classes::class_names::ClassNames;
+use crate::classes::moc::MocClass;
+use crate::classes::scopes::{full_name, is_called, nearness, own_name};
 use indexmap::IndexMap;
 use std::alloc::{AllocError, Global};
 

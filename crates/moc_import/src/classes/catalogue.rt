@@ -1,10 +1,10 @@
 //! The classes that are imported, by number: bases stand before the classes that have them.
 
-use crate::class_names::ClassNames;
-use crate::listing::Listing;
-use crate::members::is_free;
-use crate::moc::{MocClass, MocFile};
-use crate::scopes::{full_name, is_called, is_in_scope, nearness};
+use crate::classes::class_names::ClassNames;
+use crate::classes::listing::Listing;
+use crate::classes::members::is_free;
+use crate::classes::moc::{MocClass, MocFile};
+use crate::classes::scopes::{full_name, is_called, is_in_scope, nearness};
 use indexmap::IndexMap;
 use std::alloc::{AllocError, Global};
 

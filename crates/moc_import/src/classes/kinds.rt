@@ -1,6 +1,6 @@
 //! Types of C++ and what they are in the language.
 
-use crate::catalogue::Catalogue;
+use crate::classes::catalogue::Catalogue;
 use std::alloc::AllocError;
 
 /// A type of the language.

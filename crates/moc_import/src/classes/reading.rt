@@ -1,7 +1,7 @@
 //! The texts that are read, parted by lines `%%`.
 
-use crate::fault::ImportFault;
-use crate::moc::MocFile;
+use crate::classes::fault::ImportFault;
+use crate::classes::moc::MocFile;
 use std::alloc::{AllocError, Global};
 
 /// What parts two texts.

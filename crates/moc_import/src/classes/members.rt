@@ -1,8 +1,8 @@
 //! The members of a class that are imported, and why others are left out.
 
-use crate::catalogue::Catalogue;
-use crate::kinds::{Kind, Mapped, mapped_type};
-use crate::moc::{MocArgument, MocMethod, MocProperty};
+use crate::classes::catalogue::Catalogue;
+use crate::classes::kinds::{Kind, Mapped, mapped_type};
+use crate::classes::moc::{MocArgument, MocMethod, MocProperty};
 use basic_types::{MOST_PARAMETERS, Word, is_name};
 use std::alloc::{AllocError, Global};
 use thiserror::Error;
