@@ -1,7 +1,7 @@
 //! The bodies of slots.
 
 use crate::classes::{Import, Placed};
-use crate::effects::{Effects, Statement, Value};
+use crate::effects::{GivenBodies, GivenStatement, GivenValue};
 use std::alloc::AllocError;
 
 /// Adds the body of a slot, whose parameters have these names: what effects say, the write of its property, or none that is
@@ -9,7 +9,7 @@ use std::alloc::AllocError;
 pub fn push_body(
     text: &mut String,
     import: &Import<'_>,
-    effects: &Effects<'_>,
+    effects: &GivenBodies<'_>,
     slot: Placed<'_, '_>,
     names: &[String],
 ) -> Result<(), AllocError> {
@@ -32,32 +32,36 @@ pub fn push_body(
 /// Adds a statement, with a blank in front.
 fn push_statement(
     text: &mut String,
-    statement: &Statement<'_>,
+    statement: &GivenStatement<'_>,
     names: &[String],
 ) -> Result<(), AllocError> {
     match statement {
-        Statement::Emit { signal, values } => {
+        GivenStatement::Emit { signal, values } => {
             write!(text, " emit {signal}(")?;
             push_values(text, values.as_slice(), names)?;
             text.push_str(");")
         }
-        Statement::Set { path, value } => {
+        GivenStatement::Set { path, value } => {
             write!(text, " set this.{path} = ")?;
             push_value(text, *value, names)?;
             text.push_str(";")
         }
-        Statement::Call { path, values } => {
+        GivenStatement::Call { path, values } => {
             write!(text, " call this.{path}(")?;
             push_values(text, values.as_slice(), names)?;
             text.push_str(");")
         }
-        Statement::Delete { path } if *path == "this" => text.push_str(" delete this;"),
-        Statement::Delete { path } => write!(text, " delete this.{path};"),
+        GivenStatement::Delete { path } if *path == "this" => text.push_str(" delete this;"),
+        GivenStatement::Delete { path } => write!(text, " delete this.{path};"),
     }
 }
 
 /// Adds values, with commas between them.
-fn push_values(text: &mut String, values: &[Value], names: &[String]) -> Result<(), AllocError> {
+fn push_values(
+    text: &mut String,
+    values: &[GivenValue],
+    names: &[String],
+) -> Result<(), AllocError> {
     for (place, value) in values.iter().enumerate() {
         if place > 0 {
             text.push_str(", ")?;
@@ -68,10 +72,10 @@ fn push_values(text: &mut String, values: &[Value], names: &[String]) -> Result<
 }
 
 /// Adds a value.
-fn push_value(text: &mut String, value: Value, names: &[String]) -> Result<(), AllocError> {
+fn push_value(text: &mut String, value: GivenValue, names: &[String]) -> Result<(), AllocError> {
     match value {
-        Value::Literal(literal) => text.push_str(literal),
-        Value::Parameter(place) => match names.get(place) {
+        GivenValue::Literal(literal) => text.push_str(literal),
+        GivenValue::Parameter(place) => match names.get(place) {
             Some(name) => text.push_str(name.as_str()),
             None => Ok(()),
         },

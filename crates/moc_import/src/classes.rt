@@ -14,9 +14,12 @@ mod scopes;
 
 pub use catalogue::{Catalogue, Listed, NoClass, QOBJECT};
 pub use fault::ImportFault;
-pub use importing::{Choice, Import, Missing, Placed};
-pub use kinds::{Kind, Mapped, mapped_type};
-pub use members::{LeftOut, Members, Method, Parameter, Property, Sort, is_free, parameters_of};
+pub use importing::{Choice, Import, MissingMember, Placed};
+pub use kinds::{LanguageType, Mapped, mapped_type};
+pub use members::{
+    ImportedMethod, ImportedParameter, ImportedProperty, LeftOut, Members, MethodSort, is_free,
+    parameters_of,
+};
 pub use moc::{MocArgument, MocFile, MocMethod};
 pub use plain::push_plain;
 pub use reading::{BORDER, files};

@@ -12,13 +12,13 @@ mod slots;
 mod statements;
 
 use crate::classes::{Import, push_plain};
-use crate::effects::fault::LineFault;
+use crate::effects::fault::EffectFault;
 use crate::effects::line::EffectLine;
 use crate::effects::lookup::Lookup;
 use crate::effects::slots::slot_of;
 use crate::effects::statements::statement;
-pub use body::{Statement, Value};
-pub use line::Line;
+pub use body::{GivenStatement, GivenValue};
+pub use line::NumberedLine;
 pub use reading::lines;
 pub use slots::{added_slots, named_properties};
 use std::alloc::{AllocError, Global};
@@ -28,14 +28,14 @@ const MOST_TOLD: usize = 100;
 
 /// What lines of effects give: bodies of slots, and what is wrong with lines.
 #[derive(Drop)]
-pub struct Effects<'e> {
-    bodies: Vec<SlotBody<'e>>,
-    mistakes: Vec<Mistake>,
+pub struct GivenBodies<'e> {
+    bodies: Vec<GivenBody<'e>>,
+    mistakes: Vec<LineMistake>,
 }
 
 /// What is wrong with a line, and what would be right.
 #[derive(Drop)]
-pub struct Mistake {
+pub struct LineMistake {
     /// The line's number, from 1 on.
     pub line: usize,
     pub text: String,
@@ -43,25 +43,25 @@ pub struct Mistake {
 
 /// The body of a slot.
 #[derive(Drop)]
-struct SlotBody<'e> {
+struct GivenBody<'e> {
     line: usize,
     /// The slot, by its class and its place among the methods of that.
     class: usize,
     place: usize,
-    statements: Vec<Statement<'e>>,
+    statements: Vec<GivenStatement<'e>>,
 }
 
-impl<'e> Effects<'e> {
+impl<'e> GivenBodies<'e> {
     /// The bodies that the lines give what is imported. A line for a class that is read and not imported gives none.
     pub fn of<'i>(
         alloc: Global,
         import: &'i Import<'_>,
-        lines: &'e [Line<'_>],
-    ) -> Result<Effects<'e>, AllocError>
+        lines: &'e [NumberedLine<'_>],
+    ) -> Result<GivenBodies<'e>, AllocError>
     where
         'e: 'i,
     {
-        let mut effects = Effects {
+        let mut effects = GivenBodies {
             bodies: Vec::new(alloc),
             mistakes: Vec::new(alloc),
         };
@@ -84,20 +84,20 @@ impl<'e> Effects<'e> {
     }
 
     /// What is wrong with the lines, in their order: a hundred mistakes at most.
-    pub fn into_mistakes(self) -> Vec<Mistake> {
-        let Effects { bodies, mistakes } = self;
+    pub fn into_mistakes(self) -> Vec<LineMistake> {
+        let GivenBodies { bodies, mistakes } = self;
         drop(bodies);
         mistakes
     }
 
     /// The statements of a slot, by its class and its place among the methods of that, if a line gives them.
-    pub fn statements(&self, class: usize, place: usize) -> Option<&[Statement<'e>]> {
+    pub fn statements(&self, class: usize, place: usize) -> Option<&[GivenStatement<'e>]> {
         let body = self.body(class, place)?;
         Some(body.statements.as_slice())
     }
 
-    fn body(&self, class: usize, place: usize) -> Option<&SlotBody<'e>> {
-        self.bodies.iter().find(|it: &&SlotBody<'_>| it.class == class && it.place == place)
+    fn body(&self, class: usize, place: usize) -> Option<&GivenBody<'e>> {
+        self.bodies.iter().find(|it: &&GivenBody<'_>| it.class == class && it.place == place)
     }
 
     /// Adds the body that a line gives.
@@ -117,7 +117,7 @@ impl<'e> Effects<'e> {
             Err(fault) => return self.note(alloc, number, &fault),
         };
         if let Some(first) = self.body(slot.class, slot.place) {
-            let fault = LineFault::Twice(first.line);
+            let fault = EffectFault::Twice(first.line);
             return self.note(alloc, number, &fault);
         }
         let mut statements = Vec::new(alloc);
@@ -130,7 +130,7 @@ impl<'e> Effects<'e> {
                 Err(fault) => self.note(alloc, number, &fault)?,
             }
         }
-        self.bodies.push(SlotBody {
+        self.bodies.push(GivenBody {
             line: number,
             class: slot.class,
             place: slot.place,
@@ -144,15 +144,15 @@ impl<'e> Effects<'e> {
         &mut self,
         alloc: Global,
         line: usize,
-        fault: &LineFault<'_>,
+        fault: &EffectFault<'_>,
     ) -> Result<(), AllocError> {
-        if let LineFault::Memory(fault) = fault {
+        if let EffectFault::Memory(fault) = fault {
             return Err(*fault);
         }
         let told = format!(in alloc; "{fault}")?;
         let mut text = String::new(alloc);
         push_plain(&mut text, told.as_str())?;
-        self.mistakes.push(Mistake { line, text })?;
+        self.mistakes.push(LineMistake { line, text })?;
         Ok(())
     }
 }

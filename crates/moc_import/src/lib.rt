@@ -9,8 +9,8 @@ mod writing;
 
 pub use crate::classes::ImportFault;
 use crate::classes::{BORDER, Catalogue, Choice, Import, MocFile, files};
-pub use crate::effects::Mistake;
-use crate::effects::{Effects, Line, added_slots, lines, named_properties};
+pub use crate::effects::LineMistake;
+use crate::effects::{GivenBodies, NumberedLine, added_slots, lines, named_properties};
 use std::alloc::Global;
 pub use summary::Summary;
 
@@ -36,7 +36,7 @@ pub struct ImportOptions<'w> {
 pub enum ImportOutcome {
     Imported(Imported),
     /// What is wrong with the effects, line by line.
-    Mistaken(Vec<Mistake>),
+    Mistaken(Vec<LineMistake>),
 }
 
 /// What is imported.
@@ -77,7 +77,7 @@ pub fn import(
 fn declarations<'f>(
     alloc: Global,
     files: &'f [MocFile],
-    lines: &'f [Line<'_>],
+    lines: &'f [NumberedLine<'_>],
     wanted: ImportOptions<'_>,
 ) -> Result<ImportOutcome, ImportFault> {
     let catalogue = Catalogue::of(alloc, files, wanted.only)?;
@@ -92,7 +92,7 @@ fn declarations<'f>(
         added: added_slots(alloc, &catalogue, lines)?,
     };
     let import = Import::of(alloc, catalogue, &choice)?;
-    let effects = Effects::of(alloc, &import, lines)?;
+    let effects = GivenBodies::of(alloc, &import, lines)?;
     if !effects.is_whole() {
         return Ok(ImportOutcome::Mistaken(effects.into_mistakes()));
     }

@@ -1,7 +1,7 @@
 //! How much was imported, and how much was left out.
 
-use crate::classes::{Import, LeftOut, Missing, Placed, Sort};
-use crate::effects::Effects;
+use crate::classes::{Import, LeftOut, MethodSort, MissingMember, Placed};
+use crate::effects::GivenBodies;
 
 /// How much was imported, and how much was left out.
 #[derive(Clone, Copy, Debug, Default, PartialEq, Eq)]
@@ -27,7 +27,7 @@ pub struct Summary {
 
 impl Summary {
     /// The counts.
-    pub(crate) fn of(import: &Import<'_>, effects: &Effects<'_>) -> Summary {
+    pub(crate) fn of(import: &Import<'_>, effects: &GivenBodies<'_>) -> Summary {
         let mut summary = Summary {
             others: import.catalogue.left_out.len(),
             ..Summary::default()
@@ -48,7 +48,7 @@ impl Summary {
             }
         }
         for (_, member) in import.missing.as_slice() {
-            let (Missing::Property(_, why) | Missing::Method(_, why)) = *member;
+            let (MissingMember::Property(_, why) | MissingMember::Method(_, why)) = *member;
             match why {
                 LeftOut::Type(_) => summary.untyped = summary.untyped.saturating_add(1),
                 _ => summary.others = summary.others.saturating_add(1),
@@ -68,7 +68,12 @@ impl Summary {
         }
     }
 
-    fn count_method(&mut self, import: &Import<'_>, effects: &Effects<'_>, placed: Placed<'_, '_>) {
+    fn count_method(
+        &mut self,
+        import: &Import<'_>,
+        effects: &GivenBodies<'_>,
+        placed: Placed<'_, '_>,
+    ) {
         let method = placed.method;
         for parameter in method.parameters.as_slice() {
             self.count_narrowed(parameter.mapped.is_narrowed);
@@ -78,7 +83,7 @@ impl Summary {
             return;
         }
         self.slots = self.slots.saturating_add(1);
-        if method.sort == Sort::AddedSlot {
+        if method.sort == MethodSort::AddedSlot {
             self.added = self.added.saturating_add(1);
         }
         if effects.statements(placed.class, placed.place).is_some() {

@@ -2,10 +2,10 @@
 
 use crate::bodies::push_body;
 use crate::classes::{
-    Import, Listed, Mapped, Method, Missing, MocMethod, NoClass, Placed, Property, QOBJECT, Sort,
-    full_name, is_free, push_plain,
+    Import, ImportedMethod, ImportedProperty, Listed, Mapped, MethodSort, MissingMember, MocMethod,
+    NoClass, Placed, QOBJECT, full_name, is_free, push_plain,
 };
-use crate::effects::Effects;
+use crate::effects::GivenBodies;
 use basic_types::is_name;
 use std::alloc::{AllocError, Global};
 
@@ -13,7 +13,7 @@ use std::alloc::{AllocError, Global};
 pub fn program(
     alloc: Global,
     import: &Import<'_>,
-    effects: &Effects<'_>,
+    effects: &GivenBodies<'_>,
 ) -> Result<String, AllocError> {
     let mut text = String::new(alloc);
     for (class, why) in import.catalogue.left_out.as_slice() {
@@ -42,7 +42,7 @@ fn push_all_missing(
     text: &mut String,
     alloc: Global,
     number: usize,
-    missing: &[(usize, Missing<'_>)],
+    missing: &[(usize, MissingMember<'_>)],
 ) -> Result<usize, AllocError> {
     let mut count = 0usize;
     for (class, member) in missing {
@@ -60,7 +60,7 @@ fn push_class(
     text: &mut String,
     alloc: Global,
     import: &Import<'_>,
-    effects: &Effects<'_>,
+    effects: &GivenBodies<'_>,
     number: usize,
     listed: Listed<'_>,
 ) -> Result<(), AllocError> {
@@ -107,7 +107,7 @@ fn push_property(
     text: &mut String,
     import: &Import<'_>,
     class: usize,
-    property: &Property<'_>,
+    property: &ImportedProperty<'_>,
 ) -> Result<(), AllocError> {
     let name = property.moc.name.as_str();
     text.push_str("    property ")?;
@@ -147,7 +147,7 @@ fn push_method(
     text: &mut String,
     alloc: Global,
     import: &Import<'_>,
-    effects: &Effects<'_>,
+    effects: &GivenBodies<'_>,
     placed: Placed<'_, '_>,
 ) -> Result<(), AllocError> {
     let method = placed.method;
@@ -167,9 +167,9 @@ fn push_method(
     }
     text.push_str(")")?;
     match method.sort {
-        Sort::Signal => text.push_str(";")?,
-        Sort::Slot => push_body(text, import, effects, placed, names.as_slice())?,
-        Sort::AddedSlot => {
+        MethodSort::Signal => text.push_str(";")?,
+        MethodSort::Slot => push_body(text, import, effects, placed, names.as_slice())?,
+        MethodSort::AddedSlot => {
             push_body(text, import, effects, placed, names.as_slice())?;
             text.push_str(" // added")?;
         }
@@ -182,7 +182,7 @@ fn push_method(
 
 /// The names of the parameters: their own, or `a1`, `a2`, .. by their places, and with a `_` behind a name that is a word of
 /// the language or that one before it has.
-fn parameter_names(alloc: Global, method: &Method<'_>) -> Result<Vec<String>, AllocError> {
+fn parameter_names(alloc: Global, method: &ImportedMethod<'_>) -> Result<Vec<String>, AllocError> {
     let mut names: Vec<String> = Vec::new(alloc);
     for (place, parameter) in method.parameters.as_slice().iter().enumerate() {
         let own = parameter.moc.name.as_str();
@@ -207,15 +207,19 @@ fn parameter_names(alloc: Global, method: &Method<'_>) -> Result<Vec<String>, Al
 }
 
 /// Adds a member that is left out, and why.
-fn push_missing(text: &mut String, alloc: Global, member: Missing<'_>) -> Result<(), AllocError> {
+fn push_missing(
+    text: &mut String,
+    alloc: Global,
+    member: MissingMember<'_>,
+) -> Result<(), AllocError> {
     let why = match member {
-        Missing::Property(moc, why) => {
+        MissingMember::Property(moc, why) => {
             text.push_str("    // left out: property ")?;
             push_plain(text, moc.name.as_str())?;
             text.push_str(": ")?;
             why
         }
-        Missing::Method(moc, why) => {
+        MissingMember::Method(moc, why) => {
             text.push_str("    // left out: ")?;
             push_cpp(text, moc)?;
             text.push_str(": ")?;

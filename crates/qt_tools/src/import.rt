@@ -2,7 +2,7 @@
 
 use crate::fault::ToolFault;
 use crate::streams::{short_input, write};
-use moc_import::{ImportOptions, ImportOutcome, Imported, Mistake, Summary, import};
+use moc_import::{ImportOptions, ImportOutcome, Imported, LineMistake, Summary, import};
 use std::alloc::{AllocError, Global};
 
 /// What the options of `import` ask for.
@@ -64,7 +64,7 @@ pub fn import_classes(rt: &HostRuntime, words: &[&str]) -> Result<(), ToolFault>
     match import(alloc, text, wanted)? {
         ImportOutcome::Imported(imported) => hand_over(rt, &options, &imported),
         ImportOutcome::Mistaken(mistakes) => {
-            for Mistake { line, text } in mistakes.as_slice() {
+            for LineMistake { line, text } in mistakes.as_slice() {
                 eprintln!(rt; "line {line} of the effects: {text}").ok();
             }
             Err(ToolFault::Mistaken)

@@ -1,6 +1,7 @@
 //! The classes that are imported, by number: bases stand before the classes that have them.
 
-use crate::classes::class_names::ClassNames;
+use crate::classes::class_names::MocClassNames;
+use crate::classes::kinds::QSTRING;
 use crate::classes::listing::Listing;
 use crate::classes::members::is_free;
 use crate::classes::moc::{MocClass, MocFile};
@@ -41,8 +42,8 @@ pub struct Catalogue<'f> {
     /// All classes that are read, which needn't be imported.
     all: Vec<&'f MocClass>,
     /// The places of these by their names, and the numbers of those that are imported.
-    read: ClassNames<'f>,
-    imported: ClassNames<'f>,
+    read: MocClassNames<'f>,
+    imported: MocClassNames<'f>,
     /// The places of the classes that have an enum, by the names of enums.
     with_enum: IndexMap<&'f [u8], Vec<usize>>,
 }
@@ -55,7 +56,7 @@ impl<'f> Catalogue<'f> {
         only: &[&str],
     ) -> Result<Catalogue<'f>, AllocError> {
         let mut all: Vec<&'f MocClass> = Vec::new(alloc);
-        let mut read = ClassNames::new(alloc);
+        let mut read = MocClassNames::new(alloc);
         for file in files {
             for class in file.classes.as_slice() {
                 read.add(alloc, class, all.len())?;
@@ -63,7 +64,7 @@ impl<'f> Catalogue<'f> {
             }
         }
         let listing = Listing::of(alloc, all.as_slice(), &read, only)?;
-        let mut imported = ClassNames::new(alloc);
+        let mut imported = MocClassNames::new(alloc);
         for (number, listed) in listing.classes.iter().enumerate() {
             imported.add(alloc, listed.class, number)?;
         }
@@ -241,5 +242,5 @@ fn enums<'f>(
 
 /// Whether a program may declare a class of this name.
 pub fn may_be_class(name: &str) -> bool {
-    is_free(name) && !matches!(name, QOBJECT | "int" | "bool" | "QString")
+    is_free(name) && !matches!(name, QOBJECT | "int" | "bool" | QSTRING)
 }

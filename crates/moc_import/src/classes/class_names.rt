@@ -7,14 +7,14 @@ use std::alloc::{AllocError, Global};
 
 /// The places of classes in a list, by the last parts of their names: of those with their scope, and of those without.
 #[derive(Drop)]
-pub struct ClassNames<'f> {
+pub struct MocClassNames<'f> {
     places: IndexMap<&'f [u8], Vec<usize>>,
 }
 
-impl<'f> ClassNames<'f> {
+impl<'f> MocClassNames<'f> {
     /// No class has a place yet.
-    pub fn new(alloc: Global) -> ClassNames<'f> {
-        ClassNames {
+    pub fn new(alloc: Global) -> MocClassNames<'f> {
+        MocClassNames {
             places: IndexMap::new(alloc),
         }
     }

@@ -1,9 +1,9 @@
 //! Which members are imported, class by class.
 
 use crate::classes::catalogue::{Catalogue, Listed};
-use crate::classes::kinds::Kind;
+use crate::classes::kinds::LanguageType;
 use crate::classes::members::{
-    LeftOut, Members, Method, Property, Sort, parameters_of, property_of,
+    ImportedMethod, ImportedProperty, LeftOut, Members, MethodSort, parameters_of, property_of,
 };
 use crate::classes::moc::{MocClass, MocMethod, MocProperty};
 use std::alloc::{AllocError, Global};
@@ -26,7 +26,7 @@ pub struct Import<'f> {
     /// For each class, by number, its own members.
     pub members: Vec<Members<'f>>,
     /// What is left out, each with its class's number.
-    pub missing: Vec<(usize, Missing<'f>)>,
+    pub missing: Vec<(usize, MissingMember<'f>)>,
 }
 
 /// A method, with its class and its place among the methods of that.
@@ -34,12 +34,12 @@ pub struct Import<'f> {
 pub struct Placed<'i, 'f> {
     pub class: usize,
     pub place: usize,
-    pub method: &'i Method<'f>,
+    pub method: &'i ImportedMethod<'f>,
 }
 
 /// A member that is left out, and why.
 #[derive(Clone, Copy)]
-pub enum Missing<'f> {
+pub enum MissingMember<'f> {
     Property(&'f MocProperty, LeftOut<'f>),
     Method(&'f MocMethod, LeftOut<'f>),
 }
@@ -62,9 +62,9 @@ impl<'f> Import<'f> {
                 methods: Vec::new(alloc),
             })?;
             if let Some(class) = import.class(number) {
-                import.push_methods(alloc, number, class.signals.as_slice(), Sort::Signal)?;
-                import.push_methods(alloc, number, class.slots.as_slice(), Sort::Slot)?;
-                import.push_methods(alloc, number, class.methods.as_slice(), Sort::Slot)?;
+                import.push_methods(alloc, number, class.signals.as_slice(), MethodSort::Signal)?;
+                import.push_methods(alloc, number, class.slots.as_slice(), MethodSort::Slot)?;
+                import.push_methods(alloc, number, class.methods.as_slice(), MethodSort::Slot)?;
                 import.push_added(alloc, number, choice.added.as_slice())?;
                 import.push_properties(number, class, choice)?;
             }
@@ -84,11 +84,11 @@ impl<'f> Import<'f> {
         alloc: Global,
         class: usize,
         methods: &'f [MocMethod],
-        sort: Sort,
+        sort: MethodSort,
     ) -> Result<(), AllocError> {
         for moc in methods {
             if let Some(why) = self.push_method(alloc, class, moc, sort)? {
-                self.missing.push((class, Missing::Method(moc, why)))?;
+                self.missing.push((class, MissingMember::Method(moc, why)))?;
             }
         }
         Ok(())
@@ -103,7 +103,7 @@ impl<'f> Import<'f> {
     ) -> Result<(), AllocError> {
         for (number, moc) in added {
             if *number == class {
-                let _passed_over = self.push_method(alloc, class, moc, Sort::AddedSlot)?;
+                let _passed_over = self.push_method(alloc, class, moc, MethodSort::AddedSlot)?;
             }
         }
         Ok(())
@@ -115,7 +115,7 @@ impl<'f> Import<'f> {
         alloc: Global,
         class: usize,
         moc: &'f MocMethod,
-        sort: Sort,
+        sort: MethodSort,
     ) -> Result<Option<LeftOut<'f>>, AllocError> {
         let method = match self.method(alloc, class, moc, sort)? {
             Ok(method) => method,
@@ -133,8 +133,8 @@ impl<'f> Import<'f> {
         alloc: Global,
         class: usize,
         moc: &'f MocMethod,
-        sort: Sort,
-    ) -> Result<Result<Method<'f>, LeftOut<'f>>, AllocError> {
+        sort: MethodSort,
+    ) -> Result<Result<ImportedMethod<'f>, LeftOut<'f>>, AllocError> {
         let parameters = match parameters_of(alloc, &self.catalogue, class, moc)? {
             Ok(parameters) => parameters,
             Err(why) => return Ok(Err(why)),
@@ -144,15 +144,17 @@ impl<'f> Import<'f> {
         if is_of_qobject(name, count) {
             return Ok(Err(LeftOut::Inherited));
         }
-        Ok(match self.holder(class, Sought::Method(name, count)) {
-            Some(holder) if holder == class => Err(LeftOut::Overload),
-            Some(_) => Err(LeftOut::Inherited),
-            None => Ok(Method {
-                moc,
-                sort,
-                parameters,
-            }),
-        })
+        Ok(
+            match self.holder(class, WantedMember::Method(name, count)) {
+                Some(holder) if holder == class => Err(LeftOut::Overload),
+                Some(_) => Err(LeftOut::Inherited),
+                None => Ok(ImportedMethod {
+                    moc,
+                    sort,
+                    parameters,
+                }),
+            },
+        )
     }
 
     /// Adds those of the properties that the language can have; of a lean import those alone that notify or are written.
@@ -166,7 +168,7 @@ impl<'f> Import<'f> {
             match property_of(&self.catalogue, number, moc) {
                 Ok(_) if self.has_property(number, moc.name.as_str()) => {
                     self.missing
-                        .push((number, Missing::Property(moc, LeftOut::Inherited)))?;
+                        .push((number, MissingMember::Property(moc, LeftOut::Inherited)))?;
                 }
                 Ok(found)
                     if choice.is_lean && !self.is_used(number, &found, choice.kept.as_slice()) => {}
@@ -175,42 +177,47 @@ impl<'f> Import<'f> {
                         members.properties.push(found)?;
                     }
                 }
-                Err(why) => self.missing.push((number, Missing::Property(moc, why)))?,
+                Err(why) => self
+                    .missing
+                    .push((number, MissingMember::Property(moc, why)))?,
             }
         }
         Ok(())
     }
 
     /// Whether the property notifies, a slot of one parameter writes it, or it is kept by its name.
-    fn is_used(&self, class: usize, property: &Property<'f>, kept: &[&str]) -> bool {
+    fn is_used(&self, class: usize, property: &ImportedProperty<'f>, kept: &[&str]) -> bool {
         let notify = property.moc.notify.as_str();
         kept.contains(&property.moc.name.as_str())
             || self.notifies(class, notify, property.mapped.kind).is_some()
             || self.members.get(class).is_some_and(|own: &Members<'_>| {
                 own.methods
                     .iter()
-                    .any(|it: &Method<'_>| writes(it, property))
+                    .any(|it: &ImportedMethod<'_>| writes(it, property))
             })
     }
 
     /// Whether the class or a base of it has the property.
     fn has_property(&self, class: usize, name: &str) -> bool {
-        name == "objectName" || self.holder(class, Sought::Property(name)).is_some()
+        name == "objectName" || self.holder(class, WantedMember::Property(name)).is_some()
     }
 
     /// Whether the notify signal of a property of this type is there, and then whether it carries the value.
-    pub fn notifies(&self, class: usize, notify: &str, kind: Kind) -> Option<bool> {
-        if self.holder(class, Sought::Telling(notify, kind)).is_some() {
+    pub fn notifies(&self, class: usize, notify: &str, kind: LanguageType) -> Option<bool> {
+        if self
+            .holder(class, WantedMember::Telling(notify, kind))
+            .is_some()
+        {
             return Some(true);
         }
-        if self.holder(class, Sought::Silent(notify)).is_some() {
+        if self.holder(class, WantedMember::Silent(notify)).is_some() {
             return Some(false);
         }
         None
     }
 
     /// The property that the slot of this class writes, by its name and type.
-    pub fn written(&self, class: usize, slot: &Method<'f>) -> Option<&'f str> {
+    pub fn written(&self, class: usize, slot: &ImportedMethod<'f>) -> Option<&'f str> {
         let mut at = Some(class);
         for _ in 0..self.members.len() {
             let number = at?;
@@ -227,7 +234,7 @@ impl<'f> Import<'f> {
 
     /// The method of a class or the nearest of its bases with this name and so many parameters.
     pub fn find_method(&self, class: usize, name: &str, count: usize) -> Option<Placed<'_, 'f>> {
-        let holder = self.holder(class, Sought::Method(name, count))?;
+        let holder = self.holder(class, WantedMember::Method(name, count))?;
         let members = self.members.get(holder)?;
         for (place, method) in members.methods.as_slice().iter().enumerate() {
             if method.is_called(name, count) {
@@ -242,7 +249,7 @@ impl<'f> Import<'f> {
     }
 
     /// The first class, from this one up, that has the member itself.
-    fn holder(&self, class: usize, sought: Sought<'_>) -> Option<usize> {
+    fn holder(&self, class: usize, sought: WantedMember<'_>) -> Option<usize> {
         let mut at = Some(class);
         for _ in 0..self.members.len() {
             let number = at?;
@@ -257,45 +264,45 @@ impl<'f> Import<'f> {
 
 /// A member that is looked for.
 #[derive(Clone, Copy, PartialEq, Eq)]
-enum Sought<'n> {
+enum WantedMember<'n> {
     /// The property of this name.
     Property(&'n str),
     /// The method of this name with so many parameters.
     Method(&'n str, usize),
     /// The signal of this name with one parameter, of this type.
-    Telling(&'n str, Kind),
+    Telling(&'n str, LanguageType),
     /// The signal of this name without parameters.
     Silent(&'n str),
 }
 
-impl Sought<'_> {
+impl WantedMember<'_> {
     /// Whether it is one of these members.
     fn is_in(self, members: &Members<'_>) -> bool {
         for property in members.properties.as_slice() {
-            if self == Sought::Property(property.moc.name.as_str()) {
+            if self == WantedMember::Property(property.moc.name.as_str()) {
                 return true;
             }
         }
         members
             .methods
             .iter()
-            .any(|it: &Method<'_>| self.is_method(it))
+            .any(|it: &ImportedMethod<'_>| self.is_method(it))
     }
 
-    fn is_method(self, method: &Method<'_>) -> bool {
+    fn is_method(self, method: &ImportedMethod<'_>) -> bool {
         match self {
-            Sought::Property(_) => false,
-            Sought::Method(name, count) => method.is_called(name, count),
-            Sought::Telling(name, kind) => {
+            WantedMember::Property(_) => false,
+            WantedMember::Method(name, count) => method.is_called(name, count),
+            WantedMember::Telling(name, kind) => {
                 method.is_signal() && method.is_called(name, 1) && method.takes(kind)
             }
-            Sought::Silent(name) => method.is_signal() && method.is_called(name, 0),
+            WantedMember::Silent(name) => method.is_signal() && method.is_called(name, 0),
         }
     }
 }
 
 /// Whether the slot is the one that writes the property.
-fn writes(slot: &Method<'_>, property: &Property<'_>) -> bool {
+fn writes(slot: &ImportedMethod<'_>, property: &ImportedProperty<'_>) -> bool {
     !slot.is_signal()
         && slot.moc.name.as_str() == property.moc.write.as_str()
         && slot.takes(property.mapped.kind)

@@ -3,9 +3,12 @@
 use crate::classes::catalogue::Catalogue;
 use std::alloc::AllocError;
 
+/// The type of texts.
+pub const QSTRING: &str = "QString";
+
 /// A type of the language.
 #[derive(Clone, Copy, PartialEq, Eq)]
-pub enum Kind {
+pub enum LanguageType {
     Int,
     Bool,
     Text,
@@ -15,15 +18,18 @@ pub enum Kind {
     ConstObject(Option<usize>),
 }
 
-impl Kind {
+impl LanguageType {
     /// Whether a parameter or property of this type may be given a value of the other one.
-    pub fn accepts(self, given: Kind, catalogue: &Catalogue<'_>) -> bool {
+    pub fn accepts(self, given: LanguageType, catalogue: &Catalogue<'_>) -> bool {
         match (self, given) {
-            (Kind::Int, Kind::Int) | (Kind::Bool, Kind::Bool) | (Kind::Text, Kind::Text) => true,
-            (Kind::Object(wanted), Kind::Object(class))
-            | (Kind::ConstObject(wanted), Kind::Object(class) | Kind::ConstObject(class)) => {
-                catalogue.is_below(class, wanted)
-            }
+            (LanguageType::Int, LanguageType::Int)
+            | (LanguageType::Bool, LanguageType::Bool)
+            | (LanguageType::Text, LanguageType::Text) => true,
+            (LanguageType::Object(wanted), LanguageType::Object(class))
+            | (
+                LanguageType::ConstObject(wanted),
+                LanguageType::Object(class) | LanguageType::ConstObject(class),
+            ) => { catalogue.is_below(class, wanted) }
             _ => false,
         }
     }
@@ -31,11 +37,11 @@ impl Kind {
     /// Adds the type as it is declared.
     pub fn push_to(self, text: &mut String, catalogue: &Catalogue<'_>) -> Result<(), AllocError> {
         match self {
-            Kind::Int => text.push_str("int"),
-            Kind::Bool => text.push_str("bool"),
-            Kind::Text => text.push_str("QString"),
-            Kind::Object(class) => push_pointer(text, catalogue, class),
-            Kind::ConstObject(class) => {
+            LanguageType::Int => text.push_str("int"),
+            LanguageType::Bool => text.push_str("bool"),
+            LanguageType::Text => text.push_str(QSTRING),
+            LanguageType::Object(class) => push_pointer(text, catalogue, class),
+            LanguageType::ConstObject(class) => {
                 text.push_str("const ")?;
                 push_pointer(text, catalogue, class)
             }
@@ -56,7 +62,7 @@ fn push_pointer(
 /// What a type of C++ becomes.
 #[derive(Clone, Copy)]
 pub struct Mapped {
-    pub kind: Kind,
+    pub kind: LanguageType,
     /// Whether the type is another number or an enum in C++.
     pub is_narrowed: bool,
 }
@@ -113,14 +119,14 @@ const NUMBERS: &[&str] = &[
 pub fn mapped_type(catalogue: &Catalogue<'_>, class: usize, kind: &str) -> Option<Mapped> {
     let name = plain(kind);
     match name {
-        "int" => return Some(exact(Kind::Int)),
-        "bool" => return Some(exact(Kind::Bool)),
-        "QString" => return Some(exact(Kind::Text)),
+        "int" => return Some(exact(LanguageType::Int)),
+        "bool" => return Some(exact(LanguageType::Bool)),
+        QSTRING => return Some(exact(LanguageType::Text)),
         _ => {}
     }
     if NUMBERS.contains(&name) || catalogue.has_enum(class, name) {
         return Some(Mapped {
-            kind: Kind::Int,
+            kind: LanguageType::Int,
             is_narrowed: true,
         });
     }
@@ -128,13 +134,13 @@ pub fn mapped_type(catalogue: &Catalogue<'_>, class: usize, kind: &str) -> Optio
     match pointed.strip_prefix("const ") {
         Some(pointed) => {
             let found = catalogue.pointed(class, pointed.trim())?;
-            Some(exact(Kind::ConstObject(found)))
+            Some(exact(LanguageType::ConstObject(found)))
         }
-        None => Some(exact(Kind::Object(catalogue.pointed(class, pointed)?))),
+        None => Some(exact(LanguageType::Object(catalogue.pointed(class, pointed)?))),
     }
 }
 
-fn exact(kind: Kind) -> Mapped {
+fn exact(kind: LanguageType) -> Mapped {
     Mapped {
         kind,
         is_narrowed: false,

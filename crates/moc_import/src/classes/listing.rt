@@ -1,7 +1,7 @@
 //! Which classes are imported, in which order, and under which names.
 
 use crate::classes::catalogue::{Listed, NoClass, QOBJECT, may_be_class};
-use crate::classes::class_names::ClassNames;
+use crate::classes::class_names::MocClassNames;
 use crate::classes::moc::MocClass;
 use crate::classes::scopes::{full_name, is_called, nearness, own_name};
 use indexmap::IndexMap;
@@ -35,7 +35,7 @@ impl<'f> Listing<'f> {
     pub fn of(
         alloc: Global,
         all: &[&'f MocClass],
-        read: &ClassNames<'f>,
+        read: &MocClassNames<'f>,
         only: &[&str],
     ) -> Result<Listing<'f>, AllocError> {
         let mut listing = Listing {
@@ -157,7 +157,7 @@ impl<'f> Listing<'f> {
 fn candidates<'f>(
     alloc: Global,
     all: &[&'f MocClass],
-    read: &ClassNames<'f>,
+    read: &MocClassNames<'f>,
     only: &[&str],
 ) -> Result<Vec<Candidate<'f>>, AllocError> {
     let mut candidates = Vec::new(alloc);
@@ -174,7 +174,7 @@ fn candidates<'f>(
 }
 
 /// The place of the class's first base.
-fn base_of(all: &[&MocClass], read: &ClassNames<'_>, class: &MocClass) -> Option<usize> {
+fn base_of(all: &[&MocClass], read: &MocClassNames<'_>, class: &MocClass) -> Option<usize> {
     let name = class.super_classes.first()?.name.as_str();
     let mut nearest: Option<(usize, usize)> = None;
     for place in read.near(name) {

@@ -1,7 +1,7 @@
 //! The members of a class that are imported, and why others are left out.
 
 use crate::classes::catalogue::Catalogue;
-use crate::classes::kinds::{Kind, Mapped, mapped_type};
+use crate::classes::kinds::{LanguageType, Mapped, mapped_type};
 use crate::classes::moc::{MocArgument, MocMethod, MocProperty};
 use basic_types::{MOST_PARAMETERS, Word, is_name};
 use std::alloc::{AllocError, Global};
@@ -29,7 +29,7 @@ pub enum LeftOut<'f> {
 
 /// What a method is.
 #[derive(Clone, Copy, PartialEq, Eq)]
-pub enum Sort {
+pub enum MethodSort {
     Signal,
     /// A slot, or an invokable method.
     Slot,
@@ -39,22 +39,22 @@ pub enum Sort {
 
 /// A property that is imported.
 #[derive(Clone, Copy)]
-pub struct Property<'f> {
+pub struct ImportedProperty<'f> {
     pub moc: &'f MocProperty,
     pub mapped: Mapped,
 }
 
 /// A method that is imported.
 #[derive(Drop)]
-pub struct Method<'f> {
+pub struct ImportedMethod<'f> {
     pub moc: &'f MocMethod,
-    pub sort: Sort,
-    pub parameters: Vec<Parameter<'f>>,
+    pub sort: MethodSort,
+    pub parameters: Vec<ImportedParameter<'f>>,
 }
 
 /// A parameter.
 #[derive(Clone, Copy)]
-pub struct Parameter<'f> {
+pub struct ImportedParameter<'f> {
     pub moc: &'f MocArgument,
     pub mapped: Mapped,
 }
@@ -62,13 +62,13 @@ pub struct Parameter<'f> {
 /// The members of a class that are imported: its own alone.
 #[derive(Drop)]
 pub struct Members<'f> {
-    pub properties: Vec<Property<'f>>,
-    pub methods: Vec<Method<'f>>,
+    pub properties: Vec<ImportedProperty<'f>>,
+    pub methods: Vec<ImportedMethod<'f>>,
 }
 
-impl<'f> Method<'f> {
+impl<'f> ImportedMethod<'f> {
     /// Whether the parameters are just one of this type.
-    pub fn takes(&self, kind: Kind) -> bool {
+    pub fn takes(&self, kind: LanguageType) -> bool {
         match self.parameters.as_slice() {
             [parameter] => parameter.mapped.kind == kind,
             _ => false,
@@ -82,7 +82,7 @@ impl<'f> Method<'f> {
 
     /// Whether it is a signal.
     pub fn is_signal(&self) -> bool {
-        self.sort == Sort::Signal
+        self.sort == MethodSort::Signal
     }
 
     /// Adds its signature, with its parameters' types as they are declared.
@@ -113,12 +113,12 @@ pub fn property_of<'f>(
     catalogue: &Catalogue<'_>,
     class: usize,
     moc: &'f MocProperty,
-) -> Result<Property<'f>, LeftOut<'f>> {
+) -> Result<ImportedProperty<'f>, LeftOut<'f>> {
     if !is_free(moc.name.as_str()) {
         return Err(LeftOut::Name);
     }
     match mapped_type(catalogue, class, moc.kind.as_str()) {
-        Some(mapped) => Ok(Property { moc, mapped }),
+        Some(mapped) => Ok(ImportedProperty { moc, mapped }),
         None => Err(LeftOut::Type(moc.kind.as_str())),
     }
 }
@@ -129,7 +129,7 @@ pub fn parameters_of<'f>(
     catalogue: &Catalogue<'_>,
     class: usize,
     moc: &'f MocMethod,
-) -> Result<Result<Vec<Parameter<'f>>, LeftOut<'f>>, AllocError> {
+) -> Result<Result<Vec<ImportedParameter<'f>>, LeftOut<'f>>, AllocError> {
     if !is_free(moc.name.as_str()) {
         return Ok(Err(LeftOut::Name));
     }
@@ -139,7 +139,7 @@ pub fn parameters_of<'f>(
             continue;
         }
         match mapped_type(catalogue, class, argument.kind.as_str()) {
-            Some(mapped) => parameters.push(Parameter {
+            Some(mapped) => parameters.push(ImportedParameter {
                 moc: argument,
                 mapped,
             })?,

@@ -1,21 +1,32 @@
 //! Bodies, as effects give them.
 
-use crate::classes::{Catalogue, Kind, Parameter};
+use crate::classes::{Catalogue, ImportedParameter, LanguageType};
 use std::alloc::{AllocError, Global};
 
 /// A statement of a body. Paths begin at the slot's object.
 #[derive(Drop)]
-pub enum Statement<'e> {
-    Emit { signal: &'e str, values: Vec<Value> },
-    Set { path: &'e str, value: Value },
-    Call { path: &'e str, values: Vec<Value> },
+pub enum GivenStatement<'e> {
+    Emit {
+        signal: &'e str,
+        values: Vec<GivenValue>,
+    },
+    Set {
+        path: &'e str,
+        value: GivenValue,
+    },
+    Call {
+        path: &'e str,
+        values: Vec<GivenValue>,
+    },
     /// `this`, or the path to what is deleted.
-    Delete { path: &'e str },
+    Delete {
+        path: &'e str,
+    },
 }
 
 /// A value in a statement.
 #[derive(Clone, Copy, Debug, PartialEq, Eq)]
-pub enum Value {
+pub enum GivenValue {
     /// The slot's parameter of this place.
     Parameter(usize),
     Literal(&'static str),
@@ -25,9 +36,9 @@ pub enum Value {
 pub fn values(
     alloc: Global,
     catalogue: &Catalogue<'_>,
-    kinds: &[Kind],
-    parameters: &[Parameter<'_>],
-) -> Result<Vec<Value>, AllocError> {
+    kinds: &[LanguageType],
+    parameters: &[ImportedParameter<'_>],
+) -> Result<Vec<GivenValue>, AllocError> {
     let mut values = Vec::new(alloc);
     for kind in kinds {
         let next = next_value(catalogue, *kind, parameters, values.as_slice());
@@ -39,20 +50,20 @@ pub fn values(
 /// A value of this type: the first parameter that it takes and that isn't among the values so far, or a literal.
 pub fn next_value(
     catalogue: &Catalogue<'_>,
-    kind: Kind,
-    parameters: &[Parameter<'_>],
-    so_far: &[Value],
-) -> Value {
+    kind: LanguageType,
+    parameters: &[ImportedParameter<'_>],
+    so_far: &[GivenValue],
+) -> GivenValue {
     for (place, parameter) in parameters.iter().enumerate() {
-        let own = Value::Parameter(place);
+        let own = GivenValue::Parameter(place);
         if kind.accepts(parameter.mapped.kind, catalogue) && !so_far.contains(&own) {
             return own;
         }
     }
-    Value::Literal(match kind {
-        Kind::Int => "0",
-        Kind::Bool => "false",
-        Kind::Text => "\"\"",
-        Kind::Object(_) | Kind::ConstObject(_) => "null",
+    GivenValue::Literal(match kind {
+        LanguageType::Int => "0",
+        LanguageType::Bool => "false",
+        LanguageType::Text => "\"\"",
+        LanguageType::Object(_) | LanguageType::ConstObject(_) => "null",
     })
 }

@@ -1,13 +1,13 @@
 //! What is wrong with a line of effects.
 
 use crate::classes::LeftOut;
-use crate::effects::near::Near;
+use crate::effects::near::NearName;
 use std::alloc::AllocError;
 use thiserror::Error;
 
 /// What is wrong with a line of effects, and what would be right.
 #[derive(Debug, Drop, Error)]
-pub enum LineFault<'e> {
+pub enum EffectFault<'e> {
     #[error("a line begins with a class and a slot, as `Lamp.toggle()` or `Lamp.dim(int)`")]
     NoSlot,
     #[error("a `)` is missing")]
@@ -23,7 +23,7 @@ pub enum LineFault<'e> {
     #[error("a line names at most 4096 things")]
     TooMuch,
     #[error("there is no class `{0}`{1}")]
-    NoClass(&'e str, Near<'e>),
+    NoClass(&'e str, NearName<'e>),
     /// The slot can't be declared.
     #[error("`{0}` can't be a slot: {1}")]
     NoSuchSlot(&'e str, LeftOut<'e>),
@@ -47,7 +47,7 @@ pub enum LineFault<'e> {
         class: &'e str,
         what: &'static str,
         name: &'e str,
-        near: Near<'e>,
+        near: NearName<'e>,
     },
     #[error("`{class}` has no {what} `{name}` here: {why}")]
     LeftOutMember {

@@ -1,15 +1,15 @@
 //! The lines of a text of effects.
 
 use crate::classes::MocMethod;
-use crate::effects::fault::LineFault;
+use crate::effects::fault::EffectFault;
 
 /// A line that isn't empty.
 #[derive(Drop)]
-pub struct Line<'e> {
+pub struct NumberedLine<'e> {
     /// Its number, from 1 on.
     pub number: usize,
     /// What it says, or what is wrong with it.
-    pub(crate) read: Result<EffectLine<'e>, LineFault<'e>>,
+    pub(crate) read: Result<EffectLine<'e>, EffectFault<'e>>,
 }
 
 /// A slot, and what it does.
@@ -19,13 +19,13 @@ pub struct EffectLine<'e> {
     pub class: &'e str,
     /// The slot as moc would write it, with parameters that have no names.
     pub slot: MocMethod,
-    pub effects: Vec<Effect<'e>>,
+    pub effects: Vec<SlotEffect<'e>>,
 }
 
 /// One thing that a slot does.
 #[derive(Drop)]
-pub struct Effect<'e> {
-    pub verb: Verb,
+pub struct SlotEffect<'e> {
+    pub verb: EffectVerb,
     /// `this`, or names with a `.` between them, of which all but the last one are properties.
     pub path: &'e str,
     /// The types behind a signal or a slot, where it has brackets.
@@ -34,28 +34,28 @@ pub struct Effect<'e> {
 
 /// What a slot does to what is named.
 #[derive(Clone, Copy, Debug, PartialEq, Eq)]
-pub enum Verb {
+pub enum EffectVerb {
     Emits,
     Sets,
     Calls,
     Deletes,
 }
 
-impl Verb {
+impl EffectVerb {
     /// The verb of this word.
-    pub fn of(word: &str) -> Option<Verb> {
+    pub fn of(word: &str) -> Option<EffectVerb> {
         match word {
-            "emits" => Some(Verb::Emits),
-            "sets" => Some(Verb::Sets),
-            "calls" => Some(Verb::Calls),
-            "deletes" => Some(Verb::Deletes),
+            "emits" => Some(EffectVerb::Emits),
+            "sets" => Some(EffectVerb::Sets),
+            "calls" => Some(EffectVerb::Calls),
+            "deletes" => Some(EffectVerb::Deletes),
             _ => None,
         }
     }
 
     /// Whether what is named is a method.
     pub fn names_method(self) -> bool {
-        matches!(self, Verb::Emits | Verb::Calls)
+        matches!(self, EffectVerb::Emits | EffectVerb::Calls)
     }
 }
 

@@ -1,8 +1,8 @@
 //! What paths of effects lead to.
 
-use crate::classes::{Catalogue, Import, Kind, Missing};
-use crate::effects::fault::LineFault;
-use crate::effects::near::Near;
+use crate::classes::{Catalogue, Import, LanguageType, MissingMember};
+use crate::effects::fault::EffectFault;
+use crate::effects::near::NearName;
 use std::alloc::{AllocError, Global};
 
 /// The property that every object has.
@@ -18,25 +18,25 @@ pub struct Lookup<'i, 'f> {
 #[derive(Clone, Copy)]
 pub struct SoughtMember<'i> {
     pub class: Option<usize>,
-    pub sort: MemberSort,
+    pub sort: SoughtSort,
     pub name: &'i str,
 }
 
 /// What a member is.
 #[derive(Clone, Copy, Debug, PartialEq, Eq)]
-pub enum MemberSort {
+pub enum SoughtSort {
     Property,
     Signal,
     Slot,
 }
 
-impl MemberSort {
+impl SoughtSort {
     /// The word for it.
     pub fn word(self) -> &'static str {
         match self {
-            MemberSort::Property => "property",
-            MemberSort::Signal => "signal",
-            MemberSort::Slot => "slot",
+            SoughtSort::Property => "property",
+            SoughtSort::Signal => "signal",
+            SoughtSort::Slot => "slot",
         }
     }
 }
@@ -48,14 +48,19 @@ impl<'i, 'f> Lookup<'i, 'f> {
     }
 
     /// The type of what a path leads to from an object of the class.
-    fn kind_of(self, alloc: Global, class: usize, path: &'i str) -> Result<Kind, LineFault<'i>> {
-        let mut kind = Kind::Object(Some(class));
+    fn kind_of(
+        self,
+        alloc: Global,
+        class: usize,
+        path: &'i str,
+    ) -> Result<LanguageType, EffectFault<'i>> {
+        let mut kind = LanguageType::Object(Some(class));
         if path == "this" {
             return Ok(kind);
         }
         for name in path.split('.') {
-            let (Kind::Object(at) | Kind::ConstObject(at)) = kind else {
-                return Err(LineFault::NoPointer(path));
+            let (LanguageType::Object(at) | LanguageType::ConstObject(at)) = kind else {
+                return Err(EffectFault::NoPointer(path));
             };
             kind = self.property(alloc, at, name)?;
         }
@@ -68,11 +73,13 @@ impl<'i, 'f> Lookup<'i, 'f> {
         alloc: Global,
         class: usize,
         path: &'i str,
-    ) -> Result<Option<usize>, LineFault<'i>> {
+    ) -> Result<Option<usize>, EffectFault<'i>> {
         match self.kind_of(alloc, class, path)? {
-            Kind::Object(found) => Ok(found),
-            Kind::ConstObject(_) => Err(LineFault::ConstPointer(path)),
-            Kind::Int | Kind::Bool | Kind::Text => Err(LineFault::NoPointer(path)),
+            LanguageType::Object(found) => Ok(found),
+            LanguageType::ConstObject(_) => Err(EffectFault::ConstPointer(path)),
+            LanguageType::Int | LanguageType::Bool | LanguageType::Text => Err(
+                EffectFault::NoPointer(path),
+            ),
         }
     }
 
@@ -82,9 +89,9 @@ impl<'i, 'f> Lookup<'i, 'f> {
         alloc: Global,
         class: Option<usize>,
         name: &'i str,
-    ) -> Result<Kind, LineFault<'i>> {
+    ) -> Result<LanguageType, EffectFault<'i>> {
         if name == OBJECT_NAME {
-            return Ok(Kind::Text);
+            return Ok(LanguageType::Text);
         }
         let mut names = Vec::new(alloc);
         names.push(OBJECT_NAME)?;
@@ -101,7 +108,7 @@ impl<'i, 'f> Lookup<'i, 'f> {
         }
         let sought = SoughtMember {
             class,
-            sort: MemberSort::Property,
+            sort: SoughtSort::Property,
             name,
         };
         Err(self.no_member(alloc, sought, names.as_slice())?)
@@ -113,19 +120,19 @@ impl<'i, 'f> Lookup<'i, 'f> {
         alloc: Global,
         sought: SoughtMember<'i>,
         names: &[&'i str],
-    ) -> Result<LineFault<'i>, AllocError> {
+    ) -> Result<EffectFault<'i>, AllocError> {
         let class = self.catalogue().name(sought.class);
         let what = sought.sort.word();
         let name = sought.name;
         let lineage = self.catalogue().lineage(alloc, sought.class)?;
         for (number, missing) in self.import.missing.as_slice() {
             let (called, why, is_property) = match *missing {
-                Missing::Property(moc, why) => (moc.name.as_str(), why, true),
-                Missing::Method(moc, why) => (moc.name.as_str(), why, false),
+                MissingMember::Property(moc, why) => (moc.name.as_str(), why, true),
+                MissingMember::Method(moc, why) => (moc.name.as_str(), why, false),
             };
-            let is_sort = is_property == (sought.sort == MemberSort::Property);
+            let is_sort = is_property == (sought.sort == SoughtSort::Property);
             if is_sort && called == name && lineage.contains(number) {
-                return Ok(LineFault::LeftOutMember {
+                return Ok(EffectFault::LeftOutMember {
                     class,
                     what,
                     name,
@@ -133,11 +140,11 @@ impl<'i, 'f> Lookup<'i, 'f> {
                 });
             }
         }
-        Ok(LineFault::NoMember {
+        Ok(EffectFault::NoMember {
             class,
             what,
             name,
-            near: Near::to(alloc, name, names)?,
+            near: NearName::to(alloc, name, names)?,
         })
     }
 }

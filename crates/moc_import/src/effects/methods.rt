@@ -1,8 +1,8 @@
 //! Which signals and slots effects name.
 
-use crate::classes::{Kind, Mapped, Method, mapped_type};
-use crate::effects::fault::LineFault;
-use crate::effects::lookup::{Lookup, MemberSort, SoughtMember};
+use crate::classes::{ImportedMethod, LanguageType, Mapped, mapped_type};
+use crate::effects::fault::EffectFault;
+use crate::effects::lookup::{Lookup, SoughtMember, SoughtSort};
 use std::alloc::{AllocError, Global};
 
 /// The slot that every object has.
@@ -16,12 +16,12 @@ impl<'i, 'f> Lookup<'i, 'f> {
         alloc: Global,
         sought: SoughtMember<'i>,
         types: Option<&[&str]>,
-    ) -> Result<Vec<Kind>, LineFault<'i>> {
+    ) -> Result<Vec<LanguageType>, EffectFault<'i>> {
         if is_delete_later(sought, types) {
             return Ok(Vec::new(alloc));
         }
         let methods = self.methods(alloc, sought)?;
-        let mut found: Option<&'i Method<'f>> = None;
+        let mut found: Option<&'i ImportedMethod<'f>> = None;
         let mut count = 0usize;
         for (owner, method) in methods.as_slice() {
             if method.moc.name.as_str() == sought.name && self.takes(*owner, method, types) {
@@ -33,7 +33,7 @@ impl<'i, 'f> Lookup<'i, 'f> {
             return Err(self.no_method(alloc, sought, methods.as_slice())?);
         };
         if count > 1 {
-            return Err(LineFault::Several {
+            return Err(EffectFault::Several {
                 class: self.catalogue().name(sought.class),
                 name: sought.name,
                 there: self.signatures(alloc, sought.name, methods.as_slice())?,
@@ -51,14 +51,14 @@ impl<'i, 'f> Lookup<'i, 'f> {
         self,
         alloc: Global,
         sought: SoughtMember<'_>,
-    ) -> Result<Vec<(usize, &'i Method<'f>)>, AllocError> {
+    ) -> Result<Vec<(usize, &'i ImportedMethod<'f>)>, AllocError> {
         let mut methods = Vec::new(alloc);
         for number in self.catalogue().lineage(alloc, sought.class)?.as_slice() {
             let Some(members) = self.import.members.get(*number) else {
                 continue;
             };
             for method in members.methods.as_slice() {
-                if method.is_signal() == (sought.sort == MemberSort::Signal) {
+                if method.is_signal() == (sought.sort == SoughtSort::Signal) {
                     methods.push((*number, method))?;
                 }
             }
@@ -67,7 +67,7 @@ impl<'i, 'f> Lookup<'i, 'f> {
     }
 
     /// Whether the method of this class has parameters of these types, if some are given.
-    fn takes(self, class: usize, method: &Method<'_>, types: Option<&[&str]>) -> bool {
+    fn takes(self, class: usize, method: &ImportedMethod<'_>, types: Option<&[&str]>) -> bool {
         let Some(types) = types else {
             return true;
         };
@@ -90,12 +90,12 @@ impl<'i, 'f> Lookup<'i, 'f> {
         self,
         alloc: Global,
         sought: SoughtMember<'i>,
-        methods: &[(usize, &'i Method<'f>)],
-    ) -> Result<LineFault<'i>, AllocError> {
+        methods: &[(usize, &'i ImportedMethod<'f>)],
+    ) -> Result<EffectFault<'i>, AllocError> {
         let name = sought.name;
         let there = self.signatures(alloc, name, methods)?;
         if !there.is_empty() {
-            return Ok(LineFault::OtherTypes {
+            return Ok(EffectFault::OtherTypes {
                 class: self.catalogue().name(sought.class),
                 what: sought.sort.word(),
                 name,
@@ -103,11 +103,11 @@ impl<'i, 'f> Lookup<'i, 'f> {
             });
         }
         match sought.sort {
-            MemberSort::Signal if matches!(name, "destroyed" | "objectNameChanged") => {
-                return Ok(LineFault::RuntimeSignal(name));
+            SoughtSort::Signal if matches!(name, "destroyed" | "objectNameChanged") => {
+                return Ok(EffectFault::RuntimeSignal(name));
             }
-            MemberSort::Slot if self.has_signal(alloc, sought)? => {
-                return Ok(LineFault::CallsSignal(name));
+            SoughtSort::Slot if self.has_signal(alloc, sought)? => {
+                return Ok(EffectFault::CallsSignal(name));
             }
             _ => {}
         }
@@ -123,11 +123,14 @@ impl<'i, 'f> Lookup<'i, 'f> {
         let signals = self.methods(
             alloc,
             SoughtMember {
-                sort: MemberSort::Signal,
+                sort: SoughtSort::Signal,
                 ..sought
             },
         )?;
-        Ok(signals.iter().any(|(_, it): &(usize, &Method<'_>)| it.moc.name.as_str() == sought.name))
+        Ok(
+            signals.iter().any(|(_, it): &(usize, &ImportedMethod<'_>)| it.moc.name.as_str()
+                == sought.name),
+        )
     }
 
     /// The signatures of those of the methods that have this name.
@@ -135,7 +138,7 @@ impl<'i, 'f> Lookup<'i, 'f> {
         self,
         alloc: Global,
         name: &str,
-        methods: &[(usize, &Method<'_>)],
+        methods: &[(usize, &ImportedMethod<'_>)],
     ) -> Result<String, AllocError> {
         let mut text = String::new(alloc);
         for (_, method) in methods {
@@ -151,7 +154,7 @@ impl<'i, 'f> Lookup<'i, 'f> {
 
 /// Whether this is the slot of `QObject`.
 fn is_delete_later(sought: SoughtMember<'_>, types: Option<&[&str]>) -> bool {
-    sought.sort == MemberSort::Slot
+    sought.sort == SoughtSort::Slot
         && sought.name == DELETE_LATER
         && types.is_none_or(|it: &[&str]| it.is_empty())
 }

@@ -9,15 +9,15 @@ const LONGEST: usize = 64;
 
 /// The name that may have been meant, if there is one.
 #[derive(Clone, Copy, Debug, PartialEq, Eq)]
-pub struct Near<'n>(pub Option<&'n str>);
+pub struct NearName<'n>(pub Option<&'n str>);
 
-impl<'n> Near<'n> {
+impl<'n> NearName<'n> {
     /// The nearest of the names, if a few letters make it of the one that is written: one, or a third of them.
-    pub fn to(alloc: Global, written: &str, names: &[&'n str]) -> Result<Near<'n>, AllocError> {
+    pub fn to(alloc: Global, written: &str, names: &[&'n str]) -> Result<NearName<'n>, AllocError> {
         let mut nearest: Option<(&'n str, usize)> = None;
         let most = (written.len() / 3).max(1);
         if written.len() > LONGEST {
-            return Ok(Near(None));
+            return Ok(NearName(None));
         }
         for name in names {
             if name.len().abs_diff(written.len()) > most {
@@ -28,11 +28,11 @@ impl<'n> Near<'n> {
                 nearest = Some((*name, edits));
             }
         }
-        Ok(Near(nearest.map(|(name, _): (&str, usize)| name)))
+        Ok(NearName(nearest.map(|(name, _): (&str, usize)| name)))
     }
 }
 
-impl fmt::Display for Near<'_> {
+impl fmt::Display for NearName<'_> {
     fn fmt<W: fmt::Write>(&self, f: &mut fmt::Formatter<W>) -> fmt::Result {
         match self.0 {
             Some(name) => write!(f, ": did you mean `{name}`?"),

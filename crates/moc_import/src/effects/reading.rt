@@ -9,9 +9,9 @@
 //! ```
 
 use crate::classes::{MocArgument, MocMethod};
-use crate::effects::fault::LineFault;
-use crate::effects::line::{Effect, EffectLine, Line, Verb};
-use crate::effects::scanner::{Scanner, first_word};
+use crate::effects::fault::EffectFault;
+use crate::effects::line::{EffectLine, EffectVerb, NumberedLine, SlotEffect};
+use crate::effects::scanner::{LineScanner, first_word};
 use basic_types::is_name;
 use std::alloc::{AllocError, Global};
 
@@ -19,18 +19,18 @@ use std::alloc::{AllocError, Global};
 const MOST_EFFECTS: usize = 4096;
 
 /// The lines of a text that have more than a comment.
-pub fn lines<'e>(alloc: Global, text: &'e str) -> Result<Vec<Line<'e>>, AllocError> {
+pub fn lines<'e>(alloc: Global, text: &'e str) -> Result<Vec<NumberedLine<'e>>, AllocError> {
     let mut lines = Vec::new(alloc);
     for (place, line) in text.lines().enumerate() {
-        let mut scanner = Scanner::of(line);
+        let mut scanner = LineScanner::of(line);
         if scanner.is_done() {
             continue;
         }
         let read = match line_of(alloc, &mut scanner) {
-            Err(LineFault::Memory(fault)) => return Err(fault),
+            Err(EffectFault::Memory(fault)) => return Err(fault),
             read => read,
         };
-        lines.push(Line {
+        lines.push(NumberedLine {
             number: place.saturating_add(1),
             read,
         })?;
@@ -39,12 +39,15 @@ pub fn lines<'e>(alloc: Global, text: &'e str) -> Result<Vec<Line<'e>>, AllocErr
 }
 
 /// What a line says.
-fn line_of<'e>(alloc: Global, scanner: &mut Scanner<'e>) -> Result<EffectLine<'e>, LineFault<'e>> {
+fn line_of<'e>(
+    alloc: Global,
+    scanner: &mut LineScanner<'e>,
+) -> Result<EffectLine<'e>, EffectFault<'e>> {
     let Some((class, name)) = scanner.word().rsplit_once('.') else {
-        return Err(LineFault::NoSlot);
+        return Err(EffectFault::NoSlot);
     };
     let Some(types) = types(alloc, scanner)? else {
-        return Err(LineFault::NoSlot);
+        return Err(EffectFault::NoSlot);
     };
     let slot = moc_method(alloc, name, types.as_slice())?;
     let mut effects = Vec::new(alloc);
@@ -65,16 +68,16 @@ fn line_of<'e>(alloc: Global, scanner: &mut Scanner<'e>) -> Result<EffectLine<'e
 /// Takes a verb, and adds what follows it.
 fn push_effects<'e>(
     alloc: Global,
-    scanner: &mut Scanner<'e>,
-    effects: &mut Vec<Effect<'e>>,
-) -> Result<(), LineFault<'e>> {
+    scanner: &mut LineScanner<'e>,
+    effects: &mut Vec<SlotEffect<'e>>,
+) -> Result<(), EffectFault<'e>> {
     let rest = scanner.rest();
-    let Some(verb) = Verb::of(scanner.word()) else {
-        return Err(LineFault::NoVerb(first_word(rest)));
+    let Some(verb) = EffectVerb::of(scanner.word()) else {
+        return Err(EffectFault::NoVerb(first_word(rest)));
     };
     for _ in 0..scanner.len().saturating_add(1) {
         if effects.len() >= MOST_EFFECTS {
-            return Err(LineFault::TooMuch);
+            return Err(EffectFault::TooMuch);
         }
         let path = path(scanner)?;
         let types = if verb.names_method() {
@@ -82,7 +85,7 @@ fn push_effects<'e>(
         } else {
             None
         };
-        effects.push(Effect { verb, path, types })?;
+        effects.push(SlotEffect { verb, path, types })?;
         if !scanner.eat(',') {
             break;
         }
@@ -91,9 +94,9 @@ fn push_effects<'e>(
 }
 
 /// Takes a path; a `this.` in front is left out of it.
-fn path<'e>(scanner: &mut Scanner<'e>) -> Result<&'e str, LineFault<'e>> {
+fn path<'e>(scanner: &mut LineScanner<'e>) -> Result<&'e str, EffectFault<'e>> {
     if scanner.is_done() {
-        return Err(LineFault::NoName);
+        return Err(EffectFault::NoName);
     }
     let rest = scanner.rest();
     let word = scanner.word();
@@ -101,20 +104,20 @@ fn path<'e>(scanner: &mut Scanner<'e>) -> Result<&'e str, LineFault<'e>> {
     if path.split('.').all(|name: &str| is_name(name.as_bytes())) {
         Ok(path)
     } else {
-        Err(LineFault::NoPath(first_word(rest)))
+        Err(EffectFault::NoPath(first_word(rest)))
     }
 }
 
 /// Takes the types in brackets, if brackets stand next.
 fn types<'e>(
     alloc: Global,
-    scanner: &mut Scanner<'e>,
-) -> Result<Option<Vec<&'e str>>, LineFault<'e>> {
+    scanner: &mut LineScanner<'e>,
+) -> Result<Option<Vec<&'e str>>, EffectFault<'e>> {
     if !scanner.eat('(') {
         return Ok(None);
     }
     let Some(inside) = scanner.until(')') else {
-        return Err(LineFault::Unclosed);
+        return Err(EffectFault::Unclosed);
     };
     let mut types = Vec::new(alloc);
     if inside.trim().is_empty() {
@@ -123,7 +126,7 @@ fn types<'e>(
     for part in inside.split(',') {
         let kind = part.trim();
         if kind.is_empty() {
-            return Err(LineFault::NoType);
+            return Err(EffectFault::NoType);
         }
         types.push(kind)?;
     }

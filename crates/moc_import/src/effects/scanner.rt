@@ -2,18 +2,18 @@
 
 /// What is left of a line.
 #[derive(Drop)]
-pub struct Scanner<'e> {
+pub struct LineScanner<'e> {
     rest: &'e str,
 }
 
-impl<'e> Scanner<'e> {
+impl<'e> LineScanner<'e> {
     /// The line without its comment.
-    pub fn of(line: &'e str) -> Scanner<'e> {
+    pub fn of(line: &'e str) -> LineScanner<'e> {
         let rest = match line.split_once("//") {
             Some((rest, _)) => rest,
             None => line,
         };
-        Scanner { rest }
+        LineScanner { rest }
     }
 
     /// Whether nothing but blanks is left.

@@ -1,10 +1,10 @@
 //! Effects as statements.
 
-use crate::classes::{Parameter, Placed};
-use crate::effects::body::{Statement, Value, next_value, values};
-use crate::effects::fault::LineFault;
-use crate::effects::line::{Effect, Verb, split_path};
-use crate::effects::lookup::{Lookup, MemberSort, SoughtMember};
+use crate::classes::{ImportedParameter, Placed};
+use crate::effects::body::{GivenStatement, GivenValue, next_value, values};
+use crate::effects::fault::EffectFault;
+use crate::effects::line::{EffectVerb, SlotEffect, split_path};
+use crate::effects::lookup::{Lookup, SoughtMember, SoughtSort};
 use std::alloc::Global;
 
 /// The statement that an effect is in the body of this slot.
@@ -12,46 +12,46 @@ pub fn statement<'i, 'e: 'i>(
     alloc: Global,
     lookup: Lookup<'i, '_>,
     slot: Placed<'_, '_>,
-    effect: &'e Effect<'_>,
-) -> Result<Statement<'e>, LineFault<'i>> {
+    effect: &'e SlotEffect<'_>,
+) -> Result<GivenStatement<'e>, EffectFault<'i>> {
     let path: &'e str = effect.path;
     let parameters = slot.method.parameters.as_slice();
     let (front, name) = split_path(path);
     match effect.verb {
-        Verb::Emits => {
+        EffectVerb::Emits => {
             if path != name {
-                return Err(LineFault::OtherObject(path));
+                return Err(EffectFault::OtherObject(path));
             }
             let sought = SoughtMember {
                 class: Some(slot.class),
-                sort: MemberSort::Signal,
+                sort: SoughtSort::Signal,
                 name,
             };
-            Ok(Statement::Emit {
+            Ok(GivenStatement::Emit {
                 signal: path,
                 values: arguments(alloc, lookup, sought, effect, parameters)?,
             })
         }
-        Verb::Sets => {
+        EffectVerb::Sets => {
             let class = lookup.object(alloc, slot.class, front)?;
             let kind = lookup.property(alloc, class, name)?;
             let value = next_value(lookup.catalogue(), kind, parameters, &[]);
-            Ok(Statement::Set { path, value })
+            Ok(GivenStatement::Set { path, value })
         }
-        Verb::Calls => {
+        EffectVerb::Calls => {
             let sought = SoughtMember {
                 class: lookup.object(alloc, slot.class, front)?,
-                sort: MemberSort::Slot,
+                sort: SoughtSort::Slot,
                 name,
             };
-            Ok(Statement::Call {
+            Ok(GivenStatement::Call {
                 path,
                 values: arguments(alloc, lookup, sought, effect, parameters)?,
             })
         }
-        Verb::Deletes => {
+        EffectVerb::Deletes => {
             lookup.object(alloc, slot.class, path)?;
-            Ok(Statement::Delete { path })
+            Ok(GivenStatement::Delete { path })
         }
     }
 }
@@ -61,9 +61,9 @@ fn arguments<'i>(
     alloc: Global,
     lookup: Lookup<'i, '_>,
     sought: SoughtMember<'i>,
-    effect: &Effect<'_>,
-    parameters: &[Parameter<'_>],
-) -> Result<Vec<Value>, LineFault<'i>> {
+    effect: &SlotEffect<'_>,
+    parameters: &[ImportedParameter<'_>],
+) -> Result<Vec<GivenValue>, EffectFault<'i>> {
     let types = match &effect.types {
         Some(types) => Some(types.as_slice()),
         None => None,
