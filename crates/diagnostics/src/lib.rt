@@ -21,4 +21,4 @@ pub use message::{Severity, TextKind, push_flaw};
 pub use other_text::{OtherPlace, OtherPlaces, PlacesFault, read_places};
 pub use place::TextPlace;
 pub use printed::{Printed, push_printed, push_printed_lines};
-pub use spans::{Span, text_spans};
+pub use spans::{PARTING, Span, text_spans};

@@ -6,7 +6,7 @@ use std::alloc::{AllocError, Global};
 use texts::split_line;
 
 /// The line that parts texts.
-const PARTING: &[u8] = b"%%";
+pub const PARTING: &[u8] = b"%%";
 
 /// From where to where a text goes.
 #[derive(Clone, Copy, Debug, PartialEq, Eq)]

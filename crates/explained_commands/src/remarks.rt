@@ -4,13 +4,11 @@ ghost use Rattle.std.specs.Prelude.{◌↔◌, ◌≡◌, ◌∷◌, [], codes, 
 ghost use Rattle.explained_commands.specs.Judged.{IsUnjudged};
 
 use crate::escapes::push_escapes;
+use diagnostics::PARTING;
 use program_flaws::{Ranked, Yes, told_beside};
 use std::alloc::{AllocError, Global};
 use texts::split_at_line;
 use trace_tool::{Outcome, ProgramOutcome};
-
-/// The line that parts the texts of an input.
-pub const PARTING: &[u8] = b"%%";
 
 /// Whether a command whose words these are judges a program where it succeeds: `meta` doesn't, and neither does
 /// `run --unchecked`.

@@ -1,9 +1,7 @@
 //! The texts of an input, which lines `%%` part.
 
+use diagnostics::PARTING;
 use texts::split_at_line;
-
-/// The line between two texts.
-const PARTING: &[u8] = b"%%";
 
 /// The first text of an input and what follows it; `None` where nothing does.
 pub fn split_text(input: &[u8]) -> Option<(&[u8], &[u8])> {

@@ -1,8 +1,7 @@
 //! What is wrong with a command line, or with the number of its texts.
 
-use crate::remarks::PARTING;
 use command_lines::{LARGEST_INPUT, UsageFault};
-use diagnostics::text_spans;
+use diagnostics::{PARTING, text_spans};
 use std::alloc::{AllocError, Global};
 use texts::{MOST_DEPTH, number, split_line};
 
