@@ -1,10 +1,9 @@
 //! The errors that a verdict has of a program which a command has loaded.
 
 use crate::certificate::gather_cause;
-use crate::program::{Located, ProgramPlaces, program_errors};
+use crate::program::{ReadText, program_errors};
 use findings::{Levels, Verdict};
 use meta_model::Meta;
-use program_flaws::{ProgramSource, declarations_of};
 use rank_check::Denied;
 use std::alloc::{AllocError, Global};
 
@@ -31,19 +30,10 @@ fn errors_by(
     levels: Levels<'_>,
 ) -> Result<Verdict, AllocError> {
     let mut found = Verdict::new(alloc, FOUND);
-    let Some(program) = declarations_of(alloc, text)? else {
+    let Some(read) = ReadText::of(alloc, text)? else {
         return Ok(found);
     };
-    let places = ProgramPlaces::of(alloc, text)?;
-    let located = Located {
-        source: ProgramSource {
-            alloc,
-            program: &program,
-            meta,
-        },
-        places: &places,
-        levels,
-    };
+    let located = read.located(alloc, meta, levels);
     program_errors(located, &mut found)?;
     if let Some((certificate, denied)) = denied {
         let said = denied.certificate();

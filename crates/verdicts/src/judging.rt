@@ -8,7 +8,7 @@ ghost use Rattle.verdicts.specs.Statuses.{HasStatus, IsRefusedAs};
 
 use crate::certificate::gather_certificate;
 use crate::judged::judged_finding;
-use crate::program::{Located, ProgramPlaces, gather_program, program_remarks};
+use crate::program::{Located, ProgramPlaces, ReadText, gather_program, program_remarks};
 use crate::refusal::{add_further, refusal_finding};
 use class_lang::{Limits, read_within};
 use effect_scan::Scan;
@@ -16,7 +16,7 @@ use findings::{Edge, Finding, FindingSeverity, LevelChange, Levels, PlacedEdge, 
 use meta_model::Meta;
 use meta_objects::FromProgram;
 use program_commands::{Outcome, Refusal, certify_outcome, check_outcome};
-use program_flaws::{ProgramSource, declarations_of};
+use program_flaws::ProgramSource;
 use std::alloc::{AllocError, Global};
 use syntax_trees::Program;
 
@@ -148,19 +148,10 @@ fn remarks_by(
     scan: &Scan,
     levels: Levels<'_>,
 ) -> Result<Vec<Finding>, AllocError> {
-    let Some(program) = declarations_of(alloc, text)? else {
+    let Some(read) = ReadText::of(alloc, text)? else {
         return Ok(Vec::new(alloc));
     };
-    let places = ProgramPlaces::of(alloc, text)?;
-    let located = Located {
-        source: ProgramSource {
-            alloc,
-            program: &program,
-            meta,
-        },
-        places: &places,
-        levels,
-    };
+    let located = read.located(alloc, meta, levels);
     program_remarks(located, scan)
 }
 

@@ -15,7 +15,7 @@ mod turns;
 mod typing_flaws;
 mod walks;
 
-pub use places::{DeclaredMember, Located, ProgramPlaces};
+pub use places::{DeclaredMember, Located, ProgramPlaces, ReadText};
 pub use program::{gather_program, program_errors, program_remarks};
 pub use sentences::MessageWithHelp;
 pub use walks::{

@@ -3,5 +3,5 @@
 mod located;
 mod places;
 
-pub use located::{DeclaredMember, Located};
+pub use located::{DeclaredMember, Located, ReadText};
 pub use places::ProgramPlaces;

@@ -5,9 +5,9 @@ use crate::program::cycles::gather_cycles;
 use crate::program::deletions::{Deletion, deletions, gather_deletions};
 use crate::program::places::Located;
 use crate::program::remarks::remarks;
-use crate::program::search::ProgramSearch;
+use crate::program::search::{ProgramGraph, ProgramSearch};
 use crate::program::typing_flaws::{gather_types, gather_wires};
-use crate::program::walks::{DirectedGraph, components};
+use crate::program::walks::DirectedGraph;
 use effect_scan::Scan;
 use findings::{Edge, Finding, Verdict};
 use std::alloc::AllocError;
@@ -18,33 +18,16 @@ pub fn gather_program(
     accepted: &[Edge],
     found: &mut Verdict,
 ) -> Result<Vec<Finding>, AllocError> {
-    let alloc = located.source.alloc;
-    let scan = Scan::of(alloc, located.source.meta)?;
-    let graph = DirectedGraph::of(alloc, &scan)?;
-    let components = components(&graph)?;
-    let search = ProgramSearch {
-        located,
-        scan: &scan,
-        graph: &graph,
-        components: components.as_slice(),
-    };
+    let graph = ProgramGraph::of(located)?;
+    let search = graph.search(located);
     let deletions = gather_errors(search, accepted, found)?;
     remarks(search, deletions.as_slice())
 }
 
 /// Adds what is wrong with the program, and nothing else.
 pub fn program_errors(located: Located<'_>, found: &mut Verdict) -> Result<(), AllocError> {
-    let alloc = located.source.alloc;
-    let scan = Scan::of(alloc, located.source.meta)?;
-    let graph = DirectedGraph::of(alloc, &scan)?;
-    let components = components(&graph)?;
-    let search = ProgramSearch {
-        located,
-        scan: &scan,
-        graph: &graph,
-        components: components.as_slice(),
-    };
-    gather_errors(search, &[], found)?;
+    let graph = ProgramGraph::of(located)?;
+    gather_errors(graph.search(located), &[], found)?;
     Ok(())
 }
 

@@ -5,8 +5,10 @@ use diagnostics::TextPlace;
 use edge_reasons::{Reason, reason_for};
 use effect_scan::{Member, Node};
 use findings::{ChainStep, Levels, Link};
-use program_flaws::{ProgramSource, node_text, push_edge};
-use std::alloc::AllocError;
+use meta_model::Meta;
+use program_flaws::{ProgramSource, declarations_of, node_text, push_edge};
+use std::alloc::{AllocError, Global};
+use syntax_trees::Program;
 
 /// A program that loads, where its parts are in its text, and how grave the rules are.
 #[derive(Clone, Copy)]
@@ -17,6 +19,37 @@ pub struct Located<'s> {
     pub places: &'s ProgramPlaces,
     /// How grave the rules are.
     pub levels: Levels<'s>,
+}
+
+/// What is read of a program's text: its declarations, and where its parts are.
+#[derive(Drop)]
+pub struct ReadText {
+    program: Program,
+    places: ProgramPlaces,
+}
+
+impl ReadText {
+    /// What is read of this text; `None` where it is no program.
+    pub fn of(alloc: Global, text: &[u8]) -> Result<Option<ReadText>, AllocError> {
+        let Some(program) = declarations_of(alloc, text)? else {
+            return Ok(None);
+        };
+        let places = ProgramPlaces::of(alloc, text)?;
+        Ok(Some(ReadText { program, places }))
+    }
+
+    /// The program, which loads as this, with the rules as grave as these levels say.
+    pub fn located<'s>(&'s self, alloc: Global, meta: &'s Meta, levels: Levels<'s>) -> Located<'s> {
+        Located {
+            source: ProgramSource {
+                alloc,
+                program: &self.program,
+                meta,
+            },
+            places: &self.places,
+            levels,
+        }
+    }
 }
 
 /// A member among those that its class declares.
