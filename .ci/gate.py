@@ -12,7 +12,7 @@ sys.dont_write_bytecode = True
 sys.path.insert(0, f"{ROOT}/bin")
 from build import checks_at_once
 
-DRIVERS = [".ci/edits_fit.py", ".ci/commits.py", ".ci/crate_list.py", ".ci/imports.py"] + [f"tests/{it}" for it in ("wrong_bodies/since.py", "build/run.py", "editors/run.py", "tools/run.py", "wrapper/run.py", "pages/run.py", "memory/sweep.py", "hostile/attack.py")] + ["cpp/tests/run.py"]
+DRIVERS = [".ci/edits_fit.py", ".ci/commits.py", ".ci/crate_list.py", ".ci/imports.py", ".ci/gate_cost.py --page"] + [f"tests/{it}" for it in ("wrong_bodies/since.py", "build/run.py", "editors/run.py", "tools/run.py", "wrapper/run.py", "pages/run.py", "memory/sweep.py", "hostile/attack.py")] + ["cpp/tests/run.py"]
 NUMBERS = re.compile(r"(\d+) passed, (\d+) failed")
 
 
@@ -43,7 +43,7 @@ def main():
     status, passed, failed = run(["rt", "ci"])
     if not failed:
         for driver in DRIVERS:
-            _, more_passed, more_failed = run([sys.executable, driver])
+            _, more_passed, more_failed = run([sys.executable, *driver.split()])
             passed, failed = passed + more_passed, failed + more_failed
     print(f"{passed} passed, {failed} failed", flush=True)
     sys.exit(status or failed > 0)
