@@ -104,7 +104,7 @@ fn meaning_of_no(number: u8) -> Option<&'static str>
     ensures { IfSome result (λ sentence. sentence.now ≢ []) }
 {
     match number {
-        70 => Some("the second signature of a wire isn't the first one's front"),
+        70 => Some("the types of a wire's second signature aren't a prefix of the first one's"),
         71 => Some("a literal, a body or a binding isn't typed"),
         72 => Some("a node of the program has no line in the certificate"),
         73 => Some(
