@@ -146,8 +146,8 @@ fn explain<M: ObjectMachine, E: Write>(
     }
 }
 
-/// What is reported of the fault that stopped a run, if one did, from what was written down since the last whole event,
-/// or else for that one.
+/// What is reported of the fault that stopped a run, if one did, from what was written down since the last whole event, and
+/// from what was for that one.
 fn report_on_fault<M: ObjectMachine>(
     alloc: Global,
     input: Option<&[u8]>,
@@ -157,9 +157,7 @@ fn report_on_fault<M: ObjectMachine>(
     let Err(fault) = ran.ended else {
         return Ok(None);
     };
-    let begun = ran.trace();
-    let trace = if begun.is_empty() { last } else { begun };
-    Ok(Some(fault_report(alloc, input, trace, fault)?))
+    Ok(Some(fault_report(alloc, input, ran.trace(), last, fault)?))
 }
 
 /// Writes a text, if there is one.

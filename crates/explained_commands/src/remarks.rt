@@ -8,7 +8,7 @@ use diagnostics::PARTING;
 use program_flaws::{Ranked, Yes, told_beside};
 use std::alloc::{AllocError, Global};
 use texts::split_at_line;
-use trace_tool::{Outcome, ProgramOutcome};
+use trace_tool::{ObjectMachine, Outcome, ProgramOutcome};
 
 /// Whether a command whose words these are judges a program where it succeeds: `meta` doesn't, and neither does
 /// `run --unchecked`.
@@ -37,7 +37,7 @@ pub fn may_run(words: &[&str]) -> bool
 /// What is reported beside the yes that the words came to on this input, if they came to one: warnings of the program,
 /// which is the first text, and where it didn't run how deep its chains are. `None` where there is nothing to tell, and
 /// where the input isn't known.
-pub fn remarks_on<M: Drop>(
+pub fn remarks_on<M: ObjectMachine>(
     alloc: Global,
     input: Option<&[u8]>,
     outcome: &Outcome<M>,
@@ -62,13 +62,13 @@ pub fn remarks_on<M: Drop>(
 }
 
 /// The yes that this is, if it is one.
-fn yes_of<M: Drop>(outcome: &Outcome<M>) -> Option<Yes<'_>> {
+fn yes_of<M: ObjectMachine>(outcome: &Outcome<M>) -> Option<Yes<'_>> {
     match outcome {
         Outcome::Program(ProgramOutcome::Certificate(certified)) => {
             Some(Yes::Certified(Ranked::of(certified.meta(), certified.ranks())))
         }
         Outcome::Program(ProgramOutcome::Valid(checked)) => Some(Yes::Valid(checked)),
-        Outcome::Ran(_) => Some(Yes::Ran),
+        Outcome::Ran(ran) => Some(Yes::Ran(ran.machine.meta())),
         _ => None,
     }
 }

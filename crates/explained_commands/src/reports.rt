@@ -9,7 +9,6 @@ mod faults;
 mod known;
 mod refusals;
 mod script;
-mod suspects;
 
 pub use asked::{EXPLAIN, is_asked};
 pub use events::{EventLine, event_line};

@@ -125,6 +125,10 @@ pub trait ObjectMachine: Drop {
         ensures settled { IsChecked Self.Natives.gives (seen self.old)
             → IsEverSettled Self.Natives.gives (seen self.old) };
 
+    /// The program that it runs.
+    fn meta(&self) -> &Meta
+        ensures { let now = seen self.now in result.now ≡ now.program };
+
     /// Whether a fault has stopped the machine. Unless one has, no turn goes on.
     fn is_stopped(&self) -> bool
         ensures value { let now = seen self.now in result ≡ now.stopped }

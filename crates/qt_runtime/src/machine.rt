@@ -114,6 +114,10 @@ impl<N: Answering + Drop> ObjectMachine for Machine<N> {
         Ok(())
     }
 
+    fn meta(&self) -> &Meta {
+        &self.interpreter.context.meta
+    }
+
     fn is_stopped(&self) -> bool {
         self.stopped
     }

@@ -3,9 +3,7 @@
 ghost use Rattle.std.specs.Prelude.{IfOk};
 ghost use Rattle.explained_commands.specs.EventLines.{FindsEvent};
 
-use crate::reports::suspects::Nature;
 use diagnostics::has_tokens;
-use script_lang::{ScriptFault, read_script};
 use std::alloc::{AllocError, Global};
 use texts::split_line;
 
@@ -40,13 +38,4 @@ pub fn event_line<'a>(
         left = rest;
     }
     Ok(None)
-}
-
-/// How the event that a line has may lead to a fault, if it has one.
-pub fn nature_in(alloc: Global, line: &[u8]) -> Result<Option<Nature>, AllocError> {
-    match read_script(alloc, line) {
-        Ok(events) => Ok(events.get(0).map(Nature::of)),
-        Err(ScriptFault::Memory) => Err(AllocError),
-        Err(ScriptFault::TooLarge | ScriptFault::BadLine(_)) => Ok(None),
-    }
 }

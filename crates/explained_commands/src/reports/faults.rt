@@ -1,9 +1,7 @@
 //! What is reported of a fault.
 
 use crate::reports::active::active;
-use crate::reports::events::nature_in;
 use crate::reports::script::Script;
-use crate::reports::suspects::{Nature, Suspects};
 use command_lines::Output;
 use std::alloc::{AllocError, Global};
 use std::str;
@@ -15,22 +13,17 @@ const SHOWN: usize = 5;
 /// The most bytes of a line that are shown.
 const MOST_OF_LINE: usize = 160;
 
-/// The last event of a trace.
-#[derive(Clone, Copy, Debug, PartialEq, Eq)]
-struct LastEvent {
-    /// Its number in the script, counted from 1; 0 where there was none.
-    number: u64,
-    /// Whether it was refused.
-    was_refused: bool,
-}
-
-/// What is reported of a fault that ended a run with this trace, behind what the fault means: the event at which it
-/// came, or the two at one of which it came where the trace doesn't tell more, with the event's line; what that event
-/// had begun; and what to do. Where the input isn't known no line is reported.
+/// What is reported of a fault that ended a run, behind what the fault means: the event at which it came, with its line; what
+/// that event had begun; and what to do. `begun` is what was written down since the last whole event, and `last` is what was
+/// for that one. Where the input isn't known no line is reported.
+///
+/// An event's first entry is written as it is taken. So a fault came in the event that `begun` begins with, or, where it is
+/// empty, as the one behind the last whole event was to be taken (docs/machine.md, "Faults").
 pub fn fault_report(
     alloc: Global,
     input: Option<&[u8]>,
-    trace: &[Entry],
+    begun: &[Entry],
+    last: &[Entry],
     fault: Fault,
 ) -> Result<String, AllocError> {
     let mut text = String::new(alloc);
@@ -38,26 +31,18 @@ pub fn fault_report(
         Some(input) => Some(Script::of(alloc, input)?),
         None => None,
     };
-    let event = last_event(trace);
-    let suspects = suspects(alloc, script, event, fault)?;
-    let last = event.number;
     let number = fault.number();
-    if suspects.last && last > 0 {
-        let sentence = format!(in alloc; "fault {number} in event {last}")?;
-        push_event(&mut text, alloc, script, last, sentence)?;
-    }
-    if suspects.next {
-        let next = last.saturating_add(1);
-        let or = if suspects.last {
-            "or, where that had ended, "
-        } else {
-            ""
-        };
-        let sentence = format!(in alloc; "{or}fault {number} as event {next} was to be taken")?;
-        push_event(&mut text, alloc, script, next, sentence)?;
-    }
-    if suspects.last {
-        push_active(&mut text, alloc, trace)?;
+    match event_of(begun) {
+        Some(event) => {
+            let sentence = format!(in alloc; "fault {number} in event {event}")?;
+            push_event(&mut text, alloc, script, event, sentence)?;
+            push_active(&mut text, alloc, begun)?;
+        }
+        None => {
+            let event = event_of(last).unwrap_or(0).saturating_add(1);
+            let sentence = format!(in alloc; "fault {number} as event {event} was to be taken")?;
+            push_event(&mut text, alloc, script, event, sentence)?;
+        }
     }
     if let Some(advice) = advice(fault) {
         writeln!(&mut text, "help: {advice}")?;
@@ -65,59 +50,11 @@ pub fn fault_report(
     Ok(text)
 }
 
-/// The last event of a trace.
-fn last_event(trace: &[Entry]) -> LastEvent {
-    let mut last = LastEvent {
-        number: 0,
-        was_refused: false,
-    };
-    for entry in trace {
-        match entry {
-            Entry::Accepted(number) => {
-                last = LastEvent {
-                    number: *number,
-                    was_refused: false,
-                }
-            }
-            Entry::Refused(number, _) => {
-                last = LastEvent {
-                    number: *number,
-                    was_refused: true,
-                }
-            }
-            Entry::At(_, _) => {}
-        }
-    }
-    last
-}
-
-/// The events at which the fault may have come.
-fn suspects(
-    alloc: Global,
-    script: Option<Script<'_>>,
-    event: LastEvent,
-    fault: Fault,
-) -> Result<Suspects, AllocError> {
-    let Some(script) = script else {
-        return Ok(Suspects {
-            last: true,
-            next: false,
-        });
-    };
-    let last = if event.was_refused {
-        None
-    } else {
-        nature_of(alloc, script, event.number)?
-    };
-    let next = nature_of(alloc, script, event.number.saturating_add(1))?;
-    Ok(Suspects::of(fault, last, next))
-}
-
-/// How the event of this number may lead to a fault, if there is one.
-fn nature_of(alloc: Global, script: Script<'_>, number: u64) -> Result<Option<Nature>, AllocError> {
-    match script.event_line(alloc, number)? {
-        Some(found) => nature_in(alloc, found.line),
-        None => Ok(None),
+/// The number in the script, counted from 1, of the event whose entries these are; `None` where there are none.
+fn event_of(entries: &[Entry]) -> Option<u64> {
+    match entries.first()? {
+        Entry::Accepted(number) | Entry::Refused(number, _) => Some(*number),
+        Entry::At(_, _) => None,
     }
 }
 

@@ -12,7 +12,6 @@ use crate::warned::ranked::Ranked;
 use crate::warned::senders::{add_lost_senders, has_deletion};
 use crate::warned::telling::Subject;
 use crate::warned::warning::Warning;
-use crate::{declarations_of, meta_of};
 use meta_model::Meta;
 use rank_check::Checked;
 use rank_make::{Ranks, Solution, Why, rank, rank_scan};
@@ -26,19 +25,19 @@ pub enum Yes<'a> {
     Certified(Ranked<'a>),
     /// The certificate that is given with this program is valid.
     Valid(&'a Checked),
-    /// The certificate that is given with it is valid, and the program ran.
-    Ran,
+    /// The certificate that is given with it is valid, and this program ran.
+    Ran(&'a Meta),
 }
 
 /// What is reported beside a yes to the program of this text: a line for each of the first warnings, and where it didn't run
 /// a line that says how many members it has, and which chain of them is the longest. `None` where there is nothing to
-/// tell. The text is read for the places of warnings, and after a run for the program, which a machine doesn't show.
+/// tell. The text is read for the places of warnings alone.
 pub fn told_beside(alloc: Global, text: &[u8], yes: Yes<'_>) -> Result<Option<String>, AllocError> {
     let mut told = String::new(alloc);
     match yes {
         Yes::Certified(ranked) => push_ranked(&mut told, alloc, text, ranked)?,
         Yes::Valid(checked) => push_checked(&mut told, alloc, text, checked)?,
-        Yes::Ran => push_run(&mut told, alloc, text)?,
+        Yes::Ran(meta) => push_run(&mut told, alloc, text, meta)?,
     }
     if told.is_empty() {
         Ok(None)
@@ -80,27 +79,16 @@ fn push_checked(
 
 /// Adds what is reported of the program of this text after a run. Its ranks tell something only where a slot destroys an
 /// object at once.
-fn push_run(told: &mut String, alloc: Global, text: &[u8]) -> Result<(), AllocError> {
-    let Some(meta) = program_of(alloc, text)? else {
-        return Ok(());
-    };
-    if !has_deletion(&meta) {
-        return push_warnings(told, alloc, text, &meta, None);
+fn push_run(told: &mut String, alloc: Global, text: &[u8], meta: &Meta) -> Result<(), AllocError> {
+    if !has_deletion(meta) {
+        return push_warnings(told, alloc, text, meta, None);
     }
-    match ranks_of(alloc, &meta)? {
+    match ranks_of(alloc, meta)? {
         Some(ranks) => {
-            let ranked = Ranked::of(&meta, &ranks);
-            push_warnings(told, alloc, text, &meta, Some(ranked))
+            let ranked = Ranked::of(meta, &ranks);
+            push_warnings(told, alloc, text, meta, Some(ranked))
         }
         None => Ok(()),
-    }
-}
-
-/// The program of this text, if it can be read and loads.
-fn program_of(alloc: Global, text: &[u8]) -> Result<Option<Meta>, AllocError> {
-    match declarations_of(alloc, text)? {
-        Some(program) => meta_of(alloc, &program),
-        None => Ok(None),
     }
 }
 
