@@ -1,12 +1,11 @@
 -- Why the certificate that is made is valid, and least.
-use Rattle.std.{proofs.Common.{◌≡◌, ◌⊎◌, inl, inr, ◌↔◌, ℕ, suc, ◌+◌, ◌<◌, ◌≤◌, Bool, true, List, [], ◌∷◌, length, slice_get, Some, refl, sym, ap, ◌∙◌, subst, arith}, specs.List.{AllZip, Contains}, proofs.lemmas.Option.{slice_get_within}}
-use Rattle.meta_model.{specs.Loaded.{Loaded}, specs.Sound.{IsSound}, proofs.OneAnswer.{one_class}, proofs.Zips.{zip_left, zip_right}}
-use Rattle.effect_scan.specs.{declared.node.Node.{Node}, Nodes.{nodes_of, IsAt}, Rows.{Edge}, Destroying.{Closure, itself, child}, Laws.{EdgesJoinNodes}, Scans.{Scanned, IsScan}}
-use Rattle.certificate_lang.specs.{declared.certificate.SetItem.{SetItem}, declared.certificate.Line.{Line}, declared.certificate.Certificate.{Certificate}}
-use Rattle.certificate_lang.specs.declared.certificate.SetItem.TheVariants as item
-use Rattle.rank_check.{specs.Names.{IsNodeNamed}, specs.Valid.{IsLineOf, StandsFor, Destroys, AreClassesThere, HasEachNode, HasNothingElse, RanksFall, SetsHold, IsBounded, IsValid, most_bound}, specs.Entries.{IsReady}, proofs.Elements.{some_inside, place_of, element_at}, proofs.Listing.{closure_low}}
+use Rattle.std.{proofs.Common.{◌≡◌, ◌⊎◌, inl, inr, ◌↔◌, ℕ, suc, ◌+◌, ◌<◌, ◌≤◌, Bool, true, List, [], ◌∷◌, length, slice_get, Some, refl, sym, ap, ◌∙◌, subst, arith}, specs.List.{AllZip}, proofs.lemmas.Option.{slice_get_within}}
+use Rattle.meta_model.specs.{Loaded.{Loaded}, Sound.{IsSound}}
+use Rattle.effect_scan.specs.{declared.node.Node.{Node}, Nodes.{nodes_of, IsAt}, Rows.{Edge}, Destroying.{Closure}, Laws.{EdgesJoinNodes}, Scans.{Scanned, IsScan}}
+use Rattle.certificate_lang.specs.{declared.certificate.Line.{Line}, declared.certificate.Certificate.{Certificate}}
+use Rattle.rank_check.{specs.Names.{IsNodeNamed}, specs.Valid.{IsLineOf, Destroys, AreClassesThere, HasEachNode, HasNothingElse, RanksFall, SetsHold, IsBounded, IsValid, most_bound}, specs.Entries.{IsReady}, proofs.Elements.{some_inside, place_of, element_at}, proofs.Listing.{closure_low}}
 use Rattle.rank_graph.specs.{Solutions.{LeadsTo}, Walks.{LeadsBy}}
-use Rattle.rank_make.{specs.Least.{IsLeast, IsClosureOf, AreInOrder, IsInOrder, IsLeastValid}, specs.Solved.{own_rows, IsSolved, NoneEnds, IsLineFor, AreLinesFor}, proofs.Placed.{one_number, one_at, one_name}, proofs.Numbers.{edge_of, edge_leads, own_has, own_is, rank_falls, leads_back}}
+use Rattle.rank_make.{specs.Least.{IsLeast, AreInOrder, IsInOrder, IsLeastValid}, specs.Solved.{own_rows, IsSolved, NoneEnds, IsLineFor, AreLinesFor}, proofs.Listed.{closure_then, listed_is, listed_there}, proofs.Placed.{one_number, one_at, one_name}, proofs.Numbers.{edge_of, edge_leads, own_has, own_is, rank_falls, leads_back}}
 
 -- two lists related element by element
 zip_from : {A B : Type 0} (R : A → B → Type 0) (xs : List A) (ys : List B) → length xs ≡ length ys → ((n : ℕ) (x : A) (y : B) → slice_get xs n ≡ Some x → slice_get ys n ≡ Some y → R x y) → AllZip R xs ys
@@ -54,70 +53,20 @@ module _ (p : Loaded) (sound : IsSound p) (join : EdgesJoinNodes p) (scan : Scan
       let end = own_is p scan is to.to d to.has in
       closure_low p (end.0).class d end.3
 
-  -- what a class of the closure of another one leads to is in the closure of that one
-  closure_then : (c d e : ℕ) → Closure p c d → Closure p d e → Closure p c e
-  closure_then c d e first (itself is) = first
-  closure_then c d e first (child closure owns) = child (closure_then c d _ first closure) owns
-
   leads_on : (n c d : ℕ) → leads n c ≡ true → Closure p c d → leads n d ≡ true
   leads_on n c d h closure =
       let to = (solved.classes n c).0 h in
       let end = own_is p scan is to.to c to.has in
-      let has = own_has p scan is to.to end.0 d end.1 end.2 (closure_then (end.0).class c d end.3 closure) in
+      let has = own_has p scan is to.to end.0 d end.1 end.2 (closure_then p (end.0).class c d end.3 closure) in
       let on : LeadsTo scan.rows (own_rows scan) n d = record { along = to.along; to = to.to; leads = to.leads; has = has } in
       (solved.classes n d).1 on
 
-  own_closure : (d : ℕ) → d < length p.classes → Closure p d d
-  own_closure d low = let class = some_inside p.classes d low in itself (record { is = class.1 })
-
-  -- an item for a class stands for the closure of that class
-  in_closure : (item : SetItem) (c d : ℕ) → IsClosureOf p item c → StandsFor p item d → Closure p c d
-  in_closure (item.Class name) c d named stands = absurd named
-  in_closure (item.Closure name) c d named stands = subst (λ (x : ℕ). Closure p x d) (one_class p sound name c stands.0 named stands.1) stands.2
-
-  stands_by : (item : SetItem) (c d : ℕ) → IsClosureOf p item c → Closure p c d → StandsFor p item d
-  stands_by (item.Class name) c d named closure = absurd named
-  stands_by (item.Closure name) c d named closure = (c, named, closure)
-
-  stands_itself : (item : SetItem) (c : ℕ) → IsClosureOf p item c → StandsFor p item c
-  stands_itself (item.Class name) c named = absurd named
-  stands_itself (item.Closure name) c named = (c, named, itself named.is)
-
   module _ (n : ℕ) (x : Node) (line : Line) (for : IsLineFor p rank leads n x line) where
-    -- the item of a class that is written stands for what is in its closure
-    listed_by : (c d : ℕ) → Contains for.destroys.classes c → Closure p c d → Destroys p line d
-    listed_by c d held closure =
-        let items = for.destroys in
-        let at = place_of items.classes c held in
-        let pair = zip_right (IsClosureOf p) line.destroys items.classes items.closures at.0 c at.1 in
-        record { item = pair.0; listed = element_at line.destroys at.0 pair.0 pair.1; stands_for = stands_by pair.0 c d pair.2 closure }
-
     set_is : (d : ℕ) → Destroys p line d ↔ (leads n d ≡ true)
-    set_is d = (there, back)
-      where
-        there : Destroys p line d → leads n d ≡ true
-        there listed =
-            let items = for.destroys in
-            let at = place_of line.destroys listed.item listed.listed in
-            let pair = zip_left (IsClosureOf p) line.destroys items.classes items.closures at.0 listed.item at.1 in
-            let closure = in_closure listed.item pair.0 d pair.2 listed.stands_for in
-            let written = items.written.each pair.0 (element_at items.classes at.0 pair.0 pair.1) in
-            leads_on n pair.0 d (written.0).1 closure
-
-        back : leads n d ≡ true → Destroys p line d
-        back h =
-            let low = class_low n d h in
-            elim (for.destroys.written.all d (low, h)) [
-              | inl held ↦ listed_by d d held (own_closure d low)
-              | inr implied ↦ listed_by implied.before d implied.among implied.closure
-            ]
+    set_is d = listed_is p sound (λ e. leads n e ≡ true) (class_low n) (leads_on n) line.destroys for.destroys d
 
     items_there : AreClassesThere p line.destroys
-    items_there item listed =
-        let items = for.destroys in
-        let at = place_of line.destroys item listed in
-        let pair = zip_left (IsClosureOf p) line.destroys items.classes items.closures at.0 item at.1 in
-        (pair.0, stands_itself item pair.0 pair.2)
+    items_there = listed_there p sound (λ e. leads n e ≡ true) (class_low n) (leads_on n) line.destroys for.destroys
 
     in_order : AreInOrder p line.destroys
     in_order = record {

@@ -62,7 +62,7 @@ pub fn line_of(
 
 /// The items of the set of the node of this number: in the order of classes, `~E` for each class E that it leads to and
 /// that isn't in the closure of one written before it. Its error is that memory was refused.
-fn set_items(
+pub fn set_items(
     alloc: Global,
     meta: &Meta,
     scan: &Scan,
