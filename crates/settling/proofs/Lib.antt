@@ -6,10 +6,10 @@ mod Levels
 mod Following
 mod Lining
 mod Entering
-mod Ordering
+pub mod Ordering
 mod Fitting
 mod Tallying
 mod OfNodes
 mod RoundsOfNodes
 mod Assembling
-mod Passing
+pub mod Passing

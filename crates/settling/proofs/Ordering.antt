@@ -6,7 +6,7 @@ use Rattle.effect_scan.specs.declared.node.Node.{Node}
 use Rattle.effect_scan.specs.declared.node.Member.TheVariants.{Property}
 use Rattle.effect_scan.specs.declared.numbering.Shape.{Shape}
 use Rattle.effect_scan.specs.Numbering.{IsPlaceIn}
-use Rattle.effect_scan.specs.Nodes.{node, shape_of, class_nodes, nodes_from}
+use Rattle.effect_scan.specs.Nodes.{node, shape_of, class_nodes, nodes_from, nodes_of, IsAt}
 use Rattle.effect_scan.proofs.Numbered.{get_either, StandsIn, stands_only, stands_among, listed}
 use Rattle.settling.specs.declared.certificate.SettlingCertificate.{SettlingCertificate}
 use Rattle.settling.specs.declared.standings.Standing.{Standing}
@@ -64,11 +64,15 @@ property_once shapes n m c q at_n at_m =
     let place = ap (λ (s : Shape). length (nodes_from 0 (take c shapes)) + (listed s + q)) same in
     one.2 ∙ place ∙ sym two.2
 
-pub in_order : (p : Loaded) (certificate : SettlingCertificate) (standings : List Standing) → AreStandings p certificate standings → AreInOrder standings
-in_order p certificate standings are = record {
-  rises = λ n m s t at_n at_m low. classes_rise 0 (map shape_of p.classes) n m s.node t.node (are.each n s at_n).at (are.each m t at_m).at low;
+-- each stands at the number of its node
+pub order_of : (p : Loaded) (standings : List Standing) → ((n : ℕ) (s : Standing) → slice_get standings n ≡ Some s → IsAt (nodes_of p) s.node n) → AreInOrder standings
+order_of p standings each = record {
+  rises = λ n m s t at_n at_m low. classes_rise 0 (map shape_of p.classes) n m s.node t.node (each n s at_n) (each m t at_m) low;
   once = λ n m c q s t at_n at_m is_n is_m.
       property_once (map shape_of p.classes) n m c q
-      (subst (λ (x : Node). slice_get (nodes_from 0 (map shape_of p.classes)) n ≡ Some x) is_n (are.each n s at_n).at)
-      (subst (λ (x : Node). slice_get (nodes_from 0 (map shape_of p.classes)) m ≡ Some x) is_m (are.each m t at_m).at);
+      (subst (λ (x : Node). slice_get (nodes_from 0 (map shape_of p.classes)) n ≡ Some x) is_n (each n s at_n))
+      (subst (λ (x : Node). slice_get (nodes_from 0 (map shape_of p.classes)) m ≡ Some x) is_m (each m t at_m));
 }
+
+pub in_order : (p : Loaded) (certificate : SettlingCertificate) (standings : List Standing) → AreStandings p certificate standings → AreInOrder standings
+in_order p certificate standings are = order_of p standings (λ n s at. (are.each n s at).at)

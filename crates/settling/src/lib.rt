@@ -27,3 +27,5 @@ pub use edges::hand_on;
 pub use judging::judge;
 pub use laws::{each_has_alike, nothing_follows, others_stay, sets_settle, stacks_are_shallow};
 pub use nodes::carries;
+pub use spans::{Span, spans_of};
+pub use standings::Standing;

@@ -10,7 +10,7 @@ ghost use Rattle.settling.specs.code.Spans.{cost, IsWithin, StepsFall, HaveRound
 
 use crate::certificate::{SettlingCertificate, SettlingLine};
 use crate::nodes::carries;
-use crate::spans::{Span, spans};
+use crate::spans::{Span, spans_of};
 use crate::standings::Standing;
 use effect_scan::{Scan, edges_join_nodes};
 use meta_model::Meta;
@@ -55,7 +55,7 @@ pub fn sets_rest(
 {
     // All edges are between nodes, so they are all looked at.
     edges_join_nodes(meta);
-    let made = spans(alloc, certificate.sets.as_slice(), standings)?;
+    let made = spans_of(alloc, certificate.sets.as_slice(), standings)?;
     let spans = made.as_slice();
     if !have_rounds(spans) {
         return Ok(false);

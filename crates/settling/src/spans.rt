@@ -80,7 +80,7 @@ impl Span {
 }
 
 /// For each set what its nodes have in common. Its error is that memory was refused.
-pub fn spans(
+pub fn spans_of(
     alloc: Global,
     sets: &[SettlingSet],
     standings: &[Standing],

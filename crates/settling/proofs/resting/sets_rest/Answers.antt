@@ -9,15 +9,15 @@ use Rattle.settling.proofs.RoundsOfNodes.{rounds_of_nodes, rounds_some, members_
 use Rattle.settling.proofs.Passing.{match_also}
 use Rattle.settling.proofs.resting.sets_rest.Goals as goal
 
-pub spans-requires-clause-inside : goal.spans-requires-clause-inside
-spans-requires-clause-inside c = λ n k s at of.
+pub spans_of-requires-clause-inside : goal.spans_of-requires-clause-inside
+spans_of-requires-clause-inside c = λ n k s at of.
     let is = ((c.requires.standings.each n s at).set k).0 of in
     let low = slice_get_within c.args.certificate.now.sets k is.set is.stands in
     let count = ap (λ (ss : List SettlingSet). length ss) c.as_slice.ensures in
     omega (arith, low, count)
 
-pub spans-requires-clause-order : goal.spans-requires-clause-order
-spans-requires-clause-order c = in_order c.args.meta.now c.args.certificate.now c.args.standings.now c.requires.standings
+pub spans_of-requires-clause-order : goal.spans_of-requires-clause-order
+spans_of-requires-clause-order c = in_order c.args.meta.now c.args.certificate.now c.args.standings.now c.requires.standings
 
 pub returns-then-not-have_rounds : goal.returns-then-not-have_rounds
 returns-then-not-have_rounds c = λ all.

@@ -1,7 +1,7 @@
 use Rattle.std.proofs.Common.{arith}
 use Rattle.std.proofs.lemmas.Option.{slice_get-get_or}
 use Rattle.settling.proofs.Tallying.{tallies_begun, tallies_more, tallies_all, counts_low}
-use Rattle.settling.proofs.spans.spans.Goals as goal
+use Rattle.settling.proofs.spans.spans_of.Goals as goal
 
 pub loop-standing-init : goal.loop-standing-init
 loop-standing-init c = tallies_begun c.args.sets.now c.args.standings.now _ c.in_ok-spans.ensures
