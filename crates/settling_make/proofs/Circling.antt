@@ -43,7 +43,7 @@ module _ (p : Loaded) (scan : Scanned) (is : IsScan p scan) where
         record { leads = edge_between a b x y edge at_x at_y; along = walk.0; back = walk.1 }
 
     -- along walks the number doesn't rise
-    number_falls : (a : ℕ) (ws : List ℕ) (b : ℕ) → LeadsBy (Edge scan.rows) a ws b → number_of found.numbers b ≤ number_of found.numbers a
+    pub number_falls : (a : ℕ) (ws : List ℕ) (b : ℕ) → LeadsBy (Edge scan.rows) a ws b → number_of found.numbers b ≤ number_of found.numbers a
     number_falls a [] b leads = let same = ap (number_of found.numbers) leads in omega arith
     number_falls a (w ∷ ws) b leads = let rest = number_falls w ws b leads.1 in let first = are.falls a w leads.0 in omega arith
 

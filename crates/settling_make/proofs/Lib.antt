@@ -1,3 +1,4 @@
+pub mod Asking
 pub mod Barred
 pub mod Circling
 pub mod Collecting
@@ -5,6 +6,7 @@ pub mod Driving
 pub mod Ending
 pub mod Flooring
 pub mod Grouping
+pub mod Placing
 pub mod Ranking
 pub mod Searching
 pub mod Setting

@@ -6,3 +6,4 @@ pub mod Collected
 pub mod Fits
 pub mod Ranking
 pub mod Sets
+pub mod Margins
