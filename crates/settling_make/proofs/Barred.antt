@@ -1,4 +1,4 @@
--- Why no settling certificate is valid where a circle doesn't settle, or where a body may destroy its own object.
+-- Why no settling certificate is valid where a circle doesn't settle or has too long a chain, or where a body may destroy its own object.
 use Rattle.std.{proofs.Common.{◌≡◌, ℕ, ◌+◌, ◌*◌, ◌<◌, ◌≤◌, inl, inr, List, [], ◌∷◌, ◌++◌, length, slice_get, Some, refl, sym, ap, ◌∙◌, subst, arith}, specs.List.{Contains}, proofs.lemmas.Bool.{cases_lt}, proofs.lemmas.Option.{same_Some}, proofs.lemmas.List.Elements.{Contains-append_left, Contains-append_right}}
 use Rattle.meta_model.specs.Loaded.{Loaded}
 use Rattle.effect_scan.specs.{declared.node.Node.{Node}, Edges.{MayLead}, Laws.{IsNode, EdgesJoinNodes}}
@@ -6,14 +6,14 @@ use Rattle.effect_scan.specs.declared.node.Member.TheVariants as member
 use Rattle.rank_check.{specs.Valid.{HasBody}, proofs.Elements.{place_of, element_at}}
 use Rattle.rank_graph.specs.Walks.{LeadsBy, ComesBack}
 use Rattle.settling.specs.{Hands.{HandOn}, Settles.{Carries, IsProperty}, declared.certificate.SettlingLine.{SettlingLine}, declared.certificate.SettlingSet.{SettlingSet}, declared.certificate.SettlingCertificate.{SettlingCertificate}, Sets.{IsMember, AreTogether}, Valid.{IsLineOf, Destroys, IsValid}}
-use Rattle.settling_make.{specs.declared.circles.Circle.{Circle}, specs.declared.circles.Circle.TheVariants.{NoValue, OtherValue, NoProperty}, specs.Circles.{NoneIsValid, LeadsRound, DoesNotSettle, LeadsToEnd}, proofs.Walks.{walk_join}}
+use Rattle.settling_make.{specs.declared.circles.Circle.{Circle}, specs.declared.circles.Circle.TheVariants.{NoValue, OtherValue, NoProperty}, specs.Circles.{NoneIsValid, LeadsRound, DoesNotSettle, IsSilentEdge, LeadsToEnd}, specs.Makes.{IsLong}, proofs.Walks.{walk_join}}
 
 no_step : (cost low high : ℕ) → 0 < cost → low + cost ≤ high → high ≤ low → ⊥
 no_step cost low high some leaves level = omega arith
 
 module _ (p : Loaded) (join : EdgesJoinNodes p) (certificate : SettlingCertificate) (valid : IsValid p certificate) where
   -- a node has one line
-  one_line : (x : Node) (a b : SettlingLine) → IsLineOf p certificate x a → IsLineOf p certificate x b → a ≡ b
+  pub one_line : (x : Node) (a b : SettlingLine) → IsLineOf p certificate x a → IsLineOf p certificate x b → a ≡ b
   one_line x a b h g =
       let i = place_of certificate.lines a h.stands in
       let j = place_of certificate.lines b g.stands in
@@ -165,6 +165,39 @@ module _ (p : Loaded) (join : EdgesJoinNodes p) (certificate : SettlingCertifica
       some x [] y leads body destruction = let same : x ≡ y = leads in let from = body.from in let e = ap (λ (n : Node). n.member) same in absurd (cc)
       some x (z ∷ zs) y leads body destruction = omega arith
 
+  -- along edges of circles into no property the rank falls
+  chain_falls : (x : Node) (zs : List Node) (y : Node) (a b : SettlingLine) → LeadsBy (IsSilentEdge p) x zs y → IsLineOf p certificate x a → IsLineOf p certificate y b → b.rank + length zs ≤ a.rank
+  chain_falls x [] y a b leads h g = rank_falls x [] y a b leads h g tt
+  chain_falls x (z ∷ zs) y a b leads h g =
+      let round = leads.0.round in
+      let line = line_after x z round.leads in
+      let rest = chain_falls z zs y line.0 b leads.1 line.1 g in
+      let low : (line.0).rank < a.rank = elim (cases_lt (line.0).rank a.rank) [
+        | inl l ↦ l
+        | inr m ↦ absurd (not_apart x z round (λ both.
+            let falls = valid.edges.falls_within x z a line.0 round.leads h line.1 both leads.0.silent in
+            omega arith))
+      ] in
+      omega arith
+
+  long_invalid : (x : Node) → IsLong p x → ⊥
+  long_invalid x long =
+      let line = valid.each_node x (starts long.0 long.1 long.2 (omega (arith, long.3))) in
+      let end = last x long.0 long.1 long.2 line.0 line.1 in
+      let low = chain_falls x long.0 long.1 line.0 end.0 long.2 line.1 end.1 in
+      let below = valid.bounded.ranks line.0 (line.1).stands in
+      let most = valid.bounded.bound in
+      let much = long.3 in
+      omega (arith, low, below, most, much)
+    where
+      starts : (zs : List Node) (y : Node) → LeadsBy (IsSilentEdge p) x zs y → 0 < length zs → IsNode p x
+      starts [] y leads some = absurd (omega arith)
+      starts (z ∷ zs) y leads some = (join x z leads.0.round.leads).0
+
+      last : (x : Node) (zs : List Node) (y : Node) → LeadsBy (IsSilentEdge p) x zs y → (a : SettlingLine) → IsLineOf p certificate x a → (b : SettlingLine) × IsLineOf p certificate y b
+      last x [] y leads a h = let same : x ≡ y = leads in (a, subst (λ (n : Node). IsLineOf p certificate n a) same h)
+      last x (z ∷ zs) y leads a h = let line = line_after x z leads.0.round.leads in last z zs y leads.1 line.0 line.1
+
   circle_invalid : (circle : Circle) → DoesNotSettle p circle → ⊥
   circle_invalid (NoValue x y) stands = value_bars x y stands.0 stands.1
   circle_invalid (OtherValue x y) stands = way_bars x y stands.0 stands.1
@@ -175,3 +208,6 @@ circle_bars p join circle stands certificate valid = circle_invalid p join certi
 
 pub end_bars : (p : Loaded) → EdgesJoinNodes p → (x : Node) → LeadsToEnd p x → NoneIsValid p
 end_bars p join x ends certificate valid = end_invalid p join certificate valid x ends
+
+pub long_bars : (p : Loaded) → EdgesJoinNodes p → (x : Node) → IsLong p x → NoneIsValid p
+long_bars p join x long certificate valid = long_invalid p join certificate valid x long

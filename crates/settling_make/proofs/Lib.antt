@@ -6,6 +6,7 @@ pub mod Driving
 pub mod Ending
 pub mod Flooring
 pub mod Grouping
+pub mod Lining
 pub mod Placing
 pub mod Ranking
 pub mod Searching

@@ -7,3 +7,5 @@ pub mod Fits
 pub mod Ranking
 pub mod Sets
 pub mod Margins
+pub mod Lines
+pub mod Makes

@@ -35,6 +35,16 @@ impl Drop for Sets {
     }
 }
 
+impl Sets {
+    /// The sets.
+    pub fn into_sets(self) -> Items<SettlingSet>
+        ensures { result ≡ self.sets }
+    {
+        let Sets { sets, places: _ } = self;
+        sets
+    }
+}
+
 /// The sets of a program with this scan, these components and heights: the components with an edge inside, each with the least round
 /// above its heights. `None` where a height isn't below the greatest bound. Takes time linear in the nodes and edges. The error is
 /// that memory was refused.
