@@ -1,5 +1,6 @@
 pub mod Asking
 pub mod Barred
+pub mod Chaining
 pub mod Circling
 pub mod Collecting
 pub mod Driving
@@ -7,6 +8,7 @@ pub mod Ending
 pub mod Flooring
 pub mod Grouping
 pub mod Lining
+pub mod Validating
 pub mod Placing
 pub mod Ranking
 pub mod Searching

@@ -1,4 +1,4 @@
-//! What settling certificates are made of: sets of nodes that all lead to one another, and what stands against them.
+//! Making a valid settling certificate of a program, or telling why none was made: its sets are nodes that all lead to one another.
 #![tactic(auto)]
 
 mod circles;
@@ -10,6 +10,7 @@ mod highest;
 mod laws;
 mod limits;
 mod lines;
+mod making;
 mod margin;
 mod margins;
 mod outer;
@@ -26,6 +27,7 @@ pub use ends::{destroyed, first_ending};
 pub use heights::heights_of;
 pub use laws::none_is_valid;
 pub use lines::lines_of;
+pub use making::make;
 pub use margin::Margin;
 pub use margins::margins_of;
 pub use ranks::ranks_of;
