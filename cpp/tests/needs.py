@@ -8,7 +8,8 @@ from pathlib import Path
 
 HERE = Path(__file__).resolve().parent
 ROOT = HERE.parent.parent
-PATIENCE = 600
+# The seconds that a command may take: a machine may be busy.
+PATIENCE = 1800
 
 
 class Missing(Exception):
@@ -26,9 +27,12 @@ def program(name: str, package: str) -> str:
 def output(command: Sequence[str], folder: Path | None = None, variables: Mapping[str, str] | None = None) -> str:
     """What a command writes on standard output; that it fails is an error with what it wrote last."""
     environment = dict(os.environ, **(variables or {}))
-    ran = subprocess.run(
-        command, cwd=folder, env=environment, capture_output=True, text=True, errors="replace", timeout=PATIENCE, check=False
-    )
+    try:
+        ran = subprocess.run(
+            command, cwd=folder, env=environment, capture_output=True, text=True, errors="replace", timeout=PATIENCE, check=False
+        )
+    except subprocess.TimeoutExpired as late:
+        raise Missing(f"`{' '.join(command)[:300]}` didn't end within {PATIENCE} seconds.") from late
     if ran.returncode != 0:
         last = (ran.stdout + ran.stderr).strip()[-3000:]
         raise Missing(f"`{' '.join(command)[:300]}` failed with status {ran.returncode}: {last}")
