@@ -82,15 +82,22 @@ def _headers_for(kinds: dict[Unit, Kind | None], folder: str, jobs: int) -> dict
     counts = Counter(kind for kind in kinds.values() if kind is not None)
     found = {kind: kept(kind, folder) for kind in counts}
     wanted = [kind for kind, count in counts.items() if found[kind] is None and count >= LEAST]
-    if wanted:
-        # In processes of their own: their memory goes with them.
-        with ProcessPoolExecutor(max(1, min(jobs, len(wanted)))) as pool:
-            try:
-                for kind, done in zip(wanted, pool.map(parse, wanted, [folder] * len(wanted))):
-                    found[kind] = kept(kind, folder) if done else None
-            except BrokenProcessPool:
-                pass
+    below = dict.fromkeys(kind.base() or kind for kind in wanted)
+    _parse_all([kind for kind in below if kept(kind, folder) is None], folder, jobs)
+    _parse_all([kind for kind in wanted if kind.base() is not None], folder, jobs)
+    found |= {kind: kept(kind, folder) for kind in wanted}
     return {unit: found[kind] if kind is not None else None for unit, kind in kinds.items()}
+
+
+def _parse_all(kinds: list[Kind], folder: str, jobs: int) -> None:
+    """Parses headers in processes of their own: their memory goes with them."""
+    if not kinds:
+        return
+    with ProcessPoolExecutor(max(1, min(jobs, len(kinds)))) as pool:
+        try:
+            list(pool.map(parse, kinds, [folder] * len(kinds)))
+        except BrokenProcessPool:
+            pass
 
 
 def _read_all(units: list[Unit], roots: list[str], jobs: int, headers: dict[Unit, Headers | None]) -> Iterator[tuple[Unit, Facts]]:

@@ -18,6 +18,9 @@ ERROR = 3
 # What the headers' own code makes of templates is made once, with them. Else each unit made all of it anew, which took two thirds of
 # its time.
 ONCE = '-fpch-instantiate-templates'
+# How a header is parsed that is kept: without what follows it, and with a mark on what it takes from headers that are parsed already.
+# libclang's module has no name for the second.
+WHOLE = cindex.TranslationUnit.PARSE_INCOMPLETE | 0x10
 # The folder of a module's headers, and the header in it that includes them all.
 MODULE = re.compile(r'Qt[A-Z]\w*$')
 
@@ -37,13 +40,19 @@ class Kind:
     flags: tuple[str, ...]
     libraries: tuple[Library, ...] = ()
 
+    def base(self) -> Kind | None:
+        """Of a kind with libraries that without: its headers are parsed first, in a process of their own, and those of the libraries
+        on top of them. Together they took 660 MB."""
+        return replace(self, libraries=()) if self.libraries else None
+
     def name(self) -> str:
         libraries = [word for it in self.libraries for word in (it.folder, it.name)]
         words = '\0'.join((*self.modules, '', *self.flags, '', *libraries, '', *ANNOTATIONS, ONCE, '', version()))
         return 'headers-' + hashlib.sha256(words.encode()).hexdigest()[:40]
 
     def text(self) -> str:
-        return ''.join(f'#include <{name}>\n' for name in (*(f'{it}/{it}' for it in self.modules), *(it.name for it in self.libraries)))
+        names = [it.name for it in self.libraries] or [f'{it}/{it}' for it in self.modules]
+        return ''.join(f'#include <{name}>\n' for name in names)
 
     def folders(self) -> list[str]:
         """The flags by which its libraries are found."""
@@ -86,25 +95,36 @@ def stamp(path: str) -> tuple[int, int]:
 
 
 def kept(kind: Kind, folder: str) -> Headers | None:
-    """The headers that were parsed before, where none of their files has changed."""
+    """The headers that were parsed before, where none of their files has changed; those of Qt alone where those of libraries don't go
+    together."""
     path = os.path.join(folder, kind.name())
     try:
         with open(path + '.files', 'rb') as file:
             stamps: list[tuple[str, tuple[int, int]]] = pickle.load(file)
     except (OSError, EOFError, pickle.UnpicklingError, ValueError):
         return None
-    if not os.path.exists(path + '.pch') or any(stamp(name) != known for name, known in stamps):
+    if any(stamp(name) != known for name, known in stamps):
+        return None
+    base = kind.base()
+    below = kept(base, folder) if base is not None else None
+    if base is not None and below is None:
         return None
     mark_used(path + '.files')
-    return Headers(path + '.pch', tuple(name for name, _ in stamps))
+    if not os.path.exists(path + '.pch'):
+        return below
+    names = tuple(name for name, _ in stamps)
+    return Headers(path + '.pch', names if below is None else tuple(sorted({*names, *below.files})))
 
 
 def parse(kind: Kind, folder: str) -> bool:
-    """Parses the headers of a kind, and keeps them; those of Qt alone where those of libraries don't go together. False where that can't be
-    done, and each unit reads them by itself."""
+    """Parses the headers of a kind, and keeps them: on top of those of its base, which are kept already, where it has one. Where the
+    libraries' don't go together, that is kept in mind. False where there are none, and each unit reads them by itself."""
     try:
-        path = os.path.join(folder, kind.name())
-        return _parse(kind, path) or (bool(kind.libraries) and _parse(replace(kind, libraries=()), path))
+        path, base = os.path.join(folder, kind.name()), kind.base()
+        below = kept(base, folder) if base is not None else None
+        if base is not None and below is None:
+            return False
+        return _parse(kind, path, below)
     except (OSError, cindex.TranslationUnitLoadError, cindex.TranslationUnitSaveError):
         return False
 
@@ -121,17 +141,21 @@ def write_once(path: str, text: str) -> None:
         file.write(text)
 
 
-def _parse(kind: Kind, path: str) -> bool:
+def _parse(kind: Kind, path: str, below: Headers | None) -> bool:
     write_once(path + '.h', kind.text())
-    tree = cindex.Index.create().parse(path + '.h', args=['-x', 'c++-header', *kind.flags, *kind.folders(), *ANNOTATIONS, ONCE],
-                                       options=cindex.TranslationUnit.PARSE_INCOMPLETE)
-    if any(found.severity >= ERROR for found in tree.diagnostics):
+    on = ['-include-pch', below.path] if below is not None else []
+    tree = cindex.Index.create().parse(path + '.h', args=['-x', 'c++-header', *kind.flags, *kind.folders(), *ANNOTATIONS, ONCE, *on], options=WHOLE)
+    are_well = all(found.severity < ERROR for found in tree.diagnostics)
+    if not are_well and below is None:
         return False
     beside = f'{path}.{os.getpid()}'
-    tree.save(beside)
-    names = sorted({os.path.realpath(i.include.name) for i in tree.get_includes()} | {path + '.h'})
+    names = {os.path.realpath(i.include.name) for i in tree.get_includes()} | {path + '.h'} | ({below.path} if below is not None else set())
+    if are_well:
+        tree.save(beside)
+        os.replace(beside, path + '.pch')
+    elif os.path.exists(path + '.pch'):
+        os.remove(path + '.pch')
     with open(beside + '.files', 'wb') as file_of_names:
-        pickle.dump([(name, stamp(name)) for name in names], file_of_names)
-    os.replace(beside, path + '.pch')
+        pickle.dump([(name, stamp(name)) for name in sorted(names)], file_of_names)
     os.replace(beside + '.files', path + '.files')
     return True

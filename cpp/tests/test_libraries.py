@@ -1,10 +1,11 @@
 """Headers of libraries beside Qt that many units include: which are shared, and by whom."""
+import os
 import pathlib
 
 from reading import flags
 from gammonfig_cpp.facts import read_unit
 from gammonfig_cpp.libraries import kinds_of
-from gammonfig_cpp.precompiled import LEAST, Library, kept, parse
+from gammonfig_cpp.precompiled import LEAST, Headers, Kind, Library, kept, parse
 from gammonfig_cpp.units import Unit
 
 HEADER = '#pragma once\nnamespace {name} {{ inline int value() {{ return 1; }} }}\n'
@@ -34,8 +35,22 @@ def project(folder: pathlib.Path, count: int, broken: bool = False) -> list[Unit
     for number in range(count):
         (folder / 'app' / f'u{number}.cpp').write_text(UNIT.format(number=number) + ('#include <lib/rare.hpp>\n' if number == 0 else ''))
     (folder / 'app' / 'alone.cpp').write_text('#include <QObject>\n')
-    given = (*flags('Qt6Core'), '-isystem', str(folder / 'other'), '-I' + str(folder / 'app'))
-    return [Unit(str(path), given) for path in sorted((folder / 'app').glob('*.cpp'))]
+    return [Unit(str(path), unit_flags(folder)) for path in sorted((folder / 'app').glob('*.cpp'))]
+
+
+def unit_flags(folder: pathlib.Path) -> tuple[str, ...]:
+    return (*flags('Qt6Core'), '-isystem', str(folder / 'other'), '-I' + str(folder / 'app'))
+
+
+def parsed(kind: Kind | None, folder: str) -> Headers:
+    """The headers of a kind with libraries, on top of those of Qt."""
+    base = kind.base() if kind is not None else None
+    assert kind is not None and base is not None
+    assert kept(base, folder) is not None or parse(base, folder)
+    assert parse(kind, folder)
+    headers = kept(kind, folder)
+    assert headers is not None
+    return headers
 
 
 def test_what_enough_units_include(tmp_path: pathlib.Path) -> None:
@@ -54,18 +69,32 @@ def test_what_few_units_include(tmp_path: pathlib.Path) -> None:
 def test_a_unit_says_the_same(tmp_path: pathlib.Path) -> None:
     roots = [str(tmp_path / 'app')]
     units = project(tmp_path, LEAST)
-    kind = kinds_of(units, roots)[units[-1]]
-    assert kind is not None and parse(kind, str(tmp_path))
-    headers = kept(kind, str(tmp_path))
-    assert headers is not None and any(name.endswith('lib/lib.hpp') for name in headers.files)
+    headers = parsed(kinds_of(units, roots)[units[-1]], str(tmp_path))
+    assert any(name.endswith('lib/lib.hpp') for name in headers.files) and any(name.endswith('/qobject.h') for name in headers.files)
     one, other = read_unit(units[-1], roots, {}, headers), read_unit(units[-1], roots, {})
     assert not one.errors and one.functions == other.functions
 
 
 def test_headers_that_do_not_go_together(tmp_path: pathlib.Path) -> None:
-    """Those of Qt are shared then."""
+    """Those of Qt are shared then, and the others aren't tried again until one of them changes."""
     units = project(tmp_path, LEAST, broken=True)
     kind = kinds_of(units, [str(tmp_path / 'app')])[units[-1]]
-    assert kind is not None and kind.libraries and parse(kind, str(tmp_path))
-    headers = kept(kind, str(tmp_path))
-    assert headers is not None and not any(name.endswith('lib.hpp') for name in headers.files)
+    headers = parsed(kind, str(tmp_path))
+    assert not any(name.endswith('lib.hpp') for name in headers.files)
+    assert kind is not None and headers == kept(kind.base() or kind, str(tmp_path))
+    (tmp_path / 'other/lib/lib.hpp').write_text(HEADER.format(name='lib') + '\n')
+    assert kept(kind, str(tmp_path)) is None
+    assert any(name.endswith('lib.hpp') for name in parsed(kind, str(tmp_path)).files)
+
+
+def test_headers_below_that_have_changed(tmp_path: pathlib.Path) -> None:
+    """Those of libraries stand on Qt's: where these are parsed anew, so are they."""
+    kind = kinds_of(project(tmp_path, LEAST), [str(tmp_path / 'app')])[Unit(str(tmp_path / 'app/u1.cpp'), unit_flags(tmp_path))]
+    parsed(kind, str(tmp_path))
+    assert kind is not None
+    base = kind.base()
+    assert base is not None and parse(base, str(tmp_path)) and kept(base, str(tmp_path)) is not None
+    assert kept(kind, str(tmp_path)) is None
+    os.remove(tmp_path / (base.name() + '.pch'))
+    os.remove(tmp_path / (base.name() + '.files'))
+    assert not parse(kind, str(tmp_path)), 'there is nothing to stand on'
