@@ -5,7 +5,7 @@ from .classes import OWNING
 from .comparing import Comparing
 from .conditional import Conditional
 from .context import Context
-from .libclang import FUNCTIONS, NAMES, RECORDS, VARIABLES, Cursor, K, T, bare, cindex, expressions, is_of_closure, is_pattern, strip
+from .libclang import FUNCTIONS, NAMES, RECORDS, VARIABLES, Cursor, K, T, bare, cindex, expressions, is_of_closure, is_pattern, quick, strip
 from .model import Function, Value
 
 # What Q_OBJECT declares and defines.
@@ -52,6 +52,7 @@ class Bodies:
                 self.definition(cursor)
         elif kind == K.VAR_DECL:
             self.variable(cursor)
+        quick.forget_below(cursor)
 
     def _record(self, cursor: Cursor) -> None:
         if not cursor.is_definition():

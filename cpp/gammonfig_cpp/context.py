@@ -48,6 +48,12 @@ class Context:
         self._paths: dict[str, tuple[str, bool]] = {}
         self._texts: dict[str, bytes] = {}
 
+    def close(self) -> None:
+        """Lets go of the unit: its parts hold one another, and libclang's tree would stay until Python looks for circles."""
+        for part in (self.bodies, self.calls, self.connects, self.callees, self.values, self.classes):
+            vars(part).clear()
+        vars(self).clear()
+
     # Places
 
     def path(self, name: str) -> tuple[str, bool]:

@@ -56,6 +56,7 @@ def _read(unit: Unit, roots: list[str], known: dict[str, Class], headers: Header
     for key, cls in facts.classes.items():
         if not cls.inside and cls.defined:
             known[key] = cls
+    context.close()
     facts.seconds = time.process_time() - begun
     return facts
 

@@ -24,6 +24,11 @@ class Quick:
         """Another unit has other files at these addresses."""
         self.files.clear()
 
+    @staticmethod
+    def forget_below(cursor: Cursor) -> None:
+        """What stands below a declaration that has been read needn't be kept: for a whole unit that takes as much as its tree."""
+        cursor._children = None
+
     def _kinds(self) -> None:
         def known(find: Any) -> property:
             found: dict[int, Any] = {}

@@ -1,11 +1,13 @@
 """Qt's headers that units share: a unit says the same with them and without, and one that doesn't go with them is read without."""
 import functools
+import gc
 import os
 import pathlib
 import tempfile
 
 from reading import CASES, flags
 from gammonfig_cpp.facts import read_unit
+from gammonfig_cpp.libclang import cindex
 from gammonfig_cpp.model import Facts
 from gammonfig_cpp.precompiled import Headers, Kind, kept, kind_of, parse, stamp
 from gammonfig_cpp.units import Unit
@@ -40,6 +42,17 @@ def test_a_unit_that_does_not_go_with_them(tmp_path: pathlib.Path) -> None:
     (tmp_path / 'a.cpp').write_text('#include <QObject>\nclass QLockFile : public QObject {\n    Q_OBJECT\nsignals:\n    void locked();\n};\n')
     facts = read_unit(Unit(str(tmp_path / 'a.cpp'), flags('Qt6Core')), [str(tmp_path)], {}, shared()[2])
     assert not facts.errors and [c.inside for c in facts.classes.values() if c.name == 'QLockFile'] == [True]
+
+
+def test_a_tree_goes_with_its_unit() -> None:
+    """A process that reads many units has the tree of one at a time: a tree takes hundreds of megabytes."""
+    gc.collect()
+    gc.disable()
+    try:
+        assert read_unit(CASE, [CASES], {}, shared()[2]).functions
+        assert not [it for it in gc.get_objects() if isinstance(it, cindex.TranslationUnit)]
+    finally:
+        gc.enable()
 
 
 def test_headers_that_have_changed(tmp_path: pathlib.Path) -> None:
