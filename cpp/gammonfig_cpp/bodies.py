@@ -5,6 +5,7 @@ from .classes import OWNING
 from .comparing import Comparing
 from .conditional import Conditional
 from .context import Context
+from .holders import FUNCTION_OBJECTS
 from .libclang import FUNCTIONS, NAMES, RECORDS, VARIABLES, Cursor, K, T, bare, cindex, expressions, is_of_closure, is_pattern, quick, strip
 from .model import Function, Value
 
@@ -149,6 +150,8 @@ class Bodies:
         context, member = self.context, name.referenced
         with context.hinted(name.spelling):
             cls = context.classes.of(member.type) if member is not None else ''
+            if member is not None and context.classes.holder(member.type) in FUNCTION_OBJECTS:
+                context.calls.holders.keep_in(str(member.get_usr()), given)
             if member is not None and member.kind == K.FIELD_DECL and cls and context.classes.is_value(member.type):
                 context.calls.initial(given, context.site(str(member.get_usr()), member, cls, member.spelling))
             elif member is not None:

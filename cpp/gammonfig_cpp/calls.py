@@ -297,6 +297,7 @@ class Calls:
         inside = context.is_inside(called)
         if inside:
             self._to_function(call, called, on, given).virtual = False
+            self.functors_of_own(call, called, given)
             self.note_construction(context.function_key(called), on, given)
         self._own_by_parent(call, called, on, given)
         self.special.constructed(call, context.facts.classes[cls].name, inside, on, given)

@@ -282,8 +282,12 @@ class Effects:
         return self.program.of_class(field.cls)
 
     def _find_connected(self) -> None:
-        """Parameters that hold a function which is connected: it isn't called where it is handed over."""
+        """Parameters that hold a function which is connected, or kept in a variable that is called: it isn't called where it is handed
+        over."""
         self.connected = {c.slot.key for c in self.whole.connects if c.slot.kind == 'parameter'}
+        called = {s.named.key for f in self.whole.functions.values() for s in f.statements if s.inline and s.named is not None}
+        self.connected |= {n.key for key in called if not key.startswith('P:') for n in self.whole.callables.get(key, ())
+                           if n.kind == 'parameter'}
         for _ in range(3):
             for key, named in self.whole.callables.items():
                 if key in self.connected:

@@ -11,6 +11,7 @@ PUTTING = {'append', 'push_back', 'prepend', 'insert', 'enqueue', 'push', 'empla
            'emplace', 'swap', 'set_value', 'reset', 'try_emplace', 'insert_or_assign', 'emplace_front'}
 TAKING_OUT = {'clear', 'erase', 'pop_back', 'pop_front', 'removeAt', 'remove', 'removeFirst', 'removeLast', 'removeAll', 'removeOne',
               'removeIf', 'resize', 'assign'}
+FUNCTION_OBJECTS = ('function', 'move_only_function')
 WEAK = ('QPointer', 'QWeakPointer', 'weak_ptr')
 OF_OWNERS = re.compile(r'(unique_ptr|shared_ptr|QSharedPointer|QScopedPointer)<')
 
@@ -52,14 +53,20 @@ class Holders:
         """A function object is kept in a variable."""
         target = strip(on) if on is not None else None
         named = target.referenced if target is not None and target.kind in NAMES else None
-        if named is None or named.kind not in VARIABLES or not given:
-            return
-        value = bare(given[-1])
-        if value.kind == K.LAMBDA_EXPR or (value.kind == K.CALL_EXPR and value.referenced is not None
-                                           and value.referenced.kind == K.CONSTRUCTOR):
-            key = self.context.callees.lambda_in(given[-1])
-            if key is not None:
-                self.context.facts.callables.append((str(self.context.variable_key(named)), Named('lambda', key)))
+        if named is not None and named.kind in VARIABLES and given:
+            self.keep_in(str(self.context.variable_key(named)), given[-1])
+
+    def keep_in(self, key: str, given: Cursor) -> None:
+        """A variable holds a lambda, or the function object that a parameter or another variable holds."""
+        value = bare(given)
+        constructs = value.kind == K.CALL_EXPR and value.referenced is not None and value.referenced.kind == K.CONSTRUCTOR
+        named = value.referenced if value.kind in NAMES else None
+        if value.kind == K.LAMBDA_EXPR or constructs:
+            found = self.context.callees.lambda_in(given)
+            if found is not None:
+                self.context.facts.callables.append((key, Named('lambda', found)))
+        elif named is not None and named.kind in VARIABLES and self.context.classes.holder(named.type) in FUNCTION_OBJECTS:
+            self.context.facts.callables.append((key, Named('parameter', str(self.context.variable_key(named)))))
 
     def _put(self, on: Cursor, given: list[Cursor]) -> None:
         context, target = self.context, strip(on)

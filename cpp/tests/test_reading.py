@@ -34,6 +34,12 @@ def test_a_connection_that_is_not_understood_is_listed() -> None:
     assert found.understood == 17
 
 
+def test_function_objects_that_are_handed_on_and_kept() -> None:
+    assert case('connects').body('finish') == ['call this.to_Functions.lambda_83();', 'call this.to_Functions.lambda_84();']
+    calls = ['call this.to_Keeper.keep("");', 'call this.to_Keeper.finish();']
+    assert case('connects').body('keepAll') == ['call this.to_Keeper.Keeper_made("");', *calls], 'they are called where they are kept'
+
+
 def test_a_helper_is_read_at_its_calls() -> None:
     assert case('connects').place('wire Sender plain() -> Receiver byHelper()').split('\t')[2:4] == ['connects.cpp', '65']
 

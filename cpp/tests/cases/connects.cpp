@@ -66,3 +66,21 @@ void Receiver::connectAll()
     QMetaObject::Connection never = connect(sender_, QMetaMethod(), this, QMetaMethod());
     disconnect(never);
 }
+
+// Function objects that are handed on and kept.
+class Keeper : public QObject {
+    Q_OBJECT
+public:
+    explicit Keeper(std::function<void()> first) : first_(std::move(first)) {}
+    void keep(std::function<void()> next) { next_ = std::move(next); }
+    void finish() { first_(); next_(); }
+private:
+    std::function<void()> first_, next_;
+};
+
+void keepAll(Receiver *one)
+{
+    Keeper keeper([one] { one->byMember(); });
+    keeper.keep([one] { one->held(); });
+    keeper.finish();
+}
