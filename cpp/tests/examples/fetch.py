@@ -2,7 +2,9 @@
 """Gets the sources of Qt's examples, of the version that is installed, by Debian's package sources into a folder outside the
 repository, and prepares each example as a build would: compile_commands.json, and what moc, uic and rcc write.
 
-Usage: cpp/tests/examples/fetch.py [--cache DIR] [--group NAME].. [--only PATTERN] [--build] [--list]
+Usage: cpp/tests/examples/fetch.py [--cache DIR] [--group NAME].. [--only PATTERN] [--build] [--list] [--verdict]
+
+With `--verdict` each is read by `./gammonfig read --verdict` then, which tells what is wrong in it.
 
 `DIR/examples.json` then lists each example with its sources, its build folder and its units. The last line is `N passed, M failed`:
 an example that can't be prepared failed."""
@@ -10,6 +12,7 @@ import argparse
 import concurrent.futures
 import json
 import shutil
+import subprocess
 import sys
 import tarfile
 from fnmatch import fnmatch
@@ -18,8 +21,8 @@ from pathlib import Path
 sys.path.insert(0, str(Path(__file__).resolve().parent.parent))
 sys.path.insert(0, str(Path(__file__).resolve().parent))
 from debian_sources import fetch
-from needs import Missing, cache, jobs, outside
-from prepared import Example, prepare, tools
+from needs import ROOT, Missing, cache, jobs, outside
+from prepared import Example, prepare, roots, tools
 
 GROUPS = ["corelib", "network", "widgets"]
 
@@ -70,6 +73,7 @@ def arguments() -> argparse.Namespace:
     parser.add_argument("--only", default="*", help="a pattern of names, as `network/torrent`")
     parser.add_argument("--build", action="store_true", help="build the programs too")
     parser.add_argument("--list", action="store_true", help="name the examples and do no more")
+    parser.add_argument("--verdict", action="store_true", help="read each example, and tell its verdict")
     parser.add_argument("--jobs", type=int, default=jobs(), help="examples prepared at once")
     return parser.parse_args()
 
@@ -77,6 +81,15 @@ def arguments() -> argparse.Namespace:
 def told(example: Example) -> str:
     state = f"FAILED: {example.reason}" if example.reason else f"{len(example.units)} units"
     return f"{example.name}: {state}"
+
+
+def judge(example: Example) -> None:
+    """Reads an example and tells its verdict, with the command that does so."""
+    folders = [word for root in roots(example.as_data()) for word in ("--root", str(root))]
+    words = [str(ROOT / "gammonfig"), "read", "--verdict", "-p", str(example.build), *folders]
+    print("$ " + " ".join(words), flush=True)
+    if subprocess.run(words, check=False).returncode == 2:
+        example.reason = "it can't be read"
 
 
 def run() -> int:
@@ -99,6 +112,9 @@ def run() -> int:
             examples.append(example)
     listed = [it.as_data() for it in examples]
     (folder / "examples.json").write_text(json.dumps({"sources": str(sources), "examples": listed}, indent=1) + "\n")
+    for example in examples if given.verdict else []:
+        if not example.reason:
+            judge(example)
     failed = sum(1 for it in examples if it.reason)
     print(f"{len(examples) - failed} passed, {failed} failed")
     return 1 if failed else 0
