@@ -6,11 +6,13 @@ import re
 from collections import Counter, defaultdict
 from dataclasses import replace
 
-from .precompiled import LEAST, MODULE, Kind, Library, kind_of
+from .precompiled import MODULE, Kind, Library, kind_of
 from .units import PATHS, Unit
 
 # Where compilers look by themselves.
 DEFAULT = ('/usr/local/include', '/usr/include')
+# A header that so many units include is shared: parsing it costs about what two of them save.
+OFTEN = 3
 # C's own headers, and X11's, define macros over which C++ that doesn't include them stumbles.
 SHARED = re.compile(r'[\w.+-]+/.*(?<!\.h)$')
 DIRECTIVE = re.compile(r'^[ \t]*#[ \t]*(include|ifdef|ifndef|if|endif|define)\b[ \t]*(?:<([^>\n]+)>|"([^"\n]+)")?', re.M)
@@ -94,6 +96,6 @@ def kinds_of(units: list[Unit], roots: list[str]) -> dict[Unit, Kind | None]:
         kind = kinds[unit]
         assert kind is not None
         counts[kind].update(found)
-    shared = {kind: {library for library, count in counted.items() if count >= LEAST} for kind, counted in counts.items()}
+    shared = {kind: {library for library, count in counted.items() if count >= OFTEN} for kind, counted in counts.items()}
     return {unit: replace(kind, libraries=tuple(sorted(shared[kind]))) if kind is not None and reached[unit] & shared[kind] else kind
             for unit, kind in kinds.items()}

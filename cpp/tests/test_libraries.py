@@ -4,7 +4,7 @@ import pathlib
 
 from reading import flags
 from gammonfig_cpp.facts import read_unit
-from gammonfig_cpp.libraries import kinds_of
+from gammonfig_cpp.libraries import OFTEN, kinds_of
 from gammonfig_cpp.precompiled import LEAST, Headers, Kind, Library, kept, parse
 from gammonfig_cpp.units import Unit
 
@@ -54,7 +54,7 @@ def parsed(kind: Kind | None, folder: str) -> Headers:
 
 
 def test_what_enough_units_include(tmp_path: pathlib.Path) -> None:
-    alone, *units = project(tmp_path, LEAST)
+    alone, *units = project(tmp_path, OFTEN)
     kinds = kinds_of([alone, *units], [str(tmp_path / 'app')])
     libraries = {unit: kind.libraries for unit, kind in kinds.items() if kind is not None}
     assert libraries[alone] == (), 'it includes none of them'
@@ -62,7 +62,7 @@ def test_what_enough_units_include(tmp_path: pathlib.Path) -> None:
 
 
 def test_what_few_units_include(tmp_path: pathlib.Path) -> None:
-    kinds = kinds_of(project(tmp_path, LEAST - 1), [str(tmp_path / 'app')])
+    kinds = kinds_of(project(tmp_path, OFTEN - 1), [str(tmp_path / 'app')])
     assert {kind.libraries for kind in kinds.values() if kind is not None} == {()}
 
 
