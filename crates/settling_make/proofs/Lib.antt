@@ -5,10 +5,10 @@ pub mod Circling
 pub mod Collecting
 pub mod Driving
 pub mod Ending
+pub mod Flat
 pub mod Flooring
 pub mod Grouping
 pub mod Lining
-pub mod Validating
 pub mod Placing
 pub mod Ranking
 pub mod Searching
@@ -17,4 +17,5 @@ pub mod Silent
 pub mod States
 pub mod Stepping
 pub mod Taking
+pub mod Validating
 pub mod Walks

@@ -9,3 +9,4 @@ pub mod Sets
 pub mod Margins
 pub mod Lines
 pub mod Makes
+pub mod Flat

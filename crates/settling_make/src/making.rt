@@ -5,6 +5,7 @@ ghost use Rattle.effect_scan.specs.Scans.{IsScan};
 ghost use Rattle.rank_graph.specs.Solutions.{rank_of, leads_of};
 ghost use Rattle.settling_make.specs.Circles.{AreDestroyed};
 ghost use Rattle.settling_make.specs.Components.{AreComponents};
+ghost use Rattle.settling_make.specs.Flat.{MakesFlat};
 ghost use Rattle.settling_make.specs.Makes.{Makes, ReadyOrReason, SettledOrReason, SparedOrReason, MadeOrReason, AreSettled};
 
 use crate::components::{Components, components_of};
@@ -25,15 +26,27 @@ use meta_model::Meta;
 use rank_check::{unfit_wire, untyped};
 use rank_graph::Solution;
 use rank_make::first_high;
-use settling::SettlingCertificate;
+use settling::{SettlingCertificate, each_has_alike};
 use std::alloc::Global;
 
 /// A valid settling certificate of the program, or why none was made. Its sets are the strongly connected components of the program's edges
 /// that have an edge inside, each with the least round; with these the steps are the least, and so are the ranks; the bound is
 /// just above the ranks, and the step the greatest. Its lines are those of the nodes in their order. Where the error isn't `TooHigh`,
-/// `TooSteep` or `Memory`, no settling certificate is valid; `Memory` comes only where a growth of memory was refused. Beside the scan,
-/// and what `hand_on` takes along edges within components, time is that of a certificate without steps.
+/// `TooSteep` or `Memory`, no settling certificate is valid; `Memory` comes only where a growth of memory was refused. A program with a
+/// certificate without steps has the step 0 here, and no greater bound. Beside the scan, and what `hand_on` takes along edges within
+/// components, time is that of a certificate without steps.
 pub fn make(alloc: Global, meta: &Meta) -> Result<SettlingCertificate, Why>
+    ensures makes { Makes meta.now result }
+    ensures flat { MakesFlat meta.now result }
+{
+    // All edges are between nodes, and what is valid without steps is so with the step 0.
+    edges_join_nodes(meta);
+    each_has_alike();
+    make_judged(alloc, meta)
+}
+
+/// A valid certificate, or why none was made.
+fn make_judged(alloc: Global, meta: &Meta) -> Result<SettlingCertificate, Why>
     ensures { Makes meta.now result }
 {
     judge_program(alloc, meta)?;
