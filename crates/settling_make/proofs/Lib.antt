@@ -3,11 +3,13 @@ pub mod Barred
 pub mod Chaining
 pub mod Circling
 pub mod Collecting
+pub mod Comparing
 pub mod Driving
 pub mod Ending
 pub mod Flat
 pub mod Flooring
 pub mod Grouping
+pub mod Least
 pub mod Lining
 pub mod Placing
 pub mod Ranking

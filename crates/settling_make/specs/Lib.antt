@@ -10,3 +10,4 @@ pub mod Margins
 pub mod Lines
 pub mod Makes
 pub mod Flat
+pub mod Least

@@ -6,6 +6,7 @@ ghost use Rattle.rank_graph.specs.Solutions.{rank_of, leads_of};
 ghost use Rattle.settling_make.specs.Circles.{AreDestroyed};
 ghost use Rattle.settling_make.specs.Components.{AreComponents};
 ghost use Rattle.settling_make.specs.Flat.{MakesFlat};
+ghost use Rattle.settling_make.specs.Least.{MakesLeast};
 ghost use Rattle.settling_make.specs.Makes.{Makes, ReadyOrReason, SettledOrReason, SparedOrReason, MadeOrReason, AreSettled};
 
 use crate::components::{Components, components_of};
@@ -38,9 +39,11 @@ use std::alloc::Global;
 pub fn make(alloc: Global, meta: &Meta) -> Result<SettlingCertificate, Why>
     ensures makes { Makes meta.now result }
     ensures flat { MakesFlat meta.now result }
+    ensures least { MakesLeast meta.now result }
 {
-    // All edges are between nodes, and what is valid without steps is so with the step 0.
+    // All edges are between nodes, names are those of one member, and what is valid without steps is so with the step 0.
     edges_join_nodes(meta);
+    let _classes = meta.classes();
     each_has_alike();
     make_judged(alloc, meta)
 }
