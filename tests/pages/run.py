@@ -61,7 +61,7 @@ def complete(place, count):
         count.check(holds, lambda: f"completion {shell}: {found}")
     place.write({"app one.gf": ""})
     for typed, wanted in (
-        (["ver"], ["verdict"]), (["run", "--s"], ["--steps"]), (["import", "--"], ["--help", "--only", "--lean", "--strict", "--effects"]),
+        (["ver"], ["verdict"]), (["run", "--s"], ["--strict", "--steps"]), (["import", "--"], ["--help", "--only", "--lean", "--strict", "--effects"]),
         (["verdict", "app"], ["app one.gf"]), (["help", "wit"], ["witness"]), (["completion", ""], ["bash", "zsh"]),
     ):  # fmt: skip
         line = " ".join(f"'{it}'" for it in ["gammonfig", *typed])
