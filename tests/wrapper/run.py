@@ -103,7 +103,7 @@ class Tests:
         self.check(["run", "--unchecked", "9", "app.gf", "session.gfs"], 0, TRACE)
         self.check(["run", "--unchecked", "9", "app.gf", "open.gfs"], 0, TRACE)
         self.check(["run", "--unchecked", "2", "app.gf", "session.gfs"], 4, TRACE[:48] + "fault 61\n", "fault 61")
-        self.check(["run", "--steps", "1", "app.gf", "app.gfc", "session.gfs"], 4, TRACE[:8] + "fault 64\n", " at session.gfs:2:1\n")
+        self.check(["run", "--steps", "1", "app.gf", "app.gfc", "session.gfs"], 4, TRACE[:8] + "fault 64\n", "session.gfs:2:1: error: fault 64 as event 2 was to be taken\n")
         self.check(["certify", "cycle.gf"], 3, self.program(["certify"], CYCLE), "no certificate")
 
     def places(self):
@@ -112,7 +112,7 @@ class Tests:
         self.check(["meta", "a b.gf"], 2, "refused 5\n", "a b.gf:4:20: error: ")
         words = ["run", "app.gf", "app.gfc", "wrong.gfs"]
         self.check(words, 2, "refused 16 line 3\n", "wrong.gfs:3:1: error: `cal` begins no event\n", "did you mean `call`?\n")
-        self.check(["check", "app.gf", "flat.gfc"], 3, "no 76\n", "flat.gfc:12 gives `Lamp.dim(int)` the rank 2")
+        self.check(["check", "app.gf", "flat.gfc"], 3, "no 76\n", "flat.gfc:12:1: error: line 12 of the certificate gives `Lamp.dim(int)` the rank 2, and the bound is 2")
 
     def refused(self):
         """What is no file, no text or no command line is refused before anything runs."""
