@@ -12,7 +12,7 @@ use Rattle.binding_graph.specs.declared.place.Place.{Place}
 use Rattle.binding_graph.specs.declared.binding.Binding.{Binding}
 use Rattle.binding_graph.specs.Places.{property_of}
 use Rattle.binding_graph.specs.code.Keys.{key_of, same_key}
-use Rattle.binding_graph.specs.code.Ranks.{AreRanked}
+use Rattle.binding_graph.specs.code.BindingRanks.{AreRanked}
 use Rattle.binding_graph.proofs.Keyed.{key-places, key-refl, key-same, same_place-sym}
 use Rattle.binding_graph.proofs.Ranking.{numbered-at}
 

@@ -9,7 +9,7 @@ use Rattle.binding_graph.specs.Places.{In, same_place}
 use Rattle.binding_graph.specs.Bindings.{binding_at, AreApart, Reads, read_by, touches, without, replaced}
 use Rattle.binding_graph.specs.code.Graph.{AreKeyed, AreNamed, AreTouched, IsGraph, IsIndexed, KeepReaders, KeepTouched, LosesPlace, LosesTarget, Named, NamesTouched, RankOfReader, Touched, bindings_of}
 use Rattle.binding_graph.specs.code.Orders.{bound}
-use Rattle.binding_graph.specs.code.Ranks.{AreRanked, KeepRanks, RankAll, rank_of}
+use Rattle.binding_graph.specs.code.BindingRanks.{AreRanked, KeepRanks, RankAll, rank_of}
 use Rattle.binding_graph.proofs.Apart.{apart-fewer, apart-replaced}
 use Rattle.binding_graph.proofs.Replaced.{installed-is, without-at, without-fewer}
 use Rattle.binding_graph.proofs.Numbers.{IsOneToOne}

@@ -7,7 +7,7 @@ use Rattle.binding_graph.specs.declared.binding.Binding.{Binding}
 use Rattle.binding_graph.specs.Places.{In, same_place}
 use Rattle.binding_graph.specs.Bindings.{Chain, direct, further, Loop}
 use Rattle.binding_graph.specs.code.Orders.{IsLater}
-use Rattle.binding_graph.specs.code.Ranks.{AreRanked}
+use Rattle.binding_graph.specs.code.BindingRanks.{AreRanked}
 use Rattle.binding_graph.proofs.Loops.{chain-ends}
 use Rattle.binding_graph.proofs.Places.{decide_place, decide_in, same_place-refl}
 

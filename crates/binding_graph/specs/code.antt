@@ -5,6 +5,6 @@ pub mod Lists
 pub mod Orders
 pub mod Numbering
 pub mod Turns
-pub mod Ranks
+pub mod BindingRanks
 pub mod Graph
 pub mod Touched

@@ -11,7 +11,7 @@ ghost use Rattle.binding_graph.specs.code.Graph.{IsGraph, bindings_of, reader_ke
 ghost use Rattle.binding_graph.specs.code.Keys.{key_of, same_key};
 ghost use Rattle.binding_graph.specs.code.Lists.{place_at};
 ghost use Rattle.binding_graph.specs.code.Orders.{IsAffected};
-ghost use Rattle.binding_graph.specs.code.Ranks.{rank_of};
+ghost use Rattle.binding_graph.specs.code.BindingRanks.{rank_of};
 ghost use Rattle.binding_graph.specs.code.Turns.{AddsReaders, by_turn, is_turn};
 
 use crate::graph::Graph;

@@ -5,13 +5,13 @@ ghost use Rattle.indexmap.specs.IndexSet.{contains};
 ghost use Rattle.binding_graph.specs.Bindings.{binding_at, dropped, lead_out, replaced, without, without_all};
 ghost use Rattle.binding_graph.specs.code.Graph.{AreKeyed, AreNamed, AreTouched, HasRoom, IsGraph, IsIndexed, LosesPlace, LosesReader, LosesTarget, NamesTouched, RankOfReader, Unread, bindings_of, touches_too};
 ghost use Rattle.binding_graph.specs.code.Orders.{IsLater};
-ghost use Rattle.binding_graph.specs.code.Ranks.{HasNumbers};
+ghost use Rattle.binding_graph.specs.code.BindingRanks.{HasNumbers};
 ghost use Rattle.binding_graph.specs.code.Touched.{AreTouchedAmong, LeavesTouching, ListsTouching, lead_out_touched, leads_out_at, leads_out_of};
 
 use crate::binding::Binding;
 use crate::installed::{Installed, Reader};
 use crate::place::{Place, contains};
-use crate::ranks::Ranks;
+use crate::ranks::BindingRanks;
 use crate::readers::Readers;
 use crate::touching::Touching;
 use basic_types::ObjectId;
@@ -24,7 +24,7 @@ use std::alloc::{AllocError, Global};
 pub struct Graph {
     pub installed: Installed,
     pub readers: Readers,
-    pub ranks: Ranks,
+    pub ranks: BindingRanks,
     pub touching: Touching,
 }
 
@@ -36,7 +36,7 @@ impl Graph {
     {
         let installed = Installed::new(alloc);
         let readers = Readers::new(alloc);
-        let ranks = Ranks::new(alloc);
+        let ranks = BindingRanks::new(alloc);
         let touching = Touching::new(alloc);
         Graph {
             installed,

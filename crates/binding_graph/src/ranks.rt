@@ -4,7 +4,7 @@ ghost use Rattle.std.specs.Prelude.{◌≡◌, ℕ, ◌<◌, ◌≤◌, ◌^◌,
 ghost use Rattle.indexmap.specs.IndexMap.{spare};
 ghost use Rattle.binding_graph.specs.declared.place.Place.{Place};
 ghost use Rattle.binding_graph.specs.Places.{same_place};
-ghost use Rattle.binding_graph.specs.code.Ranks.{HasNumbers, KeepRanks, Renumbers, rank_of};
+ghost use Rattle.binding_graph.specs.code.BindingRanks.{HasNumbers, KeepRanks, Renumbers, rank_of};
 
 use crate::place::Place;
 use indexmap::IndexMap;
@@ -12,18 +12,18 @@ use std::alloc::{AllocError, Global};
 
 /// The number of each bound property. A source's is below those of its readers.
 #[derive(Drop)]
-pub struct Ranks {
+pub struct BindingRanks {
     pub by_place: IndexMap<(usize, usize), usize>,
     /// The number that is given next, above all that are given.
     pub next: usize,
 }
 
-impl Ranks {
+impl BindingRanks {
     /// No numbers.
-    pub fn new(alloc: Global) -> Ranks
+    pub fn new(alloc: Global) -> BindingRanks
         ensures { (p : Place) → rank_of result p ≡ None }
     {
-        Ranks {
+        BindingRanks {
             by_place: IndexMap::new(alloc),
             next: 0,
         }

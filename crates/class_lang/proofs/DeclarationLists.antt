@@ -7,8 +7,8 @@ use Rattle.token_reading.specs.declared.fault.ParseFault.{ParseFault}
 use Rattle.texts.specs.declared.token.Token.{Token}
 use Rattle.class_lang.specs.Declarations.{DeclarationReading, a_class, a_wire, an_owns, a_site, spell_declaration, tree_of_declaration, tree_of_program, IsProgram}
 use Rattle.class_lang.specs.code.Declarations.{with_declarations, EndsDeclaration}
-use Rattle.class_lang.specs.declared.declarations.Declaration.{Declaration}
-use Rattle.class_lang.specs.declared.declarations.Declaration.TheVariants as declaration
+use Rattle.class_lang.specs.declared.declarations.ParsedDeclaration.{ParsedDeclaration}
+use Rattle.class_lang.specs.declared.declarations.ParsedDeclaration.TheVariants as declaration
 use Rattle.syntax_trees.specs.declared.program.Program.{Program}
 use Rattle.token_reading.proofs.Underway.{None, Underway}
 
@@ -22,7 +22,7 @@ no_declarations program =
     let s = append-nil program.sites in
     rw (c, w, o, s) refl
 
-pub one_declaration_more : (program : Program) (d : Declaration) (ds : List Declaration) → with_declarations program (d ∷ ds) ≡ with_declarations (with_declarations program (d ∷ [])) ds
+pub one_declaration_more : (program : Program) (d : ParsedDeclaration) (ds : List ParsedDeclaration) → with_declarations program (d ∷ ds) ≡ with_declarations (with_declarations program (d ∷ [])) ds
 one_declaration_more program (declaration.Class c) ds = simp (append_assoc, append-nil)
 one_declaration_more program (declaration.Wire w) ds = simp (append_assoc, append-nil)
 one_declaration_more program (declaration.Owns o) ds = simp (append_assoc, append-nil)
@@ -41,7 +41,7 @@ ends_next (a_wire w ∷ ds) rest at_end after e = cc
 ends_next (an_owns o ∷ ds) rest at_end after e = cc
 ends_next (a_site s ∷ ds) rest at_end after e = cc
 
-after_declaration : (ds : List DeclarationReading) (now after rest : List Token) {d : Declaration} → IsAtEnd rest → ¬ (now ≡ []) → Found spell_declaration tree_of_declaration EndsDeclaration now d after → now ≡ spell_each spell_declaration ds rest → (more : List DeclarationReading) × (after ≡ spell_each spell_declaration more rest)
+after_declaration : (ds : List DeclarationReading) (now after rest : List Token) {d : ParsedDeclaration} → IsAtEnd rest → ¬ (now ≡ []) → Found spell_declaration tree_of_declaration EndsDeclaration now d after → now ≡ spell_each spell_declaration ds rest → (more : List DeclarationReading) × (after ≡ spell_each spell_declaration more rest)
 after_declaration [] now after rest at_end some f g = absurd (some cc)
 after_declaration (r ∷ rs) now after rest at_end some f g = (rs, f.only r (spell_each spell_declaration rs rest) (ends_next rs rest at_end) g)
 
@@ -50,7 +50,7 @@ no_declaration_left [] now rest at_end some none g = some cc
 no_declaration_left (r ∷ rs) now rest at_end some none g = none r (spell_each spell_declaration rs rest) (ends_next rs rest at_end) g
 
 module _ {before : List Token} {program : Program} {now : List Token} (h : ProgramSoFar before program now) where
-  pub program_step : {d : Declaration} {after : List Token} → ¬ (now ≡ []) → Found spell_declaration tree_of_declaration EndsDeclaration now d after → ProgramSoFar before (with_declarations program (d ∷ [])) after
+  pub program_step : {d : ParsedDeclaration} {after : List Token} → ¬ (now ≡ []) → Found spell_declaration tree_of_declaration EndsDeclaration now d after → ProgramSoFar before (with_declarations program (d ∷ [])) after
   program_step {d} {after} some f = record {
     goes_on = λ ds rest g.
         let s = f.spelled in

@@ -9,8 +9,8 @@ use Rattle.texts.specs.declared.token.Token.TheVariants as token
 use Rattle.class_lang.specs.Members.{MemberReading, a_property, a_signal, a_slot, a_native, spell_member, tree_of_member}
 use Rattle.class_lang.specs.code.Members.{with_members}
 use Rattle.class_lang.specs.Declarations.{spell_members, class_of}
-use Rattle.class_lang.specs.declared.members.Member.{Member}
-use Rattle.class_lang.specs.declared.members.Member.TheVariants as member
+use Rattle.class_lang.specs.declared.members.ParsedMember.{ParsedMember}
+use Rattle.class_lang.specs.declared.members.ParsedMember.TheVariants as member
 use Rattle.syntax_trees.specs.declared.program.Class.{Class}
 use Rattle.token_reading.proofs.Underway.{None, Underway}
 
@@ -23,7 +23,7 @@ no_members class =
     let m = append-nil class.slots in
     rw (p, s, m) refl
 
-pub one_member_more : (class : Class) (m : Member) (ms : List Member) → with_members class (m ∷ ms) ≡ with_members (with_members class (m ∷ [])) ms
+pub one_member_more : (class : Class) (m : ParsedMember) (ms : List ParsedMember) → with_members class (m ∷ ms) ≡ with_members (with_members class (m ∷ [])) ms
 one_member_more class (member.Property p) ms = simp (append_assoc, append-nil)
 one_member_more class (member.Signal s) ms = simp (append_assoc, append-nil)
 one_member_more class (member.Slot s) ms = simp (append_assoc, append-nil)
@@ -33,7 +33,7 @@ one_member_more class (member.Slot s) ms = simp (append_assoc, append-nil)
 abbrev pub MembersSoFar : List ℕ → Option (List ℕ) → List Token → Class → List Token → Type 0
 MembersSoFar name base before class now = Underway spell_members (class_of name base) EndsAnywhere spell_members (λ more class. with_members class (map tree_of_member more)) before class now
 
-after_member : (ms : List MemberReading) (now after rest : List Token) {m : Member} → NotAt CloseBrace now → Found spell_member tree_of_member EndsAnywhere now m after → now ≡ spell_members ms rest → (more : List MemberReading) × (after ≡ spell_members more rest)
+after_member : (ms : List MemberReading) (now after rest : List Token) {m : ParsedMember} → NotAt CloseBrace now → Found spell_member tree_of_member EndsAnywhere now m after → now ≡ spell_members ms rest → (more : List MemberReading) × (after ≡ spell_members more rest)
 after_member [] now after rest unclosed f g = absurd (unclosed rest g)
 after_member (r ∷ rs) now after rest unclosed f g = (rs, f.only r (spell_members rs rest) tt g)
 
@@ -49,7 +49,7 @@ closed (a_slot s ∷ ms) now after rest e g = cc
 closed (a_native n ∷ ms) now after rest e g = cc
 
 module _ {name : List ℕ} {base : Option (List ℕ)} {before : List Token} {class : Class} {now : List Token} (h : MembersSoFar name base before class now) where
-  pub members_step : {m : Member} {after : List Token} → NotAt CloseBrace now → Found spell_member tree_of_member EndsAnywhere now m after → MembersSoFar name base before (with_members class (m ∷ [])) after
+  pub members_step : {m : ParsedMember} {after : List Token} → NotAt CloseBrace now → Found spell_member tree_of_member EndsAnywhere now m after → MembersSoFar name base before (with_members class (m ∷ [])) after
   members_step {m} {after} unclosed f = record {
     goes_on = λ ms rest g.
         let s = f.spelled in

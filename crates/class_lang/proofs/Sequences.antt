@@ -8,8 +8,8 @@ use Rattle.slot_lang.specs.Grammar.{spell_block, tree_of_block}
 use Rattle.texts.specs.{declared.symbol.Symbol.TheVariants.{Semicolon, Colon, Assign, OpenBrace, Arrow}, declared.token.Token.{Token}}
 use Rattle.texts.specs.declared.token.Token.TheVariants as token
 use Rattle.class_lang.{specs.Parameters.{SignalParameter, signal_parameter, spell_signal_parameter, tree_of_signal_parameter, SlotParameter, slot_parameter, spell_slot_parameter, tree_of_slot_parameter}, specs.code.Members.{EndsSignalParameter}, specs.Natives.{NativeReading, spell_native, tree_of_native}, specs.Members.{spell_initial, spell_notify, PropertyReading, property, spell_property, tree_of_property, SignalReading, signal, spell_signal, tree_of_signal, SlotReading, slot, spell_slot, tree_of_slot, MemberReading, a_property, a_signal, a_slot, a_native, spell_member, tree_of_member}, specs.Declarations.{Ending, bare, semicolon, spell_ending, spell_members, spell_base, ClassReading, class, spell_class, tree_of_class, class_of, EndReading, end, spell_end, tree_of_end, WireReading, wire, spell_wire, tree_of_wire, OwnsReading, owns, spell_owns, tree_of_owns, DeclarationReading, a_class, a_wire, an_owns, a_site, spell_declaration, tree_of_declaration}, specs.code.Declarations.{EndsDeclaration}, specs.Sites.{SiteReading, spell_site, tree_of_site}, proofs.Parts.{type_ends_at_name, type_ends_at_optional_name}}
-use Rattle.class_lang.specs.declared.declarations.Declaration.TheVariants as declaration
-use Rattle.class_lang.specs.declared.members.Member.TheVariants as member
+use Rattle.class_lang.specs.declared.declarations.ParsedDeclaration.TheVariants as declaration
+use Rattle.class_lang.specs.declared.members.ParsedMember.TheVariants as member
 use Rattle.syntax_trees.specs.declared.program.SlotWork.TheVariants as work
 
 -- ---- optional parts

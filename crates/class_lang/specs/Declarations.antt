@@ -20,8 +20,8 @@ use Rattle.basic_types.specs.declared.word.Word.TheVariants as word
 use Rattle.token_reading.specs.Optional.{spell_optional}
 use Rattle.class_lang.specs.Members.{MemberReading, spell_member, tree_of_member, properties_in, signals_in, slots_in}
 use Rattle.class_lang.specs.Sites.{SiteReading, spell_site, tree_of_site}
-use Rattle.class_lang.specs.declared.declarations.Declaration.{Declaration}
-use Rattle.class_lang.specs.declared.declarations.Declaration.TheVariants as declaration
+use Rattle.class_lang.specs.declared.declarations.ParsedDeclaration.{ParsedDeclaration}
+use Rattle.class_lang.specs.declared.declarations.ParsedDeclaration.TheVariants as declaration
 use Rattle.syntax_trees.specs.declared.program.Class.{Class}
 use Rattle.syntax_trees.specs.declared.program.Wire.{Wire}
 use Rattle.syntax_trees.specs.declared.program.Owns.{Owns}
@@ -113,7 +113,7 @@ spell_declaration (a_wire w) after = token.Word word.Wire ∷ spell_wire w after
 spell_declaration (an_owns o) after = token.Word word.Owns ∷ spell_owns o after
 spell_declaration (a_site s) after = token.Word word.Binding ∷ spell_site s after
 
-abbrev pub tree_of_declaration : DeclarationReading → Declaration
+abbrev pub tree_of_declaration : DeclarationReading → ParsedDeclaration
 tree_of_declaration (a_class c) = declaration.Class (tree_of_class c)
 tree_of_declaration (a_wire w) = declaration.Wire (tree_of_wire w)
 tree_of_declaration (an_owns o) = declaration.Owns (tree_of_owns o)
@@ -121,28 +121,28 @@ tree_of_declaration (a_site s) = declaration.Site (tree_of_site s)
 
 -- ---- the declarations of each sort, in their order
 
-abbrev pub classes_in : List Declaration → List Class
+abbrev pub classes_in : List ParsedDeclaration → List Class
 classes_in [] = []
 classes_in (declaration.Class c ∷ declarations) = c ∷ classes_in declarations
 classes_in (declaration.Wire w ∷ declarations) = classes_in declarations
 classes_in (declaration.Owns o ∷ declarations) = classes_in declarations
 classes_in (declaration.Site s ∷ declarations) = classes_in declarations
 
-abbrev pub wires_in : List Declaration → List Wire
+abbrev pub wires_in : List ParsedDeclaration → List Wire
 wires_in [] = []
 wires_in (declaration.Class c ∷ declarations) = wires_in declarations
 wires_in (declaration.Wire w ∷ declarations) = w ∷ wires_in declarations
 wires_in (declaration.Owns o ∷ declarations) = wires_in declarations
 wires_in (declaration.Site s ∷ declarations) = wires_in declarations
 
-abbrev pub owns_in : List Declaration → List Owns
+abbrev pub owns_in : List ParsedDeclaration → List Owns
 owns_in [] = []
 owns_in (declaration.Class c ∷ declarations) = owns_in declarations
 owns_in (declaration.Wire w ∷ declarations) = owns_in declarations
 owns_in (declaration.Owns o ∷ declarations) = o ∷ owns_in declarations
 owns_in (declaration.Site s ∷ declarations) = owns_in declarations
 
-abbrev pub sites_in : List Declaration → List Site
+abbrev pub sites_in : List ParsedDeclaration → List Site
 sites_in [] = []
 sites_in (declaration.Class c ∷ declarations) = sites_in declarations
 sites_in (declaration.Wire w ∷ declarations) = sites_in declarations

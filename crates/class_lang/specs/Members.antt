@@ -17,8 +17,8 @@ use Rattle.basic_types.specs.declared.word.Word.TheVariants as word
 use Rattle.token_reading.specs.Optional.{spell_optional}
 use Rattle.class_lang.specs.Natives.{NativeReading, spell_native, tree_of_native}
 use Rattle.class_lang.specs.Parameters.{SignalParameter, spell_signal_parameter, tree_of_signal_parameter, SlotParameter, spell_slot_parameter, tree_of_slot_parameter}
-use Rattle.class_lang.specs.declared.members.Member.{Member}
-use Rattle.class_lang.specs.declared.members.Member.TheVariants as member
+use Rattle.class_lang.specs.declared.members.ParsedMember.{ParsedMember}
+use Rattle.class_lang.specs.declared.members.ParsedMember.TheVariants as member
 use Rattle.syntax_trees.specs.declared.program.Property.{Property}
 use Rattle.syntax_trees.specs.declared.program.Signal.{Signal}
 use Rattle.syntax_trees.specs.declared.program.Slot.{Slot}
@@ -80,7 +80,7 @@ spell_member (a_signal s) after = token.Word word.Signal ∷ spell_signal s afte
 spell_member (a_slot s) after = token.Word word.Slot ∷ spell_slot s after
 spell_member (a_native n) after = token.Word word.Native ∷ spell_native n after
 
-abbrev pub tree_of_member : MemberReading → Member
+abbrev pub tree_of_member : MemberReading → ParsedMember
 tree_of_member (a_property p) = member.Property (tree_of_property p)
 tree_of_member (a_signal s) = member.Signal (tree_of_signal s)
 tree_of_member (a_slot s) = member.Slot (tree_of_slot s)
@@ -88,19 +88,19 @@ tree_of_member (a_native n) = member.Slot (tree_of_native n)
 
 -- ---- the members of each sort, in their order; slots and natives are one sort
 
-abbrev pub properties_in : List Member → List Property
+abbrev pub properties_in : List ParsedMember → List Property
 properties_in [] = []
 properties_in (member.Property p ∷ members) = p ∷ properties_in members
 properties_in (member.Signal s ∷ members) = properties_in members
 properties_in (member.Slot s ∷ members) = properties_in members
 
-abbrev pub signals_in : List Member → List Signal
+abbrev pub signals_in : List ParsedMember → List Signal
 signals_in [] = []
 signals_in (member.Property p ∷ members) = signals_in members
 signals_in (member.Signal s ∷ members) = s ∷ signals_in members
 signals_in (member.Slot s ∷ members) = signals_in members
 
-abbrev pub slots_in : List Member → List Slot
+abbrev pub slots_in : List ParsedMember → List Slot
 slots_in [] = []
 slots_in (member.Property p ∷ members) = slots_in members
 slots_in (member.Signal s ∷ members) = slots_in members

@@ -17,7 +17,7 @@ use token_reading::{Cursor, Landmark, ParseFault};
 
 /// A declaration of a program.
 #[derive(Drop)]
-pub enum Declaration {
+pub enum ParsedDeclaration {
     Class(Class),
     Wire(Wire),
     Owns(Owns),
@@ -25,14 +25,14 @@ pub enum Declaration {
 }
 
 /// Adds a declaration to the program, after those of its sort.
-fn add(program: &mut Program, declaration: Declaration) -> Result<(), AllocError>
+fn add(program: &mut Program, declaration: ParsedDeclaration) -> Result<(), AllocError>
     ensures { OnOk result (program.new ≡ with_declarations program.old (declaration ∷ [])) }
 {
     match declaration {
-        Declaration::Class(class) => program.classes.push(class),
-        Declaration::Wire(wire) => program.wires.push(wire),
-        Declaration::Owns(owns) => program.owns.push(owns),
-        Declaration::Site(site) => program.sites.push(site),
+        ParsedDeclaration::Class(class) => program.classes.push(class),
+        ParsedDeclaration::Wire(wire) => program.wires.push(wire),
+        ParsedDeclaration::Owns(owns) => program.owns.push(owns),
+        ParsedDeclaration::Site(site) => program.sites.push(site),
     }
 }
 
@@ -116,18 +116,18 @@ fn owns(cursor: &mut Cursor) -> Result<Owns, ParseFault>
 }
 
 /// `"class" class | "wire" wire | "owns" owns | "binding" binding`
-fn next_declaration(cursor: &mut Cursor) -> Result<Declaration, ParseFault>
+fn next_declaration(cursor: &mut Cursor) -> Result<ParsedDeclaration, ParseFault>
     ensures reads { ReadsDeclaration cursor.old result cursor.new }
     ensures shorter { OnOk result (length cursor.new < length cursor.old) }
 {
     if cursor.eat_opening(Landmark::Declaration, Word::Class) {
-        Ok(Declaration::Class(class(cursor)?))
+        Ok(ParsedDeclaration::Class(class(cursor)?))
     } else if cursor.eat_opening(Landmark::Declaration, Word::Wire) {
-        Ok(Declaration::Wire(wire(cursor)?))
+        Ok(ParsedDeclaration::Wire(wire(cursor)?))
     } else if cursor.eat_opening(Landmark::Declaration, Word::Owns) {
-        Ok(Declaration::Owns(owns(cursor)?))
+        Ok(ParsedDeclaration::Owns(owns(cursor)?))
     } else if cursor.eat_opening(Landmark::Declaration, Word::Binding) {
-        Ok(Declaration::Site(site(cursor)?))
+        Ok(ParsedDeclaration::Site(site(cursor)?))
     } else {
         Err(ParseFault::Syntax)
     }

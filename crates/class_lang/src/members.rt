@@ -16,7 +16,7 @@ use token_reading::{Cursor, Landmark, ParseFault, list};
 
 /// A member of a class.
 #[derive(Drop)]
-pub enum Member {
+pub enum ParsedMember {
     Property(Property),
     Signal(Signal),
     /// A slot or a native.
@@ -24,13 +24,13 @@ pub enum Member {
 }
 
 /// Adds a member to the class, after those of its sort.
-pub fn add_member(class: &mut Class, member: Member) -> Result<(), AllocError>
+pub fn add_member(class: &mut Class, member: ParsedMember) -> Result<(), AllocError>
     ensures { OnOk result (class.new ≡ with_members class.old (member ∷ [])) }
 {
     match member {
-        Member::Property(property) => class.properties.push(property),
-        Member::Signal(signal) => class.signals.push(signal),
-        Member::Slot(slot) => class.slots.push(slot),
+        ParsedMember::Property(property) => class.properties.push(property),
+        ParsedMember::Signal(signal) => class.signals.push(signal),
+        ParsedMember::Slot(slot) => class.slots.push(slot),
     }
 }
 
@@ -105,18 +105,18 @@ fn slot(cursor: &mut Cursor) -> Result<Slot, ParseFault>
 }
 
 /// `"property" property | "signal" signal | "slot" slot | "native" native`
-pub fn next_member(cursor: &mut Cursor) -> Result<Member, ParseFault>
+pub fn next_member(cursor: &mut Cursor) -> Result<ParsedMember, ParseFault>
     ensures reads { Reads spell_member tree_of_member EndsAnywhere cursor.old result cursor.new }
     ensures shorter { OnOk result (length cursor.new < length cursor.old) }
 {
     if cursor.eat_opening(Landmark::Member, Word::Property) {
-        Ok(Member::Property(property(cursor)?))
+        Ok(ParsedMember::Property(property(cursor)?))
     } else if cursor.eat_opening(Landmark::Member, Word::Signal) {
-        Ok(Member::Signal(signal(cursor)?))
+        Ok(ParsedMember::Signal(signal(cursor)?))
     } else if cursor.eat_opening(Landmark::Member, Word::Slot) {
-        Ok(Member::Slot(slot(cursor)?))
+        Ok(ParsedMember::Slot(slot(cursor)?))
     } else if cursor.eat_opening(Landmark::Member, Word::Native) {
-        Ok(Member::Slot(native(cursor)?))
+        Ok(ParsedMember::Slot(native(cursor)?))
     } else {
         Err(ParseFault::Syntax)
     }

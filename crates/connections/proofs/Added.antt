@@ -12,7 +12,7 @@ use Rattle.connections.specs.declared.cell.Cell.{Cell}
 use Rattle.connections.specs.declared.place.CellPlace.{CellPlace}
 use Rattle.connections.specs.Connected.{is_of, touches}
 use Rattle.connections.specs.code.Rooms.{Adds, placed_at, PushesBySignal, PushesByObject, IsKept}
-use Rattle.connections.specs.code.Places.{connection_in, live_at, live, Rising, Indexes}
+use Rattle.connections.specs.code.CellPlaces.{connection_in, live_at, live, Rising, Indexes}
 use Rattle.connections.specs.declared.lists.Lists.{Lists}
 use Rattle.connections.specs.code.Lists.{all_of, of_signal, of_object, any_connection, shown_in, ListsLead, Tied}
 use Rattle.connections.proofs.Counts.{Marked-added, many-added}

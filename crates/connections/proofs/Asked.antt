@@ -11,7 +11,7 @@ use Rattle.connections.specs.declared.place.CellPlace.{CellPlace}
 use Rattle.connections.specs.declared.lists.Lists.{Lists}
 use Rattle.connections.specs.Connected.{without, is_of, is_later, is_numbered, joins, touches, Held, Rises, not_above, removed_in}
 use Rattle.connections.specs.code.Cells.{LeadToEach}
-use Rattle.connections.specs.code.Places.{live, connection_in, Rising}
+use Rattle.connections.specs.code.CellPlaces.{live, connection_in, Rising}
 use Rattle.connections.specs.code.Lists.{all_of, of_signal, of_object, shown_in, ListsLead, AreOfEither}
 
 -- a search for two tests is a search for one in what passes the other

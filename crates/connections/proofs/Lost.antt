@@ -13,7 +13,7 @@ use Rattle.connections.specs.declared.lists.Lists.{Lists}
 use Rattle.connections.specs.declared.removing.Removal.{Removal}
 use Rattle.connections.specs.Connected.{without, is_of, touches}
 use Rattle.connections.specs.code.Cells.{fits, retired, swept, counted, Retires, Sweeps, Marked}
-use Rattle.connections.specs.code.Places.{connection_in, live_at, live, Indexes}
+use Rattle.connections.specs.code.CellPlaces.{connection_in, live_at, live, Indexes}
 use Rattle.connections.specs.code.Lists.{all_of, of_signal, of_object, any_connection, shown_in, Tied}
 use Rattle.connections.proofs.Counts.{count_same}
 use Rattle.connections.proofs.Stale.{filter-filter}

@@ -8,7 +8,7 @@ use Rattle.connections.specs.declared.connection.Connection.{Connection}
 use Rattle.connections.specs.declared.cell.Cell.{Cell}
 use Rattle.connections.specs.declared.place.CellPlace.{CellPlace}
 use Rattle.slab.specs.Slab.{Slab, get}
-use Rattle.connections.specs.code.Places.{live, connection_in, Rising, SplitsAt}
+use Rattle.connections.specs.code.CellPlaces.{live, connection_in, Rising, SplitsAt}
 
 pub Rising-at : (low last : ℕ) (places : List CellPlace) (k : ℕ) (d : CellPlace) → Rising low places last → k < length places → low < (get_or places k d).number
 Rising-at low last [] k d r h = omega arith

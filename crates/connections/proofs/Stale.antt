@@ -11,7 +11,7 @@ use Rattle.connections.specs.declared.cell.Cell.{Cell}
 use Rattle.connections.specs.declared.place.CellPlace.{CellPlace}
 use Rattle.connections.specs.declared.lists.Lists.{Lists}
 use Rattle.connections.specs.Connected.{is_of, touches}
-use Rattle.connections.specs.code.Places.{connection_in, live_at, live, Rising, Indexes, leads, Tidies}
+use Rattle.connections.specs.code.CellPlaces.{connection_in, live_at, live, Rising, Indexes, leads, Tidies}
 use Rattle.connections.specs.code.Lists.{all_of, any_connection, shown_in, ListsLead, Tied, TidiesLists}
 
 -- what passes the one test, of what passes the other

@@ -1,5 +1,5 @@
 pub mod Cells
-pub mod Places
+pub mod CellPlaces
 pub mod Groups
 pub mod Lists
 pub mod Rooms

@@ -1,7 +1,7 @@
 //! The cells that hold the connections.
 
 ghost use Rattle.std.specs.Prelude.{◌≡◌};
-ghost use Rattle.connections.specs.code.Places.{live_at, leads};
+ghost use Rattle.connections.specs.code.CellPlaces.{live_at, leads};
 
 use crate::connection::Connection;
 use crate::place::CellPlace;

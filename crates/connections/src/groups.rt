@@ -6,14 +6,14 @@ ghost use Rattle.indexmap.specs.IndexMap.{get, index_map_len};
 ghost use Rattle.connections.specs.code.Groups.{list_of, HasRoom, Pushes, KeepsRoom, KeepsOtherRoom, TidiesGroups, SameGroups, StandsAt};
 
 use crate::cell::Cell;
-use crate::place::{CellPlace, Places};
+use crate::place::{CellPlace, CellPlaces};
 use indexmap::IndexMap;
 use slab::Slab;
 use std::alloc::{AllocError, Global};
 use std::hash::Hash;
 
 /// The places under a key.
-pub fn places_of<K: Eq + Hash>(groups: &IndexMap<K, Places>, key: K) -> &[CellPlace]
+pub fn places_of<K: Eq + Hash>(groups: &IndexMap<K, CellPlaces>, key: K) -> &[CellPlace]
 where
     K: Drop,
     ensures { result.now ≡ list_of K.eq groups.now key }
@@ -26,7 +26,7 @@ where
 
 /// The same, found with no search where the key stands at the index `near`.
 pub fn places_near<K: Eq + Hash + Copy>(
-    groups: &IndexMap<K, Places>,
+    groups: &IndexMap<K, CellPlaces>,
     near: usize,
     key: K,
 ) -> &[CellPlace]
@@ -42,7 +42,7 @@ where
 
 /// The index of a key, found with no search where the key stands at the index `near`.
 fn index_near<K: Eq + Hash + Copy>(
-    groups: &IndexMap<K, Places>,
+    groups: &IndexMap<K, CellPlaces>,
     near: usize,
     key: K,
 ) -> Option<usize>
@@ -64,7 +64,7 @@ where
 /// Makes room for one more place under a key, which is looked for at the index `near` first. That is set to where it stands.
 pub fn make_room<K: Eq + Hash + Copy>(
     alloc: Global,
-    groups: &mut IndexMap<K, Places>,
+    groups: &mut IndexMap<K, CellPlaces>,
     near: &mut usize,
     key: K,
 ) -> Result<(), AllocError>
@@ -77,7 +77,7 @@ where
     match index_near(groups, *near, key) {
         None => {
             *near = groups.len();
-            let places = Places::for_one(alloc)?;
+            let places = CellPlaces::for_one(alloc)?;
             groups.insert(key, places)?;
             Ok(())
         }
@@ -91,7 +91,7 @@ where
 
 /// One more place under a key, which has room for it and is looked for at the index `near` first.
 pub fn push_place<K: Eq + Hash + Copy>(
-    groups: &mut IndexMap<K, Places>,
+    groups: &mut IndexMap<K, CellPlaces>,
     near: usize,
     key: K,
     place: CellPlace,
@@ -113,7 +113,7 @@ where
 
 /// So many more of the places under a key, which is looked for at the index `near` first, lead nowhere.
 pub fn forget_places<K: Eq + Hash + Copy>(
-    groups: &mut IndexMap<K, Places>,
+    groups: &mut IndexMap<K, CellPlaces>,
     near: usize,
     key: K,
     more: usize,
@@ -133,7 +133,7 @@ where
 }
 
 /// Drops the places that lead nowhere, and the keys that have no others.
-pub fn tidy_groups<K: Eq + Hash + Copy>(groups: &mut IndexMap<K, Places>, cells: &Slab<Cell>)
+pub fn tidy_groups<K: Eq + Hash + Copy>(groups: &mut IndexMap<K, CellPlaces>, cells: &Slab<Cell>)
 where
     K: Drop,
     ensures { TidiesGroups K.eq cells.now groups.old groups.new }
@@ -145,7 +145,11 @@ where
 }
 
 /// Drops the places under the key at an index that lead nowhere, and the key if it has no others.
-fn tidy_at<K: Eq + Hash + Copy>(groups: &mut IndexMap<K, Places>, index: usize, cells: &Slab<Cell>)
+fn tidy_at<K: Eq + Hash + Copy>(
+    groups: &mut IndexMap<K, CellPlaces>,
+    index: usize,
+    cells: &Slab<Cell>,
+)
 where
     K: Drop,
     ensures { TidiesGroups K.eq cells.now groups.old groups.new }
@@ -157,7 +161,7 @@ where
 }
 
 /// The key at an index.
-fn key_at<K: Eq + Hash + Copy>(groups: &IndexMap<K, Places>, index: usize) -> Option<K> {
+fn key_at<K: Eq + Hash + Copy>(groups: &IndexMap<K, CellPlaces>, index: usize) -> Option<K> {
     match groups.get_index(index) {
         None => None,
         Some((key, _)) => Some(*key),
@@ -165,7 +169,7 @@ fn key_at<K: Eq + Hash + Copy>(groups: &IndexMap<K, Places>, index: usize) -> Op
 }
 
 /// Drops a key, if it has no places.
-fn drop_empty<K: Eq + Hash + Copy>(groups: &mut IndexMap<K, Places>, key: K)
+fn drop_empty<K: Eq + Hash + Copy>(groups: &mut IndexMap<K, CellPlaces>, key: K)
 where
     K: Drop,
     ensures { SameGroups K.eq groups.old groups.new }

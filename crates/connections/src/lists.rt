@@ -10,7 +10,7 @@ ghost use Rattle.connections.specs.code.Rooms.{HasRooms, PushesBySignal, PushesB
 use crate::connection::Connection;
 use crate::groups::{make_room, places_near, push_place};
 use crate::hint::SignalHint;
-use crate::place::{CellPlace, Places};
+use crate::place::{CellPlace, CellPlaces};
 use basic_types::ObjectId;
 use indexmap::IndexMap;
 use std::alloc::{AllocError, Global};
@@ -21,9 +21,9 @@ use std::alloc::{AllocError, Global};
 /// answers: one at which another key stands costs a search.
 #[derive(Drop)]
 pub struct Lists {
-    pub all: Places,
-    pub by_signal: IndexMap<(usize, usize), Places>,
-    pub by_object: IndexMap<usize, Places>,
+    pub all: CellPlaces,
+    pub by_signal: IndexMap<(usize, usize), CellPlaces>,
+    pub by_object: IndexMap<usize, CellPlaces>,
     pub near_signal: usize,
     pub near_sender: usize,
     pub near_receiver: usize,
@@ -35,7 +35,7 @@ impl Lists {
         ensures { IsEmpty result }
     {
         Lists {
-            all: Places::new(alloc),
+            all: CellPlaces::new(alloc),
             by_signal: IndexMap::new(alloc),
             by_object: IndexMap::new(alloc),
             near_signal: 0,
@@ -145,7 +145,7 @@ impl Lists {
 
 /// The places at this index, if they are those of this sender and signal.
 fn places_at(
-    groups: &IndexMap<(usize, usize), Places>,
+    groups: &IndexMap<(usize, usize), CellPlaces>,
     index: usize,
     pair: (usize, usize),
 ) -> Option<&[CellPlace]>

@@ -2,7 +2,7 @@
 
 ghost use Rattle.std.specs.Prelude.{◌≡◌, ◌∷◌, [], ◌++◌, ◌<◌, ◌≤◌, OnOk, IfOk, filter};
 ghost use Rattle.std.specs.Vec.{vec_len, vec_capacity};
-ghost use Rattle.connections.specs.code.Places.{leads, Tidies};
+ghost use Rattle.connections.specs.code.CellPlaces.{leads, Tidies};
 
 use crate::cell::{Cell, leads};
 use slab::Slab;
@@ -21,29 +21,29 @@ pub struct CellPlace {
 
 /// Places in the order of their numbers, and how many of them are known to lead nowhere.
 #[derive(Drop)]
-pub struct Places {
+pub struct CellPlaces {
     pub items: Vec<CellPlace>,
     stale: usize,
 }
 
-impl Places {
+impl CellPlaces {
     /// No places.
-    pub fn new(alloc: Global) -> Places
+    pub fn new(alloc: Global) -> CellPlaces
         ensures { result.items.items ≡ [] }
     {
-        Places {
+        CellPlaces {
             items: Vec::new(alloc),
             stale: 0,
         }
     }
 
     /// No places, and room for one alone, since most lists keep to one.
-    pub fn for_one(alloc: Global) -> Result<Places, AllocError>
+    pub fn for_one(alloc: Global) -> Result<CellPlaces, AllocError>
         ensures items { IfOk result (λ places. places.items.items ≡ []) }
         ensures room { IfOk result (λ places. vec_len places.items < vec_capacity places.items) }
     {
         let items = Vec::with_capacity(alloc, 1)?;
-        Ok(Places { items, stale: 0 })
+        Ok(CellPlaces { items, stale: 0 })
     }
 
     /// Makes room for one more place.

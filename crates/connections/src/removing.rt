@@ -6,7 +6,7 @@ ghost use Rattle.std.specs.Vec.{vec_len};
 ghost use Rattle.slab.specs.Slab.{Slab as ASlab, get};
 ghost use Rattle.connections.specs.declared.cell.Cell.{Cell as ACell};
 ghost use Rattle.connections.specs.code.Cells.{fits, Retires, RetiresAt, Marked, LeadToEach, is_due};
-ghost use Rattle.connections.specs.code.Places.{AreRising};
+ghost use Rattle.connections.specs.code.CellPlaces.{AreRising};
 ghost use Rattle.connections.specs.code.Lists.{all_of, ListsLead, LeadTo, TidiesLists};
 
 use crate::cell::Cell;

@@ -3,7 +3,7 @@
 ghost use Rattle.std.specs.Prelude.{◌≡◌, ℕ, ◌<◌, ◌≤◌, length, eqb, nat_lt, drop, IfSome};
 ghost use Rattle.std.specs.List.{Contains, find, list_any};
 ghost use Rattle.connections.specs.code.Cells.{fits};
-ghost use Rattle.connections.specs.code.Places.{live, first_above, AreRising, SplitsAt, IsRestFrom, HoldNumbered};
+ghost use Rattle.connections.specs.code.CellPlaces.{live, first_above, AreRising, SplitsAt, IsRestFrom, HoldNumbered};
 ghost use Rattle.connections.specs.declared.place.CellPlace.{CellPlace as ACellPlace};
 
 use crate::cell::{Cell, live_at};

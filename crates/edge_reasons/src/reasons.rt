@@ -70,14 +70,14 @@ pub fn reason_for(meta: &Meta, from: Node, to: Node) -> Option<Reason>
 
 /// Whose body is looked through, and for what.
 #[derive(Clone, Copy)]
-struct Search<'m> {
+struct ReasonSearch<'m> {
     meta: &'m Meta,
     class: usize,
     kinds: &'m [ValueType],
     to: Node,
 }
 
-impl<'m> Search<'m> {
+impl<'m> ReasonSearch<'m> {
     /// Whether the effect is one on the node.
     fn reaches(&self, effect: Effect) -> bool
         ensures { IsTrue result ↔ Reaches self.now.meta.now self.now.class effect self.now.to }
@@ -148,7 +148,7 @@ fn work_reason(meta: &Meta, from: Node, method: usize, to: Node) -> Option<Reaso
     match &found.work {
         Work::Signal => None,
         Work::Slot(body) => {
-            let search = Search {
+            let search = ReasonSearch {
                 meta,
                 class: from.class,
                 kinds: found.kinds.as_slice(),

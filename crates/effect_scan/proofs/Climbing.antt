@@ -9,7 +9,7 @@ use Rattle.meta_model.specs.Members.{Below, same, under, base_of}
 use Rattle.meta_model.proofs.OneAnswer.{below_base, below_none}
 use Rattle.effect_scan.specs.Rows.{Edge}
 use Rattle.effect_scan.specs.code.Adding.{Adds, Joins}
-use Rattle.effect_scan.specs.code.Places.{AreJust, IsLineage}
+use Rattle.effect_scan.specs.code.NodePlaces.{AreJust, IsLineage}
 use Rattle.effect_scan.proofs.Adding.{no_members, empty_edge, adds_none, adds_then, adds_same}
 use Rattle.effect_scan.proofs.Relating.{is_class, below_first}
 

@@ -8,7 +8,7 @@ use Rattle.effect_scan.specs.declared.node.Member.{Member}
 use Rattle.effect_scan.specs.Nodes.{node, IsAt}
 use Rattle.effect_scan.specs.Effects.{Gathers}
 use Rattle.effect_scan.specs.code.Adding.{IsOrdered}
-use Rattle.effect_scan.specs.code.Places.{AreJust, InEach, OfSome}
+use Rattle.effect_scan.specs.code.NodePlaces.{AreJust, InEach, OfSome}
 use Rattle.effect_scan.proofs.Adding.{no_members, first_more}
 use Rattle.effect_scan.proofs.Occurring.{gathers_none, gathers_then}
 

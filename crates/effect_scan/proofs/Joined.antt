@@ -14,13 +14,13 @@ use Rattle.meta_model.specs.declared.site.MetaSite.{MetaSite}
 use Rattle.meta_model.specs.Sites.{paths_in}
 use Rattle.effect_scan.specs.declared.node.Member.TheVariants.{Method, Property, Destruction}
 use Rattle.effect_scan.specs.declared.effect.Effect.{Effect}
-use Rattle.effect_scan.specs.declared.places.Places.{Places}
+use Rattle.effect_scan.specs.declared.places.NodePlaces.{NodePlaces}
 use Rattle.effect_scan.specs.Nodes.{node, named, IsAt}
 use Rattle.effect_scan.specs.Effects.{WorkHas}
-use Rattle.effect_scan.specs.code.Places.{InEach, InBelow, IsReached, IsRead, OfSome}
+use Rattle.effect_scan.specs.code.NodePlaces.{InEach, InBelow, IsReached, IsRead, OfSome}
 use Rattle.effect_scan.specs.code.Leading.{WireLeads, MethodLeads, WorkReaches, PropertyLeads, Notifies, SiteLeads, ClosureLeads}
 
-module _ (places : Places) where
+module _ (places : NodePlaces) where
   pub wire_both : (wire : MetaWire) (signal : ℕ) → signal ≡ named wire.signal → wire.kind ≢ Queued → (a b : ℕ)
       → WireLeads places wire a b ↔ (InBelow places wire.sender (Method signal) a × InBelow places wire.receiver (Method wire.method) b)
   wire_both wire signal e kind a b = (

@@ -1,6 +1,6 @@
 -- Lists of numbers, one number after another.
 use Rattle.std.{proofs.Common.{◌≡◌, ◌↔◌, inl, inr, ℕ, ◌+◌, ◌-◌, ◌<◌, ◌≤◌, List, [], ◌∷◌, ◌++◌, length, get_or, take, slice_get, Some, eqb, IsPermutation, refl, sym, ap, ◌∙◌, subst, arith}, specs.List.{Contains, dedup}, specs.List.Sorted.{IsStrictlyIncreasing, IsSorted}, specs.Ordering.{nat_cmp}, proofs.lemmas.Bool.{cases_eq, cases_lt}, proofs.lemmas.List.{length-append, get_or_append_left, take_all}, proofs.Math.Seq.{get_or-append_seam}, proofs.lemmas.List.Elements.{Contains-get_or, Contains-append_left, Contains-append_right, Contains-append_cases, Contains-push, Contains-push_cases}, proofs.lemmas.List.Sorted.{Contains-permutation, IsPermutation-sym}, proofs.lemmas.List.Kept.{Contains-dedup_nat, Contains-from_dedup}, proofs.lemmas.Map.Keys.{IsStrictlyIncreasing-dedup}, proofs.lemmas.Option.{slice_get_within, same_Some}}
-use Rattle.effect_scan.{specs.Rows.{row}, specs.code.Adding.{IsOrdered}, specs.declared.node.Node.{Node}, specs.declared.node.Member.{Member}, specs.declared.node.Member.TheVariants.{Property}, specs.declared.places.Places.{Places}, specs.Nodes.{node, IsAt}, specs.code.Places.{Lists, AreJust, InEach, InBelow, IsRead, OfSome}, proofs.Adding.{no_members, first_more}}
+use Rattle.effect_scan.{specs.Rows.{row}, specs.code.Adding.{IsOrdered}, specs.declared.node.Node.{Node}, specs.declared.node.Member.{Member}, specs.declared.node.Member.TheVariants.{Property}, specs.declared.places.NodePlaces.{NodePlaces}, specs.Nodes.{node, IsAt}, specs.code.NodePlaces.{Lists, AreJust, InEach, InBelow, IsRead, OfSome}, proofs.Adding.{no_members, first_more}}
 use Rattle.meta_model.specs.declared.site.SourceProperty.{SourceProperty}
 
 pub increasing_none : IsStrictlyIncreasing []
@@ -140,7 +140,7 @@ some_low P xs rows from sources low just e a h =
     let found = (just a).0 (subst (λ (l : List ℕ). Contains l a) e h) in low found.0 a found.2
 
 -- ---- sources
-pub read_there : (places : Places) (formals : List ℕ) (source : SourceProperty) (class : ℕ) (found : List ℕ) → slice_get formals source.source ≡ Some class → AreJust (InBelow places class (Property source.property)) found → AreJust (IsRead places formals source) found
+pub read_there : (places : NodePlaces) (formals : List ℕ) (source : SourceProperty) (class : ℕ) (found : List ℕ) → slice_get formals source.source ≡ Some class → AreJust (InBelow places class (Property source.property)) found → AreJust (IsRead places formals source) found
 read_there places formals source class found is just n = (
   λ h. (class, is, (just n).0 h),
   λ h. (just n).1 (subst (λ (c : ℕ). InBelow places c (Property source.property) n) (same_Some _ _ (sym h.1 ∙ is)) h.2),

@@ -2,7 +2,7 @@
 use Rattle.std.{proofs.Common.{◌≡◌, ◌≢◌, ◌↔◌, ◌⊎◌, inl, inr, ℕ, zero, suc, ◌+◌, ◌-◌, ◌<◌, ◌≤◌, Bool, true, false, List, [], ◌∷◌, ◌++◌, length, get_or, set, take, slice_get, Option, Some, None, refl, sym, ap, ◌∙◌, subst, arith, get_or-set_same, get_or-set_other}, specs.List.{Contains, AllZip}, proofs.lemmas.Bool.{cases_eq, cases_lt}, proofs.lemmas.List.{take_all, length-set, length-append, get_or_past, get_or_default, get_or_append_left, get_or-append_right}, proofs.Math.Seq.{get_or-append_seam}, proofs.lemmas.Option.{slice_get_within, slice_get_past, none-some}}
 use Rattle.class_sets.{specs.Marks.{IsMarked, Marks}, proofs.Firsts.{first_more}, proofs.Marking.{not_marked, marked_inside}}
 use Rattle.meta_model.{specs.declared.object.MetaObject.{MetaObject}, specs.declared.object.MetaOwns.{MetaOwns}, specs.Loaded.{Loaded}, specs.Members.{IsClass, Below, Owns, same, under}, proofs.InLists.{in_list, place_in, owned_by, owns_of}, proofs.OneAnswer.{below_absent}}
-use Rattle.effect_scan.{specs.Rows.{row}, specs.code.Adding.{Joins, AmongFirst}, specs.code.Places.{IsLineage, Lists}, specs.Destroying.{Closure, itself, child, AreClosures}, specs.code.Relations.{marks_of, Holds, IsSquare, IsEmpty, Extends, OwnsRows, IsOwned, IsOwn, Passes, Chains, one, more, IsClosed, Closing, AreListed}, proofs.Adding.{among_more, among_all, edge_inside}}
+use Rattle.effect_scan.{specs.Rows.{row}, specs.code.Adding.{Joins, AmongFirst}, specs.code.NodePlaces.{IsLineage, Lists}, specs.Destroying.{Closure, itself, child, AreClosures}, specs.code.Relations.{marks_of, Holds, IsSquare, IsEmpty, Extends, OwnsRows, IsOwned, IsOwn, Passes, Chains, one, more, IsClosed, Closing, AreListed}, proofs.Adding.{among_more, among_all, edge_inside}}
 
 -- ---- all rows
 pub marks_inside : (relation : List (List Bool)) (i j : ℕ) → Holds relation i j → i < length relation

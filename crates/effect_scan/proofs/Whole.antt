@@ -1,14 +1,14 @@
 -- The edges between nodes, by their numbers.
 use Rattle.std.{proofs.Common.{◌≡◌, ◌⊎◌, inl, inr, ℕ, List, [], length, replicate, refl, sym, ap, ◌∙◌, subst}, specs.List.{Contains}, proofs.lemmas.List.{length-replicate}, proofs.lemmas.Option.{slice_get-get_or, get_or_from_slice_get}}
 use Rattle.meta_model.{specs.declared.qobject.TheConstants.{DESTROYED}, specs.Loaded.{Loaded}, proofs.InLists.{in_list, place_in}}
-use Rattle.effect_scan.{specs.declared.node.Node.{Node}, specs.declared.node.Member.{Member}, specs.declared.node.Member.TheVariants.{Method, Property, Destruction}, specs.declared.effect.Reach.{Reach}, specs.declared.places.Places.{Places}, specs.Nodes.{node, named, nodes_of, IsAt}, specs.Rows.{row, Edge}, specs.code.Adding.{Adds, AreOrdered}, specs.code.Places.{InBelow, ReachedBy, ArePlaces}, specs.Destroying.{AreClosures}, specs.Edges.{AtOrBelow, ReachedAs, ByWork, ByWire, ByNotify, BySite, ByDestruction, MayLead, by_work, by_wire, by_notify, by_site, by_destruction, LeadsAt}, specs.code.Leading.{WiresLead, WorksLead, NotifiersLead, SitesLead, ClosuresLead}, specs.Scans.{AreEdges}, proofs.Adding.{edge_inside, empty_edge}}
+use Rattle.effect_scan.{specs.declared.node.Node.{Node}, specs.declared.node.Member.{Member}, specs.declared.node.Member.TheVariants.{Method, Property, Destruction}, specs.declared.effect.Reach.{Reach}, specs.declared.places.NodePlaces.{NodePlaces}, specs.Nodes.{node, named, nodes_of, IsAt}, specs.Rows.{row, Edge}, specs.code.Adding.{Adds, AreOrdered}, specs.code.NodePlaces.{InBelow, ReachedBy, ArePlaces}, specs.Destroying.{AreClosures}, specs.Edges.{AtOrBelow, ReachedAs, ByWork, ByWire, ByNotify, BySite, ByDestruction, MayLead, by_work, by_wire, by_notify, by_site, by_destruction, LeadsAt}, specs.code.Leading.{WiresLead, WorksLead, NotifiersLead, SitesLead, ClosuresLead}, specs.Scans.{AreEdges}, proofs.Adding.{edge_inside, empty_edge}}
 use Rattle.effect_scan.specs.declared.effect.Reach.TheVariants as reach
 
 -- a member of class c is that node
 pub made : (x : Node) (c : ℕ) (member : Member) → x.class ≡ c → x.member ≡ member → node c member ≡ x
 made x c member class is = ap (λ (k : ℕ). node k member) (sym class) ∙ ap (λ (m : Member). node x.class m) (sym is)
 
-module _ (p : Loaded) (places : Places) (are : ArePlaces p places) where
+module _ (p : Loaded) (places : NodePlaces) (are : ArePlaces p places) where
   at_node : (x : Node) (n : ℕ) → IsAt places.numbering x n → IsAt (nodes_of p) x n
   at_node x n h = subst (λ (l : List Node). IsAt l x n) are.numbering h
 

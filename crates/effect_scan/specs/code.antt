@@ -1,6 +1,6 @@
 -- What the contracts of this crate's functions need besides.
 pub mod Adding
-pub mod Places
+pub mod NodePlaces
 pub mod Relations
 pub mod Leading
 pub mod Families

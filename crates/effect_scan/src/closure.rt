@@ -5,7 +5,7 @@ ghost use Rattle.std.specs.List.{Contains};
 ghost use Rattle.class_sets.specs.Marks.{IsMarked};
 ghost use Rattle.effect_scan.specs.Rows.{row};
 ghost use Rattle.effect_scan.specs.code.Adding.{Joins};
-ghost use Rattle.effect_scan.specs.code.Places.{IsLineage, Lists};
+ghost use Rattle.effect_scan.specs.code.NodePlaces.{IsLineage, Lists};
 ghost use Rattle.effect_scan.specs.Destroying.{AreClosures};
 ghost use Rattle.effect_scan.specs.code.Relations.{IsSquare, IsEmpty, Extends, IsClosed, Passes, IsOwned, IsOwn, AreListed};
 

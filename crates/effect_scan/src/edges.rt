@@ -7,14 +7,14 @@ ghost use Rattle.effect_scan.specs.declared.effect.Effect.{Effect as AnEffect};
 ghost use Rattle.effect_scan.specs.Nodes.{named};
 ghost use Rattle.effect_scan.specs.Effects.{WorkHas, Gathers};
 ghost use Rattle.effect_scan.specs.code.Adding.{Adds};
-ghost use Rattle.effect_scan.specs.code.Places.{AreJust, IsReached, IsRead, OfSome};
+ghost use Rattle.effect_scan.specs.code.NodePlaces.{AreJust, IsReached, IsRead, OfSome};
 ghost use Rattle.effect_scan.specs.code.Leading.{WireLeads, WiresLead, MethodLeads, MethodsLead, WorksLead, WorkReaches, PropertyLeads, Notifies, PropertiesLead, NotifiersLead, SiteLeads, SitesLead, ClosureLeads, ClosuresLead};
 
 use crate::added::Added;
 use crate::effect::{Effect, gather, gather_native};
 use crate::families::Families;
 use crate::node::{Member, Node};
-use crate::places::Places;
+use crate::places::NodePlaces;
 use crate::targets::Targets;
 use basic_types::Kind;
 use meta_model::{
@@ -39,7 +39,7 @@ pub fn named(signal: usize) -> usize
 /// Adds the edges from signals to what they are wired to.
 pub fn add_wires(
     alloc: Global,
-    places: &Places,
+    places: &NodePlaces,
     wires: &[MetaWire],
     rows: &mut Families,
 ) -> Result<(), AllocError>
@@ -55,7 +55,7 @@ pub fn add_wires(
 /// Adds the edges of the wire, if it isn't queued.
 fn add_wire(
     alloc: Global,
-    places: &Places,
+    places: &NodePlaces,
     wire: &MetaWire,
     rows: &mut Families,
 ) -> Result<(), AllocError>
@@ -76,7 +76,7 @@ fn add_wire(
 /// Adds the edges from methods to what is done when they are called.
 pub fn add_works(
     alloc: Global,
-    places: &Places,
+    places: &NodePlaces,
     classes: &[MetaObject],
     rows: &mut [Targets],
 ) -> Result<(), AllocError>
@@ -92,7 +92,7 @@ pub fn add_works(
 /// Adds the edges from the methods of the class of this number.
 fn add_methods(
     alloc: Global,
-    places: &Places,
+    places: &NodePlaces,
     number: usize,
     class: &MetaObject,
     rows: &mut [Targets],
@@ -109,7 +109,7 @@ fn add_methods(
 /// Adds the edges from the method of this number in the class to what its work does: a signal does nothing by itself.
 fn add_method(
     alloc: Global,
-    places: &Places,
+    places: &NodePlaces,
     class: usize,
     number: usize,
     method: &MetaMethod,
@@ -129,7 +129,7 @@ fn add_method(
 /// Adds the numbers of what the method's work does something to, for an object of this class.
 fn add_work(
     alloc: Global,
-    places: &Places,
+    places: &NodePlaces,
     class: usize,
     method: &MetaMethod,
     numbers: &mut Targets,
@@ -165,7 +165,7 @@ fn effects_of(alloc: Global, kinds: &[ValueType], work: &Work) -> Result<Items<E
 /// Adds the numbers of what some of the effects does something to, for an object of this class, and puts all in order: a
 /// body may do the same again and again.
 fn add_all_reached(
-    places: &Places,
+    places: &NodePlaces,
     class: usize,
     effects: &[Effect],
     numbers: &mut Added,
@@ -183,7 +183,7 @@ fn add_all_reached(
 /// Adds the edges from properties to their notify signals.
 pub fn add_notifiers(
     alloc: Global,
-    places: &Places,
+    places: &NodePlaces,
     classes: &[MetaObject],
     rows: &mut [Targets],
 ) -> Result<(), AllocError>
@@ -199,7 +199,7 @@ pub fn add_notifiers(
 /// Adds the edges from the properties of the class of this number.
 fn add_properties(
     alloc: Global,
-    places: &Places,
+    places: &NodePlaces,
     number: usize,
     class: &MetaObject,
     rows: &mut [Targets],
@@ -217,7 +217,7 @@ fn add_properties(
 /// Adds the edges from the property of this number in the class.
 fn add_property(
     alloc: Global,
-    places: &Places,
+    places: &NodePlaces,
     class: usize,
     number: usize,
     property: &MetaProperty,
@@ -236,7 +236,7 @@ fn add_property(
 /// Adds the edge from the property of this number in the class to the signal.
 fn add_notifier(
     alloc: Global,
-    places: &Places,
+    places: &NodePlaces,
     class: usize,
     property: usize,
     signal: usize,
@@ -257,7 +257,7 @@ fn add_notifier(
 /// Adds the edges from the properties that binding sites read to those that they bind.
 pub fn add_sites(
     alloc: Global,
-    places: &Places,
+    places: &NodePlaces,
     sites: &[MetaSite],
     rows: &mut Families,
 ) -> Result<(), AllocError>
@@ -273,7 +273,7 @@ pub fn add_sites(
 /// Adds the edges of this binding site.
 fn add_site(
     alloc: Global,
-    places: &Places,
+    places: &NodePlaces,
     site: &MetaSite,
     rows: &mut Families,
 ) -> Result<(), AllocError>
@@ -308,7 +308,7 @@ fn gather_sources(
 /// The numbers of these properties, where the sources are of these classes or below them, each once.
 fn read(
     alloc: Global,
-    places: &Places,
+    places: &NodePlaces,
     formals: &[usize],
     sources: &[SourceProperty],
 ) -> Result<Added, AllocError>
@@ -325,7 +325,7 @@ fn read(
 /// The numbers of the property, where the source is of its class or below it.
 fn read_one(
     alloc: Global,
-    places: &Places,
+    places: &NodePlaces,
     formals: &[usize],
     source: SourceProperty,
 ) -> Result<Added, AllocError>
@@ -340,7 +340,7 @@ fn read_one(
 /// Adds the edges from destructions to the announcements of those that are destroyed with an object.
 pub fn add_closures(
     alloc: Global,
-    places: &Places,
+    places: &NodePlaces,
     closures: &[Items<usize>],
     rows: &mut [Targets],
 ) -> Result<(), AllocError>
@@ -356,7 +356,7 @@ pub fn add_closures(
 /// Adds the edges from the destruction of an object of this class.
 fn add_closure(
     alloc: Global,
-    places: &Places,
+    places: &NodePlaces,
     class: usize,
     closure: &[usize],
     rows: &mut [Targets],

@@ -3,7 +3,7 @@
 ghost use Rattle.std.specs.Prelude.{◌≡◌, ◌<◌, length, IfOk};
 ghost use Rattle.meta_model.specs.Members.{Below};
 ghost use Rattle.effect_scan.specs.code.Adding.{Adds};
-ghost use Rattle.effect_scan.specs.code.Places.{AreJust, IsLineage};
+ghost use Rattle.effect_scan.specs.code.NodePlaces.{AreJust, IsLineage};
 
 use crate::added::Added;
 use crate::rows::{empty_rows, join};

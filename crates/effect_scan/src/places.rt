@@ -3,7 +3,7 @@
 ghost use Rattle.std.specs.Prelude.{IfOk};
 ghost use Rattle.effect_scan.specs.Nodes.{IsAt};
 ghost use Rattle.effect_scan.specs.Effects.{Gathers};
-ghost use Rattle.effect_scan.specs.code.Places.{AreJust, ArePlaces, InEach, InBelow, IsReached};
+ghost use Rattle.effect_scan.specs.code.NodePlaces.{AreJust, ArePlaces, InEach, InBelow, IsReached};
 
 use crate::added::Added;
 use crate::effect::{Effect, Reach};
@@ -17,21 +17,21 @@ use std::alloc::{AllocError, Global};
 
 /// The nodes of a program, and which of its classes are below which.
 #[derive(Drop)]
-pub struct Places {
+pub struct NodePlaces {
     /// The nodes, with their numbers.
     pub numbering: Numbering,
     /// For each class, those that are it or below it.
     pub lineage: Items<Targets>,
 }
 
-impl Places {
+impl NodePlaces {
     /// The places of a program's nodes; its error is that memory was refused.
-    pub fn of(alloc: Global, meta: &Meta) -> Result<Places, AllocError>
+    pub fn of(alloc: Global, meta: &Meta) -> Result<NodePlaces, AllocError>
         ensures { IfOk result (ArePlaces meta.now) }
     {
         let numbering = Numbering::of(alloc, meta.classes())?;
         let lineage = lineage(alloc, meta)?;
-        Ok(Places { numbering, lineage })
+        Ok(NodePlaces { numbering, lineage })
     }
 
     /// Adds the number of the node, and nothing where it is no node of the program.

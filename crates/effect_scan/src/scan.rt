@@ -4,7 +4,7 @@ ghost use Rattle.std.specs.Prelude.{◌≡◌, length, IfOk};
 ghost use Rattle.name_indexes.specs.LookUps.{LooksUp, FindsOnly};
 ghost use Rattle.effect_scan.specs.Nodes.{IsAt};
 ghost use Rattle.effect_scan.specs.Rows.{row, pairs_from, AreAlike};
-ghost use Rattle.effect_scan.specs.code.Places.{ArePlaces};
+ghost use Rattle.effect_scan.specs.code.NodePlaces.{ArePlaces};
 ghost use Rattle.effect_scan.specs.code.Leading.{AddsOwn};
 ghost use Rattle.effect_scan.specs.Destroying.{AreClosures};
 ghost use Rattle.effect_scan.specs.Scans.{AreEdges, IsScan};
@@ -14,7 +14,7 @@ use crate::edges::{add_closures, add_notifiers, add_sites, add_wires, add_works}
 use crate::families::{Families, Ordered};
 use crate::node::Node;
 use crate::numbering::Numbering;
-use crate::places::Places;
+use crate::places::NodePlaces;
 use crate::rows::{empty_rows, targets_at};
 use crate::targets::Targets;
 use meta_model::Meta;
@@ -57,10 +57,10 @@ impl Scan {
     pub fn of(alloc: Global, meta: &Meta) -> Result<Scan, AllocError>
         ensures { IfOk result (IsScan meta.now) }
     {
-        let places = Places::of(alloc, meta)?;
+        let places = NodePlaces::of(alloc, meta)?;
         let closures = closures(alloc, meta, places.lineage.as_slice())?;
         let Ordered { rows, alike } = edges(alloc, meta, &places, closures.as_slice())?;
-        let Places {
+        let NodePlaces {
             numbering,
             lineage: _lineage,
         } = places;
@@ -134,7 +134,7 @@ impl Scan {
 fn edges(
     alloc: Global,
     meta: &Meta,
-    places: &Places,
+    places: &NodePlaces,
     closures: &[Items<usize>],
 ) -> Result<Ordered, AllocError>
     requires places { ArePlaces meta.now places.now }
@@ -154,7 +154,7 @@ fn edges(
 fn add_own(
     alloc: Global,
     meta: &Meta,
-    places: &Places,
+    places: &NodePlaces,
     closures: &[Items<usize>],
     rows: &mut [Targets],
 ) -> Result<(), AllocError>

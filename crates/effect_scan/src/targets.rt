@@ -13,7 +13,7 @@ use std::mem;
 
 /// How numbers are held.
 #[derive(Drop)]
-pub enum Held {
+pub enum HeldNumbers {
     /// There are none.
     Nothing,
     /// There is one.
@@ -24,28 +24,28 @@ pub enum Held {
     Own(Added),
 }
 
-impl Held {
+impl HeldNumbers {
     /// The numbers.
     fn as_slice(&self) -> &[usize]
         ensures { result.now ≡ held_list self.now }
     {
         match self {
-            Held::Nothing => &[],
-            Held::One(number) => number.as_slice(),
-            Held::Common(list) => list.get().as_slice(),
-            Held::Own(list) => list.as_slice(),
+            HeldNumbers::Nothing => &[],
+            HeldNumbers::One(number) => number.as_slice(),
+            HeldNumbers::Common(list) => list.get().as_slice(),
+            HeldNumbers::Own(list) => list.as_slice(),
         }
     }
 
     /// Just these numbers; the error is that memory was refused.
-    fn just(alloc: Global, numbers: &[usize]) -> Result<Held, AllocError>
+    fn just(alloc: Global, numbers: &[usize]) -> Result<HeldNumbers, AllocError>
         ensures { IfOk result (λ held. held_list held ≡ numbers.now) }
     {
         if numbers.len() == 1 {
-            return Ok(Held::One([numbers[0]]));
+            return Ok(HeldNumbers::One([numbers[0]]));
         }
         let list = Added::with_room(alloc, numbers, 0)?;
-        Ok(Held::Own(list))
+        Ok(HeldNumbers::Own(list))
     }
 
     /// The numbers in a list of their own, which has room for so many more; the error is that memory was refused.
@@ -53,69 +53,69 @@ impl Held {
         ensures { IfOk result (λ own. own ≡ held_list self) }
     {
         match self {
-            Held::Own(list) => Ok(list),
+            HeldNumbers::Own(list) => Ok(list),
             held => Added::with_room(alloc, held.as_slice(), more),
         }
     }
 
     /// The numbers with these behind them; the error is that memory was refused.
-    fn with_all(self, alloc: Global, numbers: &[usize]) -> Result<Held, AllocError>
+    fn with_all(self, alloc: Global, numbers: &[usize]) -> Result<HeldNumbers, AllocError>
         ensures { IfOk result (λ held. held_list held ≡ held_list self ++ numbers.now) }
     {
         match self {
-            Held::Nothing => Held::just(alloc, numbers),
+            HeldNumbers::Nothing => HeldNumbers::just(alloc, numbers),
             held => {
                 let mut list = held.into_own(alloc, numbers.len())?;
                 list.add_all(numbers)?;
-                Ok(Held::Own(list))
+                Ok(HeldNumbers::Own(list))
             }
         }
     }
 
     /// The numbers in their order, each once; the error is that memory was refused. A list that is in order stays the one that
     /// other nodes have too.
-    fn in_order(self, alloc: Global) -> Result<Held, AllocError>
+    fn in_order(self, alloc: Global) -> Result<HeldNumbers, AllocError>
         ensures { IfOk result (λ held. IsOrdered (held_list self) (held_list held)) }
     {
         match self {
-            Held::Own(list) => Ok(Held::Own(list.fitted())),
+            HeldNumbers::Own(list) => Ok(HeldNumbers::Own(list.fitted())),
             held => {
                 if is_increasing(held.as_slice()) {
                     return Ok(held);
                 }
                 let list = Added::with_room(alloc, held.as_slice(), 0)?;
-                Ok(Held::Own(list.fitted()))
+                Ok(HeldNumbers::Own(list.fitted()))
             }
         }
     }
 
     /// The numbers, in a list that other nodes can have too; the error is that memory was refused.
-    fn into_common(self, alloc: Global) -> Result<Held, AllocError>
+    fn into_common(self, alloc: Global) -> Result<HeldNumbers, AllocError>
         ensures { IfOk result (λ held. held_list held ≡ held_list self) }
     {
         match self {
-            Held::Own(list) => {
+            HeldNumbers::Own(list) => {
                 let list = Shared::new(alloc, list)?;
-                Ok(Held::Common(list))
+                Ok(HeldNumbers::Common(list))
             }
             held => Ok(held),
         }
     }
 
     /// The same numbers, in the same list where other nodes can have it; the error is that memory was refused.
-    fn copy(&self, alloc: Global) -> Result<Held, AllocError>
+    fn copy(&self, alloc: Global) -> Result<HeldNumbers, AllocError>
         ensures { IfOk result (λ held. held_list held ≡ held_list self.now) }
     {
         match self {
-            Held::Nothing => Ok(Held::Nothing),
-            Held::One(number) => Ok(Held::One(*number)),
-            Held::Common(list) => {
+            HeldNumbers::Nothing => Ok(HeldNumbers::Nothing),
+            HeldNumbers::One(number) => Ok(HeldNumbers::One(*number)),
+            HeldNumbers::Common(list) => {
                 let list = list.copy()?;
-                Ok(Held::Common(list))
+                Ok(HeldNumbers::Common(list))
             }
-            Held::Own(list) => {
+            HeldNumbers::Own(list) => {
                 let list = Added::with_room(alloc, list.as_slice(), 0)?;
-                Ok(Held::Own(list))
+                Ok(HeldNumbers::Own(list))
             }
         }
     }
@@ -138,7 +138,7 @@ fn is_increasing(numbers: &[usize]) -> bool
 /// The numbers that the edges from a node lead to.
 #[derive(Drop)]
 pub struct Targets {
-    held: Held,
+    held: HeldNumbers,
 }
 
 impl Model for Targets {
@@ -156,7 +156,7 @@ impl Targets {
         ensures { result ≡ [] }
     {
         Targets {
-            held: Held::Nothing,
+            held: HeldNumbers::Nothing,
         }
     }
 
@@ -181,7 +181,7 @@ impl Targets {
         if numbers.is_empty() {
             return Ok(());
         }
-        let held = mem::replace(&mut self.held, Held::Nothing);
+        let held = mem::replace(&mut self.held, HeldNumbers::Nothing);
         self.held = held.with_all(alloc, numbers)?;
         Ok(())
     }
@@ -190,7 +190,7 @@ impl Targets {
     pub fn put_in_order(&mut self, alloc: Global) -> Result<(), AllocError>
         ensures { IfOk result (λ _. IsOrdered self.old self.new) }
     {
-        let held = mem::replace(&mut self.held, Held::Nothing);
+        let held = mem::replace(&mut self.held, HeldNumbers::Nothing);
         self.held = held.in_order(alloc)?;
         Ok(())
     }
@@ -198,7 +198,7 @@ impl Targets {
     pub fn share(&mut self, alloc: Global) -> Result<(), AllocError>
         ensures { IfOk result (λ _. self.new ≡ self.old) }
     {
-        let held = mem::replace(&mut self.held, Held::Nothing);
+        let held = mem::replace(&mut self.held, HeldNumbers::Nothing);
         self.held = held.into_common(alloc)?;
         Ok(())
     }

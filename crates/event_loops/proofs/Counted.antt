@@ -6,7 +6,7 @@ use Rattle.std.proofs.lemmas.Bool.{and_from, eq-eqb, eqb-true, false≢true, lt-
 use Rattle.std.proofs.lemmas.List.Sums.{sum_by-cons, sum_by_push}
 use Rattle.std.proofs.lemmas.Option.{same_Some}
 use Rattle.event_loops.specs.declared.item.Posted.{Posted}
-use Rattle.event_loops.specs.declared.marks.Mark.{Mark}
+use Rattle.event_loops.specs.declared.marks.WaitMark.{WaitMark}
 use Rattle.event_loops.specs.declared.marks.Marks.{Marks}
 use Rattle.event_loops.specs.Queues.{Loop, receiver_of, items_at, is_before, none_for, change, with_items, with_item, without_first, without_first_before, without_object}
 use Rattle.event_loops.specs.code.Rings.{goes, gathered}
@@ -142,7 +142,7 @@ goes-noted marks objects going is p noted =
     and-true false = refl
 
 -- where there are no marks, none says that something waits
-nothing-in : (es : List (ℕ × Mark)) (o : ℕ) → length es ≡ 0 → waiting_in (lookup (eqb o) es) ≡ 0
+nothing-in : (es : List (ℕ × WaitMark)) (o : ℕ) → length es ≡ 0 → waiting_in (lookup (eqb o) es) ≡ 0
 nothing-in [] o z = refl
 nothing-in (e ∷ es) o z = absurd (omega (arith, z))
 

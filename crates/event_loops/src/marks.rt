@@ -12,7 +12,7 @@ use std::alloc::{AllocError, Global};
 
 /// Since when items wait for an object, and how many.
 #[derive(Clone, Copy)]
-pub struct Mark {
+pub struct WaitMark {
     /// How many items had been posted before the first that may wait.
     pub since: u64,
     /// The loop to which the last one was posted, or moved with its object.
@@ -21,13 +21,13 @@ pub struct Mark {
     pub waiting: u64,
 }
 
-impl Mark {
+impl WaitMark {
     /// The mark of an object for which the next item will be posted to this loop, where so many were posted.
-    fn new(home: LoopId, posted: u64) -> Mark
+    fn new(home: LoopId, posted: u64) -> WaitMark
         ensures since { result.since ≡ posted }
         ensures waiting { result.waiting ≡ 1 }
     {
-        Mark {
+        WaitMark {
             since: posted,
             home: home.number(),
             waiting: 1,
@@ -72,7 +72,7 @@ impl Mark {
 #[derive(Drop)]
 pub struct Marks {
     /// By the object's number: those that live and for which something was posted.
-    pub by_object: IndexMap<usize, Mark>,
+    pub by_object: IndexMap<usize, WaitMark>,
     /// The number of the last item that may be stale: one with a higher number waits.
     pub last_stale: u64,
 }
@@ -90,7 +90,7 @@ impl Marks {
 
     /// The mark of the object of this number, if it has one.
     #[inline(always)]
-    fn mark(&self, number: usize) -> Option<Mark>
+    fn mark(&self, number: usize) -> Option<WaitMark>
         ensures { result ≡ mark_of self.now number }
     {
         match self.by_object.get(&number) {
@@ -133,7 +133,7 @@ impl Marks {
         if let Some(mark) = self.by_object.get_mut(&number) {
             return mark.add(home);
         }
-        let mark = Mark::new(home, posted);
+        let mark = WaitMark::new(home, posted);
         self.by_object.insert(number, mark)?;
         Ok(())
     }

@@ -6,7 +6,7 @@ use Rattle.std.proofs.lemmas.Option.{same_Some}
 use Rattle.slab.specs.Slab.{Slab, get}
 use Rattle.object_tree.specs.declared.object.Object.{Object}
 use Rattle.object_tree.specs.declared.slot.Slot.{Slot}
-use Rattle.object_tree.specs.declared.slot.Entry.{Entry}
+use Rattle.object_tree.specs.declared.slot.ObjectRecord.{ObjectRecord}
 use Rattle.object_tree.specs.Held.{is_held}
 use Rattle.object_tree.specs.Objects.{change}
 use Rattle.object_tree.specs.code.Slots.{gone, object_in, or_gone, object_at, shown_from, key_at, name_at, is_idle, as_number, changed_in, Changes, GivesUp, AreHoused}
@@ -57,19 +57,19 @@ idle-law n a f name (Some slot) h total = by_serial (eqb slot.serial n)
         let none : as_number (is_held (f (gone name))) ≡ 0 = ap (λ (o : Object). as_number (is_held o)) total in
         omega (arith, one, none)
 
-module _ (old mid new : Slab Slot) (entries : List Entry) (key n : ℕ) (a : ℕ → ℕ) (f : Object → Object) (w : Changes key n a f old mid) (g : GivesUp key mid new) where
+module _ (old mid new : Slab Slot) (entries : List ObjectRecord) (key n : ℕ) (a : ℕ → ℕ) (f : Object → Object) (w : Changes key n a f old mid) (g : GivesUp key mid new) where
   shown-given : ((k : ℕ) (slot : Slot) → get mid k ≡ Some slot → name_at entries slot.serial ≡ Some slot.object.name) → shown_from new 0 entries ≡ shown_from mid 0 entries
   shown-given named = shown-same mid new 0 entries (λ m k d s at.
       ap (λ (x : Option Slot). or_gone d.name (object_in m x)) (g.slots d.key)
       ∙ by_tests m d (omega (arith, s)) at (eqb d.key key) (is_idle (get mid d.key)) refl)
     where
-      name-of : (m k : ℕ) (d : Entry) → k ≡ m → slice_get entries k ≡ Some d → (slot : Slot) → get mid d.key ≡ Some slot → slot.serial ≡ m → slot.object.name ≡ d.name
+      name-of : (m k : ℕ) (d : ObjectRecord) → k ≡ m → slice_get entries k ≡ Some d → (slot : Slot) → get mid d.key ≡ Some slot → slot.serial ≡ m → slot.object.name ≡ d.name
       name-of m k d s at slot is serial =
           let there : name_at entries slot.serial ≡ Some slot.object.name = named d.key slot is in
-          let here : name_at entries m ≡ Some d.name = ap (name_at entries) (sym s) ∙ ap (option_map (λ (e : Entry). e.name)) at in
+          let here : name_at entries m ≡ Some d.name = ap (name_at entries) (sym s) ∙ ap (option_map (λ (e : ObjectRecord). e.name)) at in
           same_Some _ _ (sym there ∙ ap (name_at entries) serial ∙ here)
 
-      by_tests : (m : ℕ) (d : Entry) → {k : ℕ} → k ≡ m → slice_get entries k ≡ Some d → (b i : Bool) → is_idle (get mid d.key) ≡ i → or_gone d.name (object_in m (cond b (cond i None (get mid d.key)) (get mid d.key))) ≡ or_gone d.name (object_in m (get mid d.key))
+      by_tests : (m : ℕ) (d : ObjectRecord) → {k : ℕ} → k ≡ m → slice_get entries k ≡ Some d → (b i : Bool) → is_idle (get mid d.key) ≡ i → or_gone d.name (object_in m (cond b (cond i None (get mid d.key)) (get mid d.key))) ≡ or_gone d.name (object_in m (get mid d.key))
       by_tests m d {k} s at true true idle = idle-gone m d.name (get mid d.key) idle (λ slot is serial. name-of m k d s at slot is serial)
       by_tests m d s at true false idle = refl
       by_tests m d s at false i idle = refl
@@ -106,7 +106,7 @@ module _ (old mid new : Slab Slot) (entries : List Entry) (key n : ℕ) (a : ℕ
         };
       }
     where
-      at_key : (e : Entry) → e.key ≡ key → ((slot : Slot) → get old key ≡ Some slot → is_held slot.object ≡ true) → f (gone e.name) ≡ gone e.name → as_number (is_idle (option_map (changed_in n a f) (get old key))) + as_number (is_held (f (object_at old n e))) ≡ as_number (is_held (object_at old n e))
+      at_key : (e : ObjectRecord) → e.key ≡ key → ((slot : Slot) → get old key ≡ Some slot → is_held slot.object ≡ true) → f (gone e.name) ≡ gone e.name → as_number (is_idle (option_map (changed_in n a f) (get old key))) + as_number (is_held (f (object_at old n e))) ≡ as_number (is_held (object_at old n e))
       at_key e at held total =
           let now : object_at old n e ≡ or_gone e.name (object_in n (get old key)) = ap (λ (j : ℕ). or_gone e.name (object_in n (get old j))) at in
           ap (λ (o : Object). as_number (is_idle (option_map (changed_in n a f) (get old key))) + as_number (is_held (f o))) now

@@ -2,21 +2,21 @@
 use Rattle.std.{proofs.Common.{◌≡◌, ◌≢◌, ⊎_elim, ℕ, zero, suc, ◌+◌, Bool, true, false, ◌||◌, not, nat_lt, cond, List, [], ◌∷◌, ◌++◌, length, Option, None, Some, is_some, option_map, count_by, refl, sym, ap, subst, ◌∙◌, arith}, specs.Prelude.{slice_get, IsSome, IfSome}, specs.Option.{option_and_then}, proofs.lemmas.Bool.{cases_eq, eq-eqb, ne_eqb, false≢true}, proofs.lemmas.Option.{same_Some}, proofs.lemmas.List.Sums.{sum_by_push}}
 use Rattle.slab.specs.Slab.{Slab, get, slab_len, Updates}
 use Rattle.name_indexes.specs.NamePlaces.{Adds}
-use Rattle.object_tree.{specs.declared.life.Life.{Life}, specs.declared.object.Object.{Object}, specs.declared.slot.Slot.{Slot}, specs.declared.slot.Entry.{Entry}, specs.Held.{are_any, is_held, held_in, is_dead}, specs.Seen.{seen_object}, specs.Objects.{with_life, life_of, class_of, change}, specs.Family.{children_in, children_of, parent_of, joined_by}, specs.Children.{are_distinct}, specs.Forest.{Forest, HasDistinct}, specs.code.Slots.{object_in, or_gone, object_at, shown_from, new_slot, key_at, name_at, as_number, KeepsSlots, AreDistinctIn, AreHoused}, proofs.Changing.{get-change_other}, proofs.Slots.{get-none, get-some, shown-same, entry-of, no_entry}}
+use Rattle.object_tree.{specs.declared.life.Life.{Life}, specs.declared.object.Object.{Object}, specs.declared.slot.Slot.{Slot}, specs.declared.slot.ObjectRecord.{ObjectRecord}, specs.Held.{are_any, is_held, held_in, is_dead}, specs.Seen.{seen_object}, specs.Objects.{with_life, life_of, class_of, change}, specs.Family.{children_in, children_of, parent_of, joined_by}, specs.Children.{are_distinct}, specs.Forest.{Forest, HasDistinct}, specs.code.Slots.{object_in, or_gone, object_at, shown_from, new_slot, key_at, name_at, as_number, KeepsSlots, AreDistinctIn, AreHoused}, proofs.Changing.{get-change_other}, proofs.Slots.{get-none, get-some, shown-same, entry-of, no_entry}}
 
 -- ---- a new object
 
-name-front : (es : List Entry) (e : Entry) (n : ℕ) (name : List ℕ) → name_at es n ≡ Some name → name_at (es ++ e ∷ []) n ≡ Some name
+name-front : (es : List ObjectRecord) (e : ObjectRecord) (n : ℕ) (name : List ℕ) → name_at es n ≡ Some name → name_at (es ++ e ∷ []) n ≡ Some name
 name-front [] e n name h = absurd (cc h)
 name-front (d ∷ es) e zero name h = h
 name-front (d ∷ es) e (suc n) name h = name-front es e n name h
 
-name-last : (es : List Entry) (e : Entry) → name_at (es ++ e ∷ []) (length es) ≡ Some e.name
+name-last : (es : List ObjectRecord) (e : ObjectRecord) → name_at (es ++ e ∷ []) (length es) ≡ Some e.name
 name-last [] e = refl
 name-last (d ∷ es) e = name-last es e
 
 module _ (old new : Slab Slot) (key : ℕ) (slot : Slot) (vacant : get old key ≡ None) (u : Updates old new key (Some slot)) where
-  at-older : (m : ℕ) (d : Entry) → m ≢ slot.serial → object_at new m d ≡ object_at old m d
+  at-older : (m : ℕ) (d : ObjectRecord) → m ≢ slot.serial → object_at new m d ≡ object_at old m d
   at-older m d other = ⊎_elim
       (λ (same : d.key ≡ key).
       ap (λ (x : Option Slot). or_gone d.name (object_in m x)) (ap (get new) same ∙ u.changed)
@@ -25,7 +25,7 @@ module _ (old new : Slab Slot) (key : ℕ) (slot : Slot) (vacant : get old key �
       (λ (differ : d.key ≢ key). ap (λ (x : Option Slot). or_gone d.name (object_in m x)) (u.others d.key differ))
       (cases_eq d.key key)
 
-  shown-from : (n : ℕ) (es : List Entry) (e : Entry) → e.key ≡ key → n + length es ≡ slot.serial → shown_from new n (es ++ e ∷ []) ≡ shown_from old n es ++ slot.object ∷ []
+  shown-from : (n : ℕ) (es : List ObjectRecord) (e : ObjectRecord) → e.key ≡ key → n + length es ≡ slot.serial → shown_from new n (es ++ e ∷ []) ≡ shown_from old n es ++ slot.object ∷ []
   shown-from n [] e k s =
       let at : slot.serial ≡ n = omega (arith, s) in
       ap (λ (x : Option Slot). or_gone e.name (object_in n x) ∷ []) (ap (get new) k ∙ u.changed)
@@ -34,10 +34,10 @@ module _ (old new : Slab Slot) (key : ℕ) (slot : Slot) (vacant : get old key �
       ap (λ (o : Object). o ∷ shown_from new (suc n) (es ++ e ∷ [])) (at-older n d (λ i. absurd (omega (arith, i, s))))
       ∙ ap (λ (os : List Object). object_at old n d ∷ os) (shown-from (suc n) es e k (omega (arith, s)))
 
-  pub shown-added : (es : List Entry) (e : Entry) → e.key ≡ key → slot.serial ≡ length es → shown_from new 0 (es ++ e ∷ []) ≡ shown_from old 0 es ++ slot.object ∷ []
+  pub shown-added : (es : List ObjectRecord) (e : ObjectRecord) → e.key ≡ key → slot.serial ≡ length es → shown_from new 0 (es ++ e ∷ []) ≡ shown_from old 0 es ++ slot.object ∷ []
   shown-added es e k s = shown-from 0 es e k (omega (arith, s))
 
-  pub housed-added : (es : List Entry) (e : Entry) → e.key ≡ key → slot.serial ≡ length es → e.name ≡ slot.object.name → is_held slot.object ≡ true → slab_len new ≡ slab_len old + 1 → AreHoused old es → AreHoused new (es ++ e ∷ [])
+  pub housed-added : (es : List ObjectRecord) (e : ObjectRecord) → e.key ≡ key → slot.serial ≡ length es → e.name ≡ slot.object.name → is_held slot.object ≡ true → slab_len new ≡ slab_len old + 1 → AreHoused old es → AreHoused new (es ++ e ∷ [])
   housed-added es e k s name held len h = record {
     named = λ j x at. ⊎_elim
         (λ (same : j ≡ key).
@@ -60,7 +60,7 @@ module _ (old new : Slab Slot) (key : ℕ) (slot : Slot) (vacant : get old key �
 
 -- ---- slots that are the same
 
-module _ (old new : Slab Slot) (entries : List Entry) (same : KeepsSlots old new) where
+module _ (old new : Slab Slot) (entries : List ObjectRecord) (same : KeepsSlots old new) where
   pub shown-kept : shown_from new 0 entries ≡ shown_from old 0 entries
   shown-kept = shown-same old new 0 entries (λ m k d s at. ap (λ (x : Option Slot). or_gone d.name (object_in m x)) (same.slots d.key))
 
@@ -79,28 +79,28 @@ same-reserved old new e = record {
 }
 
 -- an object that was put into a slot, after room was made for it
-pub record PutIn (old new : Slab Slot) (es es' : List Entry) (object : Object) : Type 0 where
+pub record PutIn (old new : Slab Slot) (es es' : List ObjectRecord) (object : Object) : Type 0 where
   pub shown : shown_from new 0 es' ≡ shown_from old 0 es ++ object ∷ []
   pub housed : AreHoused new es'
 
-pub put-in : (old mid new : Slab Slot) (es ds es' : List Entry) (key : ℕ) (name : List ℕ) (object : Object) → mid ≡ record old { capacity = mid.capacity } → ds ≡ es → get mid key ≡ None → Updates mid new key (Some (new_slot (length ds) object)) → slab_len new ≡ slab_len mid + 1 → es' ≡ ds ++ record { name = name; key = key } ∷ [] → name ≡ object.name → is_held object ≡ true → AreHoused old es → PutIn old new es es' object
+pub put-in : (old mid new : Slab Slot) (es ds es' : List ObjectRecord) (key : ℕ) (name : List ℕ) (object : Object) → mid ≡ record old { capacity = mid.capacity } → ds ≡ es → get mid key ≡ None → Updates mid new key (Some (new_slot (length ds) object)) → slab_len new ≡ slab_len mid + 1 → es' ≡ ds ++ record { name = name; key = key } ∷ [] → name ≡ object.name → is_held object ≡ true → AreHoused old es → PutIn old new es es' object
 put-in old mid new es ds es' key name object rest same vacant updates len entries named held h =
     let kept : KeepsSlots old mid = same-reserved old mid rest in
-    let e : Entry = record { name = name; key = key } in
-    let before : AreHoused mid ds = subst (λ (xs : List Entry). AreHoused mid xs) (sym same) (housed-kept old mid es kept h) in
-    let shown : shown_from mid 0 ds ≡ shown_from old 0 es = ap (λ (xs : List Entry). shown_from mid 0 xs) same ∙ shown-kept old mid es kept in
+    let e : ObjectRecord = record { name = name; key = key } in
+    let before : AreHoused mid ds = subst (λ (xs : List ObjectRecord). AreHoused mid xs) (sym same) (housed-kept old mid es kept h) in
+    let shown : shown_from mid 0 ds ≡ shown_from old 0 es = ap (λ (xs : List ObjectRecord). shown_from mid 0 xs) same ∙ shown-kept old mid es kept in
     record {
       shown =
-          ap (λ (xs : List Entry). shown_from new 0 xs) entries
+          ap (λ (xs : List ObjectRecord). shown_from new 0 xs) entries
           ∙ shown-added mid new key (new_slot (length ds) object) vacant updates ds e refl refl
           ∙ ap (λ (os : List Object). os ++ object ∷ []) shown;
-      housed = subst (λ (xs : List Entry). AreHoused new xs) (sym entries) (housed-added mid new key (new_slot (length ds) object) vacant updates ds e refl refl named held len before);
+      housed = subst (λ (xs : List ObjectRecord). AreHoused new xs) (sym entries) (housed-added mid new key (new_slot (length ds) object) vacant updates ds e refl refl named held len before);
     }
 
 -- ---- what objects in slots have
 
 -- a living object has its slot
-pub living-there : (slots : Slab Slot) (entries : List Entry) (n key : ℕ) → key_at entries n ≡ Some key → IsSome (life_of (shown_from slots 0 entries) n) → (o : Object) × (object_in n (get slots key) ≡ Some o)
+pub living-there : (slots : Slab Slot) (entries : List ObjectRecord) (n key : ℕ) → key_at entries n ≡ Some key → IsSome (life_of (shown_from slots 0 entries) n) → (o : Object) × (object_in n (get slots key) ≡ Some o)
 living-there slots entries n key k lives =
     let (e, is, at) = entry-of entries n key k in
     let shown : life_of (shown_from slots 0 entries) n ≡ (or_gone e.name (object_in n (get slots key))).life =
@@ -112,7 +112,7 @@ living-there slots entries n key k lives =
     by_object name (Some o) there l = (o, there)
 
 -- no child appears twice among those of an object in its slot
-pub distinct-in : (slots : Slab Slot) (entries : List Entry) (n key : ℕ) → key_at entries n ≡ Some key → are_distinct (children_of (shown_from slots 0 entries) n) ≡ true → AreDistinctIn (object_in n (get slots key))
+pub distinct-in : (slots : Slab Slot) (entries : List ObjectRecord) (n key : ℕ) → key_at entries n ≡ Some key → are_distinct (children_of (shown_from slots 0 entries) n) ≡ true → AreDistinctIn (object_in n (get slots key))
 distinct-in slots entries n key k distinct =
     let (e, is, at) = entry-of entries n key k in
     let shown : children_of (shown_from slots 0 entries) n ≡ (or_gone e.name (object_in n (get slots key))).children =
@@ -124,7 +124,7 @@ distinct-in slots entries n key k distinct =
     by_object name (Some o) d = d
 
 -- .. and so it has an entry
-pub living-entry : (slots : Slab Slot) (entries : List Entry) (n : ℕ) → key_at entries n ≡ None → IsSome (life_of (shown_from slots 0 entries) n) → ⊥
+pub living-entry : (slots : Slab Slot) (entries : List ObjectRecord) (n : ℕ) → key_at entries n ≡ None → IsSome (life_of (shown_from slots 0 entries) n) → ⊥
 living-entry slots entries n k lives =
     let none : life_of (shown_from slots 0 entries) n ≡ None = ap (option_and_then (λ (x : Object). x.life)) (get-none slots 0 n entries (no_entry entries n k)) in
     cc (rw none at lives)

@@ -8,7 +8,7 @@ use Rattle.slab.specs.Slab.{Slab, get, slab_len}
 use Rattle.object_tree.specs.declared.life.Life.{Life}
 use Rattle.object_tree.specs.declared.object.Object.{Object}
 use Rattle.object_tree.specs.declared.slot.Slot.{Slot}
-use Rattle.object_tree.specs.declared.slot.Entry.{Entry}
+use Rattle.object_tree.specs.declared.slot.ObjectRecord.{ObjectRecord}
 use Rattle.object_tree.specs.Held.{are_any, is_held, held_in}
 use Rattle.object_tree.specs.Objects.{change}
 use Rattle.object_tree.specs.code.Slots.{gone, object_in, or_gone, object_at, shown_from, key_at, name_at, as_number, changed_in, Changes, AreHoused}
@@ -46,37 +46,37 @@ not_held x h = by_parts x.life x.children refl refl h
 -- ---- the list of objects
 
 module _ (slots : Slab Slot) where
-  pub get-none : (n k : ℕ) (es : List Entry) → slice_get es k ≡ None → slice_get (shown_from slots n es) k ≡ None
+  pub get-none : (n k : ℕ) (es : List ObjectRecord) → slice_get es k ≡ None → slice_get (shown_from slots n es) k ≡ None
   get-none n k [] g = refl
   get-none n zero (e ∷ es) g = absurd (cc g)
   get-none n (suc k) (e ∷ es) g = get-none (suc n) k es g
 
-  pub get-some : (n k m : ℕ) (es : List Entry) (e : Entry) → n + k ≡ m → slice_get es k ≡ Some e → slice_get (shown_from slots n es) k ≡ Some (object_at slots m e)
+  pub get-some : (n k m : ℕ) (es : List ObjectRecord) (e : ObjectRecord) → n + k ≡ m → slice_get es k ≡ Some e → slice_get (shown_from slots n es) k ≡ Some (object_at slots m e)
   get-some n k m [] e s g = absurd (cc g)
   get-some n zero m (d ∷ es) e s g =
       let here : d ≡ e = same_Some _ _ g in
       let at : n ≡ m = omega (arith, s) in
-      ap (λ (c : Entry). Some (object_at slots n c)) here ∙ ap (λ (j : ℕ). Some (object_at slots j e)) at
+      ap (λ (c : ObjectRecord). Some (object_at slots n c)) here ∙ ap (λ (j : ℕ). Some (object_at slots j e)) at
   get-some n (suc k) m (d ∷ es) e s g = get-some (suc n) k m es e (omega (arith, s)) g
 
-  pub length-shown : (n : ℕ) (es : List Entry) → length (shown_from slots n es) ≡ length es
+  pub length-shown : (n : ℕ) (es : List ObjectRecord) → length (shown_from slots n es) ≡ length es
   length-shown n [] = refl
   length-shown n (e ∷ es) = ap suc (length-shown (suc n) es)
 
 module _ (old new : Slab Slot) where
-  pub shown-same : (n : ℕ) (es : List Entry) → ((m k : ℕ) (e : Entry) → n + k ≡ m → slice_get es k ≡ Some e → object_at new m e ≡ object_at old m e) → shown_from new n es ≡ shown_from old n es
+  pub shown-same : (n : ℕ) (es : List ObjectRecord) → ((m k : ℕ) (e : ObjectRecord) → n + k ≡ m → slice_get es k ≡ Some e → object_at new m e ≡ object_at old m e) → shown_from new n es ≡ shown_from old n es
   shown-same n [] h = refl
   shown-same n (e ∷ es) h =
       ap (λ (o : Object). o ∷ shown_from new (suc n) es) (h n zero e (omega arith) refl)
       ∙ ap (λ (os : List Object). object_at old n e ∷ os) (shown-same (suc n) es (λ m k d s g. h m (suc k) d (omega (arith, s)) g))
 
-  pub shown-changed : (f : Object → Object) (n k id : ℕ) (es : List Entry) (e : Entry) → n + k ≡ id → slice_get es k ≡ Some e → object_at new id e ≡ f (object_at old id e) → ((m : ℕ) (d : Entry) → m ≢ id → object_at new m d ≡ object_at old m d) → shown_from new n es ≡ change k f (shown_from old n es)
+  pub shown-changed : (f : Object → Object) (n k id : ℕ) (es : List ObjectRecord) (e : ObjectRecord) → n + k ≡ id → slice_get es k ≡ Some e → object_at new id e ≡ f (object_at old id e) → ((m : ℕ) (d : ObjectRecord) → m ≢ id → object_at new m d ≡ object_at old m d) → shown_from new n es ≡ change k f (shown_from old n es)
   shown-changed f n k id [] e s g here others = absurd (cc g)
   shown-changed f n zero id (d ∷ es) e s g here others =
       let same : d ≡ e = same_Some _ _ g in
       let at : n ≡ id = omega (arith, s) in
       let now : object_at new n d ≡ f (object_at old n d) =
-      ap (λ (c : Entry). object_at new n c) same ∙ ap (λ (j : ℕ). object_at new j e) at ∙ here ∙ sym (ap (λ (c : Entry). f (object_at old n c)) same ∙ ap (λ (j : ℕ). f (object_at old j e)) at) in
+      ap (λ (c : ObjectRecord). object_at new n c) same ∙ ap (λ (j : ℕ). object_at new j e) at ∙ here ∙ sym (ap (λ (c : ObjectRecord). f (object_at old n c)) same ∙ ap (λ (j : ℕ). f (object_at old j e)) at) in
       ap (λ (o : Object). o ∷ shown_from new (suc n) es) now
       ∙ ap (λ (os : List Object). f (object_at old n d) ∷ os) (shown-same (suc n) es (λ m j c t h. others m c (λ i. absurd (omega (arith, i, t, at)))))
   shown-changed f n (suc k) id (d ∷ es) e s g here others =
@@ -100,23 +100,23 @@ count-change (suc k) f (y ∷ ys) x g =
 
 -- ---- entries
 
-pub entry-of : (es : List Entry) (n key : ℕ) → key_at es n ≡ Some key → (e : Entry) × (slice_get es n ≡ Some e) × (e.key ≡ key)
+pub entry-of : (es : List ObjectRecord) (n key : ℕ) → key_at es n ≡ Some key → (e : ObjectRecord) × (slice_get es n ≡ Some e) × (e.key ≡ key)
 entry-of es n key h = by_entry (slice_get es n) refl h
   where
-    by_entry : (there : Option Entry) → slice_get es n ≡ there → option_map (λ (e : Entry). e.key) there ≡ Some key → (e : Entry) × (slice_get es n ≡ Some e) × (e.key ≡ key)
+    by_entry : (there : Option ObjectRecord) → slice_get es n ≡ there → option_map (λ (e : ObjectRecord). e.key) there ≡ Some key → (e : ObjectRecord) × (slice_get es n ≡ Some e) × (e.key ≡ key)
     by_entry None is g = absurd (cc g)
     by_entry (Some e) is g = (e, is, same_Some _ _ g)
 
-pub no_entry : (es : List Entry) (n : ℕ) → key_at es n ≡ None → slice_get es n ≡ None
+pub no_entry : (es : List ObjectRecord) (n : ℕ) → key_at es n ≡ None → slice_get es n ≡ None
 no_entry es n h = by_entry (slice_get es n) h
   where
-    by_entry : (there : Option Entry) → option_map (λ (e : Entry). e.key) there ≡ None → there ≡ None
+    by_entry : (there : Option ObjectRecord) → option_map (λ (e : ObjectRecord). e.key) there ≡ None → there ≡ None
     by_entry None g = refl
     by_entry (Some e) g = absurd (cc g)
 
 -- ---- what is found
 
-module _ (slots : Slab Slot) (entries : List Entry) (h : AreHoused slots entries) where
+module _ (slots : Slab Slot) (entries : List ObjectRecord) (h : AreHoused slots entries) where
   pub held-at : (n key : ℕ) (o : Object) → object_in n (get slots key) ≡ Some o → is_held o ≡ true
   held-at n key o there = by_slot (get slots key) refl there
     where
@@ -162,51 +162,51 @@ module _ (slots : Slab Slot) (entries : List Entry) (h : AreHoused slots entries
   pub names-shown : (n : ℕ) → name_at entries n ≡ option_map (λ (x : Object). x.name) (slice_get (shown_from slots 0 entries) n)
   names-shown n = by_entry (slice_get entries n) refl
     where
-      by_object : (e : Entry) (x : Option Object) → slice_get entries n ≡ Some e → ((o : Object) → x ≡ Some o → name_at entries n ≡ Some o.name) → e.name ≡ (or_gone e.name x).name
+      by_object : (e : ObjectRecord) (x : Option Object) → slice_get entries n ≡ Some e → ((o : Object) → x ≡ Some o → name_at entries n ≡ Some o.name) → e.name ≡ (or_gone e.name x).name
       by_object e None is g = refl
-      by_object e (Some o) is g = same_Some _ _ (sym (ap (option_map (λ (d : Entry). d.name)) is) ∙ g o refl)
+      by_object e (Some o) is g = same_Some _ _ (sym (ap (option_map (λ (d : ObjectRecord). d.name)) is) ∙ g o refl)
 
-      by_entry : (there : Option Entry) → slice_get entries n ≡ there → name_at entries n ≡ option_map (λ (x : Object). x.name) (slice_get (shown_from slots 0 entries) n)
-      by_entry None is = ap (option_map (λ (d : Entry). d.name)) is ∙ sym (ap (option_map (λ (x : Object). x.name)) (get-none slots 0 n entries is))
+      by_entry : (there : Option ObjectRecord) → slice_get entries n ≡ there → name_at entries n ≡ option_map (λ (x : Object). x.name) (slice_get (shown_from slots 0 entries) n)
+      by_entry None is = ap (option_map (λ (d : ObjectRecord). d.name)) is ∙ sym (ap (option_map (λ (x : Object). x.name)) (get-none slots 0 n entries is))
       by_entry (Some e) is =
-          ap (option_map (λ (d : Entry). d.name)) is
+          ap (option_map (λ (d : ObjectRecord). d.name)) is
           ∙ ap Some (by_object e (object_in n (get slots e.key)) is (λ o there. name-in n e.key o there))
           ∙ sym (ap (option_map (λ (x : Object). x.name)) (get-some slots 0 n n entries e (omega arith) is))
 
 -- ---- a change of one object
 
 -- the objects after it, and what the slots keep
-pub record Outcome (old new : Slab Slot) (entries : List Entry) (n : ℕ) (f : Object → Object) : Type 0 where
+pub record Outcome (old new : Slab Slot) (entries : List ObjectRecord) (n : ℕ) (f : Object → Object) : Type 0 where
   pub shown : shown_from new 0 entries ≡ change n f (shown_from old 0 entries)
   pub housed : AreHoused new entries
 
-module _ (old new : Slab Slot) (entries : List Entry) (key n : ℕ) (a : ℕ → ℕ) (f : Object → Object) (w : Changes key n a f old new) where
-  at-own : (e : Entry) → e.key ≡ key → object_in n (get new e.key) ≡ option_map f (object_in n (get old e.key))
+module _ (old new : Slab Slot) (entries : List ObjectRecord) (key n : ℕ) (a : ℕ → ℕ) (f : Object → Object) (w : Changes key n a f old new) where
+  at-own : (e : ObjectRecord) → e.key ≡ key → object_in n (get new e.key) ≡ option_map f (object_in n (get old e.key))
   at-own e k =
       ap (λ (j : ℕ). object_in n (get new j)) k
       ∙ ap (object_in n) (w.slots key ∙ ap (λ b. cond b (option_map (changed_in n a f) (get old key)) (get old key)) (eq-eqb key key refl))
       ∙ in-changed n a f (get old key)
       ∙ sym (ap (λ (j : ℕ). option_map f (object_in n (get old j))) k)
 
-  pub at-other : (m : ℕ) (d : Entry) → m ≢ n → object_at new m d ≡ object_at old m d
+  pub at-other : (m : ℕ) (d : ObjectRecord) → m ≢ n → object_at new m d ≡ object_at old m d
   at-other m d o = ap (λ (x : Option Slot). or_gone d.name (object_in m x)) (w.slots d.key) ∙ by_key (eqb d.key key)
     where
       by_key : (b : Bool) → or_gone d.name (object_in m (cond b (option_map (changed_in n a f) (get old d.key)) (get old d.key))) ≡ or_gone d.name (object_in m (get old d.key))
       by_key true = ap (or_gone d.name) (in-other m n a f (get old d.key) o)
       by_key false = refl
 
-  pub own-total : ((name : List ℕ) → f (gone name) ≡ gone name) → (e : Entry) → e.key ≡ key → object_at new n e ≡ f (object_at old n e)
+  pub own-total : ((name : List ℕ) → f (gone name) ≡ gone name) → (e : ObjectRecord) → e.key ≡ key → object_at new n e ≡ f (object_at old n e)
   own-total total e k = ap (or_gone e.name) (at-own e k) ∙ by_object (object_in n (get old e.key))
     where
       by_object : (x : Option Object) → or_gone e.name (option_map f x) ≡ f (or_gone e.name x)
       by_object None = sym (total e.name)
       by_object (Some o) = refl
 
-  own-there : (e : Entry) (o : Object) → e.key ≡ key → object_in n (get old e.key) ≡ Some o → object_at new n e ≡ f (object_at old n e)
+  own-there : (e : ObjectRecord) (o : Object) → e.key ≡ key → object_in n (get old e.key) ≡ Some o → object_at new n e ≡ f (object_at old n e)
   own-there e o k there =
       ap (or_gone e.name) (at-own e k ∙ ap (option_map f) there) ∙ sym (ap (λ (x : Option Object). f (or_gone e.name x)) there)
 
-  pub shown-written : (e : Entry) → slice_get entries n ≡ Some e → object_at new n e ≡ f (object_at old n e) → shown_from new 0 entries ≡ change n f (shown_from old 0 entries)
+  pub shown-written : (e : ObjectRecord) → slice_get entries n ≡ Some e → object_at new n e ≡ f (object_at old n e) → shown_from new 0 entries ≡ change n f (shown_from old 0 entries)
   shown-written e is here = shown-changed old new f 0 n n entries e (omega arith) is here at-other
 
   -- what a slot was
@@ -253,7 +253,7 @@ module _ (old new : Slab Slot) (entries : List Entry) (key n : ℕ) (a : ℕ →
       by_serial x true g = grow x g
       by_serial x false g = g
 
-  count-written : (e : Entry) → slice_get entries n ≡ Some e → object_at new n e ≡ f (object_at old n e) → is_held (f (object_at old n e)) ≡ is_held (object_at old n e) → AreHoused old entries → slab_len new ≡ count_by is_held (shown_from new 0 entries)
+  count-written : (e : ObjectRecord) → slice_get entries n ≡ Some e → object_at new n e ≡ f (object_at old n e) → is_held (f (object_at old n e)) ≡ is_held (object_at old n e) → AreHoused old entries → slab_len new ≡ count_by is_held (shown_from new 0 entries)
   count-written e is here same h =
       let all : count_by is_held (shown_from new 0 entries) ≡ count_by is_held (change n f (shown_from old 0 entries)) = ap (count_by is_held) (shown-written e is here) in
       let more = count-change n f (shown_from old 0 entries) (object_at old n e) (get-some old 0 n n entries e (omega arith) is) in
@@ -291,5 +291,5 @@ module _ (old new : Slab Slot) (entries : List Entry) (key n : ℕ) (a : ℕ →
       }
 
 -- the key that was found is that of the entries
-pub key-found : (es found : List Entry) (n : ℕ) (r key : Option ℕ) → found ≡ es → r ≡ key_at found n → r ≡ key → key_at es n ≡ key
-key-found es found n r key same e k = sym (ap (λ (ds : List Entry). key_at ds n) same) ∙ sym e ∙ k
+pub key-found : (es found : List ObjectRecord) (n : ℕ) (r key : Option ℕ) → found ≡ es → r ≡ key_at found n → r ≡ key → key_at es n ≡ key
+key-found es found n r key same e k = sym (ap (λ (ds : List ObjectRecord). key_at ds n) same) ∙ sym e ∙ k

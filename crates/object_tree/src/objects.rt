@@ -12,7 +12,7 @@ ghost use Rattle.object_tree.specs.Family.{parent_of, children_of, joined_by, le
 use crate::life::Life;
 use crate::object::Object;
 use crate::slot::{
-    Entry, Slot, adoption_in, block_in, end_in, give_up, house_in, join_in, key_of, lose_in,
+    ObjectRecord, Slot, adoption_in, block_in, end_in, give_up, house_in, join_in, key_of, lose_in,
     name_in, object_in, put, put_under_in, schedule_in, write_in,
 };
 use basic_types::{LoopId, Name, ObjectId, Value};
@@ -25,7 +25,7 @@ use std::marker::Model;
 /// takes up no slot.
 #[derive(Drop)]
 pub struct Objects {
-    entries: Vec<Entry>,
+    entries: Vec<ObjectRecord>,
     slots: Slab<Slot>,
 }
 

@@ -26,13 +26,13 @@ pub struct Slot {
 /// What is kept of an object for ever: its name, and the key of the slot that it got. Once the object is dead and has no
 /// living child, the slot may be that of another object, which its serial tells.
 #[derive(Drop)]
-pub struct Entry {
+pub struct ObjectRecord {
     pub name: Name,
     pub key: usize,
 }
 
 /// The key of the slot that an object got.
-pub fn key_of(entries: &[Entry], object: ObjectId) -> Option<usize>
+pub fn key_of(entries: &[ObjectRecord], object: ObjectId) -> Option<usize>
     ensures { result ≡ key_at entries.now object }
 {
     match entries.get(object.number()) {
@@ -42,7 +42,7 @@ pub fn key_of(entries: &[Entry], object: ObjectId) -> Option<usize>
 }
 
 /// The name of an object, which may be dead.
-pub fn name_in(entries: &[Entry], object: ObjectId) -> Option<&Name>
+pub fn name_in(entries: &[ObjectRecord], object: ObjectId) -> Option<&Name>
     ensures { option_copied result ≡ name_at entries.now object }
 {
     match entries.get(object.number()) {
@@ -62,7 +62,12 @@ pub fn object_in(slots: &Slab<Slot>, key: usize, object: ObjectId) -> Option<&Ob
 }
 
 /// Puts an object, for which there is room, into a slot, with its name for ever.
-pub fn put(entries: &mut Vec<Entry>, slots: &mut Slab<Slot>, name: Name, object: Object) -> usize
+pub fn put(
+    entries: &mut Vec<ObjectRecord>,
+    slots: &mut Slab<Slot>,
+    name: Name,
+    object: Object,
+) -> usize
     requires entry { vec_len entries.old < vec_capacity entries.old }
     requires slot { HasRoomFor slots.old 1 }
     ensures vacant { get slots.old result ≡ None }
@@ -78,7 +83,7 @@ pub fn put(entries: &mut Vec<Entry>, slots: &mut Slab<Slot>, name: Name, object:
         adoption: 0,
         object,
     });
-    entries.push_reserved(Entry { name, key });
+    entries.push_reserved(ObjectRecord { name, key });
     key
 }
 

@@ -7,10 +7,14 @@ use edge_reasons::Numbered;
 use effect_scan::{Member, Node};
 use meta_model::Statement;
 use std::alloc::AllocError;
-use type_check::{Flaw, Spot};
+use type_check::{Spot, TypeFlaw};
 
 /// What isn't typed at the spot, which has this flaw, and what has to be of which type.
-pub fn flaw_text(source: ProgramSource<'_>, spot: Spot, flaw: Flaw) -> Result<String, AllocError> {
+pub fn flaw_text(
+    source: ProgramSource<'_>,
+    spot: Spot,
+    flaw: TypeFlaw,
+) -> Result<String, AllocError> {
     match spot {
         Spot::Node(node) => match node.member {
             Member::Method(_) => body_text(source, node, flaw.statement),

@@ -7,7 +7,7 @@ use Rattle.expressions.specs.declared.evaluation.EvalFault.TheVariants as eval
 use Rattle.meta_model.specs.{declared.object.MetaObject.{MetaObject}, declared.object.MetaProperty.{MetaProperty}, declared.site.MetaSite.{MetaSite}, declared.site.SourceProperty.{SourceProperty}, Loaded.{Loaded}, Members.{IsClass, IsProperty, base_of, Below, same, under}, Sound.{IsSound, IsSoundSite, IsPlain}}
 use Rattle.object_tree.{specs.declared.life.Life.{Life}, specs.declared.object.Object.{Object}, proofs.Changing.{life-of-lives}}
 use Rattle.binding_graph.specs.{declared.binding.Binding.{Binding}, Places.{property_of}, Bindings.{binding_at, replaced, value_of, Loop}}
-use Rattle.prop_bindings.{specs.declared.plans.fault.BindFault.{BindFault}, specs.declared.plans.planned.PlannedBind.{PlannedBind}, specs.declared.preparing.Prepared.{Prepared}, specs.FaultNumbers.{fault_of}, specs.Values.{values_in}, specs.Calls.{IsOf, MayBind, CoversBinding, binding_of, new_binding, IsNotBound, bad_source, bad_type, closes, no_memory}, specs.Plans.{PlansBind, after}, specs.code.Parts.{IsPrepared, Prepares, IsNotInstalled, loops, short, Installs}, specs.Changes.{IsInstalled}, specs.Fits.{FitsAt, IsFit}, proofs.Calling.{fits-of}}
+use Rattle.prop_bindings.{specs.declared.plans.fault.BindFault.{BindFault}, specs.declared.plans.planned.PlannedBind.{PlannedBind}, specs.declared.preparing.PreparedBinding.{PreparedBinding}, specs.FaultNumbers.{fault_of}, specs.Values.{values_in}, specs.Calls.{IsOf, MayBind, CoversBinding, binding_of, new_binding, IsNotBound, bad_source, bad_type, closes, no_memory}, specs.Plans.{PlansBind, after}, specs.code.Parts.{IsPrepared, Prepares, IsNotInstalled, loops, short, Installs}, specs.Changes.{IsInstalled}, specs.Fits.{FitsAt, IsFit}, proofs.Calling.{fits-of}}
 use Rattle.prop_bindings.specs.declared.plans.fault.BindFault.TheVariants as bind
 
 -- ---- a property's number is the same in each class below
@@ -96,7 +96,7 @@ module _ (p : Loaded) (objects : List Object) (number target : ℕ) (sources : L
         record { may = may; is = is; fit = subst (IsFit p objects) (sym is) fit; has = has }
 
   -- an error that a `?` hands on
-  pub prepares-err : (fault : BindFault) (r : Result Prepared BindFault) → IsErrAnd r (λ f. f ≡ fault) → ((bs : List Binding) → IsNotBound p objects bs number target sources fault) → Prepares p number target sources objects r
+  pub prepares-err : (fault : BindFault) (r : Result PreparedBinding BindFault) → IsErrAnd r (λ f. f ≡ fault) → ((bs : List Binding) → IsNotBound p objects bs number target sources fault) → Prepares p number target sources objects r
   prepares-err fault (Ok found) is why = absurd is
   prepares-err fault (Err f) is why = λ bs. subst (λ (g : BindFault). IsNotBound p objects bs number target sources g) (sym is) (why bs)
 

@@ -19,8 +19,8 @@ use crate::plans::{
     Assignment, BindFault, ChangedPlaces, Planned, PlannedBind, PlannedGroup, PlannedWrite,
     WriteFault,
 };
-use crate::preparing::{Prepared, fits, has_value, prepare};
-use crate::writes::{Given, all_fit, give_all, give_one, have_all, plan_given, plan_one};
+use crate::preparing::{PreparedBinding, fits, has_value, prepare};
+use crate::writes::{GivenValues, all_fit, give_all, give_one, have_all, plan_given, plan_one};
 use basic_types::{ObjectId, Value};
 use binding_graph::{Binding, Graph, Place, Reader, followers};
 use meta_model::Meta;
@@ -204,7 +204,7 @@ impl Bindings {
             return Err(WriteFault::BadType);
         }
         let given = give_all(self.alloc, writes)?;
-        let Given { targets, values } = given;
+        let GivenValues { targets, values } = given;
         let targets = Items::from_vec(targets);
         if have_all(tree, targets.as_slice(), &values) {
             return Ok(PlannedGroup {
@@ -269,7 +269,7 @@ impl Bindings {
     fn plan_install(
         &self,
         tree: &Tree,
-        prepared: Prepared,
+        prepared: PreparedBinding,
         before: usize,
     ) -> Result<PlannedBind, BindFault>
         requires agree { AgreesWith tree.now self.now.installed prepared.binding prepared.value }
@@ -282,7 +282,7 @@ impl Bindings {
             (binding_at (replaced self.now.installed plan.reader)) plan.reader.target
             plan.planned.changed plan.planned.evaluated) }
     {
-        let Prepared { binding, value } = prepared;
+        let PreparedBinding { binding, value } = prepared;
         let target = binding.target;
         let reader = Reader::new(self.alloc, binding)?;
         let values = give_one(self.alloc, &target, value)?;

@@ -22,7 +22,7 @@ use std::alloc::Global;
 
 /// A binding, with the value that its expression has.
 #[derive(Drop)]
-pub struct Prepared {
+pub struct PreparedBinding {
     pub binding: Binding,
     pub value: Value,
 }
@@ -37,7 +37,7 @@ pub fn prepare(
     target: ObjectId,
     sources: &[ObjectId],
     count: &mut usize,
-) -> Result<Prepared, BindFault>
+) -> Result<PreparedBinding, BindFault>
     requires { count.old ≡ 0 }
     ensures value { Prepares meta.now number target sources.now tree.now result }
     ensures counted { OnOk result (count.new ≡ 1) }
@@ -64,7 +64,7 @@ pub fn prepare(
     if !fits(meta, tree, &binding.target, &value) {
         return Err(BindFault::BadType);
     }
-    Ok(Prepared { binding, value })
+    Ok(PreparedBinding { binding, value })
 }
 
 /// The value of a binding's expression over the present values; `BadType` where it has none. It is one evaluation more.

@@ -21,7 +21,7 @@ use std::alloc::{AllocError, Global};
 /// What writes give: their properties, each once, in the order in which they are written first, and of each the value that
 /// is written last.
 #[derive(Drop)]
-pub struct Given {
+pub struct GivenValues {
     pub targets: Vec<Place>,
     pub values: IndexMap<(usize, usize), Value>,
 }
@@ -70,7 +70,7 @@ pub fn plan_one(
 }
 
 /// What these writes give. Its error is that memory was refused.
-pub fn give_all(alloc: Global, writes: &[Assignment]) -> Result<Given, AllocError>
+pub fn give_all(alloc: Global, writes: &[Assignment]) -> Result<GivenValues, AllocError>
     ensures { IfOk result (λ given. AreGiven writes.now given.targets.items given.values) }
 {
     let mut targets = Vec::new(alloc);
@@ -83,7 +83,7 @@ pub fn give_all(alloc: Global, writes: &[Assignment]) -> Result<Given, AllocErro
         }
         targets.push(write.place)?;
     }
-    Ok(Given { targets, values })
+    Ok(GivenValues { targets, values })
 }
 
 /// Whether each of these properties has the value already that it is to have.

@@ -8,7 +8,7 @@ use Rattle.effect_scan.specs.declared.node.Node.{Node}
 use Rattle.effect_scan.specs.Nodes.{nodes_of, IsAt}
 use Rattle.certificate_lang.specs.declared.certificate.Line.{Line}
 use Rattle.certificate_lang.specs.declared.certificate.Certificate.{Certificate}
-use Rattle.rank_check.specs.declared.entries.Entry.{Entry}
+use Rattle.rank_check.specs.declared.entries.NodeClaim.{NodeClaim}
 use Rattle.rank_check.specs.Names.{IsNodeNamed}
 use Rattle.rank_check.specs.declared.causes.NodeLine.{NodeLine}
 use Rattle.rank_check.specs.declared.causes.Extra.{Extra}
@@ -118,8 +118,8 @@ module _ (p : Loaded) (certificate : Certificate) (numbers : List (Option ℕ)) 
           let same : at.node ≡ n = one_node numbers k at.node n at.is_for (for_line k n line e named) in
           subst (λ (m : ℕ). slice_get places m ≡ Some k) same at.placed
 
-      module _ (entries : List Entry) (zip : AllZip (IsEntryAt p certificate.lines) places entries) where
-        entry_of : (place : NodeLine) (e : Entry) → IsPlaceOf entries place e → IsEntryOf p certificate place e
+      module _ (entries : List NodeClaim) (zip : AllZip (IsEntryAt p certificate.lines) places entries) where
+        entry_of : (place : NodeLine) (e : NodeClaim) → IsPlaceOf entries place e → IsEntryOf p certificate place e
         entry_of place e h =
             let w = zip_right (IsEntryAt p certificate.lines) places entries zip place.node e h.stands in
             let l = line_for w.0 place.node (placed.is_for place.node w.0 w.1) in

@@ -4,7 +4,7 @@ use Rattle.meta_model.specs.{declared.object.MetaObject.{MetaObject}, declared.q
 use Rattle.effect_scan.specs.{declared.node.Node.{Node}, declared.node.Member.TheVariants.{Method, Destruction}, Nodes.{node, shape_of, nodes_from, nodes_of, IsAt}, Laws.{IsNode, EdgesJoinNodes}, Rows.{row, Edge}, Edges.{MayLead}, Scans.{Scanned, IsScan}, Destroying.{Closure, AreClosures}}
 use Rattle.class_sets.specs.Marks.{IsMarked}
 use Rattle.certificate_lang.specs.{declared.certificate.Line.{Line}, declared.certificate.Certificate.{Certificate}}
-use Rattle.rank_check.{specs.declared.entries.Entry.{Entry}, specs.declared.causes.NodeLine.{NodeLine}, specs.declared.causes.Rise.{Rise}, specs.declared.causes.Mistake.{Mistake}, specs.declared.causes.Mistake.TheVariants.{Unclosed, Own, Lost}, specs.Names.{IsNodeNamed}, specs.Valid.{IsLineOf, Destroys, RanksFall, SetsHold, IsValid}, specs.Causes.{IsAtPlace, IsEdgeOf, IsRise, IsMistake}, specs.Entries.{IsEntry, NamesNodes}, specs.ByNumbers.{IsPlaceOf, Fall, IsRiseIn, AreWithin, HoldsOwn, IsOwnMistake, Hold, IsMistakeOfOne, IsMistakeIn}, proofs.Elements.{some_inside, place_of}, proofs.Assembled.{one_at}}
+use Rattle.rank_check.{specs.declared.entries.NodeClaim.{NodeClaim}, specs.declared.causes.NodeLine.{NodeLine}, specs.declared.causes.Rise.{Rise}, specs.declared.causes.Mistake.{Mistake}, specs.declared.causes.Mistake.TheVariants.{Unclosed, Own, Lost}, specs.Names.{IsNodeNamed}, specs.Valid.{IsLineOf, Destroys, RanksFall, SetsHold, IsValid}, specs.Causes.{IsAtPlace, IsEdgeOf, IsRise, IsMistake}, specs.Entries.{IsEntry, NamesNodes}, specs.ByNumbers.{IsPlaceOf, Fall, IsRiseIn, AreWithin, HoldsOwn, IsOwnMistake, Hold, IsMistakeOfOne, IsMistakeIn}, proofs.Elements.{some_inside, place_of}, proofs.Assembled.{one_at}}
 
 -- edges lead to nodes
 pub edges_inside : (p : Loaded) (scan : Scanned) → IsScan p scan → (count : ℕ) → count ≡ length (nodes_of p) → (a b : ℕ) → Edge scan.rows a b → b < count
@@ -13,9 +13,9 @@ edges_inside p scan is count e a b edge =
     let low = slice_get_within (nodes_of p) b leads.to leads.is_to in
     omega arith
 
-module _ (p : Loaded) (certificate : Certificate) (scan : Scanned) (is : IsScan p scan) (entries : List Entry) (names : NamesNodes p certificate entries) where
+module _ (p : Loaded) (certificate : Certificate) (scan : Scanned) (is : IsScan p scan) (entries : List NodeClaim) (names : NamesNodes p certificate entries) where
   -- the entry of a node
-  entry_at : (n : ℕ) (x : Node) → IsAt (nodes_of p) x n → (e : Entry) × (slice_get entries n ≡ Some e)
+  entry_at : (n : ℕ) (x : Node) → IsAt (nodes_of p) x n → (e : NodeClaim) × (slice_get entries n ≡ Some e)
   entry_at n x at =
       let low = slice_get_within (nodes_of p) n x at in
       let inside : n < length entries = omega (arith, names.are.count) in
@@ -25,7 +25,7 @@ module _ (p : Loaded) (certificate : Certificate) (scan : Scanned) (is : IsScan 
   edge_of x y n m at_x at_y leads = (is.edges.edges n m).1 (record { from = x; to = y; is_from = at_x; is_to = at_y; leads = leads })
 
   -- .. that is of this line
-  entry_of : (n : ℕ) (x : Node) (line : Line) (e : Entry) → IsAt (nodes_of p) x n → IsLineOf p certificate x line → slice_get entries n ≡ Some e → IsEntry p line e
+  entry_of : (n : ℕ) (x : Node) (line : Line) (e : NodeClaim) → IsAt (nodes_of p) x n → IsLineOf p certificate x line → slice_get entries n ≡ Some e → IsEntry p line e
   entry_of n x line e at line_of at_e =
       let own = names.are.each (record { node = n; line = e.line }) e (record { stands = at_e; line = refl }) in
       let k = place_of certificate.lines line line_of.stands in
@@ -35,14 +35,14 @@ module _ (p : Loaded) (certificate : Certificate) (scan : Scanned) (is : IsScan 
       subst (λ (l : Line). IsEntry p l e) line_is own.is
 
   -- the edge between two places, and the lines there
-  record Joined (first second : NodeLine) (a b : Entry) : Type 0 where
+  record Joined (first second : NodeLine) (a b : NodeClaim) : Type 0 where
     pub upper : Line
     pub lower : Line
     pub edge : IsEdgeOf p certificate first second upper lower
     pub upper_is : IsEntry p upper a
     pub lower_is : IsEntry p lower b
 
-  joined : (first second : NodeLine) (a b : Entry) → IsPlaceOf entries first a → IsPlaceOf entries second b → Edge scan.rows first.node second.node → Joined first second a b
+  joined : (first second : NodeLine) (a b : NodeClaim) → IsPlaceOf entries first a → IsPlaceOf entries second b → Edge scan.rows first.node second.node → Joined first second a b
   joined first second a b at_a at_b edge =
       let x = names.are.each first a at_a in
       let y = names.are.each second b at_b in
@@ -131,7 +131,7 @@ module _ (p : Loaded) (certificate : Certificate) (scan : Scanned) (is : IsScan 
         (own.1.holds).spared body ((own.1.marks line line_of x.class).1 destroys);
   }
     where
-      own_at : (x : Node) → IsNode p x → (e : Entry) × record { holds : HoldsOwn p x e.destroys; marks : (line : Line) → IsLineOf p certificate x line → (d : ℕ) → (IsMarked e.destroys d → Destroys p line d) × (Destroys p line d → IsMarked e.destroys d) }
+      own_at : (x : Node) → IsNode p x → (e : NodeClaim) × record { holds : HoldsOwn p x e.destroys; marks : (line : Line) → IsLineOf p certificate x line → (d : ℕ) → (IsMarked e.destroys d → Destroys p line d) × (Destroys p line d → IsMarked e.destroys d) }
       own_at x n =
           let e = entry_at n.0 x n.1 in
           let at = subst (λ (ns : List Node). slice_get ns n.0 ≡ Some x) (sym is.nodes) n.1 in (
@@ -154,7 +154,7 @@ pub in_closure : (p : Loaded) (c d : ℕ) (closures : List (List ℕ)) (classes 
 in_closure p c d closures classes are e held = (are.members c d).0 (subst (λ (ds : List ℕ). Contains ds d) e held)
 
 -- .. a mistake in it
-pub mistake_of_one : (p : Loaded) (nodes : List Node) (rows : List (List ℕ)) (entries : List Entry) (items : List Node) (a : ℕ) (d : Node) (e : Entry) → items ≡ nodes → a < length items → slice_get entries a ≡ Some e
+pub mistake_of_one : (p : Loaded) (nodes : List Node) (rows : List (List ℕ)) (entries : List NodeClaim) (items : List Node) (a : ℕ) (d : Node) (e : NodeClaim) → items ≡ nodes → a < length items → slice_get entries a ≡ Some e
     → (mistake : Mistake) → IsOwnMistake p (get_or items a d) e.destroys (record { node = a; line = e.line }) mistake → IsMistakeIn p nodes rows entries mistake
 mistake_of_one p nodes rows entries items a d e same inside at_e mistake wrong = told mistake wrong
   where
@@ -174,25 +174,25 @@ mistake_of_one p nodes rows entries items a d e same inside at_e mistake wrong =
     told (Lost first second c) wrong = absurd wrong
 
 -- ---- the first nodes
-pub record HoldFirst (p : Loaded) (nodes : List Node) (rows : List (List ℕ)) (entries : List Entry) (end : ℕ) : Type 0 where
-  pub within : (a : ℕ) → a < end → (x : Entry) → slice_get entries a ≡ Some x → AreWithin (row rows a) entries x.destroys
-  pub own : (a : ℕ) → a < end → (x : Node) (e : Entry) → slice_get nodes a ≡ Some x → slice_get entries a ≡ Some e → HoldsOwn p x e.destroys
+pub record HoldFirst (p : Loaded) (nodes : List Node) (rows : List (List ℕ)) (entries : List NodeClaim) (end : ℕ) : Type 0 where
+  pub within : (a : ℕ) → a < end → (x : NodeClaim) → slice_get entries a ≡ Some x → AreWithin (row rows a) entries x.destroys
+  pub own : (a : ℕ) → a < end → (x : Node) (e : NodeClaim) → slice_get nodes a ≡ Some x → slice_get entries a ≡ Some e → HoldsOwn p x e.destroys
 
-module _ (p : Loaded) (nodes : List Node) (rows : List (List ℕ)) (entries : List Entry) where
+module _ (p : Loaded) (nodes : List Node) (rows : List (List ℕ)) (entries : List NodeClaim) where
   pub hold_none : HoldFirst p nodes rows entries 0
   hold_none = record { within = λ a low. absurd (omega (arith, low)); own = λ a low. absurd (omega (arith, low)) }
 
-  pub hold_more : (items : List Node) (a : ℕ) (d : Node) (e : Entry) (targets : List ℕ) (set : List Bool) → items ≡ nodes → a < length items → slice_get entries a ≡ Some e → targets ≡ row rows a → set ≡ e.destroys
+  pub hold_more : (items : List Node) (a : ℕ) (d : Node) (e : NodeClaim) (targets : List ℕ) (set : List Bool) → items ≡ nodes → a < length items → slice_get entries a ≡ Some e → targets ≡ row rows a → set ≡ e.destroys
       → AreWithin targets entries set → HoldsOwn p (get_or items a d) set → HoldFirst p nodes rows entries a → HoldFirst p nodes rows entries (a + 1)
   hold_more items a d e targets set same_items inside at_e row_is set_is within own h = record {
     within = below_more _ _ h.within (λ y at_y.
         let same = same_Some e y (sym at_e ∙ at_y) in
-        subst (λ (z : Entry). AreWithin (row rows a) entries z.destroys) same (subst (λ (s : List Bool). AreWithin (row rows a) entries s) set_is (subst (λ (ts : List ℕ). AreWithin ts entries set) row_is within)));
+        subst (λ (z : NodeClaim). AreWithin (row rows a) entries z.destroys) same (subst (λ (s : List Bool). AreWithin (row rows a) entries s) set_is (subst (λ (ts : List ℕ). AreWithin ts entries set) row_is within)));
     own = below_more _ _ h.own (λ y f at_y at_f.
         let same = same_Some e f (sym at_e ∙ at_f) in
         let here = subst (λ (ns : List Node). slice_get ns a ≡ Some (get_or items a d)) same_items (slice_get-get_or items a d inside) in
         let node_is = same_Some (get_or items a d) y (sym here ∙ at_y) in
-        subst (λ (z : Entry). HoldsOwn p y z.destroys) same (subst (λ (s : List Bool). HoldsOwn p y s) set_is (subst (λ (z : Node). HoldsOwn p z set) node_is own)));
+        subst (λ (z : NodeClaim). HoldsOwn p y z.destroys) same (subst (λ (s : List Bool). HoldsOwn p y s) set_is (subst (λ (z : Node). HoldsOwn p z set) node_is own)));
   }
 
   pub hold_all : (end : ℕ) → length nodes ≤ end → length entries ≡ length nodes → HoldFirst p nodes rows entries end → Hold p nodes rows entries

@@ -6,7 +6,7 @@ use Rattle.effect_scan.specs.{declared.node.Node.{Node}, Nodes.{nodes_of, IsAt}}
 use Rattle.class_sets.specs.Marks.{IsMarked, Marks}
 use Rattle.type_check.specs.{Wires.{AreFitWires}, Typed.{IsTypedProgram}}
 use Rattle.certificate_lang.specs.{declared.certificate.NodeName.{NodeName}, declared.certificate.SetItem.{SetItem}, declared.certificate.Line.{Line}, declared.certificate.Certificate.{Certificate}}
-use Rattle.rank_check.specs.{declared.causes.Cause.{Cause}, declared.causes.NodeLine.{NodeLine}, declared.causes.Extra.{Extra}, declared.causes.Extra.TheVariants.{Unknown, Twice, Class}, declared.entries.Entry.{Entry}, declared.no.No.{No}, declared.no.No.TheVariants.{Wire, BodyType, Memory}, Names.{IsNodeNamed}, Valid.{StandsFor, AreClassesThere, IsListed, HasEachNode, HasNothingElse}, Causes.{StandsForNoClass, StandsForNone, IsExtra, IsAtPlace}, Checks.{IsCause}, ByNumbers.{IsPlaceOf}}
+use Rattle.rank_check.specs.{declared.causes.Cause.{Cause}, declared.causes.NodeLine.{NodeLine}, declared.causes.Extra.{Extra}, declared.causes.Extra.TheVariants.{Unknown, Twice, Class}, declared.entries.NodeClaim.{NodeClaim}, declared.no.No.{No}, declared.no.No.TheVariants.{Wire, BodyType, Memory}, Names.{IsNodeNamed}, Valid.{StandsFor, AreClassesThere, IsListed, HasEachNode, HasNothingElse}, Causes.{StandsForNoClass, StandsForNone, IsExtra, IsAtPlace}, Checks.{IsCause}, ByNumbers.{IsPlaceOf}}
 
 -- ---- the nodes of lines
 -- the node of this number is named so
@@ -107,39 +107,39 @@ abbrev pub FindsSet : Loaded → List SetItem → Result (List Bool) ℕ → Typ
 FindsSet p items found = MatchResult found (IsSet p items) (StandsForNone p items)
 
 -- the rank and the set of the line
-pub record IsEntry (p : Loaded) (line : Line) (entry : Entry) : Type 0 where
+pub record IsEntry (p : Loaded) (line : Line) (entry : NodeClaim) : Type 0 where
   pub rank : entry.rank ≡ line.rank
   pub destroys : IsSet p line.destroys entry.destroys
 
 -- the rank and the set of the line at this place, or the place of an item of its set whose class isn't there
-abbrev pub FindsEntry : Loaded → Line → ℕ → Result Entry ℕ → Type 0
+abbrev pub FindsEntry : Loaded → Line → ℕ → Result NodeClaim ℕ → Type 0
 FindsEntry p line k found = MatchResult found (λ entry. (entry.line ≡ k) × IsEntry p line entry) (StandsForNone p line.destroys)
 
 -- the rank and the set of the line at this place
-pub record IsEntryAt (p : Loaded) (lines : List Line) (k : ℕ) (entry : Entry) : Type 0 where
+pub record IsEntryAt (p : Loaded) (lines : List Line) (k : ℕ) (entry : NodeClaim) : Type 0 where
   pub line : Line
   pub stands : slice_get lines k ≡ Some line
   pub place : entry.line ≡ k
   pub is : IsEntry p line entry
 
 -- the entries of the lines at these places, or a class that isn't there
-abbrev pub FindsEntries : Loaded → List Line → List ℕ → Result (List Entry) Extra → Type 0
+abbrev pub FindsEntries : Loaded → List Line → List ℕ → Result (List NodeClaim) Extra → Type 0
 FindsEntries p lines places found = MatchResult found (AllZip (IsEntryAt p lines) places) (IsExtra p lines)
 
 -- the entry of the node at this place
-pub record IsEntryOf (p : Loaded) (certificate : Certificate) (place : NodeLine) (entry : Entry) : Type 0 where
+pub record IsEntryOf (p : Loaded) (certificate : Certificate) (place : NodeLine) (entry : NodeClaim) : Type 0 where
   pub node : Node
   pub line : Line
   pub at : IsAtPlace p certificate place node line
   pub is : IsEntry p line entry
 
 -- an entry for each node, in their order
-pub record AreEntries (p : Loaded) (certificate : Certificate) (entries : List Entry) : Type 0 where
+pub record AreEntries (p : Loaded) (certificate : Certificate) (entries : List NodeClaim) : Type 0 where
   pub count : length entries ≡ length (nodes_of p)
-  pub each : (place : NodeLine) (entry : Entry) → IsPlaceOf entries place entry → IsEntryOf p certificate place entry
+  pub each : (place : NodeLine) (entry : NodeClaim) → IsPlaceOf entries place entry → IsEntryOf p certificate place entry
 
 -- the lines name each node once, and nothing else
-pub record NamesNodes (p : Loaded) (certificate : Certificate) (entries : List Entry) : Type 0 where
+pub record NamesNodes (p : Loaded) (certificate : Certificate) (entries : List NodeClaim) : Type 0 where
   pub each_node : HasEachNode p certificate
   pub nothing_else : HasNothingElse p certificate
   pub are : AreEntries p certificate entries
@@ -162,6 +162,6 @@ BreaksProgram p Memory = Unit {0}
 BreaksProgram p reason = ⊥
 
 -- the entries of the nodes, where the lines name each once and nothing else
-abbrev pub GivesEntries : Loaded → Certificate → Result (List Entry) Cause → Type 0
+abbrev pub GivesEntries : Loaded → Certificate → Result (List NodeClaim) Cause → Type 0
 GivesEntries p certificate (Ok entries) = NamesNodes p certificate entries
 GivesEntries p certificate (Err cause) = IsReady p → IsCause p certificate cause

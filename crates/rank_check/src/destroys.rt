@@ -9,7 +9,7 @@ ghost use Rattle.rank_check.specs.Valid.{RunsBody, HasBody};
 ghost use Rattle.rank_check.specs.ByNumbers.{AreWithin, PassFirst, HasLost, HoldsOwn, IsOwnMistake, Hold, IsMistakeIn};
 
 use crate::causes::{Mistake, NodeLine};
-use crate::entries::Entry;
+use crate::entries::NodeClaim;
 use crate::twins::earlier_twin;
 use class_sets::ClassSet;
 use effect_scan::{Member, Node, Scan, row_at};
@@ -18,7 +18,7 @@ use sqlite_items::at;
 
 /// What is wrong with the first set that doesn't hold what it has to, in the order of nodes: the set of each node that it
 /// may lead to; for the destruction of a class its closure; for a slot or native not its own class.
-pub fn first_mistake(meta: &Meta, scan: &Scan, entries: &[Entry]) -> Option<Mistake>
+pub fn first_mistake(meta: &Meta, scan: &Scan, entries: &[NodeClaim]) -> Option<Mistake>
     requires scan { IsScan meta.now scan.now }
     requires inside { (a b : ℕ) → Edge scan.now.rows a b → b < length entries.now }
     requires count { length entries.now ≡ length scan.now.nodes }
@@ -47,7 +47,7 @@ pub fn first_mistake(meta: &Meta, scan: &Scan, entries: &[Entry]) -> Option<Mist
 /// looked at.
 fn lost_from(
     scan: &Scan,
-    entries: &[Entry],
+    entries: &[NodeClaim],
     node: usize,
     set: &ClassSet,
 ) -> Option<(NodeLine, usize)>
@@ -63,7 +63,7 @@ fn lost_from(
 }
 
 /// Whether a node before this one leads to the same ones, and its set is within this one.
-fn holds_twin(scan: &Scan, entries: &[Entry], node: usize, set: &ClassSet) -> bool
+fn holds_twin(scan: &Scan, entries: &[NodeClaim], node: usize, set: &ClassSet) -> bool
     requires { PassFirst scan.now.rows entries.now node }
     ensures { IsTrue result → AreWithin (row scan.now.rows node) entries.now set.now }
 {
@@ -77,7 +77,7 @@ fn holds_twin(scan: &Scan, entries: &[Entry], node: usize, set: &ClassSet) -> bo
 }
 
 /// The first class of the sets of these nodes that isn't in this one, with the place of the node that has it.
-fn lost_class(targets: &[usize], entries: &[Entry], set: &ClassSet) -> Option<(NodeLine, usize)>
+fn lost_class(targets: &[usize], entries: &[NodeClaim], set: &ClassSet) -> Option<(NodeLine, usize)>
     requires { (b : ℕ) → Contains targets.now b → b < length entries.now }
     ensures { MatchOption result (AreWithin targets.now entries.now set.now)
         (λ lost. HasLost targets.now entries.now set.now lost.0 lost.1) }

@@ -19,7 +19,7 @@ use std::alloc::{AllocError, Global};
 
 /// What the certificate says of a node.
 #[derive(Drop)]
-pub struct Entry {
+pub struct NodeClaim {
     /// The place of its line among the certificate's.
     pub line: usize,
     /// Its rank.
@@ -35,7 +35,7 @@ pub fn entries(
     meta: &Meta,
     scan: &Scan,
     certificate: &Certificate,
-) -> Result<Items<Entry>, Cause>
+) -> Result<Items<NodeClaim>, Cause>
     requires { IsScan meta.now scan.now }
     ensures { GivesEntries meta.now certificate.now result }
 {
@@ -62,7 +62,7 @@ fn placed_entries(
     certificate: &Certificate,
     numbers: &[Option<usize>],
     places: &[usize],
-) -> Result<Items<Entry>, Cause>
+) -> Result<Items<NodeClaim>, Cause>
     requires scan { IsScan meta.now scan.now }
     requires numbers { AreNumbers meta.now certificate.now.lines numbers.now }
     requires places { ArePlaces (length (nodes_of meta.now)) numbers.now places.now }
@@ -84,7 +84,7 @@ fn entries_at(
     scan: &Scan,
     lines: &[Line],
     places: &[usize],
-) -> Result<Result<Items<Entry>, Extra>, AllocError>
+) -> Result<Result<Items<NodeClaim>, Extra>, AllocError>
     requires scan { IsScan meta.now scan.now }
     requires inside { (n k : ℕ) → slice_get places.now n ≡ Some k → k < length lines.now }
     ensures { IfOk result (FindsEntries meta.now lines.now places.now) }
@@ -109,13 +109,13 @@ fn entry_of(
     place: usize,
     line: &Line,
     empty: &Shared<ClassSet>,
-) -> Result<Result<Entry, usize>, AllocError>
+) -> Result<Result<NodeClaim, usize>, AllocError>
     requires scan { IsScan meta.now scan.now }
     requires empty { empty.now ≡ [] }
     ensures { IfOk result (FindsEntry meta.now line.now place) }
 {
     match shared_set(alloc, meta, scan, line.destroys.as_slice(), empty)? {
-        Ok(destroys) => Ok(Ok(Entry {
+        Ok(destroys) => Ok(Ok(NodeClaim {
             line: place,
             rank: line.rank,
             destroys,

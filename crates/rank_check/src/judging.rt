@@ -8,7 +8,7 @@ ghost use Rattle.rank_check.specs.Valid.{IsValid};
 
 use crate::causes::Cause;
 use crate::destroys::first_mistake;
-use crate::entries::{Entry, entries};
+use crate::entries::{NodeClaim, entries};
 use crate::ranks::{first_rise, loose_bound};
 use certificate_lang::Certificate;
 use effect_scan::{Scan, edges_join_nodes};
@@ -63,7 +63,7 @@ pub fn judge_program(alloc: Global, meta: &Meta) -> Result<(), Cause>
 fn judge_entries(
     meta: &Meta,
     scan: &Scan,
-    entries: &[Entry],
+    entries: &[NodeClaim],
     certificate: &Certificate,
 ) -> Result<(), Cause>
     requires scan { IsScan meta.now scan.now }

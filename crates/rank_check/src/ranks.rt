@@ -8,7 +8,7 @@ ghost use Rattle.rank_check.specs.Causes.{IsLoose};
 ghost use Rattle.rank_check.specs.ByNumbers.{AreLower, IsAsHigh, Fall, FallFirst, IsRiseIn};
 
 use crate::causes::{Loose, NodeLine, Rise};
-use crate::entries::Entry;
+use crate::entries::NodeClaim;
 use crate::twins::earlier_twin;
 use certificate_lang::Certificate;
 use effect_scan::Scan;
@@ -19,7 +19,7 @@ use texts::MOST_DEPTH;
 pub const MOST_BOUND: u32 = MOST_DEPTH;
 
 /// The first edge along which the rank doesn't fall, in the order of nodes.
-pub fn first_rise(scan: &Scan, entries: &[Entry]) -> Option<Rise>
+pub fn first_rise(scan: &Scan, entries: &[NodeClaim]) -> Option<Rise>
     requires { (a b : ℕ) → Edge scan.now.rows a b → b < length entries.now }
     ensures { MatchOption result (Fall scan.now.rows entries.now) (IsRiseIn scan.now.rows entries.now) }
 {
@@ -37,7 +37,7 @@ pub fn first_rise(scan: &Scan, entries: &[Entry]) -> Option<Rise>
 
 /// The first node that the node of this number may lead to and that hasn't a rank below this one, which is the node's. Where a
 /// node before it leads to the same ones and has no higher rank, they have been looked at.
-fn first_risen(scan: &Scan, entries: &[Entry], node: usize, rank: u32) -> Option<NodeLine>
+fn first_risen(scan: &Scan, entries: &[NodeClaim], node: usize, rank: u32) -> Option<NodeLine>
     requires inside { (b : ℕ) → Edge scan.now.rows node b → b < length entries.now }
     requires before { FallFirst scan.now.rows entries.now node }
     ensures { MatchOption result (AreLower (row scan.now.rows node) entries.now rank)
@@ -50,7 +50,7 @@ fn first_risen(scan: &Scan, entries: &[Entry], node: usize, rank: u32) -> Option
 }
 
 /// Whether a node before this one leads to the same ones, and has a rank that isn't above this one.
-fn is_above_twin(scan: &Scan, entries: &[Entry], node: usize, rank: u32) -> bool
+fn is_above_twin(scan: &Scan, entries: &[NodeClaim], node: usize, rank: u32) -> bool
     requires { FallFirst scan.now.rows entries.now node }
     ensures { IsTrue result → AreLower (row scan.now.rows node) entries.now rank }
 {
@@ -64,7 +64,7 @@ fn is_above_twin(scan: &Scan, entries: &[Entry], node: usize, rank: u32) -> bool
 }
 
 /// The first of these nodes that hasn't a rank below this one.
-fn first_as_high(targets: &[usize], entries: &[Entry], rank: u32) -> Option<NodeLine>
+fn first_as_high(targets: &[usize], entries: &[NodeClaim], rank: u32) -> Option<NodeLine>
     requires { (b : ℕ) → Contains targets.now b → b < length entries.now }
     ensures { MatchOption result (AreLower targets.now entries.now rank) (IsAsHigh targets.now entries.now rank) }
 {

@@ -8,12 +8,12 @@ use Rattle.rank_graph.specs.Entries.{owns}
 use Rattle.rank_graph.specs.Searching.{state_of, Joins, Finished, NoneOpen, AllDone, Visited}
 use Rattle.rank_graph.specs.Entries.{rank_in, leads_in, rank_at, IsSearched}
 use Rattle.rank_graph.specs.declared.bits.Bits.{Bits}
-use Rattle.rank_graph.specs.declared.path.Entry.{Entry}
-use Rattle.rank_graph.specs.declared.path.State.{State}
-use Rattle.rank_graph.specs.declared.path.State.TheVariants.{New, Open, Done}
+use Rattle.rank_graph.specs.declared.path.NodeRank.{NodeRank}
+use Rattle.rank_graph.specs.declared.path.VisitState.{VisitState}
+use Rattle.rank_graph.specs.declared.path.VisitState.TheVariants.{New, Open, Done}
 use Rattle.rank_graph.proofs.Searching.{done_from}
 
-pub all_new : (rows : List (List ℕ)) (own : List Bits) (states : List State) → ((a : ℕ) → state_of states a ≡ New) → Finished rows own states × NoneOpen states
+pub all_new : (rows : List (List ℕ)) (own : List Bits) (states : List VisitState) → ((a : ℕ) → state_of states a ≡ New) → Finished rows own states × NoneOpen states
 all_new rows own states fresh = (
   record {
     joins = λ a e is. let bad : New ≡ Done e = sym (fresh a) ∙ is in cc;
@@ -22,10 +22,10 @@ all_new rows own states fresh = (
   λ a is. let bad : New ≡ Open = sym (fresh a) ∙ is in cc,
 )
 
-abbrev pub Come : List (List ℕ) → List Bits → ℕ → List State → Type 0
-Come rows own root states = Finished rows own states × NoneOpen states × (length states ≡ length rows) × ((a : ℕ) → a < root → (d : Entry) × (state_of states a ≡ Done d))
+abbrev pub Come : List (List ℕ) → List Bits → ℕ → List VisitState → Type 0
+Come rows own root states = Finished rows own states × NoneOpen states × (length states ≡ length rows) × ((a : ℕ) → a < root → (d : NodeRank) × (state_of states a ≡ Done d))
 
-pub come_visit : (rows : List (List ℕ)) (own : List Bits) (root : ℕ) (states after : List State) → Come rows own root states → Visited rows own states root after → Come rows own (root + 1) after
+pub come_visit : (rows : List (List ℕ)) (own : List Bits) (root : ℕ) (states after : List VisitState) → Come rows own root states → Visited rows own states root after → Come rows own (root + 1) after
 come_visit rows own root states after c v = (
   v.finished,
   v.closed,
@@ -37,7 +37,7 @@ come_visit rows own root states after c v = (
       ],
 )
 
-pub come_past : (rows : List (List ℕ)) (own : List Bits) (root : ℕ) (states : List State) → Come rows own root states → (state_of states root ≡ New → ⊥) → Come rows own (root + 1) states
+pub come_past : (rows : List (List ℕ)) (own : List Bits) (root : ℕ) (states : List VisitState) → Come rows own root states → (state_of states root ≡ New → ⊥) → Come rows own (root + 1) states
 come_past rows own root states c old = (
   c.0,
   c.1,
@@ -49,7 +49,7 @@ come_past rows own root states c old = (
       ],
 )
 
-pub look : (es : List Entry) (a : ℕ) (d : Entry) → state_of (map Done es) a ≡ Done d → slice_get es a ≡ Some d
+pub look : (es : List NodeRank) (a : ℕ) (d : NodeRank) → state_of (map Done es) a ≡ Done d → slice_get es a ≡ Some d
 unfolding state_of
 look [] a d e = let bad : New ≡ Done d = e in cc
 look (x ∷ es) zero d e = let same : Done x ≡ Done d = e in cc
@@ -64,15 +64,15 @@ edge_inside rows a b e =
     ]
 
 -- an entry, with what it was made from
-pub entry_at : (rows : List (List ℕ)) (own : List Bits) (es : List Entry) (a : ℕ) → Finished rows own (map Done es) → AllDone (map Done es) → length (map Done es) ≡ length rows → a < length rows → (e : Entry) × (slice_get es a ≡ Some e) × Joins own (map Done es) a (row rows a) e
+pub entry_at : (rows : List (List ℕ)) (own : List Bits) (es : List NodeRank) (a : ℕ) → Finished rows own (map Done es) → AllDone (map Done es) → length (map Done es) ≡ length rows → a < length rows → (e : NodeRank) × (slice_get es a ≡ Some e) × Joins own (map Done es) a (row rows a) e
 entry_at rows own es a f all len h =
     let d = all a (omega arith) in (d.0, look es a d.0 d.1, f.joins a d.0 d.1)
 
-pub solves_map : (rows : List (List ℕ)) (own : List Bits) (es : List Entry) → length own ≡ length rows → Finished rows own (map Done es) → AllDone (map Done es) → length (map Done es) ≡ length rows → IsSearched rows own es
+pub solves_map : (rows : List (List ℕ)) (own : List Bits) (es : List NodeRank) → length own ≡ length rows → Finished rows own (map Done es) → AllDone (map Done es) → length (map Done es) ≡ length rows → IsSearched rows own es
 unfolding owns
 solves_map rows own es lens f all len =
     let size : length es ≡ length rows = sym (length-map es Done) ∙ len in
-    let at : (a : ℕ) → a < length rows → (e : Entry) × (slice_get es a ≡ Some e) × Joins own (map Done es) a (row rows a) e = λ a h. entry_at rows own es a f all len h in
+    let at : (a : ℕ) → a < length rows → (e : NodeRank) × (slice_get es a ≡ Some e) × Joins own (map Done es) a (row rows a) e = λ a h. entry_at rows own es a f all len h in
     record {
       len = size;
       falls = λ a b edge.
@@ -95,29 +95,29 @@ solves_map rows own es lens f all len =
       holds = λ a b c edge h.
           let x = at a (edge_inside rows a b edge) in
           let y = x.2.falls b edge in
-          ap (λ (o : Option Entry). leads_in o c) x.1 ∙ y.3 c (sym (ap (λ (o : Option Entry). leads_in o c) (look es b y.0 y.1)) ∙ h);
+          ap (λ (o : Option NodeRank). leads_in o c) x.1 ∙ y.3 c (sym (ap (λ (o : Option NodeRank). leads_in o c) (look es b y.0 y.1)) ∙ h);
       itself = λ a c h.
           let x = at a (rw (← lens) (slice_get_within own a h.0 h.1)) in
-          ap (λ (o : Option Entry). leads_in o c) x.1 ∙ x.2.itself c h;
+          ap (λ (o : Option NodeRank). leads_in o c) x.1 ∙ x.2.itself c h;
       source = λ a c h.
           elim (cases_lt a (length rows)) [
             | inl l ↦
                 let x = at a l in
-                elim (x.2.source c (sym (ap (λ (o : Option Entry). leads_in o c) x.1) ∙ h)) [
+                elim (x.2.source c (sym (ap (λ (o : Option NodeRank). leads_in o c) x.1) ∙ h)) [
                   | inl z ↦ inl z
-                  | inr y ↦ inr (y.0, y.2, ap (λ (o : Option Entry). leads_in o c) (look es y.0 y.1 y.3) ∙ y.4)
+                  | inr y ↦ inr (y.0, y.2, ap (λ (o : Option NodeRank). leads_in o c) (look es y.0 y.1 y.3) ∙ y.4)
                 ]
-            | inr m ↦ let bad : false ≡ true = sym (ap (λ (o : Option Entry). leads_in o c) (slice_get_past es a (omega arith))) ∙ h in cc
+            | inr m ↦ let bad : false ≡ true = sym (ap (λ (o : Option NodeRank). leads_in o c) (slice_get_past es a (omega arith))) ∙ h in cc
           ];
     }
 
-pub solves : (rows : List (List ℕ)) (own : List Bits) (es : List Entry) (states : List State) → map Done es ≡ states → length own ≡ length rows → length states ≡ length rows → Finished rows own states × AllDone states → IsSearched rows own es
+pub solves : (rows : List (List ℕ)) (own : List Bits) (es : List NodeRank) (states : List VisitState) → map Done es ≡ states → length own ≡ length rows → length states ≡ length rows → Finished rows own states × AllDone states → IsSearched rows own es
 solves rows own es states e lens len f =
-    let g1 : Finished rows own (map Done es) = subst (λ (s : List State). Finished rows own s) (sym e) f.0 in
+    let g1 : Finished rows own (map Done es) = subst (λ (s : List VisitState). Finished rows own s) (sym e) f.0 in
     let g2 : AllDone (map Done es) = subst AllDone (sym e) f.1 in
     solves_map rows own es lens g1 g2 (ap length e ∙ len)
 
-pub all_fresh : (n : ℕ) (states : List State) → states ≡ replicate n New → (a : ℕ) → state_of states a ≡ New
+pub all_fresh : (n : ℕ) (states : List VisitState) → states ≡ replicate n New → (a : ℕ) → state_of states a ≡ New
 unfolding state_of
 all_fresh n states e a =
     elim (cases_lt a n) [

@@ -8,7 +8,7 @@ use Rattle.std.proofs.lemmas.Option.{none-some, same_Some}
 use Rattle.effect_scan.specs.Rows.{row, Edge}
 use Rattle.rank_graph.specs.declared.bits.TheConstants.{SIZE}
 use Rattle.rank_graph.specs.declared.bits.Bits.{Bits}
-use Rattle.rank_graph.specs.declared.path.Entry.{Entry}
+use Rattle.rank_graph.specs.declared.path.NodeRank.{NodeRank}
 use Rattle.rank_graph.specs.declared.solution.Solution.{Solution}
 use Rattle.rank_graph.specs.Bits.{has}
 use Rattle.rank_graph.specs.Entries.{owns}
@@ -86,16 +86,16 @@ pub are_group_all : (k n : ℕ) (own : List (List ℕ)) (bits : List Bits) → l
 are_group_all k n own bits end z = are_group k own bits (subst (λ (l : List (List ℕ)). AllZip (HasGroup k) l bits) (take_all n own end) z)
 
 -- ---- all groups
-pub record Grouped (rows own : List (List ℕ)) (n : ℕ) (groups : List (List Entry)) : Type 0 where
+pub record Grouped (rows own : List (List ℕ)) (n : ℕ) (groups : List (List NodeRank)) : Type 0 where
   pub count : length groups ≡ n
   pub each : (k : ℕ) → k < n → IsGroup rows own k (get_or groups k [])
 
-pub ranks_of_groups : (rows own : List (List ℕ)) (n : ℕ) (s : Solution) (groups : List (List Entry)) → s.groups ≡ groups → 0 < n → Grouped rows own n groups → AreRanks rows (rank_of s)
+pub ranks_of_groups : (rows own : List (List ℕ)) (n : ℕ) (s : Solution) (groups : List (List NodeRank)) → s.groups ≡ groups → 0 < n → Grouped rows own n groups → AreRanks rows (rank_of s)
 unfolding entries_of
 ranks_of_groups rows own n s groups e some g =
     let whole = subst (Grouped rows own n) (sym e) g in ranks_found rows own s (whole.each 0 some)
 
-pub classes_of_groups : (rows own : List (List ℕ)) (n : ℕ) (s : Solution) (groups : List (List Entry)) (classes : ℕ) → s.groups ≡ groups → n ≡ classes / SIZE + 1 → ((a c : ℕ) → Edge own a c → c < classes) → Grouped rows own n groups → AreClasses rows own (leads_of s)
+pub classes_of_groups : (rows own : List (List ℕ)) (n : ℕ) (s : Solution) (groups : List (List NodeRank)) (classes : ℕ) → s.groups ≡ groups → n ≡ classes / SIZE + 1 → ((a c : ℕ) → Edge own a c → c < classes) → Grouped rows own n groups → AreClasses rows own (leads_of s)
 unfolding entries_of
 classes_of_groups rows own n s groups classes e all small g =
     let whole = subst (Grouped rows own n) (sym e) g in

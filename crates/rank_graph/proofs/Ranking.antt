@@ -5,7 +5,7 @@ use Rattle.std.proofs.lemmas.Bool.{cases_lt, false≢true}
 use Rattle.effect_scan.specs.Rows.{Edge}
 use Rattle.rank_graph.specs.declared.bits.TheConstants.{SIZE}
 use Rattle.rank_graph.specs.declared.bits.Bits.{Bits}
-use Rattle.rank_graph.specs.declared.path.Entry.{Entry}
+use Rattle.rank_graph.specs.declared.path.NodeRank.{NodeRank}
 use Rattle.rank_graph.specs.declared.solution.Solution.{Solution}
 use Rattle.rank_graph.specs.Walks.{LeadsBy}
 use Rattle.rank_graph.specs.Entries.{owns, rank_at, leads_at, IsSearched}
@@ -17,7 +17,7 @@ pub walk_low : (rows : List (List ℕ)) (rank : ℕ → ℕ) → ((a b : ℕ) �
 walk_low rows rank falls a [] to l = omega arith
 walk_low rows rank falls a (w ∷ along) to l = let h = walk_low rows rank falls w along to l.1 in omega (arith, falls a w l.0)
 
-pub chain_of : (rows : List (List ℕ)) (own : List Bits) (es : List Entry) (n a : ℕ) → IsSearched rows own es → rank_at es a ≡ n → (along : List ℕ) × (to : ℕ) × LeadsBy (Edge rows) a along to × (length along ≡ n)
+pub chain_of : (rows : List (List ℕ)) (own : List Bits) (es : List NodeRank) (n a : ℕ) → IsSearched rows own es → rank_at es a ≡ n → (along : List ℕ) × (to : ℕ) × LeadsBy (Edge rows) a along to × (length along ≡ n)
 chain_of rows own es zero a s e = ([], a, refl, refl)
 chain_of rows own es (suc n) a s e =
     elim (s.tight a) [
@@ -26,7 +26,7 @@ chain_of rows own es (suc n) a s e =
     ]
 
 -- a class comes from a node that has it
-pub reaches : (rows : List (List ℕ)) (own : List Bits) (es : List Entry) (n a c : ℕ) → IsSearched rows own es → rank_at es a ≤ n → leads_at es a c ≡ true → (b : ℕ) × (along : List ℕ) × LeadsBy (Edge rows) a along b × owns own b c
+pub reaches : (rows : List (List ℕ)) (own : List Bits) (es : List NodeRank) (n a c : ℕ) → IsSearched rows own es → rank_at es a ≤ n → leads_at es a c ≡ true → (b : ℕ) × (along : List ℕ) × LeadsBy (Edge rows) a along b × owns own b c
 reaches rows own es zero a c s low h =
     elim (s.source a c h) [
       | inl itself ↦ (a, [], refl, itself)
@@ -57,7 +57,7 @@ place_low c = omega arith
 pub place_back : (c : ℕ) → SIZE * (c / SIZE) + c % SIZE ≡ c
 place_back c = div-add-mod c SIZE
 
-pub found_there : (rows own : List (List ℕ)) (es : List Entry) (a c : ℕ) → IsGroup rows own (c / SIZE) es → (leads_at es a (c % SIZE) ≡ true) ↔ LeadsTo rows own a c
+pub found_there : (rows own : List (List ℕ)) (es : List NodeRank) (a c : ℕ) → IsGroup rows own (c / SIZE) es → (leads_at es a (c % SIZE) ≡ true) ↔ LeadsTo rows own a c
 found_there rows own es a c g = (
   λ h.
       let r = reaches rows g.bits es (rank_at es a) a (c % SIZE) g.searched (omega arith) h in
@@ -72,9 +72,9 @@ found_there rows own es a c g = (
       (g.searched.itself l.to (c % SIZE) ((g.are.members l.to (c % SIZE) (place_low c)).1 (subst (λ (x : ℕ). Edge own l.to x) (sym (place_back c)) l.has))),
 )
 
-pub nothing_past : (rows own : List (List ℕ)) (classes a c : ℕ) (es : List Entry) → ((a c : ℕ) → Edge own a c → c < classes) → classes / SIZE + 1 ≤ c / SIZE → es ≡ [] → (leads_at es a (c % SIZE) ≡ true) ↔ LeadsTo rows own a c
+pub nothing_past : (rows own : List (List ℕ)) (classes a c : ℕ) (es : List NodeRank) → ((a c : ℕ) → Edge own a c → c < classes) → classes / SIZE + 1 ≤ c / SIZE → es ≡ [] → (leads_at es a (c % SIZE) ≡ true) ↔ LeadsTo rows own a c
 nothing_past rows own classes a c es small past e = (
-  λ h. absurd (false≢true (sym (ap (λ (l : List Entry). leads_at l a (c % SIZE)) e) ∙ h)),
+  λ h. absurd (false≢true (sym (ap (λ (l : List NodeRank). leads_at l a (c % SIZE)) e) ∙ h)),
   λ l. let low : c < classes = small l.to c l.has in absurd (omega arith),
 )
 

@@ -11,29 +11,29 @@ use Rattle.rank_graph.specs.Walks.{LeadsBy, AreDistinct}
 use Rattle.rank_graph.specs.Entries.{owns}
 use Rattle.rank_graph.specs.Searching.{state_of, Joins, room, Finished, NoneOpen, OnPath, AreOnce, Visiting, Held, Searching, Grows, Visited, Since, IsKnown, IsBegun, left, left_below, Climbs, LeadsRound}
 use Rattle.rank_graph.specs.declared.bits.Bits.{Bits}
-use Rattle.rank_graph.specs.declared.path.Entry.{Entry}
-use Rattle.rank_graph.specs.declared.path.State.{State}
-use Rattle.rank_graph.specs.declared.path.State.TheVariants.{New, Open, Done}
+use Rattle.rank_graph.specs.declared.path.NodeRank.{NodeRank}
+use Rattle.rank_graph.specs.declared.path.VisitState.{VisitState}
+use Rattle.rank_graph.specs.declared.path.VisitState.TheVariants.{New, Open, Done}
 use Rattle.rank_graph.specs.declared.path.Visit.{Visit}
 use Rattle.rank_graph.proofs.Distinct.{cons_cases}
 
 -- ---- the state of a node after a write
-pub state-set_same : (states : List State) (a : ℕ) (s : State) → a < length states → state_of (set states a s) a ≡ s
+pub state-set_same : (states : List VisitState) (a : ℕ) (s : VisitState) → a < length states → state_of (set states a s) a ≡ s
 unfolding state_of
 state-set_same states a s h = get_or-set_same states a s New h
 
-pub state-set_other : (states : List State) (a b : ℕ) (s : State) → b ≢ a → state_of (set states a s) b ≡ state_of states b
+pub state-set_other : (states : List VisitState) (a b : ℕ) (s : VisitState) → b ≢ a → state_of (set states a s) b ≡ state_of states b
 unfolding state_of
 state-set_other states a b s h = get_or-set_other states a b s New h
 
-pub grows_set : (states : List State) (a : ℕ) (s : State) → ((d : Entry) → state_of states a ≡ Done d → ⊥) → Grows states (set states a s)
+pub grows_set : (states : List VisitState) (a : ℕ) (s : VisitState) → ((d : NodeRank) → state_of states a ≡ Done d → ⊥) → Grows states (set states a s)
 grows_set states a s h = λ b d is.
     elim (cases_eq b a) [
       | inl e ↦ absurd (h d (subst (λ (x : ℕ). state_of states x ≡ Done d) e is))
       | inr ne ↦ state-set_other states a b s ne ∙ is
     ]
 
-pub room-set_open : (states : List State) (a : ℕ) → a < length states → state_of states a ≡ New → room (set states a Open) ≡ room states
+pub room-set_open : (states : List VisitState) (a : ℕ) → a < length states → state_of states a ≡ New → room (set states a Open) ≡ room states
 unfolding state_of
 room-set_open [] a h e = absurd (omega arith)
 room-set_open (New ∷ ss) zero h e = refl
@@ -43,7 +43,7 @@ room-set_open (New ∷ ss) (suc a) h e = ap suc (room-set_open ss a (omega arith
 room-set_open (Open ∷ ss) (suc a) h e = ap suc (room-set_open ss a (omega arith) e)
 room-set_open (Done d ∷ ss) (suc a) h e = room-set_open ss a (omega arith) e
 
-pub room-set_done : (states : List State) (a : ℕ) (x : Entry) → a < length states → state_of states a ≡ Open → suc (room (set states a (Done x))) ≡ room states
+pub room-set_done : (states : List VisitState) (a : ℕ) (x : NodeRank) → a < length states → state_of states a ≡ Open → suc (room (set states a (Done x))) ≡ room states
 unfolding state_of
 room-set_done [] a x h e = absurd (omega arith)
 room-set_done (New ∷ ss) zero x h e = cc
@@ -53,13 +53,13 @@ room-set_done (New ∷ ss) (suc a) x h e = ap suc (room-set_done ss a x (omega a
 room-set_done (Open ∷ ss) (suc a) x h e = ap suc (room-set_done ss a x (omega arith) e)
 room-set_done (Done d ∷ ss) (suc a) x h e = room-set_done ss a x (omega arith) e
 
-pub room_le : (states : List State) → room states ≤ length states
+pub room_le : (states : List VisitState) → room states ≤ length states
 room_le [] = omega arith
 room_le (New ∷ ss) = let h = room_le ss in omega arith
 room_le (Open ∷ ss) = let h = room_le ss in omega arith
 room_le (Done d ∷ ss) = let h = room_le ss in omega arith
 
-pub left-set_open : (rows : List (List ℕ)) (states : List State) (a : ℕ) → length states ≡ length rows → a < length rows → state_of states a ≡ New → left rows (set states a Open) + (length (row rows a) + 2) ≡ left rows states
+pub left-set_open : (rows : List (List ℕ)) (states : List VisitState) (a : ℕ) → length states ≡ length rows → a < length rows → state_of states a ≡ New → left rows (set states a Open) + (length (row rows a) + 2) ≡ left rows states
 unfolding state_of row
 left-set_open [] states a l h e = absurd (omega arith)
 left-set_open (r ∷ rs) [] a l h e = absurd (omega arith)
@@ -70,7 +70,7 @@ left-set_open (r ∷ rs) (New ∷ ss) (suc a) l h e = let i = left-set_open rs s
 left-set_open (r ∷ rs) (Open ∷ ss) (suc a) l h e = left-set_open rs ss a (omega arith) (omega arith) e
 left-set_open (r ∷ rs) (Done d ∷ ss) (suc a) l h e = left-set_open rs ss a (omega arith) (omega arith) e
 
-pub left-set_done : (rows : List (List ℕ)) (states : List State) (a : ℕ) (x : Entry) → state_of states a ≡ Open → left rows (set states a (Done x)) ≡ left rows states
+pub left-set_done : (rows : List (List ℕ)) (states : List VisitState) (a : ℕ) (x : NodeRank) → state_of states a ≡ Open → left rows (set states a (Done x)) ≡ left rows states
 unfolding state_of
 left-set_done rows [] a x e = refl
 left-set_done [] (s ∷ ss) zero x e = refl
@@ -83,7 +83,7 @@ left-set_done (r ∷ rs) (Open ∷ ss) (suc a) x e = left-set_done rs ss a x e
 left-set_done (r ∷ rs) (Done d ∷ ss) (suc a) x e = left-set_done rs ss a x e
 
 -- ---- what is known of a node stays when others are done
-pub joins_grow : (own : List Bits) (states after : List State) (a : ℕ) (seen : List ℕ) (e : Entry) → Grows states after → Joins own states a seen e → Joins own after a seen e
+pub joins_grow : (own : List Bits) (states after : List VisitState) (a : ℕ) (seen : List ℕ) (e : NodeRank) → Grows states after → Joins own states a seen e → Joins own after a seen e
 joins_grow own states after a seen e grows j = record {
   falls = λ b h. let x = j.falls b h in (x.0, grows b x.0 x.1, x.2, x.3);
   tight = elim j.tight [ inl z ↦ inl z | inr x ↦ inr (x.0, x.1, x.2, grows x.0 x.1 x.3, x.4) ];
@@ -92,7 +92,7 @@ joins_grow own states after a seen e grows j = record {
 }
 
 -- one more edge
-pub joins_more : (own : List Bits) (states : List State) (a : ℕ) (seen : List ℕ) (e d f : Entry) (t : ℕ) → state_of states t ≡ Done d → f.rank ≡ max e.rank (d.rank + 1) → ((c : ℕ) → has f.classes c ≡ (has e.classes c || has d.classes c)) → Joins own states a seen e → Joins own states a (seen ++ t ∷ []) f
+pub joins_more : (own : List Bits) (states : List VisitState) (a : ℕ) (seen : List ℕ) (e d f : NodeRank) (t : ℕ) → state_of states t ≡ Done d → f.rank ≡ max e.rank (d.rank + 1) → ((c : ℕ) → has f.classes c ≡ (has e.classes c || has d.classes c)) → Joins own states a seen e → Joins own states a (seen ++ t ∷ []) f
 joins_more own states a seen e d f t is rank both j = record {
   falls = λ b h.
       elim (Contains-push_cases seen t b h) [
@@ -112,7 +112,7 @@ joins_more own states a seen e d f t is rank both j = record {
 }
 
 -- no edge yet
-pub joins_none : (own : List Bits) (states : List State) (a : ℕ) (s : Bits) → slice_get own a ≡ Some s → Joins own states a [] (record { rank = 0; classes = s })
+pub joins_none : (own : List Bits) (states : List VisitState) (a : ℕ) (s : Bits) → slice_get own a ≡ Some s → Joins own states a [] (record { rank = 0; classes = s })
 unfolding owns
 joins_none own states a s is = record {
   falls = λ b h. absurd (omega (arith, h.1));
@@ -122,7 +122,7 @@ joins_none own states a s is = record {
 }
 
 -- what the edges of a node that is done give is what those of one with the same edges give, with its own classes
-pub joins_twin : (own : List Bits) (states : List State) (a t : ℕ) (seen : List ℕ) (s : Bits) (e f : Entry) → Joins own states t seen e → ((c : ℕ) → owns own t c → owns own a c) → slice_get own a ≡ Some s → f.rank ≡ e.rank → ((c : ℕ) → has f.classes c ≡ (has s c || has e.classes c)) → Joins own states a seen f
+pub joins_twin : (own : List Bits) (states : List VisitState) (a t : ℕ) (seen : List ℕ) (s : Bits) (e f : NodeRank) → Joins own states t seen e → ((c : ℕ) → owns own t c → owns own a c) → slice_get own a ≡ Some s → f.rank ≡ e.rank → ((c : ℕ) → has f.classes c ≡ (has s c || has e.classes c)) → Joins own states a seen f
 unfolding owns
 joins_twin own states a t seen s e f j within is rank both = record {
   falls = λ b h. let x = j.falls b h in (x.0, x.1, omega (arith, x.2, rank), λ c has_it. both c ∙ or_right (has s c) (has e.classes c) (x.3 c has_it));
@@ -136,7 +136,7 @@ joins_twin own states a t seen s e f j within is rank both = record {
 }
 
 -- a node is entered with what is known of one that is told to be alike
-pub begun_known : (rows : List (List ℕ)) (alike : List ℕ) (own : List Bits) (states : List State) (a : ℕ) (s : Bits) (e f : Entry) (r : List ℕ) → AreAlike rows alike → Finished rows own states → IsKnown alike own states a e → r ≡ row rows a → slice_get own a ≡ Some s → f.rank ≡ e.rank → ((c : ℕ) → has f.classes c ≡ (has s c || has e.classes c))
+pub begun_known : (rows : List (List ℕ)) (alike : List ℕ) (own : List Bits) (states : List VisitState) (a : ℕ) (s : Bits) (e f : NodeRank) (r : List ℕ) → AreAlike rows alike → Finished rows own states → IsKnown alike own states a e → r ≡ row rows a → slice_get own a ≡ Some s → f.rank ≡ e.rank → ((c : ℕ) → has f.classes c ≡ (has s c || has e.classes c))
     → IsBegun rows own states a (record { node = a; next = length r; entry = f })
 begun_known rows alike own states a s e f r are finished known row_is is rank both =
     let same = are.each a known.twin known.is in
@@ -150,7 +150,7 @@ begun_known rows alike own states a s e f r are finished known row_is is rank bo
     }
 
 -- .. or with none of its edges followed
-pub begun_none : (rows : List (List ℕ)) (own : List Bits) (states : List State) (a : ℕ) (s : Bits) → length states ≡ length rows → slice_get own a ≡ Some s → IsBegun rows own states a (record { node = a; next = 0; entry = record { rank = 0; classes = s } })
+pub begun_none : (rows : List (List ℕ)) (own : List Bits) (states : List VisitState) (a : ℕ) (s : Bits) → length states ≡ length rows → slice_get own a ≡ Some s → IsBegun rows own states a (record { node = a; next = 0; entry = record { rank = 0; classes = s } })
 begun_none rows own states a s len is = record {
   node = refl;
   joins = joins_none own states a s is;
@@ -167,7 +167,7 @@ owns_within own a t mine theirs both is_mine is_theirs same union c h =
     let all : has both c ≡ true = union c ∙ or_left (has theirs c) (has mine c) held in
     (mine, is_mine, subst (λ (x : Bits). has x c ≡ true) same all)
 
-pub visiting_grows : (rows : List (List ℕ)) (own : List Bits) (states after : List State) (v : Visit) → Grows states after → room after ≤ room states → state_of after v.node ≡ Open → Visiting rows own states v → Visiting rows own after v
+pub visiting_grows : (rows : List (List ℕ)) (own : List Bits) (states after : List VisitState) (v : Visit) → Grows states after → room after ≤ room states → state_of after v.node ≡ Open → Visiting rows own states v → Visiting rows own after v
 visiting_grows rows own states after v grows less opened x = record {
   joins = joins_grow own states after v.node (take v.next (row rows v.node)) v.entry grows x.joins;
   ranked = omega (arith, x.ranked);
@@ -176,7 +176,7 @@ visiting_grows rows own states after v grows less opened x = record {
   inside = x.inside;
 }
 
-pub held_grows : (rows : List (List ℕ)) (own : List Bits) (states after : List State) (child : ℕ) (path : List Visit) → Grows states after → room after ≤ room states → ((a : ℕ) → OnPath a path → state_of states a ≡ Open → state_of after a ≡ Open) → Held rows own states child path → Held rows own after child path
+pub held_grows : (rows : List (List ℕ)) (own : List Bits) (states after : List VisitState) (child : ℕ) (path : List Visit) → Grows states after → room after ≤ room states → ((a : ℕ) → OnPath a path → state_of states a ≡ Open → state_of after a ≡ Open) → Held rows own states child path → Held rows own after child path
 held_grows rows own states after child [] grows less still h = tt
 held_grows rows own states after child (v ∷ vs) grows less still h = (
   record {
@@ -188,7 +188,7 @@ held_grows rows own states after child (v ∷ vs) grows less still h = (
   held_grows rows own states after v.node vs grows less (λ a on. still a (inr on)) h.1,
 )
 
-pub held_open : (rows : List (List ℕ)) (own : List Bits) (states : List State) (child : ℕ) (path : List Visit) (a : ℕ) → Held rows own states child path → OnPath a path → state_of states a ≡ Open
+pub held_open : (rows : List (List ℕ)) (own : List Bits) (states : List VisitState) (child : ℕ) (path : List Visit) (a : ℕ) → Held rows own states child path → OnPath a path → state_of states a ≡ Open
 held_open rows own states child [] a h on = absurd on
 held_open rows own states child (v ∷ vs) a h on =
     elim on [
@@ -196,11 +196,11 @@ held_open rows own states child (v ∷ vs) a h on =
       | inr below ↦ held_open rows own states v.node vs a h.1 below
     ]
 
-pub finished_open : (rows : List (List ℕ)) (own : List Bits) (states : List State) (a : ℕ) → a < length states → state_of states a ≡ New → Finished rows own states → Finished rows own (set states a Open)
+pub finished_open : (rows : List (List ℕ)) (own : List Bits) (states : List VisitState) (a : ℕ) → a < length states → state_of states a ≡ New → Finished rows own states → Finished rows own (set states a Open)
 finished_open rows own states a inside fresh f =
     let grows : Grows states (set states a Open) = grows_set states a Open (λ d is. let no : New ≡ Done d = sym fresh ∙ is in cc) in
     let same : room (set states a Open) ≡ room states = room-set_open states a inside fresh in
-    let old : (b : ℕ) (e : Entry) → state_of (set states a Open) b ≡ Done e → state_of states b ≡ Done e = λ b e is.
+    let old : (b : ℕ) (e : NodeRank) → state_of (set states a Open) b ≡ Done e → state_of states b ≡ Done e = λ b e is.
     elim (cases_eq b a) [
       | inl x ↦ let no : Open ≡ Done e = sym (state-set_same states a Open inside) ∙ subst (λ (y : ℕ). state_of (set states a Open) y ≡ Done e) x is in cc
       | inr ne ↦ sym (state-set_other states a b Open ne) ∙ is
@@ -210,29 +210,29 @@ finished_open rows own states a inside fresh f =
       ranked = λ b e is. omega (arith, f.ranked b e (old b e is));
     }
 
-pub finished_done : (rows : List (List ℕ)) (own : List Bits) (states : List State) (a : ℕ) (e : Entry) → a < length states → state_of states a ≡ Open → Joins own states a (row rows a) e → e.rank + room states ≤ length rows → Finished rows own states → Finished rows own (set states a (Done e))
+pub finished_done : (rows : List (List ℕ)) (own : List Bits) (states : List VisitState) (a : ℕ) (e : NodeRank) → a < length states → state_of states a ≡ Open → Joins own states a (row rows a) e → e.rank + room states ≤ length rows → Finished rows own states → Finished rows own (set states a (Done e))
 finished_done rows own states a e inside opened j ranked f =
     let grows : Grows states (set states a (Done e)) = grows_set states a (Done e) (λ d is. let no : Open ≡ Done d = sym opened ∙ is in cc) in
     let less : suc (room (set states a (Done e))) ≡ room states = room-set_done states a e inside opened in
-    let old : (b : ℕ) (x : Entry) → b ≢ a → state_of (set states a (Done e)) b ≡ Done x → state_of states b ≡ Done x = λ b x ne is.
+    let old : (b : ℕ) (x : NodeRank) → b ≢ a → state_of (set states a (Done e)) b ≡ Done x → state_of states b ≡ Done x = λ b x ne is.
     sym (state-set_other states a b (Done e) ne) ∙ is in
-    let here : (b : ℕ) (x : Entry) → b ≡ a → state_of (set states a (Done e)) b ≡ Done x → e ≡ x = λ b x same is.
+    let here : (b : ℕ) (x : NodeRank) → b ≡ a → state_of (set states a (Done e)) b ≡ Done x → e ≡ x = λ b x same is.
     let both : Done e ≡ Done x = sym (state-set_same states a (Done e) inside) ∙ subst (λ (y : ℕ). state_of (set states a (Done e)) y ≡ Done x) same is in cc in
     record {
       joins = λ b x is.
           elim (cases_eq b a) [
-            | inl same ↦ subst (λ (y : ℕ). Joins own (set states a (Done e)) y (row rows y) x) (sym same) (subst (λ (y : Entry). Joins own (set states a (Done e)) a (row rows a) y) (here b x same is) (joins_grow own states (set states a (Done e)) a (row rows a) e grows j))
+            | inl same ↦ subst (λ (y : ℕ). Joins own (set states a (Done e)) y (row rows y) x) (sym same) (subst (λ (y : NodeRank). Joins own (set states a (Done e)) a (row rows a) y) (here b x same is) (joins_grow own states (set states a (Done e)) a (row rows a) e grows j))
             | inr ne ↦ joins_grow own states (set states a (Done e)) b (row rows b) x grows (f.joins b x (old b x ne is))
           ];
       ranked = λ b x is.
           elim (cases_eq b a) [
-            | inl same ↦ let r : e.rank ≡ x.rank = ap (λ (y : Entry). y.rank) (here b x same is) in omega arith
+            | inl same ↦ let r : e.rank ≡ x.rank = ap (λ (y : NodeRank). y.rank) (here b x same is) in omega arith
             | inr ne ↦ omega (arith, f.ranked b x (old b x ne is))
           ];
     }
 
 -- ---- the steps
-pub step_over : (rows : List (List ℕ)) (own : List Bits) (states : List State) (path : List Visit) (at : Visit) (d f : Entry) (t : ℕ) → Searching rows own states path at → at.next < length (row rows at.node) → get_or (row rows at.node) at.next 0 ≡ t → state_of states t ≡ Done d → f.rank ≡ max at.entry.rank (d.rank + 1) → ((c : ℕ) → has f.classes c ≡ (has at.entry.classes c || has d.classes c)) → Searching rows own states path (record { node = at.node; next = at.next + 1; entry = f })
+pub step_over : (rows : List (List ℕ)) (own : List Bits) (states : List VisitState) (path : List Visit) (at : Visit) (d f : NodeRank) (t : ℕ) → Searching rows own states path at → at.next < length (row rows at.node) → get_or (row rows at.node) at.next 0 ≡ t → state_of states t ≡ Done d → f.rank ≡ max at.entry.rank (d.rank + 1) → ((c : ℕ) → has f.classes c ≡ (has at.entry.classes c || has d.classes c)) → Searching rows own states path (record { node = at.node; next = at.next + 1; entry = f })
 step_over rows own states path at d f t s more reads is rank both =
     let e : take (at.next + 1) (row rows at.node) ≡ take at.next (row rows at.node) ++ t ∷ [] = subst (λ (x : ℕ). take (at.next + 1) (row rows at.node) ≡ take at.next (row rows at.node) ++ x ∷ []) reads (take_more (row rows at.node) at.next 0 more) in
     record {
@@ -250,7 +250,7 @@ step_over rows own states path at d f t s more reads is rank both =
     }
 
 -- a node is entered
-begun_visiting : (rows : List (List ℕ)) (own : List Bits) (states after : List State) (t : ℕ) (v : Visit) → Grows states after → room after ≡ room states → state_of after t ≡ Open → t < length rows → IsBegun rows own states t v → Visiting rows own after v
+begun_visiting : (rows : List (List ℕ)) (own : List Bits) (states after : List VisitState) (t : ℕ) (v : Visit) → Grows states after → room after ≡ room states → state_of after t ≡ Open → t < length rows → IsBegun rows own states t v → Visiting rows own after v
 begun_visiting rows own states after t v grows same opened inside b = record {
   joins = subst (λ (n : ℕ). Joins own after n (take v.next (row rows n)) v.entry) (sym b.node) (joins_grow own states after t (take v.next (row rows t)) v.entry grows b.joins);
   ranked = omega (arith, b.ranked, same);
@@ -259,10 +259,10 @@ begun_visiting rows own states after t v grows same opened inside b = record {
   inside = omega (arith, b.node, inside);
 }
 
-pub step_into : (rows : List (List ℕ)) (own : List Bits) (states : List State) (path : List Visit) (at : Visit) (t : ℕ) (v : Visit) → Searching rows own states path at → length states ≡ length rows → at.next < length (row rows at.node) → get_or (row rows at.node) at.next 0 ≡ t → t < length rows → state_of states t ≡ New → IsBegun rows own states t v → Searching rows own (set states t Open) (at ∷ path) v
+pub step_into : (rows : List (List ℕ)) (own : List Bits) (states : List VisitState) (path : List Visit) (at : Visit) (t : ℕ) (v : Visit) → Searching rows own states path at → length states ≡ length rows → at.next < length (row rows at.node) → get_or (row rows at.node) at.next 0 ≡ t → t < length rows → state_of states t ≡ New → IsBegun rows own states t v → Searching rows own (set states t Open) (at ∷ path) v
 step_into rows own states path at t v s len more reads inside fresh begun =
     let within : t < length states = omega arith in
-    let after : List State = set states t Open in
+    let after : List VisitState = set states t Open in
     let grows : Grows states after = grows_set states t Open (λ d is. let no : New ≡ Done d = sym fresh ∙ is in cc) in
     let same : room after ≡ room states = room-set_open states t within fresh in
     let still : (a : ℕ) → state_of states a ≡ Open → state_of after a ≡ Open = λ a is.
@@ -294,15 +294,15 @@ step_into rows own states path at t v s len more reads inside fresh begun =
       ];
     }
 
-pub done_here : (rows : List (List ℕ)) (own : List Bits) (states : List State) (path : List Visit) (at : Visit) → Searching rows own states path at → length states ≡ length rows → length (row rows at.node) ≤ at.next → Finished rows own (set states at.node (Done at.entry))
+pub done_here : (rows : List (List ℕ)) (own : List Bits) (states : List VisitState) (path : List Visit) (at : Visit) → Searching rows own states path at → length states ≡ length rows → length (row rows at.node) ≤ at.next → Finished rows own (set states at.node (Done at.entry))
 done_here rows own states path at s len all =
     let within : at.node < length states = omega (arith, s.visiting.inside) in
     finished_done rows own states at.node at.entry within s.visiting.opened (subst (λ (seen : List ℕ). Joins own states at.node seen at.entry) (take_all at.next (row rows at.node) all) s.visiting.joins) s.visiting.ranked s.finished
 
-pub grows_here : (rows : List (List ℕ)) (own : List Bits) (states : List State) (path : List Visit) (at : Visit) → Searching rows own states path at → Grows states (set states at.node (Done at.entry))
+pub grows_here : (rows : List (List ℕ)) (own : List Bits) (states : List VisitState) (path : List Visit) (at : Visit) → Searching rows own states path at → Grows states (set states at.node (Done at.entry))
 grows_here rows own states path at s = grows_set states at.node (Done at.entry) (λ d is. let no : Open ≡ Done d = sym s.visiting.opened ∙ is in cc)
 
-pub only_here : (rows : List (List ℕ)) (own : List Bits) (states : List State) (path : List Visit) (at : Visit) → Searching rows own states path at → length states ≡ length rows → (a : ℕ) → state_of (set states at.node (Done at.entry)) a ≡ Open → OnPath a path
+pub only_here : (rows : List (List ℕ)) (own : List Bits) (states : List VisitState) (path : List Visit) (at : Visit) → Searching rows own states path at → length states ≡ length rows → (a : ℕ) → state_of (set states at.node (Done at.entry)) a ≡ Open → OnPath a path
 only_here rows own states path at s len a is =
     let within : at.node < length states = omega (arith, s.visiting.inside) in
     elim (cases_eq a at.node) [
@@ -310,10 +310,10 @@ only_here rows own states path at s len a is =
       | inr ne ↦ elim (s.only a (sym (state-set_other states at.node a (Done at.entry) ne) ∙ is)) [ inl e ↦ absurd (ne e) | inr on ↦ on ]
     ]
 
-pub step_out : (rows : List (List ℕ)) (own : List Bits) (states : List State) (v : Visit) (path : List Visit) (at : Visit) → Searching rows own states (v ∷ path) at → length states ≡ length rows → length (row rows at.node) ≤ at.next → Searching rows own (set states at.node (Done at.entry)) path v
+pub step_out : (rows : List (List ℕ)) (own : List Bits) (states : List VisitState) (v : Visit) (path : List Visit) (at : Visit) → Searching rows own states (v ∷ path) at → length states ≡ length rows → length (row rows at.node) ≤ at.next → Searching rows own (set states at.node (Done at.entry)) path v
 step_out rows own states v path at s len all =
     let within : at.node < length states = omega (arith, s.visiting.inside) in
-    let after : List State = set states at.node (Done at.entry) in
+    let after : List VisitState = set states at.node (Done at.entry) in
     let grows : Grows states after = grows_here rows own states (v ∷ path) at s in
     let less : suc (room after) ≡ room states = room-set_done states at.node at.entry within s.visiting.opened in
     let still : (a : ℕ) → OnPath a (v ∷ path) → state_of states a ≡ Open → state_of after a ≡ Open = λ a on is.
@@ -333,7 +333,7 @@ step_out rows own states v path at s len all =
 pub target_inside : (rows : List (List ℕ)) (a i : ℕ) (r : List ℕ) → r ≡ row rows a → InRange rows → i < length r → get_or r i 0 < length rows
 target_inside rows a i r e inside h = inside a (get_or r i 0) (subst (λ (x : List ℕ). Contains x (get_or r i 0)) e (Contains-get_or r i 0 h))
 
-pub since_set : (before states : List State) (root t : ℕ) (x : State) → t < length states → (x ≡ New → ⊥) → ((d : Entry) → state_of states t ≡ Done d → ⊥) → Since before root states → Since before root (set states t x)
+pub since_set : (before states : List VisitState) (root t : ℕ) (x : VisitState) → t < length states → (x ≡ New → ⊥) → ((d : NodeRank) → state_of states t ≡ Done d → ⊥) → Since before root states → Since before root (set states t x)
 since_set before states root t x within begun not_done s = record {
   grows = λ a d is. grows_set states t x not_done a d (s.grows a d is);
   begun = λ is.
@@ -344,13 +344,13 @@ since_set before states root t x within begun not_done s = record {
   len = length-set states t x ∙ s.len;
 }
 
-pub not_done_new : (states : List State) (t : ℕ) → state_of states t ≡ New → (d : Entry) → state_of states t ≡ Done d → ⊥
+pub not_done_new : (states : List VisitState) (t : ℕ) → state_of states t ≡ New → (d : NodeRank) → state_of states t ≡ Done d → ⊥
 not_done_new states t fresh d is = let no : New ≡ Done d = sym fresh ∙ is in cc
 
-pub not_done_open : (states : List State) (t : ℕ) → state_of states t ≡ Open → (d : Entry) → state_of states t ≡ Done d → ⊥
+pub not_done_open : (states : List VisitState) (t : ℕ) → state_of states t ≡ Open → (d : NodeRank) → state_of states t ≡ Done d → ⊥
 not_done_open states t opened d is = let no : Open ≡ Done d = sym opened ∙ is in cc
 
-pub begins : (rows : List (List ℕ)) (own : List Bits) (states : List State) (root : ℕ) (path : List Visit) (v : Visit) → path ≡ [] → length states ≡ length rows → root < length rows → state_of states root ≡ New → Finished rows own states → NoneOpen states → IsBegun rows own states root v
+pub begins : (rows : List (List ℕ)) (own : List Bits) (states : List VisitState) (root : ℕ) (path : List Visit) (v : Visit) → path ≡ [] → length states ≡ length rows → root < length rows → state_of states root ≡ New → Finished rows own states → NoneOpen states → IsBegun rows own states root v
     → Searching rows own (set states root Open) path v × Since states root (set states root Open)
 begins rows own states root path v none len inside fresh f closed begun =
     let within : root < length states = omega arith in
@@ -372,12 +372,12 @@ begins rows own states root path v none len inside fresh f closed begun =
       },
     )
 
-pub over_step : (rows : List (List ℕ)) (own : List Bits) (before states : List State) (root : ℕ) (path : List Visit) (at : Visit) (r : List ℕ) (d f : Entry) → Searching rows own states path at × Since before root states → r ≡ row rows at.node → at.next < length r → state_of states (get_or r at.next 0) ≡ Done d → f.rank ≡ max at.entry.rank (d.rank + 1) → ((c : ℕ) → has f.classes c ≡ (has at.entry.classes c || has d.classes c))
+pub over_step : (rows : List (List ℕ)) (own : List Bits) (before states : List VisitState) (root : ℕ) (path : List Visit) (at : Visit) (r : List ℕ) (d f : NodeRank) → Searching rows own states path at × Since before root states → r ≡ row rows at.node → at.next < length r → state_of states (get_or r at.next 0) ≡ Done d → f.rank ≡ max at.entry.rank (d.rank + 1) → ((c : ℕ) → has f.classes c ≡ (has at.entry.classes c || has d.classes c))
     → Searching rows own states path (record { node = at.node; next = at.next + 1; entry = f }) × Since before root states
 over_step rows own before states root path at r d f s e more is rank both =
     (step_over rows own states path at d f (get_or r at.next 0) s.0 (subst (λ (x : List ℕ). at.next < length x) e more) (subst (λ (x : List ℕ). get_or x at.next 0 ≡ get_or r at.next 0) e refl) is rank both, s.1)
 
-pub into_step : (rows : List (List ℕ)) (own : List Bits) (before states : List State) (root : ℕ) (path after : List Visit) (at v : Visit) (r : List ℕ) → Searching rows own states path at × Since before root states → length before ≡ length rows → InRange rows → r ≡ row rows at.node → at.next < length r → state_of states (get_or r at.next 0) ≡ New → IsBegun rows own states (get_or r at.next 0) v → after ≡ at ∷ path
+pub into_step : (rows : List (List ℕ)) (own : List Bits) (before states : List VisitState) (root : ℕ) (path after : List Visit) (at v : Visit) (r : List ℕ) → Searching rows own states path at × Since before root states → length before ≡ length rows → InRange rows → r ≡ row rows at.node → at.next < length r → state_of states (get_or r at.next 0) ≡ New → IsBegun rows own states (get_or r at.next 0) v → after ≡ at ∷ path
     → Searching rows own (set states (get_or r at.next 0) Open) after v × Since before root (set states (get_or r at.next 0) Open)
 into_step rows own before states root path after at v r s len range e more fresh begun pushed =
     let inside : get_or r at.next 0 < length rows = target_inside rows at.node at.next r e range more in
@@ -387,7 +387,7 @@ into_step rows own before states root path after at v r s len range e more fresh
       since_set before states root (get_or r at.next 0) Open (omega arith) (λ is. let no : Open ≡ New = is in cc) (not_done_new states (get_or r at.next 0) fresh) s.1,
     )
 
-pub out_step : (rows : List (List ℕ)) (own : List Bits) (before states : List State) (root : ℕ) (path after : List Visit) (at v : Visit) (r : List ℕ) → Searching rows own states path at × Since before root states → length before ≡ length rows → r ≡ row rows at.node → length r ≤ at.next → path ≡ v ∷ after
+pub out_step : (rows : List (List ℕ)) (own : List Bits) (before states : List VisitState) (root : ℕ) (path after : List Visit) (at v : Visit) (r : List ℕ) → Searching rows own states path at × Since before root states → length before ≡ length rows → r ≡ row rows at.node → length r ≤ at.next → path ≡ v ∷ after
     → Searching rows own (set states at.node (Done at.entry)) after v × Since before root (set states at.node (Done at.entry))
 out_step rows own before states root path after at v r s len e all popped =
     let same : length states ≡ length rows = s.1.len ∙ len in
@@ -396,15 +396,15 @@ out_step rows own before states root path after at v r s len e all popped =
       since_set before states root at.node (Done at.entry) (omega (arith, s.0.visiting.inside)) (λ is. let no : Done at.entry ≡ New = is in cc) (not_done_open states at.node s.0.visiting.opened) s.1,
     )
 
-pub done_from : (states : List State) (a : ℕ) (s : State) → state_of states a ≡ s → (s ≡ New → ⊥) → (s ≡ Open → ⊥) → (d : Entry) × (state_of states a ≡ Done d)
+pub done_from : (states : List VisitState) (a : ℕ) (s : VisitState) → state_of states a ≡ s → (s ≡ New → ⊥) → (s ≡ Open → ⊥) → (d : NodeRank) × (state_of states a ≡ Done d)
 done_from states a New is begun none = absurd (begun refl)
 done_from states a Open is begun none = absurd (none refl)
 done_from states a (Done d) is begun none = (d, is)
 
-pub ends : (rows : List (List ℕ)) (own : List Bits) (before states : List State) (root : ℕ) (path : List Visit) (at : Visit) (r : List ℕ) → Searching rows own states path at × Since before root states → length before ≡ length rows → r ≡ row rows at.node → length r ≤ at.next → path ≡ [] → Visited rows own before root (set states at.node (Done at.entry))
+pub ends : (rows : List (List ℕ)) (own : List Bits) (before states : List VisitState) (root : ℕ) (path : List Visit) (at : Visit) (r : List ℕ) → Searching rows own states path at × Since before root states → length before ≡ length rows → r ≡ row rows at.node → length r ≤ at.next → path ≡ [] → Visited rows own before root (set states at.node (Done at.entry))
 ends rows own before states root path at r s len e all none =
     let same : length states ≡ length rows = s.1.len ∙ len in
-    let after : List State = set states at.node (Done at.entry) in
+    let after : List VisitState = set states at.node (Done at.entry) in
     let since : Since before root after = since_set before states root at.node (Done at.entry) (omega (arith, s.0.visiting.inside)) (λ is. let no : Done at.entry ≡ New = is in cc) (not_done_open states at.node s.0.visiting.opened) s.1 in
     let closed : NoneOpen after = λ a is. subst (λ (p : List Visit). OnPath a p) none (only_here rows own states path at s.0 same a is) in
     record {
@@ -415,7 +415,7 @@ ends rows own before states root path at r s len e all none =
       len = since.len;
     }
 
-pub into_smaller : (rows : List (List ℕ)) (own : List Bits) (before states : List State) (root : ℕ) (path after : List Visit) (at v : Visit) (r : List ℕ) → Searching rows own states path at × Since before root states → length before ≡ length rows → InRange rows → r ≡ row rows at.node → at.next < length r → state_of states (get_or r at.next 0) ≡ New → v.node ≡ get_or r at.next 0 → after ≡ at ∷ path
+pub into_smaller : (rows : List (List ℕ)) (own : List Bits) (before states : List VisitState) (root : ℕ) (path after : List Visit) (at v : Visit) (r : List ℕ) → Searching rows own states path at × Since before root states → length before ≡ length rows → InRange rows → r ≡ row rows at.node → at.next < length r → state_of states (get_or r at.next 0) ≡ New → v.node ≡ get_or r at.next 0 → after ≡ at ∷ path
     → left rows (set states (get_or r at.next 0) Open) + left_below rows after + (length (row rows v.node) - v.next) < left rows states + left_below rows path + (length (row rows at.node) - at.next)
 into_smaller rows own before states root path after at v r s len range e more fresh node pushed =
     let inside : get_or r at.next 0 < length rows = target_inside rows at.node at.next r e range more in
@@ -425,7 +425,7 @@ into_smaller rows own before states root path after at v r s len range e more fr
     let below : left_below rows after ≡ (length (row rows at.node) - at.next) + 1 + left_below rows path = ap (left_below rows) pushed in
     omega arith
 
-pub out_smaller : (rows : List (List ℕ)) (own : List Bits) (before states : List State) (root : ℕ) (path after : List Visit) (at v : Visit) → Searching rows own states path at × Since before root states → path ≡ v ∷ after
+pub out_smaller : (rows : List (List ℕ)) (own : List Bits) (before states : List VisitState) (root : ℕ) (path after : List Visit) (at v : Visit) → Searching rows own states path at × Since before root states → path ≡ v ∷ after
     → left rows (set states at.node (Done at.entry)) + left_below rows after + (length (row rows v.node) - v.next) < left rows states + left_below rows path + (length (row rows at.node) - at.next)
 out_smaller rows own before states root path after at v s popped =
     let same = left-set_done rows states at.node at.entry s.0.visiting.opened in
@@ -433,7 +433,7 @@ out_smaller rows own before states root path after at v s popped =
     omega arith
 
 -- ---- the path is a walk
-pub held_climbs : (rows : List (List ℕ)) (own : List Bits) (states : List State) (child : ℕ) (path : List Visit) → Held rows own states child path → Climbs rows child path
+pub held_climbs : (rows : List (List ℕ)) (own : List Bits) (states : List VisitState) (child : ℕ) (path : List Visit) → Held rows own states child path → Climbs rows child path
 held_climbs rows own states child [] h = tt
 held_climbs rows own states child (v ∷ vs) h =
     (subst (λ (x : ℕ). Contains (row rows v.node) x) h.0.leads (Contains-get_or (row rows v.node) v.next 0 h.0.more), held_climbs rows own states v.node vs h.1)
@@ -458,7 +458,7 @@ climbed rows target current top nodes all same turned edge x =
     subst (λ (l : List ℕ). LeadsRound rows l) (sym first) (leads_push rows current x.0 top current x.2 (subst (λ (y : ℕ). Edge rows top y) (sym same) edge))
 
 -- ---- each node is on the path once
-pub held_once : (rows : List (List ℕ)) (own : List Bits) (states : List State) (child : ℕ) (path : List Visit) → Held rows own states child path → ¬ OnPath child path → AreOnce child path
+pub held_once : (rows : List (List ℕ)) (own : List Bits) (states : List VisitState) (child : ℕ) (path : List Visit) → Held rows own states child path → ¬ OnPath child path → AreOnce child path
 held_once rows own states child [] h off = tt
 held_once rows own states child (v ∷ vs) h off = (off, held_once rows own states v.node vs h.1 h.0.once)
 

@@ -7,7 +7,7 @@ use Rattle.std.proofs.lemmas.Option.{get_or_from_slice_get, unwrap_or-slice_get}
 use Rattle.effect_scan.specs.Rows.{row, Edge}
 use Rattle.effect_scan.proofs.Containing.{any_has}
 use Rattle.rank_graph.specs.declared.bits.TheConstants.{SIZE}
-use Rattle.rank_graph.specs.declared.path.Entry.{Entry}
+use Rattle.rank_graph.specs.declared.path.NodeRank.{NodeRank}
 use Rattle.rank_graph.specs.declared.solution.Solution.{Solution}
 use Rattle.rank_graph.specs.Walks.{LeadsBy, IsWalk, AreDistinct}
 use Rattle.rank_graph.specs.Entries.{leads_at}
@@ -16,18 +16,18 @@ use Rattle.rank_graph.proofs.Distinct.{cons_cases}
 use Rattle.rank_graph.proofs.Searching.{leads_push}
 
 -- ---- what a solution tells of a node
-pub entry_found : (s : Solution) (g a : ℕ) (gs : List (List Entry)) (es seen : List Entry) (o : Option Entry) → gs ≡ s.groups → Some es ≡ slice_get gs g → seen ≡ es → o ≡ slice_get seen a → o ≡ slice_get (entries_of s g) a
+pub entry_found : (s : Solution) (g a : ℕ) (gs : List (List NodeRank)) (es seen : List NodeRank) (o : Option NodeRank) → gs ≡ s.groups → Some es ≡ slice_get gs g → seen ≡ es → o ≡ slice_get seen a → o ≡ slice_get (entries_of s g) a
 unfolding entries_of
 entry_found s g a gs es seen o whole is same found =
-    let there : slice_get s.groups g ≡ Some es = sym (is ∙ ap (λ (l : List (List Entry)). slice_get l g) whole) in
-    found ∙ ap (λ (l : List Entry). slice_get l a) (same ∙ sym (get_or_from_slice_get s.groups g es [] there))
+    let there : slice_get s.groups g ≡ Some es = sym (is ∙ ap (λ (l : List (List NodeRank)). slice_get l g) whole) in
+    found ∙ ap (λ (l : List NodeRank). slice_get l a) (same ∙ sym (get_or_from_slice_get s.groups g es [] there))
 
-pub entry_none : (s : Solution) (g a : ℕ) (gs : List (List Entry)) (o : Option Entry) → o ≡ None → gs ≡ s.groups → None ≡ slice_get gs g → o ≡ slice_get (entries_of s g) a
+pub entry_none : (s : Solution) (g a : ℕ) (gs : List (List NodeRank)) (o : Option NodeRank) → o ≡ None → gs ≡ s.groups → None ≡ slice_get gs g → o ≡ slice_get (entries_of s g) a
 unfolding entries_of
 entry_none s g a gs o e whole is =
-    let there : slice_get s.groups g ≡ None = sym (is ∙ ap (λ (l : List (List Entry)). slice_get l g) whole) in
-    let none : get_or s.groups g [] ≡ [] = sym (unwrap_or-slice_get s.groups g []) ∙ ap (λ (x : Option (List Entry)). unwrap_or x []) there in
-    e ∙ sym (ap (λ (l : List Entry). slice_get l a) none)
+    let there : slice_get s.groups g ≡ None = sym (is ∙ ap (λ (l : List (List NodeRank)). slice_get l g) whole) in
+    let none : get_or s.groups g [] ≡ [] = sym (unwrap_or-slice_get s.groups g []) ∙ ap (λ (x : Option (List NodeRank)). unwrap_or x []) there in
+    e ∙ sym (ap (λ (l : List NodeRank). slice_get l a) none)
 
 -- ---- a row
 pub edge_of : (rows : List (List ℕ)) (a b : ℕ) (r : List ℕ) → r ≡ row rows a → Contains r b → Edge rows a b
@@ -116,5 +116,5 @@ unfolding leads_of entries_of
 leads_in_none s a n all none c =
     elim (cases_lt (c / SIZE) n) [
       | inl l ↦ none (c / SIZE) l (c % SIZE) (omega arith)
-      | inr past ↦ ap (λ (es : List Entry). leads_at es a (c % SIZE)) (get_or_past s.groups (c / SIZE) [] (omega (arith, all, past)))
+      | inr past ↦ ap (λ (es : List NodeRank). leads_at es a (c % SIZE)) (get_or_past s.groups (c / SIZE) [] (omega (arith, all, past)))
     ]

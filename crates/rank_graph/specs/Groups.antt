@@ -4,7 +4,7 @@ use Rattle.std.specs.List.{Contains}
 use Rattle.effect_scan.specs.Rows.{Edge}
 use Rattle.rank_graph.specs.declared.bits.TheConstants.{SIZE}
 use Rattle.rank_graph.specs.declared.bits.Bits.{Bits}
-use Rattle.rank_graph.specs.declared.path.Entry.{Entry}
+use Rattle.rank_graph.specs.declared.path.NodeRank.{NodeRank}
 use Rattle.rank_graph.specs.Bits.{has}
 use Rattle.rank_graph.specs.Entries.{owns, IsSearched}
 
@@ -18,7 +18,7 @@ pub record AreGroup (k : ℕ) (own : List (List ℕ)) (bits : List Bits) : Type 
   pub members : (a c : ℕ) → c < SIZE → owns bits a c ↔ Edge own a (SIZE * k + c)
 
 -- what is found for the group
-pub record IsGroup (rows own : List (List ℕ)) (k : ℕ) (es : List Entry) : Type 0 where
+pub record IsGroup (rows own : List (List ℕ)) (k : ℕ) (es : List NodeRank) : Type 0 where
   pub bits : List Bits
   pub are : AreGroup k own bits
   pub searched : IsSearched rows bits es

@@ -6,46 +6,46 @@ use Rattle.effect_scan.specs.Rows.{row, Edge}
 use Rattle.rank_graph.specs.Entries.{owns}
 use Rattle.rank_graph.specs.Walks.{LeadsBy}
 use Rattle.rank_graph.specs.declared.bits.Bits.{Bits}
-use Rattle.rank_graph.specs.declared.path.Entry.{Entry}
-use Rattle.rank_graph.specs.declared.path.State.{State}
-use Rattle.rank_graph.specs.declared.path.State.TheVariants.{New, Open, Done}
+use Rattle.rank_graph.specs.declared.path.NodeRank.{NodeRank}
+use Rattle.rank_graph.specs.declared.path.VisitState.{VisitState}
+use Rattle.rank_graph.specs.declared.path.VisitState.TheVariants.{New, Open, Done}
 use Rattle.rank_graph.specs.declared.path.Visit.{Visit}
 
 -- the state of a node
-unfoldable pub state_of : List State → ℕ → State
+unfoldable pub state_of : List VisitState → ℕ → VisitState
 state_of states a = slice_index_or states a New
 
 -- an entry that the nodes at these edges' ends, all done, and the node's own classes give
-pub record Joins (own : List Bits) (states : List State) (a : ℕ) (seen : List ℕ) (e : Entry) : Type 0 where
-  pub falls : (b : ℕ) → Contains seen b → (d : Entry) × (state_of states b ≡ Done d) × (d.rank < e.rank) × ((c : ℕ) → has d.classes c ≡ true → has e.classes c ≡ true)
-  pub tight : (e.rank ≡ 0) ⊎ ((b : ℕ) × (d : Entry) × Contains seen b × (state_of states b ≡ Done d) × (d.rank + 1 ≡ e.rank))
+pub record Joins (own : List Bits) (states : List VisitState) (a : ℕ) (seen : List ℕ) (e : NodeRank) : Type 0 where
+  pub falls : (b : ℕ) → Contains seen b → (d : NodeRank) × (state_of states b ≡ Done d) × (d.rank < e.rank) × ((c : ℕ) → has d.classes c ≡ true → has e.classes c ≡ true)
+  pub tight : (e.rank ≡ 0) ⊎ ((b : ℕ) × (d : NodeRank) × Contains seen b × (state_of states b ≡ Done d) × (d.rank + 1 ≡ e.rank))
   pub itself : (c : ℕ) → owns own a c → has e.classes c ≡ true
-  pub source : (c : ℕ) → has e.classes c ≡ true → owns own a c ⊎ ((b : ℕ) × (d : Entry) × Contains seen b × (state_of states b ≡ Done d) × (has d.classes c ≡ true))
+  pub source : (c : ℕ) → has e.classes c ≡ true → owns own a c ⊎ ((b : ℕ) × (d : NodeRank) × Contains seen b × (state_of states b ≡ Done d) × (has d.classes c ≡ true))
 
 -- the entry of a node that is done and told to be alike, and has no class itself that this one hasn't
-pub record IsKnown (alike : List ℕ) (own : List Bits) (states : List State) (a : ℕ) (e : Entry) : Type 0 where
+pub record IsKnown (alike : List ℕ) (own : List Bits) (states : List VisitState) (a : ℕ) (e : NodeRank) : Type 0 where
   pub twin : ℕ
   pub is : slice_get alike a ≡ Some twin
   pub done : state_of states twin ≡ Done e
   pub within : (c : ℕ) → owns own twin c → owns own a c
 
 -- how many nodes are not done
-abbrev pub room : List State → ℕ
+abbrev pub room : List VisitState → ℕ
 room [] = 0
 room (Done e ∷ ss) = room ss
 room (New ∷ ss) = suc (room ss)
 room (Open ∷ ss) = suc (room ss)
 
 -- the entries of the nodes that are done are right
-pub record Finished (rows : List (List ℕ)) (own : List Bits) (states : List State) : Type 0 where
-  pub joins : (a : ℕ) (e : Entry) → state_of states a ≡ Done e → Joins own states a (row rows a) e
-  pub ranked : (a : ℕ) (e : Entry) → state_of states a ≡ Done e → e.rank + room states < length rows
+pub record Finished (rows : List (List ℕ)) (own : List Bits) (states : List VisitState) : Type 0 where
+  pub joins : (a : ℕ) (e : NodeRank) → state_of states a ≡ Done e → Joins own states a (row rows a) e
+  pub ranked : (a : ℕ) (e : NodeRank) → state_of states a ≡ Done e → e.rank + room states < length rows
 
-abbrev pub NoneOpen : List State → Type 0
+abbrev pub NoneOpen : List VisitState → Type 0
 NoneOpen states = (a : ℕ) → state_of states a ≡ Open → ⊥
 
 -- a visit with which a node is entered
-pub record IsBegun (rows : List (List ℕ)) (own : List Bits) (states : List State) (a : ℕ) (v : Visit) : Type 0 where
+pub record IsBegun (rows : List (List ℕ)) (own : List Bits) (states : List VisitState) (a : ℕ) (v : Visit) : Type 0 where
   pub node : v.node ≡ a
   pub joins : Joins own states a (take v.next (row rows a)) v.entry
   pub ranked : v.entry.rank + room states ≤ length rows
@@ -62,7 +62,7 @@ AreOnce child [] = Unit {0}
 AreOnce child (v ∷ vs) = ¬ OnPath child (v ∷ vs) × AreOnce v.node vs
 
 -- a node some of whose edges were followed
-pub record Visiting (rows : List (List ℕ)) (own : List Bits) (states : List State) (v : Visit) : Type 0 where
+pub record Visiting (rows : List (List ℕ)) (own : List Bits) (states : List VisitState) (v : Visit) : Type 0 where
   pub joins : Joins own states v.node (take v.next (row rows v.node)) v.entry
   pub ranked : v.entry.rank + room states ≤ length rows
   pub placed : v.next ≤ length (row rows v.node)
@@ -70,17 +70,17 @@ pub record Visiting (rows : List (List ℕ)) (own : List Bits) (states : List St
   pub inside : v.node < length rows
 
 -- the nodes below the top, each with an edge to the one above it
-pub record HeldOne (rows : List (List ℕ)) (own : List Bits) (states : List State) (child : ℕ) (v : Visit) (vs : List Visit) : Type 0 where
+pub record HeldOne (rows : List (List ℕ)) (own : List Bits) (states : List VisitState) (child : ℕ) (v : Visit) (vs : List Visit) : Type 0 where
   pub visiting : Visiting rows own states v
   pub more : v.next < length (row rows v.node)
   pub leads : slice_index_or (row rows v.node) v.next 0 ≡ child
   pub once : OnPath v.node vs → ⊥
 
-abbrev pub Held : List (List ℕ) → List Bits → List State → ℕ → List Visit → Type 0
+abbrev pub Held : List (List ℕ) → List Bits → List VisitState → ℕ → List Visit → Type 0
 Held rows own states child [] = Unit {0}
 Held rows own states child (v ∷ vs) = HeldOne rows own states child v vs × Held rows own states v.node vs
 
-pub record Searching (rows : List (List ℕ)) (own : List Bits) (states : List State) (path : List Visit) (at : Visit) : Type 0 where
+pub record Searching (rows : List (List ℕ)) (own : List Bits) (states : List VisitState) (path : List Visit) (at : Visit) : Type 0 where
   pub finished : Finished rows own states
   pub visiting : Visiting rows own states at
   pub held : Held rows own states at.node path
@@ -88,24 +88,24 @@ pub record Searching (rows : List (List ℕ)) (own : List Bits) (states : List S
   pub only : (a : ℕ) → state_of states a ≡ Open → (a ≡ at.node) ⊎ OnPath a path
 
 -- nodes that are done stay so
-abbrev pub Grows : List State → List State → Type 0
-Grows states after = (a : ℕ) (d : Entry) → state_of states a ≡ Done d → state_of after a ≡ Done d
+abbrev pub Grows : List VisitState → List VisitState → Type 0
+Grows states after = (a : ℕ) (d : NodeRank) → state_of states a ≡ Done d → state_of after a ≡ Done d
 
-pub record Visited (rows : List (List ℕ)) (own : List Bits) (states : List State) (root : ℕ) (after : List State) : Type 0 where
+pub record Visited (rows : List (List ℕ)) (own : List Bits) (states : List VisitState) (root : ℕ) (after : List VisitState) : Type 0 where
   pub finished : Finished rows own after
   pub closed : NoneOpen after
   pub grows : Grows states after
-  pub done : (d : Entry) × (state_of after root ≡ Done d)
+  pub done : (d : NodeRank) × (state_of after root ≡ Done d)
   pub len : length after ≡ length states
 
 -- since a search began
-pub record Since (before : List State) (root : ℕ) (states : List State) : Type 0 where
+pub record Since (before : List VisitState) (root : ℕ) (states : List VisitState) : Type 0 where
   pub grows : Grows before states
   pub begun : state_of states root ≡ New → ⊥
   pub len : length states ≡ length before
 
 -- how many edges and nodes are left to follow
-abbrev pub left : List (List ℕ) → List State → ℕ
+abbrev pub left : List (List ℕ) → List VisitState → ℕ
 left rows [] = 0
 left [] (s ∷ ss) = 0
 left (r ∷ rs) (New ∷ ss) = length r + 2 + left rs ss
@@ -126,5 +126,5 @@ abbrev pub LeadsRound : List (List ℕ) → List ℕ → Type 0
 LeadsRound rows [] = ⊥
 LeadsRound rows (a ∷ xs) = LeadsBy (Edge rows) a (xs ++ a ∷ []) a
 
-abbrev pub AllDone : List State → Type 0
-AllDone states = (a : ℕ) → a < length states → (d : Entry) × (state_of states a ≡ Done d)
+abbrev pub AllDone : List VisitState → Type 0
+AllDone states = (a : ℕ) → a < length states → (d : NodeRank) × (state_of states a ≡ Done d)

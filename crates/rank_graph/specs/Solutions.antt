@@ -2,7 +2,7 @@
 use Rattle.std.specs.Prelude.{◌≡◌, ◌↔◌, ℕ, ◌/◌, ◌%◌, ◌≤◌, Bool, true, List, [], length, slice_index_or}
 use Rattle.effect_scan.specs.Rows.{Edge}
 use Rattle.rank_graph.specs.declared.bits.TheConstants.{SIZE}
-use Rattle.rank_graph.specs.declared.path.Entry.{Entry}
+use Rattle.rank_graph.specs.declared.path.NodeRank.{NodeRank}
 use Rattle.rank_graph.specs.declared.solution.Solution.{Solution}
 use Rattle.rank_graph.specs.Walks.{LeadsBy}
 use Rattle.rank_graph.specs.Entries.{rank_at, leads_at}
@@ -24,7 +24,7 @@ abbrev pub AreClasses : List (List ℕ) → List (List ℕ) → (ℕ → ℕ →
 AreClasses rows own leads = (a c : ℕ) → (leads a c ≡ true) ↔ LeadsTo rows own a c
 
 -- ---- what a solution tells
-unfoldable pub entries_of : Solution → ℕ → List Entry
+unfoldable pub entries_of : Solution → ℕ → List NodeRank
 entries_of s k = slice_index_or s.groups k []
 
 -- the rank of a node

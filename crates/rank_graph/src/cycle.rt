@@ -6,7 +6,7 @@ ghost use Rattle.rank_graph.specs.Graphs.{IsToldCycle};
 ghost use Rattle.rank_graph.specs.Searching.{OnPath, AreOnce, Climbs, LeadsRound};
 ghost use Rattle.rank_graph.specs.Walks.{AreDistinct};
 
-use crate::path::Path;
+use crate::path::VisitPath;
 use sqlite_items::Items;
 use std::alloc::{AllocError, Global};
 
@@ -14,7 +14,7 @@ use std::alloc::{AllocError, Global};
 /// them on back to it, each of the others once.
 pub fn back_to(
     alloc: Global,
-    mut path: Path,
+    mut path: VisitPath,
     top: usize,
     target: usize,
 ) -> Result<Items<usize>, AllocError>

@@ -8,7 +8,7 @@ use std::marker::Model;
 
 /// A node's rank, and the classes of a group that it leads to.
 #[derive(Clone, Copy)]
-pub struct Entry {
+pub struct NodeRank {
     /// How many edges the longest chain from the node has.
     pub rank: usize,
     /// The classes, by their places in the group.
@@ -17,13 +17,13 @@ pub struct Entry {
 
 /// How far a search has come with a node.
 #[derive(Clone, Copy)]
-pub enum State {
+pub enum VisitState {
     /// It wasn't entered.
     New,
     /// It was entered, and some of its edges weren't followed.
     Open,
     /// All its edges were followed.
-    Done(Entry),
+    Done(NodeRank),
 }
 
 /// A node some of whose edges were followed.
@@ -34,16 +34,16 @@ pub struct Visit {
     /// How many of its edges were followed.
     pub next: usize,
     /// What these edges give.
-    pub entry: Entry,
+    pub entry: NodeRank,
 }
 
 /// The nodes that a search has entered and not left, but for the last one.
 #[derive(Drop)]
-pub struct Path {
+pub struct VisitPath {
     visits: Vec<Visit>,
 }
 
-impl Model for Path {
+impl Model for VisitPath {
     ghost use Rattle.std.specs.Prelude.{List, reverse};
     ghost use Rattle.rank_graph.specs.declared.path.Visit.{Visit};
 
@@ -52,12 +52,12 @@ impl Model for Path {
     ghost view = { λ p. reverse p.visits.items };
 }
 
-impl Path {
+impl VisitPath {
     /// No node.
-    pub fn new(alloc: Global) -> Path
+    pub fn new(alloc: Global) -> VisitPath
         ensures { result ≡ [] }
     {
-        Path {
+        VisitPath {
             visits: Vec::new(alloc),
         }
     }

@@ -7,12 +7,12 @@ ghost use Rattle.rank_graph.specs.Graphs.{InRange};
 ghost use Rattle.rank_graph.specs.Entries.{IsSearched, owns};
 ghost use Rattle.rank_graph.specs.Faults.{IsUnranked};
 ghost use Rattle.rank_graph.specs.Searching.{AllDone, Finished, Visited, NoneOpen, IsBegun, IsKnown, state_of};
-ghost use Rattle.rank_graph.specs.declared.path.State.TheVariants.{New};
+ghost use Rattle.rank_graph.specs.declared.path.VisitState.TheVariants.{New};
 
 use crate::bits::Bits;
 use crate::cycle::back_to;
 use crate::fault::Unranked;
-use crate::path::{Entry, Path, State, Visit};
+use crate::path::{NodeRank, Visit, VisitPath, VisitState};
 use crate::states::{Found, States};
 use effect_scan::{Targets, targets_at};
 use sqlite_items::at;
@@ -56,7 +56,7 @@ fn visit_all(
     ensures err { IfErr result (IsUnranked rows.now) }
 {
     for root in 0..rows.len() {
-        if let State::New = states.get(root) {
+        if let VisitState::New = states.get(root) {
             visit(alloc, rows, alike, own, states, root)?;
         }
     }
@@ -64,12 +64,12 @@ fn visit_all(
 }
 
 /// The entry of a node that has an edge to a node with the entry `below`.
-fn over(entry: Entry, below: Entry) -> Entry
+fn over(entry: NodeRank, below: NodeRank) -> NodeRank
     requires { below.rank + 1 < 2 ^ 64 }
     ensures rank { result.rank ≡ max entry.rank (below.rank + 1) }
     ensures classes { (c : ℕ) → has result.classes c ≡ (has entry.classes c || has below.classes c) }
 {
-    Entry {
+    NodeRank {
         rank: entry.rank.max(below.rank + 1),
         classes: entry.classes.union(below.classes),
     }
@@ -90,7 +90,7 @@ fn begun(rows: &[Targets], alike: &[usize], own: &[Bits], states: &States, node:
         Some(entry) => Visit {
             node,
             next: targets_at(rows, node).len(),
-            entry: Entry {
+            entry: NodeRank {
                 rank: entry.rank,
                 classes: classes.union(entry.classes),
             },
@@ -98,13 +98,13 @@ fn begun(rows: &[Targets], alike: &[usize], own: &[Bits], states: &States, node:
         None => Visit {
             node,
             next: 0,
-            entry: Entry { rank: 0, classes },
+            entry: NodeRank { rank: 0, classes },
         },
     }
 }
 
 /// The entry of the node that is told to be alike, if that is done, and has no class itself that this one hasn't.
-fn known(alike: &[usize], own: &[Bits], states: &States, node: usize) -> Option<Entry>
+fn known(alike: &[usize], own: &[Bits], states: &States, node: usize) -> Option<NodeRank>
     requires states { length states.now ≡ length own.now }
     requires node { node < length own.now }
     ensures { IfSome result (IsKnown alike.now own.now states.now node) }
@@ -114,7 +114,7 @@ fn known(alike: &[usize], own: &[Bits], states: &States, node: usize) -> Option<
         return None;
     }
     match states.get(twin) {
-        State::Done(entry) => Some(entry),
+        VisitState::Done(entry) => Some(entry),
         _ => None,
     }
 }
@@ -151,7 +151,7 @@ fn visit(
     ensures err { IfErr result (IsUnranked rows.now) }
 {
     let _count = states.len();
-    let mut path = Path::new(alloc);
+    let mut path = VisitPath::new(alloc);
     let mut at = begun(rows, alike, own, states, root);
     states.enter(root);
     'search: loop {
@@ -159,16 +159,16 @@ fn visit(
         if at.next < row.len() {
             let target = row[at.next];
             match states.get(target) {
-                State::Done(entry) => {
+                VisitState::Done(entry) => {
                     at.entry = over(at.entry, entry);
                     at.next += 1;
                 }
-                State::New => {
+                VisitState::New => {
                     path.push(at)?;
                     at = begun(rows, alike, own, states, target);
                     states.enter(target);
                 }
-                State::Open => {
+                VisitState::Open => {
                     let cycle = back_to(alloc, path, at.node, target)?;
                     return Err(Unranked::Cycle(cycle));
                 }

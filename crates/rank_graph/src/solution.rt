@@ -6,7 +6,7 @@ ghost use Rattle.rank_graph.specs.Entries.{leads_at};
 ghost use Rattle.rank_graph.specs.Solutions.{entries_of, rank_of, leads_of};
 
 use crate::bits::SIZE;
-use crate::path::Entry;
+use crate::path::NodeRank;
 use crate::states::Found;
 use sqlite_items::{Items, at};
 
@@ -72,7 +72,7 @@ impl Solution {
     }
 
     /// What was found of the node for this group of classes.
-    fn entry(&self, group: usize, node: usize) -> Option<Entry>
+    fn entry(&self, group: usize, node: usize) -> Option<NodeRank>
         ensures { result ≡ slice_get (entries_of self.now group) node }
     {
         match at(self.groups.as_slice(), group) {

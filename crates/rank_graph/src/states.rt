@@ -3,11 +3,11 @@
 ghost use Rattle.std.specs.Prelude.{◌≡◌, ◌<◌, [], ◌++◌, ◌∷◌, length, map, replicate, slice_get, slice_set, Some, IfOk, OnOk, OnErr, IfSome};
 ghost use Rattle.rank_graph.specs.Searching.{AllDone, state_of};
 ghost use Rattle.rank_graph.specs.Shared.{entry_in, AreLeft, HasEntry};
-ghost use Rattle.rank_graph.specs.declared.path.State.TheVariants.{New, Open, Done};
-ghost use Rattle.rank_graph.specs.declared.states.Mark.TheVariants.{Unmet, Left};
+ghost use Rattle.rank_graph.specs.declared.path.VisitState.TheVariants.{New, Open, Done};
+ghost use Rattle.rank_graph.specs.declared.states.NodeMark.TheVariants.{Unmet, Left};
 
 use crate::bits::Bits;
-use crate::path::{Entry, State};
+use crate::path::{NodeRank, VisitState};
 use sqlite_items::{Items, at};
 use std::alloc::{AllocError, Global};
 use std::marker::Model;
@@ -18,7 +18,7 @@ const PLACES: usize = 1024;
 
 /// How far a search has come with a node, with the number of its entry.
 #[derive(Clone, Copy)]
-pub enum Mark {
+pub enum NodeMark {
     /// It wasn't entered.
     Unmet,
     /// It was entered and not left.
@@ -29,8 +29,8 @@ pub enum Mark {
 
 /// How far a search has come with each node.
 pub struct States {
-    marks: Items<Mark>,
-    entries: Items<Entry>,
+    marks: Items<NodeMark>,
+    entries: Items<NodeRank>,
     /// At each place the number of an entry that belongs there, if there is one.
     places: Items<usize>,
 }
@@ -48,9 +48,9 @@ impl Drop for States {
 impl Model for States {
     ghost use Rattle.std.specs.Prelude.{List, map};
     ghost use Rattle.rank_graph.specs.Shared.{state_in, AreKept};
-    ghost use Rattle.rank_graph.specs.declared.path.State.{State};
+    ghost use Rattle.rank_graph.specs.declared.path.VisitState.{VisitState};
 
-    ghost Value = { List State };
+    ghost Value = { List VisitState };
 
     ghost view = { λ states. map (state_in states.entries) states.marks };
 
@@ -79,14 +79,14 @@ impl States {
     }
 
     /// The state of the node.
-    pub fn get(&self, node: usize) -> State
+    pub fn get(&self, node: usize) -> VisitState
         requires { node < length self.now }
         ensures { result ≡ state_of self.now node }
     {
         match self.marks.as_slice()[node] {
-            Mark::Unmet => State::New,
-            Mark::Entered => State::Open,
-            Mark::Left(number) => State::Done(entry_at(self.entries.as_slice(), number)),
+            NodeMark::Unmet => VisitState::New,
+            NodeMark::Entered => VisitState::Open,
+            NodeMark::Left(number) => VisitState::Done(entry_at(self.entries.as_slice(), number)),
         }
     }
 
@@ -95,11 +95,11 @@ impl States {
         requires { node < length self.old }
         ensures { self.new ≡ slice_set self.old node Open }
     {
-        self.marks.set(node, Mark::Entered);
+        self.marks.set(node, NodeMark::Entered);
     }
 
     /// The node is left, with this entry; the error is that memory was refused.
-    pub fn leave(&mut self, node: usize, entry: Entry) -> Result<(), AllocError>
+    pub fn leave(&mut self, node: usize, entry: NodeRank) -> Result<(), AllocError>
         requires { node < length self.old }
         ensures { OnOk result (self.new ≡ slice_set self.old node (Done entry)) }
     {
@@ -107,7 +107,7 @@ impl States {
         let latest = self.places.get(place).copied();
         let number = number_of(&mut self.entries, latest, entry)?;
         remember(&mut self.places, place, number);
-        self.marks.set(node, Mark::Left(number));
+        self.marks.set(node, NodeMark::Left(number));
         Ok(())
     }
 
@@ -127,11 +127,11 @@ impl States {
 }
 
 /// The marks of so many nodes that weren't entered.
-fn unmet(alloc: Global, count: usize) -> Result<Items<Mark>, AllocError>
+fn unmet(alloc: Global, count: usize) -> Result<Items<NodeMark>, AllocError>
     ensures { IfOk result (λ marks. marks ≡ replicate count Unmet) }
 {
     let mut marks = Vec::new(alloc);
-    marks.resize(count, Mark::Unmet)?;
+    marks.resize(count, NodeMark::Unmet)?;
     Ok(Items::from_vec(marks))
 }
 
@@ -143,7 +143,7 @@ fn no_places(alloc: Global) -> Result<Items<usize>, AllocError> {
 }
 
 /// The place where the entry belongs.
-fn place_of(entry: Entry) -> usize {
+fn place_of(entry: NodeRank) -> usize {
     let mixed = entry.classes.mixed().wrapping_add(entry.rank);
     // The first bits of such a product hang on all bits of what is multiplied.
     (mixed.wrapping_mul(0x9E37_79B9_7F4A_7C15) >> 32) % PLACES
@@ -152,9 +152,9 @@ fn place_of(entry: Entry) -> usize {
 /// The number of the entry: the latest one of its place, where that is an equal entry's; else the entry is kept anew. The error
 /// is that memory was refused.
 fn number_of(
-    entries: &mut Items<Entry>,
+    entries: &mut Items<NodeRank>,
     latest: Option<usize>,
-    entry: Entry,
+    entry: NodeRank,
 ) -> Result<usize, AllocError>
     ensures ok { IfOk result (HasEntry entries.old entries.new entry) }
     ensures err { OnErr result (entries.new ≡ entries.old) }
@@ -168,7 +168,7 @@ fn number_of(
 }
 
 /// This number, if it is that of an equal entry.
-fn known(entries: &[Entry], number: Option<usize>, entry: Entry) -> Option<usize>
+fn known(entries: &[NodeRank], number: Option<usize>, entry: NodeRank) -> Option<usize>
     ensures { IfSome result (λ n. slice_get entries.now n ≡ Some entry) }
 {
     let number = number?;
@@ -188,12 +188,12 @@ fn remember(places: &mut Items<usize>, place: usize, number: usize) {
 }
 
 /// The entry of this number; that of a node without edges past the last one.
-fn entry_at(entries: &[Entry], number: usize) -> Entry
+fn entry_at(entries: &[NodeRank], number: usize) -> NodeRank
     ensures { result ≡ entry_in entries.now number }
 {
     match at(entries, number) {
         Some(entry) => *entry,
-        None => Entry {
+        None => NodeRank {
             rank: 0,
             classes: Bits::none(),
         },
@@ -201,14 +201,14 @@ fn entry_at(entries: &[Entry], number: usize) -> Entry
 }
 
 /// The numbers of the entries of nodes that were left.
-fn numbers_of(alloc: Global, marks: &[Mark]) -> Result<Items<usize>, AllocError>
+fn numbers_of(alloc: Global, marks: &[NodeMark]) -> Result<Items<usize>, AllocError>
     requires { AreLeft marks.now }
     ensures { IfOk result (λ numbers. map Left numbers ≡ marks.now) }
 {
     let mut numbers = Vec::with_capacity(alloc, marks.len())?;
     for mark in marks {
         match mark {
-            Mark::Left(number) => numbers.push(*number)?,
+            NodeMark::Left(number) => numbers.push(*number)?,
             _ => unreachable!(),
         }
     }
@@ -218,7 +218,7 @@ fn numbers_of(alloc: Global, marks: &[Mark]) -> Result<Items<usize>, AllocError>
 /// The entries of nodes.
 pub struct Found {
     numbers: Items<usize>,
-    entries: Items<Entry>,
+    entries: Items<NodeRank>,
 }
 
 impl Drop for Found {
@@ -233,16 +233,16 @@ impl Drop for Found {
 impl Model for Found {
     ghost use Rattle.std.specs.Prelude.{List, map};
     ghost use Rattle.rank_graph.specs.Shared.{entry_in};
-    ghost use Rattle.rank_graph.specs.declared.path.Entry.{Entry};
+    ghost use Rattle.rank_graph.specs.declared.path.NodeRank.{NodeRank};
 
-    ghost Value = { List Entry };
+    ghost Value = { List NodeRank };
 
     ghost view = { λ found. map (entry_in found.entries) found.numbers };
 }
 
 impl Found {
     /// The entry of the node, if there is such a node.
-    pub fn entry(&self, node: usize) -> Option<Entry>
+    pub fn entry(&self, node: usize) -> Option<NodeRank>
         ensures { result ≡ slice_get self.now node }
     {
         match at(self.numbers.as_slice(), node) {

@@ -10,7 +10,7 @@ use meta_model::{Meta, Statement, ValueType};
 
 /// Whose body is looked through, and for what.
 #[derive(Clone, Copy)]
-pub struct Search<'m> {
+pub struct BodySearch<'m> {
     /// The program.
     pub meta: &'m Meta,
     /// The class of the body.
@@ -21,7 +21,7 @@ pub struct Search<'m> {
     pub to: Node,
 }
 
-impl<'m> Search<'m> {
+impl<'m> BodySearch<'m> {
     /// Whether each of these statements that does something to the node, with those that are in them, hands on the value that
     /// the slot was called with. In a group none does.
     #[cycle(bodies)]

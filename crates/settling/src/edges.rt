@@ -5,7 +5,7 @@ ghost use Rattle.effect_scan.specs.Edges.{ByWork, MayLead};
 ghost use Rattle.settling.specs.Hands.{HandOn};
 ghost use Rattle.settling.specs.code.Bodies.{WorksHand};
 
-use crate::bodies::Search;
+use crate::bodies::BodySearch;
 use edge_reasons::{Reason, reason_for};
 use effect_scan::{Member, Node};
 use meta_model::{Meta, Work};
@@ -41,7 +41,7 @@ fn works_hand_on(meta: &Meta, from: Node, to: Node) -> bool
     match &found.work {
         Work::Signal => true,
         Work::Slot(body) => {
-            let search = Search {
+            let search = BodySearch {
                 meta,
                 class: from.class,
                 kinds: found.kinds.as_slice(),

@@ -7,10 +7,10 @@ use Rattle.effect_scan.specs.Rows.{row, Edge}
 use Rattle.rank_graph.proofs.Driving.{edge_inside}
 use Rattle.settling_make.specs.Components.{number_of, AreComponents}
 use Rattle.settling_make.specs.Searching.{state_of, IsDone, AllDone, room, AreLeft, Between, Visited}
-use Rattle.settling_make.specs.declared.groups.State.{State}
-use Rattle.settling_make.specs.declared.groups.State.TheVariants.{New, Open, Done}
+use Rattle.settling_make.specs.declared.groups.SearchState.{SearchState}
+use Rattle.settling_make.specs.declared.groups.SearchState.TheVariants.{New, Open, Done}
 use Rattle.settling_make.specs.declared.components.Components.{Components}
-use Rattle.settling_make.specs.declared.search.Search.{Search}
+use Rattle.settling_make.specs.declared.search.ComponentSearch.{ComponentSearch}
 use Rattle.settling_make.proofs.States.{done_inside}
 
 -- nothing was entered yet
@@ -19,41 +19,41 @@ unfolding state_of
 all_new count a =
     elim (cases_lt a count) [
       | inl l ↦ get_or-replicate count a New New l
-      | inr m ↦ get_or_past (replicate count New) a New (let long = length-replicate {A = State} count New in omega arith)
+      | inr m ↦ get_or_past (replicate count New) a New (let long = length-replicate {A = SearchState} count New in omega arith)
     ]
 
 room_all : (count : ℕ) → room (replicate count New) ≡ count
 room_all zero = refl
 room_all (suc n) = ap suc (room_all n)
 
-pub fresh_between : (rows : List (List ℕ)) (found : Search) → found.states ≡ replicate (length rows) New → found.sets ≡ [] → found.entered ≡ 0 → Between rows found
+pub fresh_between : (rows : List (List ℕ)) (found : ComponentSearch) → found.states ≡ replicate (length rows) New → found.sets ≡ [] → found.entered ≡ 0 → Between rows found
 unfolding row
 fresh_between rows found states sets entered = record {
   left = record {
-    count = ap (λ (l : List State). length l) states ∙ length-replicate (length rows) New;
+    count = ap (λ (l : List SearchState). length l) states ∙ length-replicate (length rows) New;
     falls = λ a b k is e. absurd (none a (Done k) is (λ bad. cc));
     together = λ a b k is e. absurd (none a (Done k) is (λ bad. cc));
     members = λ a k. (λ e. let inside = edge_inside found.sets k a e in let count = ap (λ (l : List (List ℕ)). length l) sets in absurd (omega arith), λ is. absurd (none a (Done k) is (λ bad. cc)));
     early = λ a t is. absurd (none a (Open t) is (λ bad. cc));
-    few = let all = ap (λ (l : List State). room l) states ∙ room_all (length rows) in omega arith;
+    few = let all = ap (λ (l : List SearchState). room l) states ∙ room_all (length rows) in omega arith;
   };
   closed = λ a t is. none a (Open t) is (λ bad. cc);
 }
   where
-    none : (a : ℕ) (s : State) → state_of found.states a ≡ s → (New ≡ s → ⊥) → ⊥
-    none a s is ne = ne (sym (ap (λ (l : List State). state_of l a) states ∙ all_new (length rows) a) ∙ is)
+    none : (a : ℕ) (s : SearchState) → state_of found.states a ≡ s → (New ≡ s → ⊥) → ⊥
+    none a s is ne = ne (sym (ap (λ (l : List SearchState). state_of l a) states ∙ all_new (length rows) a) ∙ is)
 
 -- ---- one root after another
-pub record Come (rows : List (List ℕ)) (root : ℕ) (found : Search) : Type 0 where
+pub record Come (rows : List (List ℕ)) (root : ℕ) (found : ComponentSearch) : Type 0 where
   pub between : Between rows found
   pub done : (a : ℕ) → a < root → IsDone found.states a
 
-done_from : (states : List State) (a : ℕ) (s : State) → state_of states a ≡ s → (s ≡ New → ⊥) → ((t : ℕ) → s ≡ Open t → ⊥) → IsDone states a
+done_from : (states : List SearchState) (a : ℕ) (s : SearchState) → state_of states a ≡ s → (s ≡ New → ⊥) → ((t : ℕ) → s ≡ Open t → ⊥) → IsDone states a
 done_from states a New is begun closed = absurd (begun refl)
 done_from states a (Open t) is begun closed = absurd (closed t refl)
 done_from states a (Done k) is begun closed = (k, is)
 
-pub come_visit : (rows : List (List ℕ)) (root : ℕ) (before after : Search) → Come rows root before → Visited rows before root after → Come rows (root + 1) after
+pub come_visit : (rows : List (List ℕ)) (root : ℕ) (before after : ComponentSearch) → Come rows root before → Visited rows before root after → Come rows (root + 1) after
 come_visit rows root before after c v = record {
   between = v.between;
   done = λ a h.
@@ -63,7 +63,7 @@ come_visit rows root before after c v = record {
       ];
 }
 
-pub come_past : (rows : List (List ℕ)) (root : ℕ) (found : Search) → Come rows root found → (state_of found.states root ≡ New → ⊥) → Come rows (root + 1) found
+pub come_past : (rows : List (List ℕ)) (root : ℕ) (found : ComponentSearch) → Come rows root found → (state_of found.states root ≡ New → ⊥) → Come rows (root + 1) found
 come_past rows root found c old = record {
   between = c.between;
   done = λ a h.
@@ -73,10 +73,10 @@ come_past rows root found c old = record {
       ];
 }
 
-pub come_none : (rows : List (List ℕ)) (found : Search) → found.states ≡ replicate (length rows) New → found.sets ≡ [] → found.entered ≡ 0 → Come rows 0 found
+pub come_none : (rows : List (List ℕ)) (found : ComponentSearch) → found.states ≡ replicate (length rows) New → found.sets ≡ [] → found.entered ≡ 0 → Come rows 0 found
 come_none rows found states sets entered = record { between = fresh_between rows found states sets entered; done = λ a h. absurd (omega arith) }
 
-pub come_all : (rows : List (List ℕ)) (root : ℕ) (found : Search) → length rows ≤ root → Come rows root found → Between rows found × AllDone found.states
+pub come_all : (rows : List (List ℕ)) (root : ℕ) (found : ComponentSearch) → length rows ≤ root → Come rows root found → Between rows found × AllDone found.states
 come_all rows root found past c = (c.between, λ a h. c.done a (omega (arith, c.between.left.count)))
 
 -- ---- the number that is read
@@ -91,13 +91,13 @@ number_past numbers given a same there =
     sym (sym (unwrap_or-slice_get numbers a 0) ∙ ap (λ (o : Option ℕ). unwrap_or o 0) none)
 
 -- ---- all nodes were left
-module _ (rows : List (List ℕ)) (walked : Search) (found : Components) (left : AreLeft rows walked) (all : AllDone walked.states) (numbers : map Done found.numbers ≡ walked.states) (sets : found.sets ≡ walked.sets) where
+module _ (rows : List (List ℕ)) (walked : ComponentSearch) (found : Components) (left : AreLeft rows walked) (all : AllDone walked.states) (numbers : map Done found.numbers ≡ walked.states) (sets : found.sets ≡ walked.sets) where
   count : length found.numbers ≡ length rows
-  count = sym (length-map found.numbers Done) ∙ ap (λ (l : List State). length l) numbers ∙ left.count
+  count = sym (length-map found.numbers Done) ∙ ap (λ (l : List SearchState). length l) numbers ∙ left.count
 
   state_is : (a : ℕ) → a < length rows → state_of walked.states a ≡ Done (number_of found.numbers a)
   unfolding state_of number_of
-  state_is a inside = ap (λ (l : List State). get_or l a New) (sym numbers) ∙ get_or-map Done found.numbers a 0 New (omega (arith, count))
+  state_is a inside = ap (λ (l : List SearchState). get_or l a New) (sym numbers) ∙ get_or-map Done found.numbers a 0 New (omega (arith, count))
 
   state_number : (a k : ℕ) → state_of walked.states a ≡ Done k → (a < length rows) × (number_of found.numbers a ≡ k)
   state_number a k is =

@@ -8,9 +8,9 @@ use Rattle.rank_graph.specs.Walks.{LeadsBy}
 use Rattle.rank_graph.proofs.Searching.{leads_push}
 use Rattle.settling_make.specs.Components.{Leads}
 use Rattle.settling_make.specs.Searching.{state_of, IsDone, AreBoth, IsJoined, IsGroup, OnPath, IsAfter, StandsOn, Held}
-use Rattle.settling_make.specs.declared.groups.State.{State}
-use Rattle.settling_make.specs.declared.groups.State.TheVariants.{Open, Done}
-use Rattle.settling_make.specs.declared.groups.Group.{Group}
+use Rattle.settling_make.specs.declared.groups.SearchState.{SearchState}
+use Rattle.settling_make.specs.declared.groups.SearchState.TheVariants.{Open, Done}
+use Rattle.settling_make.specs.declared.groups.OpenComponent.{OpenComponent}
 
 -- ---- walks
 join : (rows : List (List ℕ)) (a : ℕ) (xs : List ℕ) (b : ℕ) (ys : List ℕ) (c : ℕ) → LeadsBy (Edge rows) a xs b → LeadsBy (Edge rows) b ys c → LeadsBy (Edge rows) a (xs ++ ys) c
@@ -59,7 +59,7 @@ both_length one other all both =
     ]
 
 -- ---- what stays
-pub group_keeps : (rows : List (List ℕ)) (states after : List State) (g : Group) → ((a : ℕ) → Contains g.members a → state_of after a ≡ state_of states a) → ((a k : ℕ) → state_of states a ≡ Done k → state_of after a ≡ Done k) → IsGroup rows states g → IsGroup rows after g
+pub group_keeps : (rows : List (List ℕ)) (states after : List SearchState) (g : OpenComponent) → ((a : ℕ) → Contains g.members a → state_of after a ≡ state_of states a) → ((a k : ℕ) → state_of states a ≡ Done k → state_of after a ≡ Done k) → IsGroup rows states g → IsGroup rows after g
 group_keeps rows states after g same grows is = record {
   opened = λ a h. let x = is.opened a h in (x.0, same a h ∙ x.1, x.2);
   together = is.together;
@@ -67,14 +67,14 @@ group_keeps rows states after g same grows is = record {
   source = is.source;
 }
 
-pub stands_keeps : (rows : List (List ℕ)) (states after : List State) (g : Group) (path : List Group) → ((a : ℕ) → OnPath a path → state_of after a ≡ state_of states a) → StandsOn rows states g path → StandsOn rows after g path
+pub stands_keeps : (rows : List (List ℕ)) (states after : List SearchState) (g : OpenComponent) (path : List OpenComponent) → ((a : ℕ) → OnPath a path → state_of after a ≡ state_of states a) → StandsOn rows states g path → StandsOn rows after g path
 stands_keeps rows states after g path same stands = record {
   leads = stands.leads;
   before = λ a t on is. stands.before a t on (sym (same a on) ∙ is);
   after = stands.after;
 }
 
-pub held_keeps : (rows : List (List ℕ)) (states after : List State) (path : List Group) → ((a : ℕ) → OnPath a path → state_of after a ≡ state_of states a) → ((a k : ℕ) → state_of states a ≡ Done k → state_of after a ≡ Done k) → Held rows states path → Held rows after path
+pub held_keeps : (rows : List (List ℕ)) (states after : List SearchState) (path : List OpenComponent) → ((a : ℕ) → OnPath a path → state_of after a ≡ state_of states a) → ((a k : ℕ) → state_of states a ≡ Done k → state_of after a ≡ Done k) → Held rows states path → Held rows after path
 held_keeps rows states after [] same grows held = tt
 held_keeps rows states after (g ∷ gs) same grows held = (
   group_keeps rows states after g (λ a h. same a (inl h)) grows held.0,
@@ -82,7 +82,7 @@ held_keeps rows states after (g ∷ gs) same grows held = (
   held_keeps rows states after gs (λ a on. same a (inr on)) grows held.2,
 )
 
-pub held_open : (rows : List (List ℕ)) (states : List State) (path : List Group) (a : ℕ) → Held rows states path → OnPath a path → (t : ℕ) × (state_of states a ≡ Open t)
+pub held_open : (rows : List (List ℕ)) (states : List SearchState) (path : List OpenComponent) (a : ℕ) → Held rows states path → OnPath a path → (t : ℕ) × (state_of states a ≡ Open t)
 held_open rows states [] a held on = absurd on
 held_open rows states (g ∷ gs) a held on =
     elim on [
@@ -91,13 +91,13 @@ held_open rows states (g ∷ gs) a held on =
     ]
 
 -- ---- one target is done with
-abbrev pub with : Group → List ℕ → Group
+abbrev pub with : OpenComponent → List ℕ → OpenComponent
 with g pending = record { first = g.first; members = g.members; pending = pending }
 
-pub with_same : (g : Group) (pending rest : List ℕ) (t : ℕ) → g.pending ≡ rest ++ t ∷ [] → pending ≡ rest ++ t ∷ [] → with g pending ≡ g
+pub with_same : (g : OpenComponent) (pending rest : List ℕ) (t : ℕ) → g.pending ≡ rest ++ t ∷ [] → pending ≡ rest ++ t ∷ [] → with g pending ≡ g
 with_same g pending rest t popped pushed = ap (λ (p : List ℕ). with g p) (pushed ∙ sym popped)
 
-pub group_passes : (rows : List (List ℕ)) (states : List State) (g : Group) (rest : List ℕ) (t : ℕ) → g.pending ≡ rest ++ t ∷ [] → IsDone states t ⊎ Contains g.members t → IsGroup rows states g → IsGroup rows states (with g rest)
+pub group_passes : (rows : List (List ℕ)) (states : List SearchState) (g : OpenComponent) (rest : List ℕ) (t : ℕ) → g.pending ≡ rest ++ t ∷ [] → IsDone states t ⊎ Contains g.members t → IsGroup rows states g → IsGroup rows states (with g rest)
 group_passes rows states g rest t popped known is = record {
   opened = is.opened;
   together = is.together;
@@ -118,11 +118,11 @@ group_passes rows states g rest t popped known is = record {
   source = λ b h. is.source b (subst (λ (l : List ℕ). Contains l b) (sym popped) (Contains-append_left rest (t ∷ []) b h));
 }
 
-pub waits_last : (g : Group) (rest : List ℕ) (t : ℕ) → g.pending ≡ rest ++ t ∷ [] → Contains g.pending t
+pub waits_last : (g : OpenComponent) (rest : List ℕ) (t : ℕ) → g.pending ≡ rest ++ t ∷ [] → Contains g.pending t
 waits_last g rest t popped = subst (λ (l : List ℕ). Contains l t) (sym popped) (Contains-push rest t)
 
 -- ---- two groups become one
-module _ (rows : List (List ℕ)) (states : List State) (g at m : Group) (gs : List Group) (joined : IsJoined g at m) (below : IsGroup rows states g) (lower : StandsOn rows states g gs) (above : IsGroup rows states at) (upper : StandsOn rows states at (g ∷ gs)) where
+module _ (rows : List (List ℕ)) (states : List SearchState) (g at m : OpenComponent) (gs : List OpenComponent) (joined : IsJoined g at m) (below : IsGroup rows states g) (lower : StandsOn rows states g gs) (above : IsGroup rows states at) (upper : StandsOn rows states at (g ∷ gs)) where
   pub member_cases : (a : ℕ) → Contains m.members a → Contains g.members a ⊎ Contains at.members a
   member_cases a h = both_cases g.members at.members m.members a joined.members h
 
@@ -187,6 +187,6 @@ module _ (rows : List (List ℕ)) (states : List State) (g at m : Group) (gs : L
       after = after_first gs lower.after;
     }
       where
-        after_first : (hs : List Group) → IsAfter g hs → IsAfter m hs
+        after_first : (hs : List OpenComponent) → IsAfter g hs → IsAfter m hs
         after_first [] h = tt
         after_first (x ∷ xs) h = omega (arith, joined.first, h)

@@ -9,35 +9,35 @@ use Rattle.rank_graph.specs.Graphs.{InRange}
 use Rattle.rank_graph.proofs.Driving.{edge_inside}
 use Rattle.settling_make.specs.Components.{Leads}
 use Rattle.settling_make.specs.Searching.{state_of, IsDone, IsJoined, room, Enters, Leaves, AreLeft, Between, IsGroup, OnPath, IsAfter, Held, Searching, Since, Visited, left_of, left_below}
-use Rattle.settling_make.specs.declared.groups.State.{State}
-use Rattle.settling_make.specs.declared.groups.State.TheVariants.{New, Open, Done}
-use Rattle.settling_make.specs.declared.groups.Group.{Group}
-use Rattle.settling_make.specs.declared.search.Search.{Search}
+use Rattle.settling_make.specs.declared.groups.SearchState.{SearchState}
+use Rattle.settling_make.specs.declared.groups.SearchState.TheVariants.{New, Open, Done}
+use Rattle.settling_make.specs.declared.groups.OpenComponent.{OpenComponent}
+use Rattle.settling_make.specs.declared.search.ComponentSearch.{ComponentSearch}
 use Rattle.settling_make.proofs.States.{state-set_same, state-set_other, open_inside, room-set_open, room_some, room_less, left-set_open, left_less}
 use Rattle.settling_make.proofs.Grouping.{leads_edge, leads_itself, only_one, both_length, held_keeps, held_open, with, with_same, group_passes, waits_last, member_above, member_below, joined_group, joined_stands}
 
-open_done : (states : List State) (a t k : ℕ) → state_of states a ≡ Open t → state_of states a ≡ Done k → ⊥
+open_done : (states : List SearchState) (a t k : ℕ) → state_of states a ≡ Open t → state_of states a ≡ Done k → ⊥
 open_done states a t k o d = let bad : Open t ≡ Done k = sym o ∙ d in cc
 
-open_new : (states : List State) (a t : ℕ) → state_of states a ≡ Open t → state_of states a ≡ New → ⊥
+open_new : (states : List SearchState) (a t : ℕ) → state_of states a ≡ Open t → state_of states a ≡ New → ⊥
 open_new states a t o d = let bad : Open t ≡ New = sym o ∙ d in cc
 
-done_new : (states : List State) (a k : ℕ) → state_of states a ≡ Done k → state_of states a ≡ New → ⊥
+done_new : (states : List SearchState) (a k : ℕ) → state_of states a ≡ Done k → state_of states a ≡ New → ⊥
 done_new states a k o d = let bad : Done k ≡ New = sym o ∙ d in cc
 
-one_time : (states : List State) (a t u : ℕ) → state_of states a ≡ Open t → state_of states a ≡ Open u → t ≡ u
+one_time : (states : List SearchState) (a t u : ℕ) → state_of states a ≡ Open t → state_of states a ≡ Open u → t ≡ u
 one_time states a t u x y = let same : Open t ≡ Open u = sym x ∙ y in cc
 
-one_number : (states : List State) (a j k : ℕ) → state_of states a ≡ Done j → state_of states a ≡ Done k → j ≡ k
+one_number : (states : List SearchState) (a j k : ℕ) → state_of states a ≡ Done j → state_of states a ≡ Done k → j ≡ k
 one_number states a j k x y = let same : Done j ≡ Done k = sym x ∙ y in cc
 
 -- ---- a node is entered
-module _ (rows : List (List ℕ)) (node : ℕ) (before after : Search) (group : Group) (enters : Enters rows node before after group) (inside : node < length before.states) (fresh : state_of before.states node ≡ New) where
+module _ (rows : List (List ℕ)) (node : ℕ) (before after : ComponentSearch) (group : OpenComponent) (enters : Enters rows node before after group) (inside : node < length before.states) (fresh : state_of before.states node ≡ New) where
   here : state_of after.states node ≡ Open before.entered
-  here = ap (λ (l : List State). state_of l node) enters.states ∙ state-set_same before.states node (Open before.entered) inside
+  here = ap (λ (l : List SearchState). state_of l node) enters.states ∙ state-set_same before.states node (Open before.entered) inside
 
   other : (a : ℕ) → a ≢ node → state_of after.states a ≡ state_of before.states a
-  other a ne = ap (λ (l : List State). state_of l a) enters.states ∙ state-set_other before.states node a (Open before.entered) ne
+  other a ne = ap (λ (l : List SearchState). state_of l a) enters.states ∙ state-set_other before.states node a (Open before.entered) ne
 
   same_open : (a t : ℕ) → state_of before.states a ≡ Open t → state_of after.states a ≡ state_of before.states a
   same_open a t is = other a (λ e. open_new before.states a t is (subst (λ (x : ℕ). state_of before.states x ≡ New) (sym e) fresh))
@@ -54,7 +54,7 @@ module _ (rows : List (List ℕ)) (node : ℕ) (before after : Search) (group : 
 
   enters_left : AreLeft rows before → AreLeft rows after
   enters_left left = record {
-    count = ap (λ (l : List State). length l) enters.states ∙ length-set before.states node (Open before.entered) ∙ left.count;
+    count = ap (λ (l : List SearchState). length l) enters.states ∙ length-set before.states node (Open before.entered) ∙ left.count;
     falls = λ a b k is e. let x = left.falls a b k (back_in a k is) e in (x.0, grows_in b x.0 x.1, x.2);
     together = λ a b k x y. left.together a b k (back_in a k x) (back_in b k y);
     members = λ a k. (
@@ -68,7 +68,7 @@ module _ (rows : List (List ℕ)) (node : ℕ) (before after : Search) (group : 
         ];
     few =
         let less = room-set_open before.states node before.entered inside fresh in
-        let same : room after.states ≡ room (set before.states node (Open before.entered)) = ap (λ (l : List State). room l) enters.states in
+        let same : room after.states ≡ room (set before.states node (Open before.entered)) = ap (λ (l : List SearchState). room l) enters.states in
         omega (arith, enters.entered, left.few);
   }
 
@@ -98,8 +98,8 @@ module _ (rows : List (List ℕ)) (node : ℕ) (before after : Search) (group : 
   member_is b h = only_one node b (subst (λ (l : List ℕ). Contains l b) enters.members h)
 
   -- with nothing on the path
-  pub begins : (path : List Group) → path ≡ [] → Between rows before → Searching rows after path group
-  begins path none between = subst (λ (p : List Group). Searching rows after p group) (sym none) (record {
+  pub begins : (path : List OpenComponent) → path ≡ [] → Between rows before → Searching rows after path group
+  begins path none between = subst (λ (p : List OpenComponent). Searching rows after p group) (sym none) (record {
     left = enters_left between.left;
     group = alone;
     stands = record { leads = λ a b on h. absurd on; before = λ a t on is. absurd on; after = tt };
@@ -112,7 +112,7 @@ module _ (rows : List (List ℕ)) (node : ℕ) (before after : Search) (group : 
   })
 
   -- at the end of an edge from the group on top
-  pub into : (path : List Group) (at : Group) → Contains at.pending node → Searching rows before path at → Searching rows after (at ∷ path) group
+  pub into : (path : List OpenComponent) (at : OpenComponent) → Contains at.pending node → Searching rows before path at → Searching rows after (at ∷ path) group
   into path at waits s = record {
     left = enters_left s.left;
     group = alone;
@@ -146,7 +146,7 @@ module _ (rows : List (List ℕ)) (node : ℕ) (before after : Search) (group : 
           let up : Leads rows a source.0 = elim on [ inl x ↦ s.group.together a source.0 x source.1 | inr x ↦ s.stands.leads a source.0 x source.1 ] in
           leads_edge rows a source.0 node up source.2
 
-  pub since_in : (start : Search) (root : ℕ) → Since start root before → Since start root after
+  pub since_in : (start : ComponentSearch) (root : ℕ) → Since start root before → Since start root after
   since_in start root since = record {
     grows = λ a k is. grows_in a k (since.grows a k is);
     begun = λ is.
@@ -159,15 +159,15 @@ module _ (rows : List (List ℕ)) (node : ℕ) (before after : Search) (group : 
   pub since_begins : Since before node after
   since_begins = record { grows = grows_in; begun = λ is. open_new after.states node before.entered here is }
 
-  pub into_smaller : (at : Group) (path : List Group) → AreLeft rows before → left_of rows after.states + left_below (group ∷ at ∷ path) < left_of rows before.states + left_below (at ∷ path)
+  pub into_smaller : (at : OpenComponent) (path : List OpenComponent) → AreLeft rows before → left_of rows after.states + left_below (group ∷ at ∷ path) < left_of rows before.states + left_below (at ∷ path)
   into_smaller at path left =
       let less = left-set_open rows before.states node before.entered left.count (omega (arith, left.count)) fresh in
-      let same : left_of rows after.states ≡ left_of rows (set before.states node (Open before.entered)) = ap (λ (l : List State). left_of rows l) enters.states in
+      let same : left_of rows after.states ≡ left_of rows (set before.states node (Open before.entered)) = ap (λ (l : List SearchState). left_of rows l) enters.states in
       let count : length group.pending ≡ length (row rows node) = ap (λ (l : List ℕ). length l) enters.pending in
       omega arith
 
 -- ---- an end of an edge was looked at
-module _ (rows : List (List ℕ)) (found : Search) (path : List Group) (at : Group) (rest : List ℕ) (t : ℕ) (popped : at.pending ≡ rest ++ t ∷ []) (s : Searching rows found path at) where
+module _ (rows : List (List ℕ)) (found : ComponentSearch) (path : List OpenComponent) (at : OpenComponent) (rest : List ℕ) (t : ℕ) (popped : at.pending ≡ rest ++ t ∷ []) (s : Searching rows found path at) where
   pub passes : IsDone found.states t ⊎ Contains at.members t → Searching rows found path (with at rest)
   passes known = record {
     left = s.left;
@@ -177,7 +177,7 @@ module _ (rows : List (List ℕ)) (found : Search) (path : List Group) (at : Gro
     only = s.only;
   }
     where
-      rest_after : (p : List Group) → IsAfter at p → IsAfter (with at rest) p
+      rest_after : (p : List OpenComponent) → IsAfter at p → IsAfter (with at rest) p
       rest_after [] h = h
       rest_after (g ∷ gs) h = h
 
@@ -204,10 +204,10 @@ module _ (rows : List (List ℕ)) (found : Search) (path : List Group) (at : Gro
       ]
 
 -- ---- two groups become one
-pub merges : (rows : List (List ℕ)) (found : Search) (path gs : List Group) (g at m : Group) (t : ℕ) → path ≡ g ∷ gs → IsJoined g at m → Contains at.pending t → OnPath t path → Searching rows found path at → Searching rows found gs m
+pub merges : (rows : List (List ℕ)) (found : ComponentSearch) (path gs : List OpenComponent) (g at m : OpenComponent) (t : ℕ) → path ≡ g ∷ gs → IsJoined g at m → Contains at.pending t → OnPath t path → Searching rows found path at → Searching rows found gs m
 merges rows found path gs g at m t popped joined waits on searching =
-    let s : Searching rows found (g ∷ gs) at = subst (λ (p : List Group). Searching rows found p at) popped searching in
-    let deep : OnPath t (g ∷ gs) = subst (λ (p : List Group). OnPath t p) popped on in
+    let s : Searching rows found (g ∷ gs) at = subst (λ (p : List OpenComponent). Searching rows found p at) popped searching in
+    let deep : OnPath t (g ∷ gs) = subst (λ (p : List OpenComponent). OnPath t p) popped on in
     record {
       left = s.left;
       group = joined_group rows found.states g at m gs joined s.held.0 s.held.1 s.group s.stands t waits deep;
@@ -223,29 +223,29 @@ merges rows found path gs g at m t popped joined waits on searching =
           ];
     }
 
-pub merges_smaller : (left : ℕ) (path gs : List Group) (g at m : Group) → path ≡ g ∷ gs → IsJoined g at m → left + left_below (m ∷ gs) < left + left_below (at ∷ path)
+pub merges_smaller : (left : ℕ) (path gs : List OpenComponent) (g at m : OpenComponent) → path ≡ g ∷ gs → IsJoined g at m → left + left_below (m ∷ gs) < left + left_below (at ∷ path)
 merges_smaller left path gs g at m popped joined =
     let count = both_length g.pending at.pending m.pending joined.pending in
-    let below : left_below path ≡ left_below (g ∷ gs) = ap (λ (p : List Group). left_below p) popped in
+    let below : left_below path ≡ left_below (g ∷ gs) = ap (λ (p : List OpenComponent). left_below p) popped in
     omega arith
 
 -- ---- a component is left
 -- the first of its nodes were left
-pub record LeavesTo (members : List ℕ) (number : ℕ) (before : List State) (end : ℕ) (states : List State) : Type 0 where
+pub record LeavesTo (members : List ℕ) (number : ℕ) (before : List SearchState) (end : ℕ) (states : List SearchState) : Type 0 where
   pub count : length states ≡ length before
   pub done : (a : ℕ) → Contains (take end members) a → state_of states a ≡ Done number
   pub others : (a : ℕ) → Contains (take end members) a ⊎ (state_of states a ≡ state_of before a)
 
-pub leaves_none : (members : List ℕ) (number : ℕ) (before : List State) → LeavesTo members number before 0 before
+pub leaves_none : (members : List ℕ) (number : ℕ) (before : List SearchState) → LeavesTo members number before 0 before
 leaves_none members number before = record { count = refl; done = λ a h. absurd (omega (arith, h.1)); others = λ a. inr refl }
 
-pub leaves_more : (members : List ℕ) (number : ℕ) (before : List State) (end : ℕ) (states after : List State) (m : ℕ) → end < length members → get_or members end 0 ≡ m → m < length states → after ≡ set states m (Done number) → LeavesTo members number before end states → LeavesTo members number before (end + 1) after
+pub leaves_more : (members : List ℕ) (number : ℕ) (before : List SearchState) (end : ℕ) (states after : List SearchState) (m : ℕ) → end < length members → get_or members end 0 ≡ m → m < length states → after ≡ set states m (Done number) → LeavesTo members number before end states → LeavesTo members number before (end + 1) after
 leaves_more members number before end states after m more is inside written to =
     let longer : take (end + 1) members ≡ take end members ++ m ∷ [] = take_more members end 0 more ∙ ap (λ (x : ℕ). take end members ++ x ∷ []) is in
-    let here : state_of after m ≡ Done number = ap (λ (l : List State). state_of l m) written ∙ state-set_same states m (Done number) inside in
-    let other : (a : ℕ) → a ≢ m → state_of after a ≡ state_of states a = λ a ne. ap (λ (l : List State). state_of l a) written ∙ state-set_other states m a (Done number) ne in
+    let here : state_of after m ≡ Done number = ap (λ (l : List SearchState). state_of l m) written ∙ state-set_same states m (Done number) inside in
+    let other : (a : ℕ) → a ≢ m → state_of after a ≡ state_of states a = λ a ne. ap (λ (l : List SearchState). state_of l a) written ∙ state-set_other states m a (Done number) ne in
     record {
-      count = ap (λ (l : List State). length l) written ∙ length-set states m (Done number) ∙ to.count;
+      count = ap (λ (l : List SearchState). length l) written ∙ length-set states m (Done number) ∙ to.count;
       done = λ a h.
           elim (cases_eq a m) [
             | inl e ↦ subst (λ (x : ℕ). state_of after x ≡ Done number) (sym e) here
@@ -264,13 +264,13 @@ leaves_more members number before end states after m more is inside written to =
           ];
     }
 
-pub leaves_all : (members given : List ℕ) (number : ℕ) (before after : Search) (states : List State) (end : ℕ) → number ≡ length before.sets → given ≡ members → length given ≤ end → LeavesTo given number before.states end states → after.states ≡ states → after.sets ≡ before.sets ++ members ∷ [] → after.entered ≡ before.entered → Leaves members before after
+pub leaves_all : (members given : List ℕ) (number : ℕ) (before after : ComponentSearch) (states : List SearchState) (end : ℕ) → number ≡ length before.sets → given ≡ members → length given ≤ end → LeavesTo given number before.states end states → after.states ≡ states → after.sets ≡ before.sets ++ members ∷ [] → after.entered ≡ before.entered → Leaves members before after
 leaves_all members given number before after states end count same past to is sets entered =
     let whole : take end given ≡ members = take_all end given past ∙ same in
     record {
-      count = ap (λ (l : List State). length l) is ∙ to.count;
-      done = λ a h. ap (λ (l : List State). state_of l a) is ∙ to.done a (subst (λ (l : List ℕ). Contains l a) (sym whole) h) ∙ ap (λ (k : ℕ). Done k) count;
-      others = λ a. elim (to.others a) [ inl h ↦ inl (subst (λ (l : List ℕ). Contains l a) whole h) | inr e ↦ inr (ap (λ (l : List State). state_of l a) is ∙ e) ];
+      count = ap (λ (l : List SearchState). length l) is ∙ to.count;
+      done = λ a h. ap (λ (l : List SearchState). state_of l a) is ∙ to.done a (subst (λ (l : List ℕ). Contains l a) (sym whole) h) ∙ ap (λ (k : ℕ). Done k) count;
+      others = λ a. elim (to.others a) [ inl h ↦ inl (subst (λ (l : List ℕ). Contains l a) whole h) | inr e ↦ inr (ap (λ (l : List SearchState). state_of l a) is ∙ e) ];
       sets = sets;
       entered = entered;
     }
@@ -296,7 +296,7 @@ row_new : (sets : List (List ℕ)) (members : List ℕ) (a : ℕ) → Contains m
 unfolding row
 row_new sets members a h = subst (λ (r : List ℕ). Contains r a) (sym (get_or_push sets members [] (length sets) refl)) h
 
-module _ (rows : List (List ℕ)) (before after : Search) (path : List Group) (at : Group) (s : Searching rows before path at) (leaves : Leaves at.members before after) (empty : at.pending ≡ []) where
+module _ (rows : List (List ℕ)) (before after : ComponentSearch) (path : List OpenComponent) (at : OpenComponent) (s : Searching rows before path at) (leaves : Leaves at.members before after) (empty : at.pending ≡ []) where
   number : ℕ
   number = length before.sets
 
@@ -394,9 +394,9 @@ module _ (rows : List (List ℕ)) (before after : Search) (path : List Group) (a
         | inr same ↦ same
       ]
 
-  pub out : (gs : List Group) (g : Group) → path ≡ g ∷ gs → Searching rows after gs g
+  pub out : (gs : List OpenComponent) (g : OpenComponent) → path ≡ g ∷ gs → Searching rows after gs g
   out gs g popped =
-      let held : Held rows after.states (g ∷ gs) = subst (λ (p : List Group). Held rows after.states p) popped (held_keeps rows before.states after.states path still grows_out s.held) in
+      let held : Held rows after.states (g ∷ gs) = subst (λ (p : List OpenComponent). Held rows after.states p) popped (held_keeps rows before.states after.states path still grows_out s.held) in
       record {
         left = leaves_left;
         group = held.0;
@@ -405,7 +405,7 @@ module _ (rows : List (List ℕ)) (before after : Search) (path : List Group) (a
         only = λ a t is.
             elim (s.only a t (stays a t is)) [
               | inl x ↦ absurd (open_done after.states a t (length before.sets) is (leaves.done a x))
-              | inr on ↦ subst (λ (p : List Group). OnPath a p) popped on
+              | inr on ↦ subst (λ (p : List OpenComponent). OnPath a p) popped on
             ];
       }
 
@@ -415,21 +415,21 @@ module _ (rows : List (List ℕ)) (before after : Search) (path : List Group) (a
     closed = λ a t is.
         elim (s.only a t (stays a t is)) [
           | inl x ↦ open_done after.states a t (length before.sets) is (leaves.done a x)
-          | inr on ↦ subst (λ (p : List Group). OnPath a p) none on
+          | inr on ↦ subst (λ (p : List OpenComponent). OnPath a p) none on
         ];
   }
 
-  pub since_out : (start : Search) (root : ℕ) → Since start root before → Since start root after
+  pub since_out : (start : ComponentSearch) (root : ℕ) → Since start root before → Since start root after
   since_out start root since = record { grows = λ a k is. grows_out a k (since.grows a k is); begun = λ is. since.begun (back_new root is) }
 
-  pub out_smaller : (gs : List Group) (g : Group) → path ≡ g ∷ gs → left_of rows after.states + left_below (g ∷ gs) < left_of rows before.states + left_below (at ∷ path)
+  pub out_smaller : (gs : List OpenComponent) (g : OpenComponent) → path ≡ g ∷ gs → left_of rows after.states + left_below (g ∷ gs) < left_of rows before.states + left_below (at ∷ path)
   out_smaller gs g popped =
       let less = left_less rows before.states after.states leaves.count back_new in
-      let below : left_below path ≡ left_below (g ∷ gs) = ap (λ (p : List Group). left_below p) popped in
+      let below : left_below path ≡ left_below (g ∷ gs) = ap (λ (p : List OpenComponent). left_below p) popped in
       omega arith
 
 -- ---- the steps as the loop takes them
-module _ (rows : List (List ℕ)) (start before : Search) (root : ℕ) (path : List Group) (at : Group) (s : Searching rows before path at × Since start root before) where
+module _ (rows : List (List ℕ)) (start before : ComponentSearch) (root : ℕ) (path : List OpenComponent) (at : OpenComponent) (s : Searching rows before path at × Since start root before) where
   -- there is an end of an edge to look at
   module _ (rest : List ℕ) (t : ℕ) (popped : at.pending ≡ rest ++ t ∷ []) where
     pub step_inside : InRange rows → t < length before.states
@@ -452,45 +452,45 @@ module _ (rows : List (List ℕ)) (start before : Search) (root : ℕ) (path : L
       again : with at pending ≡ at
       again = with_same at pending rest t popped pushed
 
-      pub new_step : (after : Search) (group : Group) (on : List Group) → on ≡ with at pending ∷ path → state_of before.states t ≡ New → InRange rows → Enters rows t before after group → Searching rows after on group × Since start root after
+      pub new_step : (after : ComponentSearch) (group : OpenComponent) (on : List OpenComponent) → on ≡ with at pending ∷ path → state_of before.states t ≡ New → InRange rows → Enters rows t before after group → Searching rows after on group × Since start root after
       new_step after group on is fresh range enters =
-          let same : on ≡ at ∷ path = is ∙ ap (λ (g : Group). g ∷ path) again in
+          let same : on ≡ at ∷ path = is ∙ ap (λ (g : OpenComponent). g ∷ path) again in
           let inside = step_inside range in (
-            subst (λ (p : List Group). Searching rows after p group) (sym same) (into rows t before after group enters inside fresh path at (waits_last at rest t popped) s.0),
+            subst (λ (p : List OpenComponent). Searching rows after p group) (sym same) (into rows t before after group enters inside fresh path at (waits_last at rest t popped) s.0),
             since_in rows t before after group enters inside fresh start root s.1,
           )
 
-      pub new_smaller : (after : Search) (group : Group) (on : List Group) → on ≡ with at pending ∷ path → state_of before.states t ≡ New → InRange rows → Enters rows t before after group → left_of rows after.states + left_below (group ∷ on) < left_of rows before.states + left_below (at ∷ path)
+      pub new_smaller : (after : ComponentSearch) (group : OpenComponent) (on : List OpenComponent) → on ≡ with at pending ∷ path → state_of before.states t ≡ New → InRange rows → Enters rows t before after group → left_of rows after.states + left_below (group ∷ on) < left_of rows before.states + left_below (at ∷ path)
       new_smaller after group on is fresh range enters =
-          let same : left_below on ≡ left_below (at ∷ path) = ap (λ (p : List Group). left_below p) (is ∙ ap (λ (g : Group). g ∷ path) again) in
+          let same : left_below on ≡ left_below (at ∷ path) = ap (λ (p : List OpenComponent). left_below p) (is ∙ ap (λ (g : OpenComponent). g ∷ path) again) in
           let less = into_smaller rows t before after group enters (step_inside range) fresh at path s.0.left in
           omega arith
 
       pub none_below : (time : ℕ) → state_of before.states t ≡ Open time → time < at.first → path ≡ [] → ⊥
-      none_below time is early none = subst (λ (p : List Group). OnPath t p) none (below_group rows before path at rest t popped s.0 time is early)
+      none_below time is early none = subst (λ (p : List OpenComponent). OnPath t p) none (below_group rows before path at rest t popped s.0 time is early)
 
-      pub merge_step : (time : ℕ) (below m : Group) (on : List Group) → state_of before.states t ≡ Open time → time < at.first → path ≡ below ∷ on → IsJoined below (with at pending) m → Searching rows before on m × Since start root before
+      pub merge_step : (time : ℕ) (below m : OpenComponent) (on : List OpenComponent) → state_of before.states t ≡ Open time → time < at.first → path ≡ below ∷ on → IsJoined below (with at pending) m → Searching rows before on m × Since start root before
       merge_step time below m on is early taken joined =
-          let whole : IsJoined below at m = subst (λ (g : Group). IsJoined below g m) again joined in
+          let whole : IsJoined below at m = subst (λ (g : OpenComponent). IsJoined below g m) again joined in
           (merges rows before path on below at m t taken whole (waits_last at rest t popped) (below_group rows before path at rest t popped s.0 time is early) s.0, s.1)
 
-      pub merge_smaller : (below m : Group) (on : List Group) → path ≡ below ∷ on → IsJoined below (with at pending) m → left_of rows before.states + left_below (m ∷ on) < left_of rows before.states + left_below (at ∷ path)
+      pub merge_smaller : (below m : OpenComponent) (on : List OpenComponent) → path ≡ below ∷ on → IsJoined below (with at pending) m → left_of rows before.states + left_below (m ∷ on) < left_of rows before.states + left_below (at ∷ path)
       merge_smaller below m on taken joined =
-          merges_smaller (left_of rows before.states) path on below at m taken (subst (λ (g : Group). IsJoined below g m) again joined)
+          merges_smaller (left_of rows before.states) path on below at m taken (subst (λ (g : OpenComponent). IsJoined below g m) again joined)
 
   -- there is none
   module _ (members : List ℕ) (are : members ≡ at.members) (empty : at.pending ≡ []) where
     pub leave_inside : (a : ℕ) → Contains members a → a < length before.states
     leave_inside a h = let o = s.0.group.opened a (subst (λ (l : List ℕ). Contains l a) are h) in open_inside before.states a o.0 o.1
 
-    module _ (after : Search) (leaves : Leaves members before after) where
+    module _ (after : ComponentSearch) (leaves : Leaves members before after) where
       all : Leaves at.members before after
       all = subst (λ (l : List ℕ). Leaves l before after) are leaves
 
-      pub out_step : (below : Group) (on : List Group) → path ≡ below ∷ on → Searching rows after on below × Since start root after
+      pub out_step : (below : OpenComponent) (on : List OpenComponent) → path ≡ below ∷ on → Searching rows after on below × Since start root after
       out_step below on taken = (out rows before after path at s.0 all empty on below taken, since_out rows before after path at s.0 all empty start root s.1)
 
-      pub out_less : (below : Group) (on : List Group) → path ≡ below ∷ on → left_of rows after.states + left_below (below ∷ on) < left_of rows before.states + left_below (at ∷ path)
+      pub out_less : (below : OpenComponent) (on : List OpenComponent) → path ≡ below ∷ on → left_of rows after.states + left_below (below ∷ on) < left_of rows before.states + left_below (at ∷ path)
       out_less below on taken = out_smaller rows before after path at s.0 all empty on below taken
 
       pub end_step : path ≡ [] → Visited rows start root after

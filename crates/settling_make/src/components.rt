@@ -4,9 +4,9 @@ ghost use Rattle.std.specs.Prelude.{◌≡◌, ◌<◌, ℕ, length, map, IfOk};
 ghost use Rattle.rank_graph.specs.Graphs.{InRange};
 ghost use Rattle.settling_make.specs.Components.{AreComponents, number_of};
 ghost use Rattle.settling_make.specs.Searching.{AllDone};
-ghost use Rattle.settling_make.specs.declared.groups.State.TheVariants.{Done};
+ghost use Rattle.settling_make.specs.declared.groups.SearchState.TheVariants.{Done};
 
-use crate::groups::State;
+use crate::groups::SearchState;
 use crate::search::search_all;
 use effect_scan::Targets;
 use sqlite_items::{Items, at};
@@ -53,14 +53,14 @@ pub fn components_of(alloc: Global, rows: &[Targets]) -> Result<Components, Allo
 }
 
 /// The numbers of the nodes' components, all of which were left. The error is that memory was refused.
-fn numbers_of(alloc: Global, states: &[State]) -> Result<Items<usize>, AllocError>
+fn numbers_of(alloc: Global, states: &[SearchState]) -> Result<Items<usize>, AllocError>
     requires { AllDone states.now }
     ensures { IfOk result (λ numbers. map Done numbers ≡ states.now) }
 {
     let mut numbers = Vec::with_capacity(alloc, states.len())?;
     for state in states {
         match state {
-            State::Done(number) => numbers.push(*number)?,
+            SearchState::Done(number) => numbers.push(*number)?,
             _ => unreachable!(),
         }
     }

@@ -9,7 +9,7 @@ use std::marker::Model;
 
 /// How far a search has come with a node.
 #[derive(Clone, Copy)]
-pub enum State {
+pub enum SearchState {
     /// It wasn't entered.
     New,
     /// It was entered and not left: so many nodes were entered before.
@@ -19,7 +19,7 @@ pub enum State {
 }
 
 /// Nodes that all lead to one another.
-pub struct Group {
+pub struct OpenComponent {
     /// How many nodes were entered before the first of them.
     pub first: usize,
     /// The nodes.
@@ -28,9 +28,9 @@ pub struct Group {
     pub pending: Items<usize>,
 }
 
-impl Drop for Group {
+impl Drop for OpenComponent {
     fn drop(self) {
-        let Group {
+        let OpenComponent {
             first: _,
             members: _,
             pending: _,
@@ -38,12 +38,12 @@ impl Drop for Group {
     }
 }
 
-impl Group {
+impl OpenComponent {
     /// Its nodes.
     pub fn into_members(self) -> Items<usize>
         ensures { result ≡ self.members }
     {
-        let Group {
+        let OpenComponent {
             first: _,
             members,
             pending: _,
@@ -52,22 +52,22 @@ impl Group {
     }
 
     /// The group with the nodes of one above it. The error is that memory was refused.
-    pub fn joined(self, above: Group) -> Result<Group, AllocError>
+    pub fn joined(self, above: OpenComponent) -> Result<OpenComponent, AllocError>
         ensures { IfOk result (IsJoined self above) }
     {
-        let Group {
+        let OpenComponent {
             first,
             members,
             pending,
         } = self;
-        let Group {
+        let OpenComponent {
             first: _,
             members: members_above,
             pending: pending_above,
         } = above;
         let members = both(members, members_above)?;
         let pending = both(pending, pending_above)?;
-        Ok(Group {
+        Ok(OpenComponent {
             first,
             members,
             pending,
@@ -93,31 +93,31 @@ fn both(one: Items<usize>, other: Items<usize>) -> Result<Items<usize>, AllocErr
 
 /// The groups that a search has entered and not left, but for the last one.
 #[derive(Drop)]
-pub struct Path {
-    groups: Vec<Group>,
+pub struct ComponentPath {
+    groups: Vec<OpenComponent>,
 }
 
-impl Model for Path {
+impl Model for ComponentPath {
     ghost use Rattle.std.specs.Prelude.{List, reverse};
-    ghost use Rattle.settling_make.specs.declared.groups.Group.{Group};
+    ghost use Rattle.settling_make.specs.declared.groups.OpenComponent.{OpenComponent};
 
-    ghost Value = { List Group };
+    ghost Value = { List OpenComponent };
 
     ghost view = { λ p. reverse p.groups.items };
 }
 
-impl Path {
+impl ComponentPath {
     /// No group.
-    pub fn new(alloc: Global) -> Path
+    pub fn new(alloc: Global) -> ComponentPath
         ensures { result ≡ [] }
     {
-        Path {
+        ComponentPath {
             groups: Vec::new(alloc),
         }
     }
 
     /// Puts the group on top.
-    pub fn push(&mut self, group: Group) -> Result<(), AllocError>
+    pub fn push(&mut self, group: OpenComponent) -> Result<(), AllocError>
         ensures { OnOk result (self.new ≡ group ∷ self.old) }
     {
         self.groups.push(group)?;
@@ -125,7 +125,7 @@ impl Path {
     }
 
     /// Takes the group on top off, if there is one.
-    pub fn pop(&mut self) -> Option<Group>
+    pub fn pop(&mut self) -> Option<OpenComponent>
         ensures { MatchOption result ((self.old ≡ []) × (self.new ≡ [])) (λ group.
             self.old ≡ group ∷ self.new) }
     {

@@ -1,17 +1,17 @@
 -- What is at the front of a text, by its first byte.
 use Rattle.std.{proofs.Common.{◌≡◌, ℕ, Bool, true, false, nat_eq, List, [], ◌∷◌, ◌++◌, length, inl, inr, Option, Some, None, refl, sym, ◌∙◌, ap, arith}, proofs.lemmas.Bool.Decides.{nat_tests}, proofs.lemmas.Bool.{eqb-true}, specs.List.{AllByRecursion}, proofs.lemmas.List.Elements.{All-from_recursion}}
-use Rattle.texts.specs.{declared.bytes.Class.{Class}, declared.bytes.Class.TheVariants.{Blank, Slash, Letter, Digit, Quote, Other}, declared.symbol.Symbol.{Symbol}, code.Bytes.{class_by, class_of}, Bytes.{belongs, IsRun}, declared.token.Token.{Token}, Symbols.{spelling, IsSymbolAt, Begins}, Pieces.{Piece, blank, comment, name, reserved, number, text, symbol, IsFront, IsComment, StartsWithLetter, IsNotEmpty}, code.Splitting.{IsWordOrName, Cuts}}
+use Rattle.texts.specs.{declared.bytes.ByteClass.{ByteClass}, declared.bytes.ByteClass.TheVariants.{Blank, Slash, Letter, Digit, Quote, Other}, declared.symbol.Symbol.{Symbol}, code.Bytes.{class_by, class_of}, Bytes.{belongs, IsRun}, declared.token.Token.{Token}, Symbols.{spelling, IsSymbolAt, Begins}, Pieces.{Piece, blank, comment, name, reserved, number, text, symbol, IsFront, IsComment, StartsWithLetter, IsNotEmpty}, code.Splitting.{IsWordOrName, Cuts}}
 use Rattle.texts.specs.declared.bytes.Run.TheVariants as run
 use Rattle.texts.specs.declared.symbol.Symbol.TheVariants as s
 use Rattle.texts.specs.declared.token.Token.TheVariants as token
 use Rattle.basic_types.specs.{Tokens.{is_blank}, Name.{is_letter, is_digit, is_name_byte, IsName}, declared.word.Word.{Word}, Words.{word_spelling}}
 use Rattle.basic_types.specs.declared.word.Word.TheVariants as w
 
-abbrev class_at : List ℕ → Option Class
+abbrev class_at : List ℕ → Option ByteClass
 class_at [] = None
 class_at (b ∷ bs) = Some (class_of b)
 
-abbrev class_of_piece : Piece → Class
+abbrev class_of_piece : Piece → ByteClass
 class_of_piece (blank b) = Blank
 class_of_piece (comment line) = Slash
 class_of_piece (name letters) = Letter
@@ -136,7 +136,7 @@ module _ (bytes : List ℕ) (b : ℕ) (after : List ℕ) (at : bytes ≡ b ∷ a
   pub number_cut : (digits rest : List ℕ) → class_of b ≡ Digit → IsRun run.Number bytes digits rest → Cuts bytes (Some (token.Number digits)) rest
   number_cut digits rest h r = record { piece = number digits; front = (digits_some digits rest (digit_if (is_blank b) (nat_eq b 47) (is_letter b) (is_digit b) (nat_eq b 34) h) r, r); token_is = refl }
 
-  class_here : {k : Class} → class_of b ≡ k → class_at bytes ≡ Some k
+  class_here : {k : ByteClass} → class_of b ≡ k → class_at bytes ≡ Some k
   class_here h = ap class_at at ∙ ap Some h
 
   pub no_comment : class_of b ≡ Slash → ((rest : List ℕ) → IsComment after rest → ⊥) → (p : Piece) (rest : List ℕ) → IsFront p bytes rest → ⊥

@@ -8,7 +8,7 @@ use basic_types::{is_blank, is_digit, is_letter, is_name_byte};
 
 /// What a token that begins with a byte is.
 #[derive(Clone, Copy, Debug, PartialEq, Eq)]
-pub enum Class {
+pub enum ByteClass {
     /// A blank by itself.
     Blank,
     /// A comment.
@@ -38,21 +38,21 @@ pub enum Run {
 
 /// What a piece of text that begins with the byte is. Most begin with a letter or a blank, so these are looked at first.
 #[inline(always)]
-pub fn class_of(b: u8) -> Class
+pub fn class_of(b: u8) -> ByteClass
     ensures { result ≡ class_of b }
 {
     if is_letter(b) {
-        Class::Letter
+        ByteClass::Letter
     } else if is_blank(b) {
-        Class::Blank
+        ByteClass::Blank
     } else if is_digit(b) {
-        Class::Digit
+        ByteClass::Digit
     } else if b == b'/' {
-        Class::Slash
+        ByteClass::Slash
     } else if b == b'"' {
-        Class::Quote
+        ByteClass::Quote
     } else {
-        Class::Other
+        ByteClass::Other
     }
 }
 

@@ -7,7 +7,7 @@ ghost use Rattle.texts.specs.code.Splitting.{SplitsPiece, SplitsComment, SplitsT
 ghost use Rattle.basic_types.specs.Name.{IsName};
 ghost use Rattle.texts.specs.declared.lexer.LexFault.TheVariants.{BadByte};
 
-use crate::bytes::{Class, Run, class_of, split_run};
+use crate::bytes::{ByteClass, Run, class_of, split_run};
 use crate::interner::Interner;
 use crate::symbol::split_symbol;
 use crate::token::Token;
@@ -167,27 +167,27 @@ pub fn split_piece<'a>(
         return Err(LexFault::BadByte);
     };
     match class_of(*first) {
-        Class::Blank => Ok((None, after)),
-        Class::Slash => {
+        ByteClass::Blank => Ok((None, after)),
+        ByteClass::Slash => {
             let rest = split_comment(after)?;
             Ok((None, rest))
         }
-        Class::Letter => {
+        ByteClass::Letter => {
             let (letters, rest) = split_run(bytes, Run::Name);
             let token = word_or_name(interner, letters)?;
             Ok((Some(token), rest))
         }
-        Class::Digit => {
+        ByteClass::Digit => {
             let (digits, rest) = split_run(bytes, Run::Number);
             let number = interner.share(digits)?;
             Ok((Some(Token::Number(number)), rest))
         }
-        Class::Quote => {
+        ByteClass::Quote => {
             let (inner, rest) = split_text(after)?;
             let text = interner.share(inner)?;
             Ok((Some(Token::Text(text)), rest))
         }
-        Class::Other => match split_symbol(bytes) {
+        ByteClass::Other => match split_symbol(bytes) {
             Some((symbol, rest)) => Ok((Some(Token::Symbol(symbol)), rest)),
             None => Err(LexFault::BadByte),
         },

@@ -6,7 +6,7 @@ use Rattle.meta_model.specs.declared.object.Statement.TheVariants as whole
 use Rattle.name_indexes.specs.Places.{StandsFirst}
 use Rattle.effect_scan.proofs.Occurring.{IsPlain}
 use Rattle.edge_reasons.{specs.Order.{in_order, capped}, specs.Searches.{FirstFrom}, proofs.Walking.{first_here, none_here, none_in_all, first_itself, none_plain, first_in_group, none_in_group, first_in_chosen, first_in_other, none_in_if}}
-use Rattle.type_check.{specs.declared.flaws.Flaw.{Flaw}, specs.Bodies.{IsTypedStatement, IsUntyped, IsTypedBody}, specs.Typed.{IsUntypedStatement}, specs.code.Judging.{IsFirstFlaw, Judges}, proofs.Blocks.{body_more, body_all, body_at, whole_of, plain, first_block, second_block, both_blocks, its_sets, in_group}}
+use Rattle.type_check.{specs.declared.flaws.TypeFlaw.{TypeFlaw}, specs.Bodies.{IsTypedStatement, IsUntyped, IsTypedBody}, specs.Typed.{IsUntypedStatement}, specs.code.Judging.{IsFirstFlaw, Judges}, proofs.Blocks.{body_more, body_all, body_at, whole_of, plain, first_block, second_block, both_blocks, its_sets, in_group}}
 
 module _ (p : Loaded) (me : ℕ) (kinds : List ValueType) where
   abbrev Untyped : Statement → Type 0
@@ -17,7 +17,7 @@ module _ (p : Loaded) (me : ℕ) (kinds : List ValueType) where
 
   -- ---- one statement after another
   module _ (body : List Statement) (i : ℕ) (t : Statement) (inside : i < length body) (is : t ≡ get_or body i t) (start next : ℕ) (before : Judges p me kinds (take i body) start (Continue next)) where
-    pub judges_here : (flaw : Flaw) → Judges p me kinds (t ∷ []) next (Break flaw) → Judges p me kinds body start (Break flaw)
+    pub judges_here : (flaw : TypeFlaw) → Judges p me kinds (t ∷ []) next (Break flaw) → Judges p me kinds body start (Break flaw)
     judges_here flaw h = (
       λ typed. h.0 (body_at p me kinds body i t inside is typed),
       moved (t ∷ []) body start next flaw.statement (λ n. first_here Untyped body i t inside is start next n before.1) h.1,
@@ -41,7 +41,7 @@ module _ (p : Loaded) (me : ℕ) (kinds : List ValueType) where
     judges_plain bare = (plain p me kinds t bare typed, none_plain Untyped t start next not more bare)
 
     module _ (sets given : List Statement) (is : t ≡ whole.Group sets) (at : given ≡ sets) where
-      pub judges_group : (r : ControlFlow Flaw ℕ) → Judges p me kinds given next r → Judges p me kinds (t ∷ []) start r
+      pub judges_group : (r : ControlFlow TypeFlaw ℕ) → Judges p me kinds given next r → Judges p me kinds (t ∷ []) start r
       judges_group (Break flaw) h = (
         λ all. h.0 (subst (λ (b : List Statement). IsTypedBody p me kinds b) (sym at) (its_sets p me kinds t sets is all)),
         moved given (t ∷ []) start next flaw.statement (λ n. first_in_group Untyped t start next not more sets given is at n) h.1,
@@ -52,13 +52,13 @@ module _ (p : Loaded) (me : ℕ) (kinds : List ValueType) where
       )
 
     module _ (x : Expr MetaPath) (block other left right : List Statement) (is : t ≡ whole.If x block other) (l : left ≡ block) (r : right ≡ other) where
-      pub judges_chosen : (flaw : Flaw) → Judges p me kinds left next (Break flaw) → Judges p me kinds (t ∷ []) start (Break flaw)
+      pub judges_chosen : (flaw : TypeFlaw) → Judges p me kinds left next (Break flaw) → Judges p me kinds (t ∷ []) start (Break flaw)
       judges_chosen flaw h = (
         λ all. h.0 (subst (λ (b : List Statement). IsTypedBody p me kinds b) (sym l) (first_block p me kinds t x block other is all)),
         moved left (t ∷ []) start next flaw.statement (λ n. first_in_chosen Untyped t start next not more x block other left right is l r n) h.1,
       )
 
-      pub judges_other : (then : ℕ) (q : ControlFlow Flaw ℕ) → Judges p me kinds left next (Continue then) → Judges p me kinds right then q → Judges p me kinds (t ∷ []) start q
+      pub judges_other : (then : ℕ) (q : ControlFlow TypeFlaw ℕ) → Judges p me kinds left next (Continue then) → Judges p me kinds right then q → Judges p me kinds (t ∷ []) start q
       judges_other then (Break flaw) chosen h = (
         λ all. h.0 (subst (λ (b : List Statement). IsTypedBody p me kinds b) (sym r) (second_block p me kinds t x block other is all)),
         moved right (t ∷ []) start then flaw.statement (λ n. first_in_other Untyped t start next not more x block other left right is l r then n chosen.1) h.1,

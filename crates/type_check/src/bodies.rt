@@ -3,8 +3,8 @@
 ghost use Rattle.std.specs.Prelude.{[], ◌∷◌, IfOk};
 ghost use Rattle.type_check.specs.code.Judging.{Judges};
 
-use crate::flaws::Flaw;
-use crate::scope::Scope;
+use crate::flaws::TypeFlaw;
+use crate::scope::BodyScope;
 use meta_model::Statement;
 use std::alloc::AllocError;
 use std::ops::ControlFlow;
@@ -13,10 +13,10 @@ use std::ops::ControlFlow;
 /// comes behind them all. The first of them has the number `start`. Its error is that memory was refused.
 #[cycle(bodies)]
 pub fn body_flaw(
-    scope: &Scope,
+    scope: &BodyScope,
     body: &[Statement],
     start: usize,
-) -> Result<ControlFlow<Flaw, usize>, AllocError>
+) -> Result<ControlFlow<TypeFlaw, usize>, AllocError>
     ensures { IfOk result (Judges scope.now.meta.now scope.now.class scope.now.kinds.now body.now start) }
 {
     let mut next = start;
@@ -32,16 +32,16 @@ pub fn body_flaw(
 /// The same of one statement, which has the number `start`, and of those that are in it.
 #[cycle(bodies)]
 fn whole_flaw(
-    scope: &Scope,
+    scope: &BodyScope,
     statement: &Statement,
     start: usize,
-) -> Result<ControlFlow<Flaw, usize>, AllocError>
+) -> Result<ControlFlow<TypeFlaw, usize>, AllocError>
     ensures { IfOk result (Judges scope.now.meta.now scope.now.class scope.now.kinds.now (statement.now ∷ []) start) }
 {
     if !scope.is_typed(statement)? {
         let fault = scope.fault(statement)?;
         let statement = Some(start);
-        return Ok(ControlFlow::Break(Flaw { statement, fault }));
+        return Ok(ControlFlow::Break(TypeFlaw { statement, fault }));
     }
     let next = start.saturating_add(1);
     match statement {

@@ -3,7 +3,7 @@
 ghost use Rattle.std.specs.Prelude.{IfOk, MatchOption};
 ghost use Rattle.type_check.specs.Typed.{FindsNode, FindsUntyped, IsTypedSpot, IsInSpot};
 
-use crate::flaws::Flaw;
+use crate::flaws::TypeFlaw;
 use crate::members::node_flaw;
 use crate::sites::{site_flaw, untyped_site};
 use crate::spot::Spot;
@@ -27,7 +27,7 @@ pub fn untyped(alloc: Global, meta: &Meta) -> Result<Option<Spot>, AllocError>
 
 /// What isn't typed in this part of a program, and why: just what `untyped` judges by; `None` where the part is typed, or
 /// isn't there. Its error is that memory was refused.
-pub fn flaw_at(alloc: Global, meta: &Meta, spot: Spot) -> Result<Option<Flaw>, AllocError>
+pub fn flaw_at(alloc: Global, meta: &Meta, spot: Spot) -> Result<Option<TypeFlaw>, AllocError>
     ensures { IfOk result (λ found.
         let Typed = IsTypedSpot meta.now spot in
         MatchOption found Typed (λ flaw. (Typed → ⊥) × IsInSpot meta.now spot flaw.statement)) }

@@ -8,7 +8,7 @@ use syntax_trees::{Binary, Expr, Unary};
 
 /// The type of something that is given.
 #[derive(Clone, Copy, Debug, PartialEq, Eq)]
-pub enum Given {
+pub enum GivenType {
     /// `null`, which each reference type takes.
     Null,
     /// A declared type.
@@ -18,27 +18,27 @@ pub enum Given {
 /// Why something isn't typed. Expressions are given by their places, from 0: an argument's among the arguments; 0 for
 /// the value of a `set`, the condition of an `if` and the expression of a binding.
 #[derive(Clone, Copy, Debug, PartialEq, Eq)]
-pub enum Fault {
+pub enum TypeFault {
     /// The path of a `set`, `call`, `delete` or `later` leads behind a `const` pointer, or to no object.
     Constant,
     /// What is given at this place is of the one type, and the other is wanted.
-    Mismatch(usize, Given, ValueType),
+    Mismatch(usize, GivenType, ValueType),
     /// In the expression at this place, the operator takes no operand of this type.
-    Operand(usize, Unary, Given),
+    Operand(usize, Unary, GivenType),
     /// In the expression at this place, the operator takes no two operands of these types.
-    Operands(usize, Binary, Given, Given),
+    Operands(usize, Binary, GivenType, GivenType),
     /// The expression at this place has no type; in a program that loads each has.
     Unknown(usize),
 }
 
 /// What isn't typed in a part of a program, and why.
 #[derive(Clone, Copy, Debug, PartialEq, Eq)]
-pub struct Flaw {
+pub struct TypeFlaw {
     /// The first statement of a slot's body that isn't typed, as `edge_reasons::statement_at` counts; `None` for a literal
     /// and a binding.
     pub statement: Option<usize>,
     /// Why.
-    pub fault: Fault,
+    pub fault: TypeFault,
 }
 
 /// Why the expression at this place isn't of the type that is wanted, which it isn't. Its error is that memory was refused.
@@ -49,9 +49,9 @@ pub fn fault_in<P: Drop, N: Names<P>>(
     wanted: ValueType,
     expression: &Expr<P>,
     names: &N,
-) -> Result<Fault, AllocError> {
+) -> Result<TypeFault, AllocError> {
     match given_in(alloc, meta, expression, names)? {
-        Some(given) => Ok(Fault::Mismatch(place, given, wanted)),
+        Some(given) => Ok(TypeFault::Mismatch(place, given, wanted)),
         None => operand_fault(alloc, meta, place, expression, names),
     }
 }
@@ -63,10 +63,10 @@ fn operand_fault<P: Drop, N: Names<P>>(
     place: usize,
     expression: &Expr<P>,
     names: &N,
-) -> Result<Fault, AllocError> {
+) -> Result<TypeFault, AllocError> {
     match expression {
         Expr::Unary(operator, operand) => match given_in(alloc, meta, operand.get(), names)? {
-            Some(given) => Ok(Fault::Operand(place, *operator, given)),
+            Some(given) => Ok(TypeFault::Operand(place, *operator, given)),
             None => operand_fault(alloc, meta, place, operand.get(), names),
         },
         Expr::Binary(operator, left, right) => {
@@ -74,11 +74,11 @@ fn operand_fault<P: Drop, N: Names<P>>(
                 return operand_fault(alloc, meta, place, left.get(), names);
             };
             match given_in(alloc, meta, right.get(), names)? {
-                Some(second) => Ok(Fault::Operands(place, *operator, first, second)),
+                Some(second) => Ok(TypeFault::Operands(place, *operator, first, second)),
                 None => operand_fault(alloc, meta, place, right.get(), names),
             }
         }
-        Expr::Literal(_) | Expr::Path(_) => Ok(Fault::Unknown(place)),
+        Expr::Literal(_) | Expr::Path(_) => Ok(TypeFault::Unknown(place)),
     }
 }
 
@@ -88,10 +88,10 @@ fn given_in<P: Drop, N: Names<P>>(
     meta: &Meta,
     expression: &Expr<P>,
     names: &N,
-) -> Result<Option<Given>, AllocError> {
+) -> Result<Option<GivenType>, AllocError> {
     match type_of(alloc, expression, names)? {
-        Some(ExprType::Null) => Ok(Some(Given::Null)),
-        Some(ExprType::Of(declared)) => Ok(numbered(meta, &declared).map(Given::Of)),
+        Some(ExprType::Null) => Ok(Some(GivenType::Null)),
+        Some(ExprType::Of(declared)) => Ok(numbered(meta, &declared).map(GivenType::Of)),
         None => Ok(None),
     }
 }
@@ -111,11 +111,11 @@ fn numbered(meta: &Meta, declared: &QType) -> Option<ValueType> {
 }
 
 /// The type of a literal.
-pub fn given_by(value: &Value) -> Given {
+pub fn given_by(value: &Value) -> GivenType {
     match value {
-        Value::Int(_) => Given::Of(ValueType::Int),
-        Value::Bool(_) => Given::Of(ValueType::Bool),
-        Value::Text(_) => Given::Of(ValueType::Text),
-        Value::Ref(_) => Given::Null,
+        Value::Int(_) => GivenType::Of(ValueType::Int),
+        Value::Bool(_) => GivenType::Of(ValueType::Bool),
+        Value::Text(_) => GivenType::Of(ValueType::Text),
+        Value::Ref(_) => GivenType::Null,
     }
 }

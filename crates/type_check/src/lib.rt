@@ -15,7 +15,7 @@ mod spot;
 mod wires;
 
 pub use first::{flaw_at, untyped};
-pub use flaws::{Fault, Flaw, Given};
+pub use flaws::{GivenType, TypeFault, TypeFlaw};
 pub use laws::typed_have_values;
 pub use spot::Spot;
 pub use wires::unfit_wire;

@@ -7,8 +7,8 @@ ghost use Rattle.meta_model.specs.Sound.{IsSound};
 ghost use Rattle.type_check.specs.Typed.{IsTypedProperty, IsTypedMemberHere, IsTypedHere, IsUntypedStatement, IsInMember};
 
 use crate::bodies::body_flaw;
-use crate::flaws::{Fault, Flaw, given_by};
-use crate::scope::Scope;
+use crate::flaws::{TypeFault, TypeFlaw, given_by};
+use crate::scope::BodyScope;
 use effect_scan::{Member, Node};
 use meta_model::{Meta, Work};
 use std::alloc::{AllocError, Global};
@@ -20,7 +20,7 @@ fn method_flaw(
     meta: &Meta,
     class: usize,
     method: usize,
-) -> Result<Option<Flaw>, AllocError>
+) -> Result<Option<TypeFlaw>, AllocError>
     requires sound { IsSound meta.now }
     requires own { method_offset meta.now class ≤ method }
     ensures { IfOk result (λ found.
@@ -33,7 +33,7 @@ fn method_flaw(
     let Work::Slot(body) = &method.work else {
         return Ok(None);
     };
-    let scope = Scope {
+    let scope = BodyScope {
         alloc,
         meta,
         class,
@@ -46,7 +46,7 @@ fn method_flaw(
 }
 
 /// Why the property's value at first isn't of its type, if it isn't.
-fn property_flaw(meta: &Meta, class: usize, property: usize) -> Option<Flaw>
+fn property_flaw(meta: &Meta, class: usize, property: usize) -> Option<TypeFlaw>
     ensures { let Typed = IsTypedProperty meta.now class property in
         MatchOption result Typed (λ flaw. (Typed → ⊥) × (flaw.statement ≡ None)) }
 {
@@ -59,14 +59,14 @@ fn property_flaw(meta: &Meta, class: usize, property: usize) -> Option<Flaw>
     if meta.has_type(&property.initial, None, property.kind) {
         return None;
     }
-    Some(Flaw {
+    Some(TypeFlaw {
         statement: None,
-        fault: Fault::Mismatch(0, given_by(&property.initial), property.kind),
+        fault: TypeFault::Mismatch(0, given_by(&property.initial), property.kind),
     })
 }
 
 /// What isn't typed in the node; an inherited method is judged where it is declared, and here it is taken to be typed.
-pub fn node_flaw(alloc: Global, meta: &Meta, node: Node) -> Result<Option<Flaw>, AllocError>
+pub fn node_flaw(alloc: Global, meta: &Meta, node: Node) -> Result<Option<TypeFlaw>, AllocError>
     requires { IsSound meta.now }
     ensures { IfOk result (λ found.
         let Typed = IsTypedHere meta.now node in

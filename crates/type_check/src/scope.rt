@@ -7,7 +7,7 @@ ghost use Rattle.meta_model.specs.declared.object.Statement.TheViews.{out-Statem
 ghost use Rattle.type_check.specs.Bodies.{kind_of_root, kind_of_path, LeadsToMutable, IsGivenIn, AcceptsArguments, IsTypedSet, IsTypedCall, IsTypedDeletion, IsTypedStatement};
 
 use crate::accepting::is_given;
-use crate::flaws::{Fault, fault_in};
+use crate::flaws::{TypeFault, fault_in};
 use crate::naming::spelled;
 use basic_types::QType;
 use expressions::Names;
@@ -17,14 +17,14 @@ use syntax_trees::Expr;
 
 /// Where a body stands: the program, the class that declares its slot, and the types of the slot's parameters.
 #[derive(Clone, Copy)]
-pub struct Scope<'m> {
+pub struct BodyScope<'m> {
     pub alloc: Global,
     pub meta: &'m Meta,
     pub class: usize,
     pub kinds: &'m [ValueType],
 }
 
-impl<'m> Names<MetaPath> for Scope<'m> {
+impl<'m> Names<MetaPath> for BodyScope<'m> {
     ghost use Rattle.type_check.specs.Accepting.{spelled_kinds};
     ghost use Rattle.type_check.specs.Bodies.{kind_of_path};
 
@@ -38,7 +38,7 @@ impl<'m> Names<MetaPath> for Scope<'m> {
     }
 }
 
-impl<'m> Scope<'m> {
+impl<'m> BodyScope<'m> {
     /// Whether the statement is typed; of an `if`, whether its condition is. What is in it is looked at on its own.
     pub fn is_typed(&self, statement: &Statement) -> Result<bool, AllocError>
         ensures { IfOk result (λ answer. IsTrue answer
@@ -56,21 +56,21 @@ impl<'m> Scope<'m> {
     }
 
     /// Why the statement isn't typed, which it isn't; of an `if`, why its condition isn't.
-    pub fn fault(&self, statement: &Statement) -> Result<Fault, AllocError> {
+    pub fn fault(&self, statement: &Statement) -> Result<TypeFault, AllocError> {
         match statement {
             Statement::Set(path, property, value) => match self.kind_set(path, *property) {
                 Some(kind) => self.fault_in(0, kind, value),
-                None => Ok(Fault::Constant),
+                None => Ok(TypeFault::Constant),
             },
             Statement::Emit(signal, given) => {
                 self.argument_fault(self.class, *signal, given.as_slice())
             }
             Statement::Call(path, method, given) => match self.mutable(path) {
                 Some(class) => self.argument_fault(class, *method, given.as_slice()),
-                None => Ok(Fault::Constant),
+                None => Ok(TypeFault::Constant),
             },
             Statement::If(condition, _, _) => self.fault_in(0, ValueType::Bool, condition),
-            _ => Ok(Fault::Constant),
+            _ => Ok(TypeFault::Constant),
         }
     }
 
@@ -88,9 +88,9 @@ impl<'m> Scope<'m> {
         class: usize,
         method: usize,
         given: &[Expr<MetaPath>],
-    ) -> Result<Fault, AllocError> {
+    ) -> Result<TypeFault, AllocError> {
         let Some(method) = self.meta.method_at(class, method) else {
-            return Ok(Fault::Unknown(0));
+            return Ok(TypeFault::Unknown(0));
         };
         for (place, expression) in given.iter().enumerate() {
             if let Some(kind) = method.kinds.get(place) {
@@ -99,7 +99,7 @@ impl<'m> Scope<'m> {
                 }
             }
         }
-        Ok(Fault::Unknown(0))
+        Ok(TypeFault::Unknown(0))
     }
 
     /// Why something of this type may not be given the expression at this place.
@@ -108,7 +108,7 @@ impl<'m> Scope<'m> {
         place: usize,
         wanted: ValueType,
         expression: &Expr<MetaPath>,
-    ) -> Result<Fault, AllocError> {
+    ) -> Result<TypeFault, AllocError> {
         fault_in(self.alloc, self.meta, place, wanted, expression, self)
     }
 

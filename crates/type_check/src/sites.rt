@@ -5,7 +5,7 @@ ghost use Rattle.type_check.specs.Firsts.{FindsWithout};
 ghost use Rattle.type_check.specs.Typed.{kind_in, IsTypedSite};
 
 use crate::accepting::is_given;
-use crate::flaws::{Fault, Flaw, fault_in};
+use crate::flaws::{TypeFault, TypeFlaw, fault_in};
 use crate::naming::spelled;
 use basic_types::QType;
 use expressions::Names;
@@ -47,13 +47,17 @@ fn kind_in(meta: &Meta, class: usize, property: usize) -> Option<ValueType>
 }
 
 /// Why the expression of the site isn't of its target's type, if it isn't. Its error is that memory was refused.
-pub fn site_flaw(alloc: Global, meta: &Meta, site: &MetaSite) -> Result<Option<Flaw>, AllocError>
+pub fn site_flaw(
+    alloc: Global,
+    meta: &Meta,
+    site: &MetaSite,
+) -> Result<Option<TypeFlaw>, AllocError>
     ensures { IfOk result (λ found.
         let Typed = IsTypedSite meta.now site.now in
         MatchOption found Typed (λ flaw. (Typed → ⊥) × (flaw.statement ≡ None))) }
 {
     let Some(kind) = kind_in(meta, site.class, site.property) else {
-        return Ok(Some(flaw(Fault::Unknown(0))));
+        return Ok(Some(flaw(TypeFault::Unknown(0))));
     };
     let formals = Formals {
         alloc,
@@ -69,10 +73,10 @@ pub fn site_flaw(alloc: Global, meta: &Meta, site: &MetaSite) -> Result<Option<F
 }
 
 /// What isn't typed in a binding.
-fn flaw(fault: Fault) -> Flaw
+fn flaw(fault: TypeFault) -> TypeFlaw
     ensures { result.statement ≡ None }
 {
-    Flaw {
+    TypeFlaw {
         statement: None,
         fault,
     }

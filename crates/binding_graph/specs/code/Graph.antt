@@ -13,7 +13,7 @@ use Rattle.binding_graph.specs.code.Lists.{has, keys_under}
 use Rattle.binding_graph.specs.code.Keys.{key_of, same_key}
 use Rattle.binding_graph.specs.code.Slots.{filled, in_slot}
 use Rattle.binding_graph.specs.Bindings.{binding_at, AreApart, Reads, touches}
-use Rattle.binding_graph.specs.code.Ranks.{RankAll, rank_of}
+use Rattle.binding_graph.specs.code.BindingRanks.{RankAll, rank_of}
 
 -- ---- the bindings
 abbrev pub bindings_in : Installed → List Binding

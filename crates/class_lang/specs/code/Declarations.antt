@@ -9,7 +9,7 @@ use Rattle.class_lang.specs.Sites.{spell_formal, tree_of_formal, spell_site, tre
 use Rattle.token_reading.specs.code.Cursor.{NotAt}
 use Rattle.token_reading.specs.Lists.{spell_each}
 use Rattle.texts.specs.declared.symbol.Symbol.TheVariants.{Semicolon}
-use Rattle.class_lang.specs.declared.declarations.Declaration.{Declaration}
+use Rattle.class_lang.specs.declared.declarations.ParsedDeclaration.{ParsedDeclaration}
 use Rattle.syntax_trees.specs.declared.program.Class.{Class}
 use Rattle.syntax_trees.specs.declared.program.Program.{Program}
 use Rattle.class_lang.specs.Declarations.{spell_members, class_of, spell_declaration, tree_of_declaration, classes_in, wires_in, owns_in, sites_in, tree_of_program}
@@ -25,7 +25,7 @@ abbrev pub EndsDeclaration : List Token → Type 0
 EndsDeclaration after = NotAt Semicolon after
 
 -- the program, with these declarations after its own
-abbrev pub with_declarations : Program → List Declaration → Program
+abbrev pub with_declarations : Program → List ParsedDeclaration → Program
 with_declarations program declarations = record {
   classes = program.classes ++ classes_in declarations;
   wires = program.wires ++ wires_in declarations;
@@ -37,7 +37,7 @@ with_declarations program declarations = record {
 abbrev pub ReadsMembers : List ℕ → Option (List ℕ) → List Token → Result Class ParseFault → List Token → Type 0
 ReadsMembers name base before result after = Reads spell_members (class_of name base) EndsAnywhere before result after
 
-abbrev pub ReadsDeclaration : List Token → Result Declaration ParseFault → List Token → Type 0
+abbrev pub ReadsDeclaration : List Token → Result ParsedDeclaration ParseFault → List Token → Type 0
 ReadsDeclaration before result after = Reads spell_declaration tree_of_declaration EndsDeclaration before result after
 
 abbrev pub ReadsDeclarations : List Token → Result Program ParseFault → List Token → Type 0

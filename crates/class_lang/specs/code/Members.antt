@@ -3,7 +3,7 @@ use Rattle.std.specs.Prelude.{List, Option, Result, ◌++◌, option_map}
 use Rattle.token_reading.specs.{code.Reading.{Reads, EndsAnywhere}, code.Signatures.{EndsType}, Signatures.{tree_of_sig}, declared.fault.ParseFault.{ParseFault}, code.Optional.{EndsWithoutName}, code.Cursor.{NotAt, NotAtWord}, Literals.{tree_of_literal}}
 use Rattle.texts.specs.{declared.token.Token.{Token}, declared.symbol.Symbol.TheVariants.{Assign}}
 use Rattle.syntax_trees.specs.{declared.program.Parameter.{Parameter}, declared.program.EffectNames.{EffectNames}, declared.program.Slot.{Slot}, declared.syntax.Literal.{Literal}, declared.program.Property.{Property}, declared.program.Class.{Class}}
-use Rattle.class_lang.specs.{Parameters.{spell_signal_parameter, tree_of_signal_parameter, spell_slot_parameter, tree_of_slot_parameter}, Natives.{spell_effects, tree_of_effects, spell_native, tree_of_native}, declared.members.Member.{Member}, Members.{spell_initial, spell_notify, spell_property, tree_of_property, properties_in, signals_in, slots_in}}
+use Rattle.class_lang.specs.{Parameters.{spell_signal_parameter, tree_of_signal_parameter, spell_slot_parameter, tree_of_slot_parameter}, Natives.{spell_effects, tree_of_effects, spell_native, tree_of_native}, declared.members.ParsedMember.{ParsedMember}, Members.{spell_initial, spell_notify, spell_property, tree_of_property, properties_in, signals_in, slots_in}}
 use Rattle.basic_types.specs.declared.word.Word.TheVariants as word
 use Rattle.basic_types.specs.declared.sig.Sig.{Sig}
 
@@ -34,7 +34,7 @@ abbrev pub ReadsProperty : List Token → Result Property ParseFault → List To
 ReadsProperty before result after = Reads spell_property tree_of_property EndsAnywhere before result after
 
 -- the class, with these members after its own
-abbrev pub with_members : Class → List Member → Class
+abbrev pub with_members : Class → List ParsedMember → Class
 with_members class members = record {
   name = class.name;
   base = class.base;

@@ -8,7 +8,7 @@ use Rattle.connections.specs.declared.place.CellPlace.{CellPlace}
 use Rattle.connections.specs.declared.lists.Lists.{Lists}
 use Rattle.connections.specs.Connected.{is_of, touches}
 use Rattle.connections.specs.code.Cells.{Marked, LeadToEach, counted}
-use Rattle.connections.specs.code.Places.{live, Indexes, Tidies}
+use Rattle.connections.specs.code.CellPlaces.{live, Indexes, Tidies}
 use Rattle.connections.specs.code.Groups.{list_of}
 
 abbrev pub same_pair : ℕ × ℕ → ℕ × ℕ → Bool

@@ -5,7 +5,7 @@ use Rattle.meta_model.specs.declared.object.MetaOwns.{MetaOwns}
 pub use Rattle.class_sets.specs.Marks.{IsMarked, Marks}
 use Rattle.effect_scan.specs.Rows.{row}
 use Rattle.effect_scan.specs.code.Adding.{Among}
-use Rattle.effect_scan.specs.code.Places.{Lists}
+use Rattle.effect_scan.specs.code.NodePlaces.{Lists}
 
 unfoldable pub marks_of : List (List Bool) → ℕ → List Bool
 marks_of relation i = slice_index_or relation i []

@@ -4,7 +4,7 @@ use Rattle.std.specs.List.{count_by, sum_by}
 use Rattle.std.specs.declared.collections.VecDeque.{VecDeque}
 use Rattle.indexmap.specs.IndexMap.{IndexMap}
 use Rattle.event_loops.specs.declared.item.Posted.{Posted}
-use Rattle.event_loops.specs.declared.marks.Mark.{Mark}
+use Rattle.event_loops.specs.declared.marks.WaitMark.{WaitMark}
 use Rattle.event_loops.specs.declared.marks.Marks.{Marks}
 use Rattle.event_loops.specs.Queues.{Loop, receiver_of, is_for}
 use Rattle.event_loops.specs.code.Marks.{mark_of}
@@ -17,7 +17,7 @@ count_where test loops = sum_by (λ (l : Loop). count_by test l.items) loops
 abbrev pub awaits : ℕ → Posted → Bool
 awaits object p = is_for object p.item
 
-abbrev pub waiting_in : Option Mark → ℕ
+abbrev pub waiting_in : Option WaitMark → ℕ
 waiting_in None = 0
 waiting_in (Some mark) = mark.waiting
 

@@ -3,16 +3,16 @@ use Rattle.std.specs.Prelude.{◌≡◌, ℕ, ◌≤◌, eqb, nat_lt, nat_le, �
 use Rattle.std.specs.List.{list_all}
 use Rattle.indexmap.specs.IndexMap.{get}
 use Rattle.event_loops.specs.declared.item.Posted.{Posted}
-use Rattle.event_loops.specs.declared.marks.Mark.{Mark}
+use Rattle.event_loops.specs.declared.marks.WaitMark.{WaitMark}
 use Rattle.event_loops.specs.declared.marks.Marks.{Marks}
 use Rattle.event_loops.specs.Queues.{Loop, receiver_of, items_at, with_items, is_before, without_first}
 
-abbrev pub since_in : Option Mark → Option ℕ
+abbrev pub since_in : Option WaitMark → Option ℕ
 since_in None = None
 since_in (Some mark) = Some mark.since
 
 -- an object's mark, by its number
-abbrev pub mark_of : Marks → ℕ → Option Mark
+abbrev pub mark_of : Marks → ℕ → Option WaitMark
 mark_of marks object = get eqb marks.by_object object
 
 -- the items for an object wait that were posted after so many, or none

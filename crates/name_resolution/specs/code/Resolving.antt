@@ -6,7 +6,7 @@ use Rattle.syntax_trees.specs.{declared.syntax.Path.{Path}, declared.program.Pro
 use Rattle.class_outlines.specs.declared.fault.MetaFault.TheVariants as fault
 use Rattle.meta_model.specs.{declared.object.MetaRoot.{MetaRoot}, declared.object.MetaPath.{MetaPath}, declared.object.Step.{Step}}
 use Rattle.class_outlines.specs.{declared.offence.LoadFault.{LoadFault}, declared.offence.PartFault.{PartFault}, declared.outline.Heading.{Heading}, declared.outline.Outline.{Outline}, Ends.{IsEnd}, Offences.{LoadsPart, LoadsIn, LoadsOf}}
-use Rattle.name_resolution.specs.{declared.body_resolution.path.Led.{Led}, declared.body_resolution.path.Target.{Target}, declared.body_resolution.scope.Scope.{Scope as ScopeGiven}, declared.body_resolution.work.ResolvedWork.{ResolvedWork}, declared.uses.Uses.{Uses}, code.Bodies.{Scope, PointsTo, PointsToThis, HasMember, AreSteps, IsPath, IsObjectPath, AreWorks, AllWorks}, LackedNames.{LacksInClass, LacksMember}, code.Loading.{HasUses}}
+use Rattle.name_resolution.specs.{declared.body_resolution.path.Led.{Led}, declared.body_resolution.path.ResolvedTarget.{ResolvedTarget}, declared.body_resolution.scope.Scope.{Scope as ScopeGiven}, declared.body_resolution.work.ResolvedWork.{ResolvedWork}, declared.uses.Uses.{Uses}, code.Bodies.{Scope, PointsTo, PointsToThis, HasMember, AreSteps, IsPath, IsObjectPath, AreWorks, AllWorks}, LackedNames.{LacksInClass, LacksMember}, code.Loading.{HasUses}}
 
 -- what the names in a body mean there
 abbrev pub scope : ScopeGiven → Scope
@@ -51,10 +51,10 @@ ResolvesFrom outlines root start names result =
     (λ (led : Led). (led.path.root ≡ root) × AreSteps outlines start names led.path.steps led.kind) result
 
 -- the path in the place of an object, with the class of the objects that it is declared to lead to
-abbrev pub ResolvesObject : Scope → Path → Result Target PartFault → Type 0
+abbrev pub ResolvesObject : Scope → Path → Result ResolvedTarget PartFault → Type 0
 ResolvesObject s path result =
     LoadsPart fault.NoMember ((found : MetaPath) (class : Outline) → ¬ IsObjectPath s path found class)
-    (λ (target : Target). IsObjectPath s path target.path target.class.now) result
+    (λ (target : ResolvedTarget). IsObjectPath s path target.path target.class.now) result
 
 -- ---- wires
 -- the numbers of the class of this name and of its first method with P

@@ -6,7 +6,7 @@ ghost use Rattle.syntax_trees.specs.declared.syntax.Stmt.TheVariants.{Set, Emit,
 ghost use Rattle.name_resolution.specs.code.Bodies.{IsStatementOf, AreStatements};
 ghost use Rattle.name_resolution.specs.code.Resolving.{scope, Resolves};
 
-use crate::body_resolution::path::Target;
+use crate::body_resolution::path::ResolvedTarget;
 use crate::body_resolution::scope::Scope;
 use crate::missing::{no_call, undeclared};
 use basic_types::Name;
@@ -104,7 +104,7 @@ impl<'a> Scope<'a> {
     ) -> Result<Statement, PartFault>
         ensures { Resolves (IsStatementOf (scope self.now) (Set path.now name.now value.now)) result }
     {
-        let Target {
+        let ResolvedTarget {
             path,
             number,
             class,
@@ -150,7 +150,7 @@ impl<'a> Scope<'a> {
     ) -> Result<Statement, PartFault>
         ensures { Resolves (IsStatementOf (scope self.now) (Call path.now name.now values.now)) result }
     {
-        let Target {
+        let ResolvedTarget {
             path,
             number,
             class,

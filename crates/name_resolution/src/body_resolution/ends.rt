@@ -3,7 +3,7 @@
 ghost use Rattle.name_resolution.specs.code.Bodies.{AreEnds};
 ghost use Rattle.name_resolution.specs.code.Resolving.{scope, Resolves};
 
-use crate::body_resolution::path::Target;
+use crate::body_resolution::path::ResolvedTarget;
 use crate::body_resolution::scope::Scope;
 use crate::missing::no_method;
 use class_outlines::{End, PartFault, names_of_sig};
@@ -20,7 +20,7 @@ impl<'a> Scope<'a> {
     ) -> Result<MetaEndpoints, PartFault>
         ensures { Resolves (AreEnds (scope self.now) ends.now) result }
     {
-        let Target {
+        let ResolvedTarget {
             path: sender,
             number,
             class: from,
@@ -29,7 +29,7 @@ impl<'a> Scope<'a> {
             return Err(no_method(*met, number, from, End::Sender, &ends.signal));
         };
         *met = met.saturating_add(names_of_sig(&ends.signal));
-        let Target {
+        let ResolvedTarget {
             path: receiver,
             number: second,
             class: to,

@@ -24,7 +24,7 @@ pub struct Led {
 
 /// A path in the place of an object, whose names are resolved, and the class that it is declared to lead to.
 #[derive(Drop)]
-pub struct Target<'a> {
+pub struct ResolvedTarget<'a> {
     pub path: MetaPath,
     /// The class's number.
     pub number: usize,
@@ -34,14 +34,18 @@ pub struct Target<'a> {
 impl<'a> Scope<'a> {
     /// The path in the place of an object; `NoMember` where a name in it isn't there, or it isn't declared to lead to
     /// objects of a class that is there. So many of the slot's names were met, to which those of the path are added.
-    pub fn resolve_object(&self, path: &Path, met: &mut usize) -> Result<Target<'a>, PartFault>
+    pub fn resolve_object(
+        &self,
+        path: &Path,
+        met: &mut usize,
+    ) -> Result<ResolvedTarget<'a>, PartFault>
         ensures { ResolvesObject (scope self.now) path.now result }
     {
         let Led { path, kind } = self.resolve_path(path, met)?;
         let Some((number, class)) = self.find_class(&kind) else {
             return Err(undeclared(met.saturating_sub(1), Missing::Object(kind)));
         };
-        Ok(Target {
+        Ok(ResolvedTarget {
             path,
             number,
             class,

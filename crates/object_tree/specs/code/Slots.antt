@@ -4,7 +4,7 @@ use Rattle.std.specs.Option.{option_map}
 use Rattle.slab.specs.Slab.{Slab, get, slab_len}
 use Rattle.object_tree.specs.declared.object.Object.{Object}
 use Rattle.object_tree.specs.declared.slot.Slot.{Slot}
-use Rattle.object_tree.specs.declared.slot.Entry.{Entry}
+use Rattle.object_tree.specs.declared.slot.ObjectRecord.{ObjectRecord}
 use Rattle.object_tree.specs.Children.{are_distinct}
 use Rattle.object_tree.specs.Held.{is_held}
 
@@ -22,19 +22,19 @@ abbrev pub or_gone : List ℕ → Option Object → Object
 or_gone name None = gone name
 or_gone name (Some x) = x
 
-abbrev pub object_at : Slab Slot → ℕ → Entry → Object
+abbrev pub object_at : Slab Slot → ℕ → ObjectRecord → Object
 object_at slots n e = or_gone e.name (object_in n (get slots e.key))
 
 -- the objects from a number on
-abbrev pub shown_from : Slab Slot → ℕ → List Entry → List Object
+abbrev pub shown_from : Slab Slot → ℕ → List ObjectRecord → List Object
 shown_from slots n [] = []
 shown_from slots n (e ∷ es) = object_at slots n e ∷ shown_from slots (suc n) es
 
-abbrev pub key_at : List Entry → ℕ → Option ℕ
-key_at entries n = option_map (λ (e : Entry). e.key) (slice_get entries n)
+abbrev pub key_at : List ObjectRecord → ℕ → Option ℕ
+key_at entries n = option_map (λ (e : ObjectRecord). e.key) (slice_get entries n)
 
-abbrev pub name_at : List Entry → ℕ → Option (List ℕ)
-name_at entries n = option_map (λ (e : Entry). e.name) (slice_get entries n)
+abbrev pub name_at : List ObjectRecord → ℕ → Option (List ℕ)
+name_at entries n = option_map (λ (e : ObjectRecord). e.name) (slice_get entries n)
 
 -- a slot is that of an object which is dead and has no living child
 abbrev pub is_idle : Option Slot → Bool
@@ -90,7 +90,7 @@ pub record GivesUp (key : ℕ) (old new : Slab Slot) : Type 0 where
 
 -- Each slot in use has an object that lives or has a living child, with its number and its name, and each such object has
 -- a slot.
-pub record AreHoused (slots : Slab Slot) (entries : List Entry) : Type 0 where
+pub record AreHoused (slots : Slab Slot) (entries : List ObjectRecord) : Type 0 where
   pub named : (k : ℕ) (slot : Slot) → get slots k ≡ Some slot → name_at entries slot.serial ≡ Some slot.object.name
   pub held : (k : ℕ) (slot : Slot) → get slots k ≡ Some slot → is_held slot.object ≡ true
   pub count : slab_len slots ≡ count_by is_held (shown_from slots 0 entries)

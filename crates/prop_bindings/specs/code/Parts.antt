@@ -5,7 +5,7 @@ use Rattle.indexmap.specs.IndexMap.{IndexMap, get}
 use Rattle.meta_model.specs.Loaded.{Loaded}
 use Rattle.object_tree.specs.{declared.object.Object.{Object}, Objects.{change_life, written}, Typed.{AreTyped}}
 use Rattle.binding_graph.specs.{declared.place.Place.{Place}, declared.binding.Binding.{Binding}, Places.{In, is_in}, Bindings.{binding_at, replaced, without_all, value_of, Loop}, code.Keys.{key_of, same_key}, code.Orders.{IsLater}}
-use Rattle.prop_bindings.specs.{declared.plans.assignment.Assignment.{Assignment}, declared.plans.fault.BindFault.{BindFault}, declared.plans.planned.Planned.{Planned}, declared.plans.planned.PlannedBind.{PlannedBind}, declared.preparing.Prepared.{Prepared}, Values.{values_in}, Calls.{AllFit, MayBind, IsNotBound, new_binding}, Changes.{AreChanged, IsInstalled, IsWritten, once, one, places_in}, Counts.{CountsReached}, Fits.{FitsAt, IsFit, IsInOneLoop, Agree}, Plans.{assigned, after}}
+use Rattle.prop_bindings.specs.{declared.plans.assignment.Assignment.{Assignment}, declared.plans.fault.BindFault.{BindFault}, declared.plans.planned.Planned.{Planned}, declared.plans.planned.PlannedBind.{PlannedBind}, declared.preparing.PreparedBinding.{PreparedBinding}, Values.{values_in}, Calls.{AllFit, MayBind, IsNotBound, new_binding}, Changes.{AreChanged, IsInstalled, IsWritten, once, one, places_in}, Counts.{CountsReached}, Fits.{FitsAt, IsFit, IsInOneLoop, Agree}, Plans.{assigned, after}}
 use Rattle.prop_bindings.specs.declared.plans.fault.BindFault.TheVariants as bind
 
 -- ---- values to come
@@ -107,7 +107,7 @@ pub record IsPrepared (p : Loaded) (objects : List Object) (number target : ℕ)
   pub has : value_of b (values_in objects) ≡ Some v
 
 -- whatever is installed already
-abbrev pub Prepares : Loaded → ℕ → ℕ → List ℕ → List Object → Result Prepared BindFault → Type 0
+abbrev pub Prepares : Loaded → ℕ → ℕ → List ℕ → List Object → Result PreparedBinding BindFault → Type 0
 Prepares p number target sources objects (Ok found) =
     IsPrepared p objects number target sources found.binding found.value
 Prepares p number target sources objects (Err fault) =

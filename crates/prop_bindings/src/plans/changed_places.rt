@@ -8,13 +8,13 @@ use std::slice;
 /// The properties that no longer read as they did, in the order in which they are notified. Most writes change one
 /// property or none: up to one of them needs no memory.
 pub struct ChangedPlaces {
-    held: Held,
+    held: HeldPlaces,
     alloc: Global,
 }
 
 /// Where they are held.
 #[derive(Drop)]
-pub(crate) enum Held {
+pub(crate) enum HeldPlaces {
     Nothing,
     One(Place),
     Many(Vec<Place>),
@@ -44,7 +44,7 @@ impl ChangedPlaces {
         ensures { result ≡ [] }
     {
         ChangedPlaces {
-            held: Held::Nothing,
+            held: HeldPlaces::Nothing,
             alloc,
         }
     }
@@ -55,7 +55,7 @@ impl ChangedPlaces {
         ensures { result ≡ place ∷ [] }
     {
         ChangedPlaces {
-            held: Held::One(place),
+            held: HeldPlaces::One(place),
             alloc,
         }
     }
@@ -66,9 +66,9 @@ impl ChangedPlaces {
         ensures { result.now ≡ self.now }
     {
         match &self.held {
-            Held::Nothing => &[],
-            Held::One(place) => slice::from_ref(place),
-            Held::Many(places) => places.as_slice(),
+            HeldPlaces::Nothing => &[],
+            HeldPlaces::One(place) => slice::from_ref(place),
+            HeldPlaces::Many(places) => places.as_slice(),
         }
     }
 
@@ -85,12 +85,12 @@ impl ChangedPlaces {
         ensures err { OnErr result (self.new ≡ self.old) }
     {
         match &mut self.held {
-            Held::Nothing => self.held = Held::One(place),
-            Held::One(first) => {
+            HeldPlaces::Nothing => self.held = HeldPlaces::One(place),
+            HeldPlaces::One(first) => {
                 let places = Vec::from_array(self.alloc, [*first, place])?;
-                self.held = Held::Many(places);
+                self.held = HeldPlaces::Many(places);
             }
-            Held::Many(places) => places.push(place)?,
+            HeldPlaces::Many(places) => places.push(place)?,
         }
         Ok(())
     }

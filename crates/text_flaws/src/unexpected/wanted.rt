@@ -6,14 +6,14 @@ use texts::{Symbol, Word};
 use token_reading::{GREATEST, Wanted};
 
 /// What is looked for at once, and how it is called.
-struct Group {
+struct WantedGroup {
     name: &'static str,
     members: &'static [Wanted],
 }
 
 macro_rules! groups {
     ($($name:literal: [$($word:ident)*] [$($symbol:ident)*] [$($other:expr),*];)*) => {
-        &[$(Group {
+        &[$(WantedGroup {
             name: $name,
             members: &[
                 $(Wanted::Word(Word::$word),)*
@@ -25,7 +25,7 @@ macro_rules! groups {
 }
 
 /// The groups; one that is part of another one comes behind it.
-fn groups() -> &'static [Group] {
+fn groups() -> &'static [WantedGroup] {
     groups! {
         "a statement (`set`, `emit`, `call`, `if`, `connect`, `disconnect`, `delete`, `later` or `group`)": [Set Emit Call If Connect Disconnect Delete Later] [] [Wanted::Spelled(b"group")];
         "a member (`property`, `signal`, `slot` or `native`)": [Property Signal Slot Native] [] [];
@@ -43,7 +43,7 @@ fn groups() -> &'static [Group] {
     }
 }
 
-impl Group {
+impl WantedGroup {
     /// Whether each member is one of what is looked for.
     fn is_in(&self, wanted: &[Wanted]) -> bool {
         for member in self.members {

@@ -7,7 +7,7 @@ use Rattle.meta_model.specs.declared.object.Statement.{Statement}
 use Rattle.meta_model.specs.Loaded.{Loaded}
 use Rattle.edge_reasons.specs.Order.{in_order}
 use Rattle.edge_reasons.specs.Searches.{FirstFrom, NoneFrom}
-use Rattle.type_check.specs.declared.flaws.Flaw.{Flaw}
+use Rattle.type_check.specs.declared.flaws.TypeFlaw.{TypeFlaw}
 use Rattle.type_check.specs.Bodies.{IsUntyped, IsTypedBody}
 
 -- the flaw is in the first statement that isn't typed
@@ -17,6 +17,6 @@ pub record IsFirstFlaw (p : Loaded) (me : ℕ) (kinds : List ValueType) (body : 
   pub first : FirstFrom (IsUntyped p me kinds) (in_order body) start number
 
 -- the flaw of the first statement that isn't typed, or where all are typed the number behind them all
-abbrev pub Judges : Loaded → ℕ → List ValueType → List Statement → ℕ → ControlFlow Flaw ℕ → Type 0
+abbrev pub Judges : Loaded → ℕ → List ValueType → List Statement → ℕ → ControlFlow TypeFlaw ℕ → Type 0
 Judges p me kinds body start (Break flaw) = (¬ IsTypedBody p me kinds body) × IsFirstFlaw p me kinds body start flaw.statement
 Judges p me kinds body start (Continue next) = IsTypedBody p me kinds body × NoneFrom (IsUntyped p me kinds) (in_order body) start next

@@ -4,7 +4,7 @@ use Rattle.binding_graph.specs.declared.place.Place.{Place}
 use Rattle.binding_graph.specs.Bindings.{binding_at}
 use Rattle.binding_graph.specs.code.Graph.{bindings_of}
 use Rattle.binding_graph.specs.code.Lists.{place_at}
-use Rattle.binding_graph.specs.code.Ranks.{rank_of}
+use Rattle.binding_graph.specs.code.BindingRanks.{rank_of}
 use Rattle.binding_graph.specs.code.Turns.{AddsReaders}
 use Rattle.binding_graph.proofs.Members.{key-taken, keys-taken}
 use Rattle.binding_graph.proofs.Reaching.{adds-none, adds-put, adds-skip}

@@ -2,7 +2,7 @@ use Rattle.std.proofs.Common.{take, map}
 use Rattle.std.specs.BinaryHeap.{heap_items}
 use Rattle.binding_graph.specs.Bindings.{binding_at}
 use Rattle.binding_graph.specs.code.Graph.{bindings_of}
-use Rattle.binding_graph.specs.code.Ranks.{rank_of}
+use Rattle.binding_graph.specs.code.BindingRanks.{rank_of}
 use Rattle.binding_graph.specs.code.Lists.{place_at}
 use Rattle.binding_graph.specs.code.Turns.{AddsReaders}
 use Rattle.binding_graph.proofs.following.add_readers.Given as goal

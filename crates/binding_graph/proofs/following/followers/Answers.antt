@@ -3,7 +3,7 @@ use Rattle.std.specs.BinaryHeap.{heap_items, heap_len}
 use Rattle.binding_graph.specs.declared.place.Place.{Place}
 use Rattle.binding_graph.specs.code.Graph.{bindings_of, reader_keys}
 use Rattle.binding_graph.specs.code.Lists.{place_at}
-use Rattle.binding_graph.specs.code.Ranks.{rank_of}
+use Rattle.binding_graph.specs.code.BindingRanks.{rank_of}
 use Rattle.binding_graph.specs.code.Turns.{number_of, reader_of}
 use Rattle.binding_graph.proofs.Graphs.{rank-rises, rank-short, ranks-apart}
 use Rattle.binding_graph.proofs.Members.{in-places}

@@ -2,7 +2,7 @@ use Rattle.std.proofs.Common.{◌++◌, [], take, None}
 use Rattle.std.specs.BinaryHeap.{heap_items, heap_len}
 use Rattle.binding_graph.specs.Bindings.{binding_at, without_all}
 use Rattle.binding_graph.specs.code.Graph.{bindings_of}
-use Rattle.binding_graph.specs.code.Ranks.{rank_of}
+use Rattle.binding_graph.specs.code.BindingRanks.{rank_of}
 use Rattle.binding_graph.specs.code.Turns.{IsFollowed}
 use Rattle.binding_graph.proofs.Reaching.{turns_left}
 use Rattle.binding_graph.proofs.following.followers.Given as goal

@@ -1,6 +1,6 @@
 use Rattle.std.proofs.Common.{List, sym, subst}
 use Rattle.connections.specs.declared.place.CellPlace.{CellPlace}
-use Rattle.connections.specs.code.Places.{Tidies}
+use Rattle.connections.specs.code.CellPlaces.{Tidies}
 use Rattle.connections.specs.code.Groups.{list_of}
 use Rattle.connections.proofs.groups.tidy_at.Goals as goal
 

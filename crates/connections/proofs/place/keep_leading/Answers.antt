@@ -1,6 +1,6 @@
 use Rattle.std.proofs.Common.{rules}
 use Rattle.std.proofs.lemmas.Fn.{filter_same}
-use Rattle.connections.specs.code.Places.{leads}
+use Rattle.connections.specs.code.CellPlaces.{leads}
 use Rattle.connections.proofs.place.keep_leading.Goals as goal
 
 pub returns : goal.returns

@@ -1,6 +1,6 @@
 use Rattle.std.proofs.Common.{◌≡◌, drop, nat_lt}
 use Rattle.std.specs.List.{find}
-use Rattle.connections.specs.code.Places.{live}
+use Rattle.connections.specs.code.CellPlaces.{live}
 use Rattle.connections.proofs.search.first_above.Given as goal
 
 -- the first among the rest is the first of all

@@ -1,6 +1,6 @@
 use Rattle.std.proofs.Common.{◌≡◌, List, ◌∷◌, subst, arith, ◌-◌}
 use Rattle.connections.specs.declared.place.CellPlace.{CellPlace}
-use Rattle.connections.specs.code.Places.{Rising}
+use Rattle.connections.specs.code.CellPlaces.{Rising}
 use Rattle.connections.proofs.Numbers.{splits_at, splits_first}
 use Rattle.connections.proofs.search.guess.Goals as goal
 

@@ -1,6 +1,6 @@
 use Rattle.std.proofs.Common.{◌≡◌, drop}
 use Rattle.std.specs.List.{list_any}
-use Rattle.connections.specs.code.Places.{live}
+use Rattle.connections.specs.code.CellPlaces.{live}
 use Rattle.connections.specs.code.Cells.{fits}
 use Rattle.connections.proofs.search.lead_to_any.Given as goal
 

@@ -1,6 +1,6 @@
 use Rattle.std.proofs.Common.{◌∙◌, ap, List}
 use Rattle.connections.specs.declared.place.CellPlace.{CellPlace}
-use Rattle.connections.specs.code.Places.{live, first_above}
+use Rattle.connections.specs.code.CellPlaces.{live, first_above}
 use Rattle.connections.proofs.Numbers.{find-skip}
 use Rattle.connections.proofs.search.next_above.Goals as goal
 

@@ -1,7 +1,7 @@
 use Rattle.std.proofs.Common.{length}
 use Rattle.class_sets.specs.Marks.{IsMarked}
 use Rattle.meta_model.proofs.Zips.{zip_push}
-use Rattle.effect_scan.specs.code.Places.{Lists}
+use Rattle.effect_scan.specs.code.NodePlaces.{Lists}
 use Rattle.effect_scan.proofs.closure.list_rows.Goals as goal
 
 pub loop-set-preserved : goal.loop-set-preserved

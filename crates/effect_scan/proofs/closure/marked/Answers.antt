@@ -1,6 +1,6 @@
 use Rattle.std.proofs.Common.{◌≡◌, ℕ, length, subst, arith, ◌∙◌}
 use Rattle.class_sets.specs.Marks.{IsMarked}
-use Rattle.effect_scan.specs.code.Places.{Lists}
+use Rattle.effect_scan.specs.code.NodePlaces.{Lists}
 use Rattle.effect_scan.proofs.Listing.{lists_yes, lists_no}
 use Rattle.effect_scan.proofs.closure.marked.Goals.{then-contains+in_ok-push, else-contains}
 use Rattle.effect_scan.proofs.closure.marked.Goals as goal

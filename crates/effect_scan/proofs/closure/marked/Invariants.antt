@@ -1,5 +1,5 @@
 use Rattle.class_sets.specs.Marks.{IsMarked}
-use Rattle.effect_scan.specs.code.Places.{Lists}
+use Rattle.effect_scan.specs.code.NodePlaces.{Lists}
 use Rattle.effect_scan.proofs.closure.marked.Given as goal
 
 abbrev pub invariant-loop-class : goal.invariant-loop-class

@@ -1,5 +1,5 @@
 use Rattle.meta_model.proofs.Searches.{read_at}
-use Rattle.effect_scan.specs.code.Places.{IsReached}
+use Rattle.effect_scan.specs.code.NodePlaces.{IsReached}
 use Rattle.effect_scan.proofs.Gathering.{some_first, some_next, some_last}
 use Rattle.effect_scan.proofs.edges.add_all_reached.Goals as goal
 

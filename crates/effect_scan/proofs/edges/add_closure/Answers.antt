@@ -5,7 +5,7 @@ use Rattle.effect_scan.specs.Nodes.{node}
 use Rattle.effect_scan.specs.Effects.{Gathers}
 use Rattle.effect_scan.specs.code.Adding.{Adds}
 use Rattle.meta_model.specs.declared.qobject.TheConstants.{DESTROYED}
-use Rattle.effect_scan.specs.code.Places.{InEach}
+use Rattle.effect_scan.specs.code.NodePlaces.{InEach}
 use Rattle.effect_scan.specs.code.Leading.{ClosureLeads}
 use Rattle.effect_scan.proofs.Adding.{one_leads, none_leads}
 use Rattle.effect_scan.proofs.Listing.{at_low}

@@ -1,7 +1,7 @@
 use Rattle.std.proofs.Common.{◌≡◌, ◌++◌}
 use Rattle.std.proofs.lemmas.Result.{IfOk-weaker}
 use Rattle.effect_scan.specs.Effects.{Gathers}
-use Rattle.effect_scan.specs.code.Places.{IsReached, OfSome}
+use Rattle.effect_scan.specs.code.NodePlaces.{IsReached, OfSome}
 use Rattle.effect_scan.specs.code.Leading.{WorkReaches}
 use Rattle.effect_scan.proofs.Gathering.{gathers_found}
 use Rattle.effect_scan.proofs.Joined.{work_reaches}

@@ -1,6 +1,6 @@
 use Rattle.std.proofs.Common.{◌∙◌, ◌++◌, ℕ, List, ap}
 use Rattle.meta_model.proofs.Searches.{read_at}
-use Rattle.effect_scan.specs.code.Places.{IsRead}
+use Rattle.effect_scan.specs.code.NodePlaces.{IsRead}
 use Rattle.effect_scan.proofs.Listing.{some_more, some_all}
 use Rattle.effect_scan.proofs.edges.read.Goals as goal
 

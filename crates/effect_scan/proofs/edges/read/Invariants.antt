@@ -1,5 +1,5 @@
 use Rattle.std.proofs.Common.{take}
-use Rattle.effect_scan.specs.code.Places.{AreJust, IsRead, OfSome}
+use Rattle.effect_scan.specs.code.NodePlaces.{AreJust, IsRead, OfSome}
 use Rattle.effect_scan.proofs.edges.read.Given as goal
 
 abbrev pub invariant-loop-source : goal.invariant-loop-source

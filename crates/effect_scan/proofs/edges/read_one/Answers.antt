@@ -2,7 +2,7 @@ use Rattle.std.proofs.Common.{sym, ◌∙◌}
 use Rattle.std.proofs.lemmas.Option.{none-some}
 use Rattle.std.proofs.lemmas.Result.{IfOk-weaker}
 use Rattle.effect_scan.specs.declared.node.Member.TheVariants.{Property}
-use Rattle.effect_scan.specs.code.Places.{AreJust, InBelow, IsRead}
+use Rattle.effect_scan.specs.code.NodePlaces.{AreJust, InBelow, IsRead}
 use Rattle.effect_scan.proofs.Listing.{just_none, read_there}
 use Rattle.effect_scan.proofs.edges.read_one.Goals as goal
 

@@ -1,6 +1,6 @@
 use Rattle.std.proofs.Common.{◌≡◌, ◌<◌, ℕ, length, get_or, slice_get, Some, refl, subst, below_more, arith}
 use Rattle.std.proofs.lemmas.List.Elements.{Contains-get_or}
-use Rattle.rank_check.specs.declared.entries.Entry.{Entry}
+use Rattle.rank_check.specs.declared.entries.NodeClaim.{NodeClaim}
 use Rattle.class_sets.specs.Marks.{IsWithin}
 use Rattle.rank_check.proofs.Elements.{at_index, same_index, each_number}
 use Rattle.rank_check.proofs.destroys.lost_class.Goals as goal
@@ -29,9 +29,9 @@ loop-target-preserved c =
     let held = Contains-get_or c.args.targets.now c.loop-target.target-index 0 c.loop-target-test.true in
     below_more _ _ c.loop-target.invariant
     (λ y at.
-    subst (λ (z : Entry). IsWithin z.destroys c.args.set.now) (same_index c.args.entries.now _ _ y (c.requires _ held) c.index-entries-target.is at)
+    subst (λ (z : NodeClaim). IsWithin z.destroys c.args.set.now) (same_index c.args.entries.now _ _ y (c.requires _ held) c.index-entries-target.is at)
     (rw c.get.ensures at c.in_default.ensures))
 
 pub returns : goal.returns
 returns c = λ b y held at.
-    each_number (λ (n : ℕ). (z : Entry) → slice_get c.args.entries.now n ≡ Some z → IsWithin z.destroys c.args.set.now) c.args.targets.now c.loop-target.target-index (omega (arith, c.loop-target-test.false)) c.loop-target.invariant b held y at
+    each_number (λ (n : ℕ). (z : NodeClaim) → slice_get c.args.entries.now n ≡ Some z → IsWithin z.destroys c.args.set.now) c.args.targets.now c.loop-target.target-index (omega (arith, c.loop-target-test.false)) c.loop-target.invariant b held y at

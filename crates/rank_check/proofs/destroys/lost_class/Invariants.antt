@@ -1,7 +1,7 @@
 use Rattle.std.proofs.Common.{◌≡◌, ◌<◌, ℕ, get_or, slice_get, Some}
-use Rattle.rank_check.specs.declared.entries.Entry.{Entry}
+use Rattle.rank_check.specs.declared.entries.NodeClaim.{NodeClaim}
 use Rattle.class_sets.specs.Marks.{IsWithin}
 use Rattle.rank_check.proofs.destroys.lost_class.Given as goal
 
 abbrev pub invariant-loop-target : goal.invariant-loop-target
-invariant-loop-target l = (k : ℕ) → k < l.target-index → (y : Entry) → slice_get l.entries (get_or l.targets k 0) ≡ Some y → IsWithin y.destroys l.set
+invariant-loop-target l = (k : ℕ) → k < l.target-index → (y : NodeClaim) → slice_get l.entries (get_or l.targets k 0) ≡ Some y → IsWithin y.destroys l.set

@@ -1,7 +1,7 @@
 use Rattle.std.proofs.Common.{refl, subst, below_more, arith}
 use Rattle.std.proofs.lemmas.Option.{slice_get_within}
 use Rattle.effect_scan.specs.Rows.{row}
-use Rattle.rank_check.specs.declared.entries.Entry.{Entry}
+use Rattle.rank_check.specs.declared.entries.NodeClaim.{NodeClaim}
 use Rattle.rank_check.specs.ByNumbers.{AreLower}
 use Rattle.rank_check.proofs.Elements.{at_index, same_index}
 use Rattle.rank_check.proofs.ranks.first_rise.Goals as goal
@@ -25,7 +25,7 @@ pub loop-node-preserved : goal.loop-node-preserved
 loop-node-preserved c =
     below_more _ _ c.loop-node.invariant
     (λ x at.
-    subst (λ (z : Entry). AreLower (row c.args.scan.now.rows c.loop-node.node) c.args.entries.now z.rank)
+    subst (λ (z : NodeClaim). AreLower (row c.args.scan.now.rows c.loop-node.node) c.args.entries.now z.rank)
     (same_index c.args.entries.now c.loop-node.node c.index-entries-node.result x c.loop-node-test.true c.index-entries-node.is at)
     c.in_default.ensures)
 

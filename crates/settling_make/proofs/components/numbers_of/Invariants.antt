@@ -1,5 +1,5 @@
 use Rattle.std.proofs.Common.{◌≡◌, map, take}
-use Rattle.settling_make.specs.declared.groups.State.TheVariants.{Done}
+use Rattle.settling_make.specs.declared.groups.SearchState.TheVariants.{Done}
 use Rattle.settling_make.proofs.components.numbers_of.Given as goal
 
 abbrev pub invariant-loop-state : goal.invariant-loop-state

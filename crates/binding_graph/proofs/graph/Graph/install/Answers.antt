@@ -4,7 +4,7 @@ use Rattle.binding_graph.specs.declared.binding.Binding.{Binding}
 use Rattle.binding_graph.specs.Bindings.{binding_at, replaced, without}
 use Rattle.binding_graph.specs.code.Graph.{LosesReader, LosesTarget, bindings_in}
 use Rattle.binding_graph.proofs.Graphs.{installed-graph}
-use Rattle.binding_graph.specs.code.Ranks.{rank_of}
+use Rattle.binding_graph.specs.code.BindingRanks.{rank_of}
 use Rattle.binding_graph.proofs.Ranking.{ranked-later}
 use Rattle.binding_graph.proofs.Replaced.{without-at}
 use Rattle.binding_graph.proofs.graph.Graph.install.Goals as goal

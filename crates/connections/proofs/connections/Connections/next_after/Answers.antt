@@ -1,7 +1,7 @@
 use Rattle.std.proofs.Common.{◌∙◌, ap}
 use Rattle.std.specs.List.{find}
 use Rattle.connections.specs.Connected.{Held, is_later}
-use Rattle.connections.specs.code.Places.{live, first_above}
+use Rattle.connections.specs.code.CellPlaces.{live, first_above}
 use Rattle.connections.proofs.Asked.{find-of_signal}
 use Rattle.connections.proofs.connections.Connections.next_after.Goals as goal
 

@@ -1,7 +1,7 @@
 use Rattle.std.proofs.Common.{◌∙◌, ap, sym}
 use Rattle.std.specs.List.{find}
 use Rattle.connections.specs.Connected.{Held, is_of, is_due, not_above}
-use Rattle.connections.specs.code.Places.{live, first_above}
+use Rattle.connections.specs.code.CellPlaces.{live, first_above}
 use Rattle.connections.specs.code.Lists.{shown_in, all_of}
 use Rattle.connections.proofs.Asked.{find-of_signal, find_due, Rises-live}
 use Rattle.connections.proofs.connections.Connections.next_due.Goals as goal

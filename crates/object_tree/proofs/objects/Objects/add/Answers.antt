@@ -1,6 +1,6 @@
 use Rattle.std.proofs.Common.{◌≡◌, List, [], ◌∷◌, ◌++◌, length, ap, ◌∙◌, arith}
 use Rattle.object_tree.specs.declared.object.Object.{Object}
-use Rattle.object_tree.specs.declared.slot.Entry.{Entry}
+use Rattle.object_tree.specs.declared.slot.ObjectRecord.{ObjectRecord}
 use Rattle.object_tree.proofs.Slots.{length-shown}
 use Rattle.object_tree.proofs.Housed.{put-in, adds-as}
 use Rattle.object_tree.proofs.objects.Objects.add.Goals as goal
@@ -13,5 +13,5 @@ returns-clause-added c = (put-in c.self.inside.slots c.reserve-2.new.self c.put.
 
 pub returns-clause-named : goal.returns-clause-named
 returns-clause-named c =
-    let count : c.len.result ≡ length c.args.self.now = omega (arith, length-shown c.self.inside.slots 0 c.self.inside.entries.items, ap (λ (xs : List Object). length xs) c.self.view_is, ap (λ (es : List Entry). length es) c.reserve.ensures.items) in
+    let count : c.len.result ≡ length c.args.self.now = omega (arith, length-shown c.self.inside.slots 0 c.self.inside.entries.items, ap (λ (xs : List Object). length xs) c.self.view_is, ap (λ (es : List ObjectRecord). length es) c.reserve.ensures.items) in
     adds-as c.in_ok-name.name c.args.object.name c.len.result (length c.args.self.now) c.args.names.now c.insert.new.self c.in_ok-name.ensures count c.in_ok-insert.ensures.ok

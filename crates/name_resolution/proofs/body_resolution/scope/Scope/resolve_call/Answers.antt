@@ -5,7 +5,7 @@ use Rattle.meta_model.specs.declared.object.MetaPath.{MetaPath}
 use Rattle.meta_model.specs.declared.object.Statement.{Statement}
 use Rattle.class_outlines.specs.declared.outline.Outline.{Outline}
 use Rattle.class_outlines.specs.declared.fault.MetaFault.TheVariants as fault
-use Rattle.name_resolution.specs.declared.body_resolution.path.Target.{Target}
+use Rattle.name_resolution.specs.declared.body_resolution.path.ResolvedTarget.{ResolvedTarget}
 use Rattle.name_resolution.specs.code.Bodies.{IsObjectPath, AreExprs, IsStatementOf}
 use Rattle.name_resolution.specs.code.Resolving.{scope}
 use Rattle.class_outlines.proofs.Loading.{failed}
@@ -16,7 +16,7 @@ pub returns-in_err-path : goal.returns-in_err-path
 returns-in_err-path c =
     let s = scope c.args.self.now in
     failed fault.NoMember ((found : MetaPath) (class : Outline) → ¬ IsObjectPath s c.args.path.now found class) ((y : Statement) → ¬ IsStatementOf s (Call c.args.path.now c.args.name.now c.args.values.now) y)
-    (λ (target : Target). IsObjectPath s c.args.path.now target.path target.class.now) (λ y. IsStatementOf s (Call c.args.path.now c.args.name.now c.args.values.now) y) _ c.in_err-path.ensures
+    (λ (target : ResolvedTarget). IsObjectPath s c.args.path.now target.path target.class.now) (λ y. IsStatementOf s (Call c.args.path.now c.args.name.now c.args.values.now) y) _ c.in_err-path.ensures
     (no_call_object s _ _ _) _ c.from_residual.ensures.0 c.from_residual.ensures.1
 
 pub returns-in_default : goal.returns-in_default

@@ -3,7 +3,7 @@ use Rattle.meta_model.specs.declared.object.MetaPath.{MetaPath}
 use Rattle.meta_model.specs.declared.object.MetaEndpoints.{MetaEndpoints}
 use Rattle.class_outlines.specs.declared.outline.Outline.{Outline}
 use Rattle.class_outlines.specs.declared.fault.MetaFault.TheVariants as fault
-use Rattle.name_resolution.specs.declared.body_resolution.path.Target.{Target}
+use Rattle.name_resolution.specs.declared.body_resolution.path.ResolvedTarget.{ResolvedTarget}
 use Rattle.name_resolution.specs.code.Bodies.{IsObjectPath, AreEnds}
 use Rattle.name_resolution.specs.code.Resolving.{scope}
 use Rattle.class_outlines.proofs.Loading.{failed, lacking}
@@ -14,7 +14,7 @@ pub returns-in_err-sender : goal.returns-in_err-sender
 returns-in_err-sender c =
     let s = scope c.args.self.now in
     failed fault.NoMember ((found : MetaPath) (class : Outline) → ¬ IsObjectPath s c.args.ends.now.sender found class) ((y : MetaEndpoints) → ¬ AreEnds s c.args.ends.now y)
-    (λ (target : Target). IsObjectPath s c.args.ends.now.sender target.path target.class.now) (λ y. AreEnds s c.args.ends.now y) _ c.in_err-sender.ensures
+    (λ (target : ResolvedTarget). IsObjectPath s c.args.ends.now.sender target.path target.class.now) (λ y. AreEnds s c.args.ends.now y) _ c.in_err-sender.ensures
     (no_sender s _) _ c.from_residual.ensures.0 c.from_residual.ensures.1
 
 pub returns-in_default : goal.returns-in_default
@@ -24,7 +24,7 @@ pub returns-in_err-receiver : goal.returns-in_err-receiver
 returns-in_err-receiver c =
     let s = scope c.args.self.now in
     failed fault.NoMember ((found : MetaPath) (class : Outline) → ¬ IsObjectPath s c.args.ends.now.receiver found class) ((y : MetaEndpoints) → ¬ AreEnds s c.args.ends.now y)
-    (λ (target : Target). IsObjectPath s c.args.ends.now.receiver target.path target.class.now) (λ y. AreEnds s c.args.ends.now y) _ c.in_err-receiver.ensures
+    (λ (target : ResolvedTarget). IsObjectPath s c.args.ends.now.receiver target.path target.class.now) (λ y. AreEnds s c.args.ends.now y) _ c.in_err-receiver.ensures
     (no_receiver s _) _ c.from_residual-in_err-receiver.ensures.0 c.from_residual-in_err-receiver.ensures.1
 
 pub returns-in_default-place_of_signed : goal.returns-in_default-place_of_signed

@@ -4,7 +4,7 @@ use Rattle.meta_model.specs.declared.object.MetaPath.{MetaPath}
 use Rattle.class_outlines.specs.declared.outline.Outline.{Outline}
 use Rattle.class_outlines.specs.declared.fault.MetaFault.TheVariants as fault
 use Rattle.name_resolution.specs.declared.body_resolution.path.Led.{Led}
-use Rattle.name_resolution.specs.declared.body_resolution.path.Target.{Target}
+use Rattle.name_resolution.specs.declared.body_resolution.path.ResolvedTarget.{ResolvedTarget}
 use Rattle.name_resolution.specs.code.Bodies.{IsPath, IsObjectPath}
 use Rattle.name_resolution.specs.code.Resolving.{scope}
 use Rattle.class_outlines.proofs.Loading.{failed}
@@ -15,7 +15,7 @@ pub returns-in_err-path : goal.returns-in_err-path
 returns-in_err-path c =
     let s = scope c.args.self.now in
     failed fault.NoMember ((found : MetaPath) (T : QType) → ¬ IsPath s c.args.path.now found T) ((found : MetaPath) (class : Outline) → ¬ IsObjectPath s c.args.path.now found class)
-    (λ (led : Led). IsPath s c.args.path.now led.path led.kind) (λ (target : Target). IsObjectPath s c.args.path.now target.path target.class.now) _ c.in_err-path.ensures
+    (λ (led : Led). IsPath s c.args.path.now led.path led.kind) (λ (target : ResolvedTarget). IsObjectPath s c.args.path.now target.path target.class.now) _ c.in_err-path.ensures
     (no_object_path s _) _ c.from_residual.ensures.0 c.from_residual.ensures.1
 
 pub returns-in_default : goal.returns-in_default
