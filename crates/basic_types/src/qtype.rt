@@ -129,7 +129,7 @@ pub fn types_are_same(left: &[QType], right: &[QType]) -> bool
     left.len() == right.len() && types_begin_with(left, right)
 }
 
-/// Whether the second list is a front of the first.
+/// Whether the second list is a prefix of the first.
 #[inline(always)]
 pub fn types_begin_with(types: &[QType], front: &[QType]) -> bool
     ensures { IsTrue result ↔ BeginsWith types.now front.now }

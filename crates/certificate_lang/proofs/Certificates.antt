@@ -2,7 +2,7 @@
 use Rattle.std.{proofs.Common.{◌≡◌, ℕ, List, [], ◌∷◌, ◌++◌, Err, refl, sym, ◌∙◌, ap, append_assoc, true, false, Bool, IsTrue, ◌↔◌}, proofs.lemmas.List.{append-nil}, specs.Prelude.{codes}, specs.List.{AllZip}}
 use Rattle.token_reading.specs.declared.fault.ParseFault.{ParseFault}
 use Rattle.token_reading.specs.declared.fault.ParseFault.TheVariants as parse
-use Rattle.texts.specs.{declared.lexer.LexFault.{LexFault}, declared.token.Token.{Token}, Lines.{IsFrontLine}, Pieces.{IsUncut}}
+use Rattle.texts.specs.{declared.lexer.LexFault.{LexFault}, declared.token.Token.{Token}, Lines.{IsFirstLine}, Pieces.{IsUncut}}
 use Rattle.texts.specs.declared.lexer.LexFault.TheVariants as lex
 use Rattle.certificate_lang.{specs.declared.certificate.Line.{Line}, specs.declared.certificate.Certificate.{Certificate}, specs.declared.fault.CertificateFault.{CertificateFault}, specs.declared.fault.CertificateFault.TheVariants.{Format, Memory}, specs.declared.version.Version.{Version}, specs.declared.version.Version.TheVariants.{One, Two}, specs.Grammar.{IsSetting, IsNodeLine}, specs.Reads.{HasRows, version_number, IsCertificate, ReadsCertificate}, specs.code.Reads.{fault_of_cutting, fault_of_parsing, TakesRow, SplitsRow, TakesSetting, SplitsSetting, AreNodeLines, ReadsNodeLines, ReadsWholeSetting, ReadsLine}, proofs.OneTree.{one_line, one_setting}, proofs.Rows.{SameRows, one_rows, rows_uncut}}
 
@@ -178,7 +178,7 @@ one_certificate text a b h k =
 
 -- ---- faults of one step as those of the next: where a row is refused, its tokens are of no matter
 
-pub cutting_refused : {text rest line after : List ℕ} → SameRows text rest → IsFrontLine rest line after → (fault : LexFault) → (fault ≡ lex.BadByte → IsUncut line) → SplitsRow text [] (Err (fault_of_cutting fault))
+pub cutting_refused : {text rest line after : List ℕ} → SameRows text rest → IsFirstLine rest line after → (fault : LexFault) → (fault ≡ lex.BadByte → IsUncut line) → SplitsRow text [] (Err (fault_of_cutting fault))
 cutting_refused so_far front lex.BadByte none = rows_uncut so_far front (none refl)
 cutting_refused so_far front lex.Memory none = tt
 

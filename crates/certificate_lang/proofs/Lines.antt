@@ -2,7 +2,7 @@
 use Rattle.std.{proofs.Common.{◌≡◌, ◌≢◌, ◌∙◌, ℕ, ◌^◌, ◌<◌, ◌≤◌, Bool, true, false, ◌&&◌, nat_eq, List, [], ◌∷◌, ◌++◌, map, codes, decimal, inl, refl, sym, ap, subst, append_assoc, arith}, specs.List.{AllByRecursion, AllZip, flat_map}, proofs.lemmas.Bool.{eq-eqb, false≢true}, proofs.lemmas.List.{append-nil}, proofs.lemmas.List.Elements.{All-from_recursion}}
 use Rattle.basic_types.specs.{Name.{is_digit, is_name_byte}, Signatures.{IsFreeName}, Spelling.{text_of_sig}, Tokens.{StopsBy}, Words.{IsFree, word_spelling}}
 use Rattle.basic_types.specs.declared.word.Word.TheVariants as word
-use Rattle.texts.specs.{Lines.{AreFrontLines}, Numerals.{Numeral, value_of}, Pieces.{AreTokens}, declared.token.Token.{Token}}
+use Rattle.texts.specs.{Lines.{AreFirstLines}, Numerals.{Numeral, value_of}, Pieces.{AreTokens}, declared.token.Token.{Token}}
 use Rattle.token_reading.specs.{Lists.{spell_each}, Literals.{greatest}, Signatures.{HasPlainReference}}
 use Rattle.texts.specs.declared.token.Token.TheVariants as token
 use Rattle.certificate_lang.{specs.Grammar.{NodeReading, method, property, destruction, of_class, spell_node, tree_of_node, ItemReading, class as item_class, closure as item_closure, spell_item, tree_of_item, HasFewParameters, IsNodeLine}, specs.Reads.{before, AreRows, IsCertificate}, specs.declared.certificate.MemberName.{MemberName}, specs.declared.certificate.NodeName.{NodeName}, specs.declared.certificate.SetItem.{SetItem}, specs.declared.certificate.SetItem.TheVariants.{Class, Closure}, specs.declared.certificate.Line.{Line}, specs.declared.certificate.Certificate.{Certificate}, specs.declared.version.Version.TheVariants.{Two}, specs.Texts.{node_text_of, node_text, listed_text, node_line, certificate_text}, specs.Written.{IsWritableMember, IsWritableNode, IsWritableItem, IsWritableLine, IsWritable, NodesAreRead}, proofs.Pieces.{IsWritten, ampersand, nothing, blank_then, name_then, dot_then, tilde_then, digits_then, are_digits}, proofs.Signatures.{sig_reading, sig_tree, sig_then}}
@@ -153,7 +153,7 @@ line_bytes line rest =
     ∙ sym (append_assoc node (32 ∷ (rank ++ set)) (10 ∷ rest))
 
 pub record AreRead (lines : List Line) : Type 0 where
-  pub cut : AreFrontLines (flat_map node_line lines) (map line_text lines) []
+  pub cut : AreFirstLines (flat_map node_line lines) (map line_text lines) []
   pub rows : AreRows (map line_text lines) (map line_tokens lines)
   pub each : AllZip (IsNodeLine Two) (map line_tokens lines) lines
 

@@ -1,10 +1,10 @@
 -- The lines of a text that have tokens.
 use Rattle.std.proofs.Common.{◌≡◌, ℕ, List, [], ◌∷◌, refl, sym, ◌∙◌, ap, subst}
-use Rattle.texts.specs.Lines.{IsFrontLine, AreLines}
+use Rattle.texts.specs.Lines.{IsFirstLine, AreLines}
 use Rattle.texts.specs.Pieces.{AreTokens, IsUncut}
 use Rattle.texts.specs.declared.token.Token.{Token}
 use Rattle.texts.proofs.Cut.{same_tokens}
-use Rattle.texts.proofs.FrontLines.{one_front_line, no_line_at_end}
+use Rattle.texts.proofs.FirstLines.{one_first_line, no_line_at_end}
 use Rattle.certificate_lang.specs.Reads.{before, AreRows, HasRows}
 use Rattle.certificate_lang.specs.code.Reads.{TakesRow}
 
@@ -15,7 +15,7 @@ same_rows text [] [] rs ss l m h k = h ∙ sym k
 same_rows text [] (y ∷ ms) rs ss l m h k = absurd (no_line_at_end text y m.0 l m.1)
 same_rows text (x ∷ ls) [] rs ss l m h k = absurd (no_line_at_end text x l.0 m l.1)
 same_rows text (x ∷ ls) (y ∷ ms) rs ss l m h k =
-    let front = one_front_line text x y l.0 m.0 l.1 m.1 in
+    let front = one_first_line text x y l.0 m.0 l.1 m.1 in
     let found : h.0 ≡ k.0 = same_tokens y h.0 k.0 (rw front.0 at h.2) k.2 in
     let later : h.1 ≡ k.1 = same_rows m.0 ls ms h.1 k.1 (rw front.1 at l.2) m.2 h.3 k.3 in
     let e = h.4 in
@@ -30,14 +30,14 @@ one_rows text rs ss h k = same_rows text h.lines k.lines rs ss h.cut k.cut h.are
 pub no_rows : (text : List ℕ) → text ≡ [] → HasRows text []
 no_rows text e = record { lines = []; cut = e; are_rows = refl }
 
-module _ {text line after : List ℕ} (front : IsFrontLine text line after) where
+module _ {text line after : List ℕ} (front : IsFirstLine text line after) where
   first_row : {tokens : List Token} {later : List (List Token)} → AreTokens line tokens → HasRows after later → HasRows text (before tokens later)
   first_row {tokens} {later} cut h = record { lines = line ∷ h.lines; cut = (after, front, h.cut); are_rows = (tokens, later, cut, h.are_rows, refl) }
 
   rest_from : (ls : List (List ℕ)) (rows : List (List Token)) {tokens : List Token} → AreTokens line tokens → AreLines text ls → AreRows ls rows → (later : List (List Token)) × HasRows after later × (rows ≡ before tokens later)
   rest_from [] rows cut l h = absurd (no_line_at_end text line after l front)
   rest_from (x ∷ ls) rows {tokens} cut l h =
-      let same = one_front_line text x line l.0 after l.1 front in
+      let same = one_first_line text x line l.0 after l.1 front in
       let found = same_tokens line h.0 tokens (rw same.0 at h.2) cut in
       (h.1, record { lines = ls; cut = rw same.1 at l.2; are_rows = h.3 }, h.4 ∙ ap (λ ts. before ts (h.1)) found)
 
@@ -47,7 +47,7 @@ module _ {text line after : List ℕ} (front : IsFrontLine text line after) wher
   uncut_from : (ls : List (List ℕ)) (rows : List (List Token)) → IsUncut line → AreLines text ls → AreRows ls rows → ⊥
   uncut_from [] rows none l h = no_line_at_end text line after l front
   uncut_from (x ∷ ls) rows none l h =
-      let same = one_front_line text x line l.0 after l.1 front in
+      let same = one_first_line text x line l.0 after l.1 front in
       none h.0 (rw same.0 at h.2)
 
   pub uncut_rows : (rows : List (List Token)) → IsUncut line → HasRows text rows → ⊥
@@ -74,7 +74,7 @@ module _ {text rest : List ℕ} (so_far : SameRows text rest) where
   pub rows_end : rest ≡ [] → HasRows text []
   rows_end e = so_far.onward [] (no_rows rest e)
 
-  module _ {line after : List ℕ} (front : IsFrontLine rest line after) where
+  module _ {line after : List ℕ} (front : IsFirstLine rest line after) where
     pub rows_uncut : IsUncut line → (rows : List (List Token)) → HasRows text rows → ⊥
     rows_uncut none rows h = uncut_rows front rows none (so_far.back rows h)
 

@@ -16,6 +16,6 @@ pub mod SiteProperties
 pub use Rattle.name_indexes.proofs.Searches
 pub use Rattle.name_indexes.proofs.Zips
 pub use Rattle.name_indexes.proofs.Once
-pub use Rattle.name_indexes.proofs.Fronts
+pub use Rattle.name_indexes.proofs.Prefixes
 pub use Rattle.name_indexes.proofs.Indexing
 pub use Rattle.name_indexes.proofs.Choices

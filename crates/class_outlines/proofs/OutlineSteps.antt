@@ -9,8 +9,8 @@ use Rattle.class_outlines.specs.declared.outline.Outline.{Outline}
 use Rattle.name_indexes.specs.Places.{StandsAt, Found}
 use Rattle.class_outlines.specs.Outlines.{base_name, own_methods, qobject, IsOutline, HasOutline, Outlines}
 use Rattle.class_outlines.specs.Bases.{LacksBase}
-use Rattle.name_indexes.proofs.Fronts.{next_take, last_at, last_of}
-pub use Rattle.name_indexes.proofs.Fronts.{drop_at, drop_end}
+use Rattle.name_indexes.proofs.Prefixes.{next_take, last_at, last_of}
+pub use Rattle.name_indexes.proofs.Prefixes.{drop_at, drop_end}
 use Rattle.name_indexes.proofs.Once.{get_split_at}
 use Rattle.name_indexes.proofs.Zips.{any_of, place_of_any, get_front}
 

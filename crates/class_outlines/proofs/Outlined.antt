@@ -12,7 +12,7 @@ use Rattle.class_outlines.specs.declared.outline.Sort.TheVariants as sort
 use Rattle.meta_model.specs.QObject.{sig_of}
 use Rattle.class_outlines.specs.Outlines.{kinds_of, base_name, signal_heading, slot_headings, own_methods, qobject, Outlines}
 use Rattle.class_outlines.specs.Clashes.{DuplicateClass, IsTaken}
-use Rattle.name_indexes.proofs.Fronts.{get_take, inside}
+use Rattle.name_indexes.proofs.Prefixes.{get_take, inside}
 use Rattle.name_indexes.proofs.Zips.{any_of}
 use Rattle.name_indexes.proofs.Once.{once, get_split_at}
 

@@ -2,7 +2,7 @@
 -- once.
 use Rattle.std.{proofs.Common.{◌≡◌, ℕ, zero, suc, ◌+◌, ◌-◌, ◌<◌, ◌≤◌, List, [], ◌∷◌, ◌++◌, map, length, take, slice_get, Some, inl, inr, refl, sym, ap, ◌∙◌, subst, arith, length-append}, specs.Option.{option_and_then}, proofs.lemmas.List.{take_all, take-append-le}, proofs.lemmas.Option.{none-some, same_Some, slice_get_within}}
 use Rattle.syntax_trees.specs.{declared.program.Property.{Property}, declared.program.Signal.{Signal}, declared.program.Slot.{Slot}, declared.program.Class.{Class}, declared.program.Program.{Program}}
-use Rattle.name_indexes.{specs.declared.twins.Twins.{Twins}, specs.Twice.{StandsTwice}, specs.code.Twins.{AreTwins}, proofs.Indexing.{twice_at}, proofs.Once.{get_split_at}, proofs.Fronts.{take_get}, proofs.Zips.{any_of}}
+use Rattle.name_indexes.{specs.declared.twins.Twins.{Twins}, specs.Twice.{StandsTwice}, specs.code.Twins.{AreTwins}, proofs.Indexing.{twice_at}, proofs.Once.{get_split_at}, proofs.Prefixes.{take_get}, proofs.Zips.{any_of}}
 use Rattle.class_outlines.{specs.declared.outline.Heading.{Heading}, specs.declared.outline.Outline.{Outline}, specs.declared.offence.Member.{Member}, specs.Clashes.{AreOneCall, HasTwoMembers}, specs.Offences.{IsMember, IsDeclared}, specs.Outlines.{signal_heading, slot_headings, own_methods, qobject}, specs.code.OwnMembers.{IsNext, IsOverBase, AreOneProperty, methods_of, properties_of, base_methods, base_properties, methods_above, properties_above}, proofs.Outlined.{Declared, outline_of}}
 use Rattle.class_outlines.specs.declared.offence.Member.TheVariants as member
 use Rattle.class_outlines.specs.declared.offence.Declaration.TheVariants as declaration

@@ -1,8 +1,8 @@
 -- The places of the lines so far.
 use Rattle.std.proofs.Common.{◌≡◌, ℕ, ◌+◌, ◌<◌, ◌≤◌, List, [], ◌∷◌, ◌++◌, length, refl, sym, ◌∙◌, ap, arith}
 use Rattle.std.proofs.lemmas.List.{length-append}
-use Rattle.texts.specs.Lines.{IsFrontLine, AreFrontLines}
-use Rattle.texts.proofs.FrontLines.{one_more_line}
+use Rattle.texts.specs.Lines.{IsFirstLine, AreFirstLines}
+use Rattle.texts.proofs.FirstLines.{one_more_line}
 use Rattle.diagnostics.specs.OtherPlaces.{IsPlaceLine, IsBehind, spot_of, ArePlaces, AreOtherPlaces, IsNoPlace}
 use Rattle.diagnostics.specs.code.Keys.{key_of, key_of_place}
 use Rattle.diagnostics.specs.declared.other_text.place.OtherPlace.{OtherPlace}
@@ -17,7 +17,7 @@ places_more first (l ∷ lines) places last line place w is behind = (w.0, w.1 +
 pub record PlacesSoFar (text : List ℕ) (places : List OtherPlace) (number : ℕ) (rest : List ℕ) (key : ℕ) : Type 0 where
   pub good : List (List ℕ)
   pub last : ℕ × ℕ
-  pub lead : AreFrontLines text good rest
+  pub lead : AreFirstLines text good rest
   pub are : ArePlaces (0, 0) good places last
   pub counted : number ≡ length good
   pub key_is : key ≡ key_of last.0 last.1
@@ -27,7 +27,7 @@ pub none_yet : (text : List ℕ) → PlacesSoFar text [] 0 text 0
 none_yet text = record { good = []; last = (0, 0); lead = refl; are = (refl, refl); counted = refl; key_is = refl; narrow = omega arith }
 
 module _ {text : List ℕ} {places : List OtherPlace} {number : ℕ} {rest : List ℕ} {key : ℕ} (h : PlacesSoFar text places number rest key) where
-  module _ {line after : List ℕ} (front : IsFrontLine rest line after) where
+  module _ {line after : List ℕ} (front : IsFirstLine rest line after) where
     pub place_next : (place : OtherPlace) → IsPlaceLine line place → key < key_of_place place → PlacesSoFar text (places ++ place ∷ []) (number + 1) after (key_of_place place)
     place_next place is less = record {
       good = h.good ++ line ∷ [];

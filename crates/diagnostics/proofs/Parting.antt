@@ -39,25 +39,25 @@ last_part text none = all_of_each text (λ k h. not_tab text k (none k (omega ar
 -- ---- several parts
 
 -- the parts are at the front of the line, each with its tab, and `rest` follows them
-abbrev pub AreFrontParts : List ℕ → List (List ℕ) → List ℕ → Type 0
-AreFrontParts line [] rest = line ≡ rest
-AreFrontParts line (part ∷ parts) rest = (after : List ℕ) × IsPart part × (line ≡ part ++ 9 ∷ after) × AreFrontParts after parts rest
+abbrev pub AreFirstParts : List ℕ → List (List ℕ) → List ℕ → Type 0
+AreFirstParts line [] rest = line ≡ rest
+AreFirstParts line (part ∷ parts) rest = (after : List ℕ) × IsPart part × (line ≡ part ++ 9 ∷ after) × AreFirstParts after parts rest
 
-pub one_more_part : (line : List ℕ) (parts : List (List ℕ)) (from part after : List ℕ) → AreFrontParts line parts from → IsPart part → from ≡ part ++ 9 ∷ after → AreFrontParts line (parts ++ part ∷ []) after
+pub one_more_part : (line : List ℕ) (parts : List (List ℕ)) (from part after : List ℕ) → AreFirstParts line parts from → IsPart part → from ≡ part ++ 9 ∷ after → AreFirstParts line (parts ++ part ∷ []) after
 one_more_part line [] from part after e p f = (after, p, e ∙ f, refl)
 one_more_part line (q ∷ parts) from part after w p f = (w.0, w.1, w.2, one_more_part w.0 parts from part after w.3 p f)
 
-pub all_parts : (line : List ℕ) (parts : List (List ℕ)) (last : List ℕ) → AreFrontParts line parts last → IsPart last → AreParts line (parts ++ last ∷ [])
+pub all_parts : (line : List ℕ) (parts : List (List ℕ)) (last : List ℕ) → AreFirstParts line parts last → IsPart last → AreParts line (parts ++ last ∷ [])
 all_parts line [] last e p = (p, e)
 all_parts line (q ∷ []) last w p = (w.0, w.1, w.2, (p, w.3))
 all_parts line (q ∷ r ∷ parts) last w p = (w.0, w.1, w.2, all_parts w.0 (r ∷ parts) last w.3 p)
 
 -- the same of parts that are lent
 module _ {A : Type 0} (now : A → List ℕ) (line : List ℕ) (parts new : List A) where
-  pub part_next : (from : List ℕ) (part : A) (after : List ℕ) → AreFrontParts line (map now parts) from → IsPart (now part) → from ≡ now part ++ 9 ∷ after → new ≡ parts ++ part ∷ [] → AreFrontParts line (map now new) after
+  pub part_next : (from : List ℕ) (part : A) (after : List ℕ) → AreFirstParts line (map now parts) from → IsPart (now part) → from ≡ now part ++ 9 ∷ after → new ≡ parts ++ part ∷ [] → AreFirstParts line (map now new) after
   part_next from part after w p f is = rw (is, map-append now parts (part ∷ [])) (one_more_part line (map now parts) from (now part) after w p f)
 
-  pub parts_end : (part : A) → AreFrontParts line (map now parts) (now part) → IsPart (now part) → new ≡ parts ++ part ∷ [] → AreParts line (map now new)
+  pub parts_end : (part : A) → AreFirstParts line (map now parts) (now part) → IsPart (now part) → new ≡ parts ++ part ∷ [] → AreParts line (map now new)
   parts_end part w p is = rw (is, map-append now parts (part ∷ [])) (all_parts line (map now parts) (now part) w p)
 
 -- ---- a line has its parts in one way

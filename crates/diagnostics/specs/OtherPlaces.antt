@@ -2,7 +2,7 @@
 use Rattle.std.specs.Borrow.{Bor}
 use Rattle.std.specs.Prelude.{ℕ, ◌≡◌, ◌≢◌, ◌+◌, ◌≤◌, ◌<◌, ◌⊎◌, List, [], ◌∷◌, ◌++◌, length, map, All, slice_get, Option, Some, None, Result, Ok, Err}
 use Rattle.std.specs.List.{AllByRecursion}
-use Rattle.texts.specs.Lines.{IsFrontLine, AreFrontLines, AreLines}
+use Rattle.texts.specs.Lines.{IsFirstLine, AreFirstLines, AreLines}
 use Rattle.texts.specs.Numerals.{IsNumeral}
 use Rattle.diagnostics.specs.declared.other_text.place.OtherPlace.{OtherPlace}
 use Rattle.diagnostics.specs.declared.other_text.fault.PlacesFault.{PlacesFault}
@@ -80,8 +80,8 @@ pub record IsNoPlace (text : List ℕ) (n : ℕ) : Type 0 where
   pub line : List ℕ
   pub from_line : List ℕ
   pub after : List ℕ
-  pub lead : AreFrontLines text good from_line
-  pub front : IsFrontLine from_line line after
+  pub lead : AreFirstLines text good from_line
+  pub front : IsFirstLine from_line line after
   pub bad : (place : OtherPlace) → IsPlaceLine line place → IsBehind last (spot_of place) → ⊥
   pub counted : n ≡ length good + 1
 

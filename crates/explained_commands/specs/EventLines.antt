@@ -1,7 +1,7 @@
 -- The lines of a script that have events (docs/language.md, "Scripts"): events are counted from 1, and lines that are
 -- blank or a comment aren't.
 use Rattle.std.specs.Prelude.{ℕ, ◌≡◌, ◌+◌, ◌<◌, List, [], ◌∷◌, length, Option, Some, None, ◌⊎◌}
-use Rattle.texts.specs.Lines.{IsFrontLine, AreFrontLines, AreLines}
+use Rattle.texts.specs.Lines.{IsFirstLine, AreFirstLines, AreLines}
 use Rattle.script_lang.specs.Reads.{IsEmptyLine}
 use Rattle.explained_commands.specs.declared.reports.events.EventLine.{EventLine}
 
@@ -17,10 +17,10 @@ pub record IsEventLine (script : List ℕ) (event : ℕ) (found : EventLine) : T
   pub from_line : List ℕ
   pub rest : List ℕ
   pub events_before : ℕ
-  pub lead : AreFrontLines script before from_line
+  pub lead : AreFirstLines script before from_line
   pub counted : HaveEvents before events_before
   pub number : event ≡ events_before + 1
-  pub front : IsFrontLine from_line found.line.now rest
+  pub front : IsFirstLine from_line found.line.now rest
   pub holds : ¬ IsEmptyLine found.line.now
   pub place : found.at + length from_line ≡ length script
 

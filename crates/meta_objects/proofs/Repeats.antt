@@ -2,7 +2,7 @@
 use Rattle.std.proofs.Common.{◌≡◌, ℕ, zero, suc, ◌+◌, ◌<◌, ◌≤◌, List, [], ◌∷◌, length, take, get_or, slice_get, Some, Any, refl, sym, ap, ◌∙◌, subst, below_more, arith}
 use Rattle.std.proofs.lemmas.Option.{slice_get_read, slice_get_within, same_Some, none-some}
 use Rattle.name_indexes.specs.Twice.{StandsTwice}
-use Rattle.class_outlines.proofs.Fronts.{get_take, take_get}
+use Rattle.class_outlines.proofs.Prefixes.{get_take, take_get}
 use Rattle.class_outlines.proofs.Indexing.{twice_at, places_of_twice}
 use Rattle.class_outlines.proofs.Zips.{any_of, place_of_any}
 

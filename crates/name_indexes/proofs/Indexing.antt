@@ -12,7 +12,7 @@ use Rattle.name_indexes.specs.CallPlaces.{Index, Layers, place_at, place_by, Sam
 use Rattle.name_indexes.specs.Twice.{StandsTwice}
 use Rattle.name_indexes.specs.code.CallSteps.{AddsCall}
 use Rattle.name_indexes.specs.code.Twins.{AreTwins}
-use Rattle.name_indexes.proofs.Fronts.{get_take, take_get}
+use Rattle.name_indexes.proofs.Prefixes.{get_take, take_get}
 use Rattle.name_indexes.proofs.Searches.{order, none_more, none_at_all, met_first}
 use Rattle.name_indexes.proofs.Zips.{any_of, place_of_any}
 

@@ -3,7 +3,7 @@ use Rattle.std.proofs.Common.{◌≡◌, ℕ, suc, ◌<◌, ◌+◌, List, lengt
 use Rattle.std.specs.Option.{option_or}
 use Rattle.std.proofs.lemmas.Option.{slice_get_read}
 use Rattle.name_indexes.specs.CallPlaces.{Index, Layers, place_at, place_by}
-use Rattle.name_indexes.proofs.Fronts.{drop_at}
+use Rattle.name_indexes.proofs.Prefixes.{drop_at}
 
 module _ (layers : Layers) (i : ℕ) (layer : List Index) (inside : i < length layers) (is : layer ≡ get_or layers i layer) (count : ℕ) (name : List ℕ) where
   from_here : place_by (drop i layers) count name ≡ option_or (place_at layer count name) (place_by (drop (suc i) layers) count name)

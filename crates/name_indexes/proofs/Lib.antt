@@ -2,6 +2,6 @@ pub mod Choices
 pub mod Searches
 pub mod Zips
 pub mod Once
-pub mod Fronts
+pub mod Prefixes
 pub mod Indexing
 pub mod Layers

@@ -3,7 +3,7 @@ use Rattle.std.{proofs.Common.{◌≡◌, ℕ, List, ◌++◌, take, slice_get, 
 use Rattle.basic_types.specs.declared.sig.Sig.{Sig}
 use Rattle.syntax_trees.specs.{declared.program.Property.{Property}, declared.program.Class.{Class}}
 use Rattle.meta_model.specs.{declared.object.MetaMethod.{MetaMethod}, declared.object.MetaProperty.{MetaProperty}, declared.object.MetaObject.{MetaObject}}
-use Rattle.class_outlines.{specs.declared.outline.Heading.{Heading}, specs.declared.outline.Outline.{Outline}, specs.Outlines.{own_methods}, specs.Notifiers.{IsSignalOf, LacksNotifier, NotifiesBadly, BadNotify}, proofs.Firsts.{first_in_front}, proofs.Fronts.{get_take}, proofs.Once.{none_at}, proofs.Outlined.{Declared, outline_of}, proofs.Zips.{zip_right, get_front}}
+use Rattle.class_outlines.{specs.declared.outline.Heading.{Heading}, specs.declared.outline.Outline.{Outline}, specs.Outlines.{own_methods}, specs.Notifiers.{IsSignalOf, LacksNotifier, NotifiesBadly, BadNotify}, proofs.Firsts.{first_in_front}, proofs.Prefixes.{get_take}, proofs.Once.{none_at}, proofs.Outlined.{Declared, outline_of}, proofs.Zips.{zip_right, get_front}}
 use Rattle.name_indexes.specs.Places.{StandsFirst}
 use Rattle.name_resolution.specs.{declared.body_resolution.work.ResolvedWork.{ResolvedWork}, code.Inherited.{AreOutlined, IsNextObject, InheritMethods, InheritProperties, inherited_method, inherited_property}, code.Loading.{IsMethodOf, IsNotify, IsPropertyOf, IsObject}}
 

@@ -4,7 +4,7 @@ use Rattle.basic_types.specs.{declared.qtype.QType.{QType}, declared.sig.Sig.{Si
 use Rattle.syntax_trees.specs.{declared.program.Property.{Property}, declared.program.EffectNames.{EffectNames}, declared.program.SlotWork.{SlotWork}, declared.program.Slot.{Slot}, declared.program.Class.{Class}, declared.program.Wire.{Wire}, declared.program.Owns.{Owns}, declared.program.Program.{Program}}
 use Rattle.syntax_trees.specs.declared.program.SlotWork.TheVariants as declared
 use Rattle.meta_model.specs.{declared.effects.MetaEffects.{MetaEffects}, declared.object.ValueType.{ValueType}, declared.object.Work.{Work}, declared.object.MetaMethod.{MetaMethod}, declared.object.MetaProperty.{MetaProperty}, declared.object.MetaObject.{MetaObject}, declared.object.MetaWire.{MetaWire}, declared.object.MetaOwns.{MetaOwns}, declared.site.MetaSite.{MetaSite}, Loaded.{Loaded}}
-use Rattle.class_outlines.{specs.declared.outline.Heading.{Heading}, specs.declared.outline.Outline.{Outline}, specs.Outlines.{IsOutline, Outlines, base_name, own_methods, qobject}, specs.code.ReadTypes.{IsReadAs}, specs.Notifiers.{IsSignalOf}, proofs.Searches.{same_first}, proofs.Firsts.{first_item}, proofs.Fronts.{inside, next_take}, proofs.SiteProperties.{one_property_in}, proofs.ReadTypes.{same_read}}
+use Rattle.class_outlines.{specs.declared.outline.Heading.{Heading}, specs.declared.outline.Outline.{Outline}, specs.Outlines.{IsOutline, Outlines, base_name, own_methods, qobject}, specs.code.ReadTypes.{IsReadAs}, specs.Notifiers.{IsSignalOf}, proofs.Searches.{same_first}, proofs.Firsts.{first_item}, proofs.Prefixes.{inside, next_take}, proofs.SiteProperties.{one_property_in}, proofs.ReadTypes.{same_read}}
 use Rattle.name_indexes.specs.Places.{IsPlace}
 use Rattle.name_resolution.{specs.declared.body_resolution.work.ResolvedWork.{ResolvedWork}, specs.code.Natives.{HasPropertyIn, HasSignalIn, AreEffects}, specs.code.Bodies.{scope_of, IsWork, IsSlotWork, AreWorks, AllWorks}, specs.code.Wires.{IsWire, IsOwns}, specs.InitialValues.{initial_of}, specs.code.Loading.{IsMethodOf, IsNotify, IsPropertyOf, IsObject, IsLoaded}, specs.code.Sites.{IsSite}, proofs.Ends.{one_end}, proofs.Bodies.{same_statements}, proofs.OneSite.{same_zip, same_site}}
 use Rattle.name_resolution.specs.declared.body_resolution.work.ResolvedWork.TheVariants as loads

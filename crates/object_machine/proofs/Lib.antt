@@ -17,7 +17,7 @@ pub mod CheckedRuns
 pub mod Judged
 pub mod Judging
 pub mod Running
-mod RuleFronts
-pub mod Fronts
+mod RulePrefixes
+pub mod Prefixes
 pub mod Applying
-pub mod SeenFronts
+pub mod SeenPrefixes

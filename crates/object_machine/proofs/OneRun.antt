@@ -7,7 +7,7 @@ use Rattle.machine_state.specs.{State.{State, IsIdle, Activation}, declared.turn
 use Rattle.machine_rules.{specs.Natives.{NativeAnswers, AnswersOnce}, specs.Rules.{Rule, RuleAt, TurnRule}, proofs.Agreeing.{rule-agrees}, proofs.OneRule.{rule-one}, specs.Good.{IsGood}}
 use Rattle.prop_bindings.specs.Fits.{Agree}
 use Rattle.native_slots.specs.declared.action.Action.{Action}
-use Rattle.object_machine.{specs.Laws.{OneRun, OneRunOfAnswers, OneFront, OneFrontOfAnswers, IsFront}, specs.Runs.{Run, done, goes, takes, Each, EachRule, GoodRun, RunsWhole, RunsFront}, specs.Takes.{Takes, accepts, refuses}, proofs.Keeping.{runs-pay}, proofs.OneTaking.{one_taking}, proofs.Settling.{takes-agree}}
+use Rattle.object_machine.{specs.Laws.{OneRun, OneRunOfAnswers, OnePrefix, OnePrefixOfAnswers, IsPrefix}, specs.Runs.{Run, done, goes, takes, Each, EachRule, GoodRun, RunsWhole, RunsPrefix}, specs.Takes.{Takes, accepts, refuses}, proofs.Keeping.{runs-pay}, proofs.OneTaking.{one_taking}, proofs.Settling.{takes-agree}}
 
 -- nothing follows by a rule where nothing is going on
 pub no-rule : (p : Loaded) (natives : NativeAnswers) (s t : State) → IsIdle s → Rule p natives s t → ⊥
@@ -92,15 +92,15 @@ each-own (goes x rest) = (x, each-own rest)
 each-own (takes x rest) = each-own rest
 
 -- one of two runs of fronts is a front of the other
-front-one : {p : Loaded} {natives : NativeAnswers} {d : ℕ} {s t u : State} {n j k : ℕ} {es : List Event} (Once : ℕ → State → State → Type 0) → IsOnce p Once → IsSound p → Agree p s.objects s.bindings → (a : RunsFront p natives d s n es t j) (b : RunsFront p natives d s n es u k) → EachRule Once a.runs.run → EachRule Once b.runs.run → IsFront a b ⊎ IsFront b a
+front-one : {p : Loaded} {natives : NativeAnswers} {d : ℕ} {s t u : State} {n j k : ℕ} {es : List Event} (Once : ℕ → State → State → Type 0) → IsOnce p Once → IsSound p → Agree p s.objects s.bindings → (a : RunsPrefix p natives d s n es t j) (b : RunsPrefix p natives d s n es u k) → EachRule Once a.runs.run → EachRule Once b.runs.run → IsPrefix a b ⊎ IsPrefix b a
 front-one Once once sound agree a b of also =
     elim (fronts Once a.rest b.rest once sound agree (sym a.split ∙ b.split) a.runs.run b.runs.run a.runs.good b.runs.good of also) [
       | inl leads ↦ inl (record { more = leads.more; taken = leads.taken; said = leads.added; answers = leads.answers; runs = leads.runs; grows = (runs-pay leads.runs.run).grows })
       | inr leads ↦ inr (record { more = leads.more; taken = leads.taken; said = leads.added; answers = leads.answers; runs = leads.runs; grows = (runs-pay leads.runs.run).grows })
     ]
 
-pub one_front : (natives : NativeAnswers) → OneFront natives
-one_front natives once p depth s n events t u j k sound agree a b =
+pub one_prefix : (natives : NativeAnswers) → OnePrefix natives
+one_prefix natives once p depth s n events t u j k sound agree a b =
     front-one (by-natives p natives) (natives-once p natives once) sound agree a b (each-own a.runs.run) (each-own b.runs.run)
 
 -- ---- whole runs
@@ -150,5 +150,5 @@ answers-once p said left s t u agree x y = rule-one p (only (said left)) (only-o
 pub one_run_of_answers : (natives : NativeAnswers) → OneRunOfAnswers natives
 one_run_of_answers natives said p depth s n events x y t u j k sound agree a b of also = whole-one (by-answers p said) (answers-once p said) sound agree a b of also
 
-pub one_front_of_answers : (natives : NativeAnswers) → OneFrontOfAnswers natives
-one_front_of_answers natives said p depth s n events t u j k sound agree a b of also = front-one (by-answers p said) (answers-once p said) sound agree a b of also
+pub one_prefix_of_answers : (natives : NativeAnswers) → OnePrefixOfAnswers natives
+one_prefix_of_answers natives said p depth s n events t u j k sound agree a b of also = front-one (by-answers p said) (answers-once p said) sound agree a b of also

@@ -15,7 +15,7 @@ use Rattle.machine_state.specs.Worlds.{at}
 use Rattle.machine_rules.specs.Natives.{NativeAnswers}
 use Rattle.machine_rules.specs.Faults.{WritesDeep, GoesIll, GoesFatal, GoesDeep}
 use Rattle.machine_rules.specs.Next.{LacksValue, WritesIll}
-use Rattle.object_machine.specs.Runs.{RunsWhole, RunsFront, Follows, IsDue}
+use Rattle.object_machine.specs.Runs.{RunsWhole, RunsPrefix, Follows, IsDue}
 use Rattle.object_machine.specs.Events.{may_bind}
 
 -- the next event asks that this binding be installed, which its judgement lets
@@ -78,5 +78,5 @@ Completes p natives depth w events answers v =
 pub record Halts (p : Loaded) (natives : NativeAnswers) (depth : ℕ) (w : World) (events : List Event) (f : Fault) (v : World)
     : Type 0 where
   pub stack : List Activation
-  pub front : RunsFront p natives depth (at w []) w.left events (at v stack) v.left
+  pub front : RunsPrefix p natives depth (at w []) w.left events (at v stack) v.left
   pub cause : StopsFor p natives depth (at v stack) v.left front.rest f

@@ -15,7 +15,7 @@ use Rattle.machine_rules.specs.Good.{IsWell, IsAcyclic, AreSettled}
 use Rattle.machine_rules.specs.Natives.{NativeAnswers, AnswersOnce}
 use Rattle.machine_rules.specs.code.Keeps.{Grows}
 use Rattle.machine_rules.specs.Rules.{Rule}
-use Rattle.object_machine.specs.Runs.{Run, EachRule, GoodRun, RunsWhole, RunsFront}
+use Rattle.object_machine.specs.Runs.{Run, EachRule, GoodRun, RunsWhole, RunsPrefix}
 use Rattle.object_machine.specs.Takes.{Takes}
 use Rattle.object_machine.specs.Events.{judged}
 
@@ -64,8 +64,8 @@ OneRunOfAnswers natives =
     AnswersAre said a.runs.run → AnswersAre said b.runs.run → (x ≡ y) × (t ≡ u) × (j ≡ k)
 
 -- one run is a front of another: from where it ends a run leads on to where the other ends, and writes on
-pub record IsFront {p : Loaded} {natives : NativeAnswers} {depth : ℕ} {s : State} {n : ℕ} {events : List Event} {t u : State} {j k : ℕ}
-    (a : RunsFront p natives depth s n events t j) (b : RunsFront p natives depth s n events u k) : Type 0 where
+pub record IsPrefix {p : Loaded} {natives : NativeAnswers} {depth : ℕ} {s : State} {n : ℕ} {events : List Event} {t u : State} {j k : ℕ}
+    (a : RunsPrefix p natives depth s n events t j) (b : RunsPrefix p natives depth s n events u k) : Type 0 where
   pub more : List Event
   pub taken : b.taken ≡ a.taken ++ more
   pub said : List Answer
@@ -75,20 +75,20 @@ pub record IsFront {p : Loaded} {natives : NativeAnswers} {depth : ℕ} {s : Sta
 
 -- of two runs of fronts of one list of events, from one state and with as many rules left, one goes on where the other
 -- ends, and writes after what that one wrote: so a run that stops on the way is a front of the whole one
-abbrev pub OneFront : NativeAnswers → Type 0
-OneFront natives =
+abbrev pub OnePrefix : NativeAnswers → Type 0
+OnePrefix natives =
     AnswersOnce natives → (p : Loaded) (depth : ℕ) (s : State) (n : ℕ) (events : List Event) (t u : State) (j k : ℕ) →
     IsSound p → Agree p s.objects s.bindings →
-    (a : RunsFront p natives depth s n events t j) (b : RunsFront p natives depth s n events u k) → IsFront a b ⊎ IsFront b a
+    (a : RunsPrefix p natives depth s n events t j) (b : RunsPrefix p natives depth s n events u k) → IsPrefix a b ⊎ IsPrefix b a
 
 -- two such runs are so whatever natives may answer, if they answered alike in both: what a run wrote that stopped, be
--- it that memory ran out, is a front of what each longer run with the same answers writes
-abbrev pub OneFrontOfAnswers : NativeAnswers → Type 0
-OneFrontOfAnswers natives =
+-- it that memory ran out, is a prefix of what each longer run with the same answers writes
+abbrev pub OnePrefixOfAnswers : NativeAnswers → Type 0
+OnePrefixOfAnswers natives =
     (said : ℕ → List Action) (p : Loaded) (depth : ℕ) (s : State) (n : ℕ) (events : List Event) (t u : State) (j k : ℕ) →
     IsSound p → Agree p s.objects s.bindings →
-    (a : RunsFront p natives depth s n events t j) (b : RunsFront p natives depth s n events u k) →
-    AnswersAre said a.runs.run → AnswersAre said b.runs.run → IsFront a b ⊎ IsFront b a
+    (a : RunsPrefix p natives depth s n events t j) (b : RunsPrefix p natives depth s n events u k) →
+    AnswersAre said a.runs.run → AnswersAre said b.runs.run → IsPrefix a b ⊎ IsPrefix b a
 
 -- ---- settled values
 

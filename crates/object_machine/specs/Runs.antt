@@ -45,7 +45,7 @@ pub record RunsWhole (p : Loaded) (natives : NativeAnswers) (depth : ℕ) (s : S
   pub ends : IsIdle t
 
 -- a run without a bad moment that takes a front of these events
-pub record RunsFront (p : Loaded) (natives : NativeAnswers) (depth : ℕ) (s : State) (n : ℕ) (events : List Event) (t : State) (k : ℕ) : Type 0 where
+pub record RunsPrefix (p : Loaded) (natives : NativeAnswers) (depth : ℕ) (s : State) (n : ℕ) (events : List Event) (t : State) (k : ℕ) : Type 0 where
   pub taken : List Event
   pub rest : List Event
   pub split : events ≡ taken ++ rest

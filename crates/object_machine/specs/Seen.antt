@@ -8,7 +8,7 @@ use Rattle.trace_entries.specs.{declared.entry.Entry.{Entry}, declared.fault.Ans
 use Rattle.trace_entries.specs.declared.fault.Fault.TheVariants as fault
 use Rattle.native_slots.specs.Promises.{Takes}
 use Rattle.machine_rules.specs.{Good.{AreSettled}, Natives.{NativeAnswers, KeepPromises}}
-use Rattle.object_machine.specs.{Causes.{StopsFor}, Runs.{Run, Each, GoodRun, RunsFront}, Takes.{IsRefusedAs}, Events.{judged}}
+use Rattle.object_machine.specs.{Causes.{StopsFor}, Runs.{Run, Each, GoodRun, RunsPrefix}, Takes.{IsRefusedAs}, Events.{judged}}
 
 pub record Seen (N : Type 0) : Type 0 where
   pub program : Loaded
@@ -42,7 +42,7 @@ pub record Halts {N : Type 0} (gives : N → NativeAnswers) (before : Seen N) (e
   pub went : before.stopped ≡ false
   pub same : after ≡ record before { world = after.world; stopped = true }
   pub stack : List Activation
-  pub front : RunsFront before.program (gives before.natives) before.depth (at before.world []) before.world.left events (at after.world stack) after.world.left
+  pub front : RunsPrefix before.program (gives before.natives) before.depth (at before.world []) before.world.left events (at after.world stack) after.world.left
   pub cause : StopsFor before.program (gives before.natives) before.depth (at after.world stack) after.world.left front.rest f
 
 -- a machine that has stopped does nothing more

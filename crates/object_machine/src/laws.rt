@@ -1,7 +1,7 @@
 //! What holds of every program, and of every run.
 
 ghost use Rattle.object_machine.specs.FaultLaws.{OneFault};
-ghost use Rattle.object_machine.specs.Laws.{AlwaysSettled, OneFront, OneFrontOfAnswers, OneJudgement, OneRun, OneRunOfAnswers, OneTaking, RunReadsNoTrace, TakingSettles};
+ghost use Rattle.object_machine.specs.Laws.{AlwaysSettled, OnePrefix, OnePrefixOfAnswers, OneJudgement, OneRun, OneRunOfAnswers, OneTaking, RunReadsNoTrace, TakingSettles};
 
 use native_slots::Answering;
 
@@ -31,15 +31,15 @@ pub fn one_run_of_answers<N: Answering>(_natives: &N)
 
 /// Where they have, of two runs of fronts of one list of events, from one state and with as many rules left, one goes on where the other
 /// ends, and its trace begins with the other's: a run that a fault stops has taken the way of every other one.
-pub fn one_front<N: Answering>(_natives: &N)
-    ensures { OneFront (N.gives _natives.now) }
+pub fn one_prefix<N: Answering>(_natives: &N)
+    ensures { OnePrefix (N.gives _natives.now) }
 {}
 
 /// Whatever these natives may answer, of two runs of fronts of one list of events in which they answered alike one goes on
 /// where the other ends, and its trace begins with the other's: so what a machine wrote that stopped, as memory ran out
-/// or for another fault, is a front of what each longer run with these answers writes.
-pub fn one_front_of_answers<N: Answering>(_natives: &N)
-    ensures { OneFrontOfAnswers (N.gives _natives.now) }
+/// or for another fault, is a prefix of what each longer run with these answers writes.
+pub fn one_prefix_of_answers<N: Answering>(_natives: &N)
+    ensures { OnePrefixOfAnswers (N.gives _natives.now) }
 {}
 
 /// Apart from memory, which may be refused whenever a rule is due, a state in which properties and bindings agree stops for

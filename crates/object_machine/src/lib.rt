@@ -24,7 +24,7 @@ pub use checked_laws::{
 pub use connecting::{judge_connect, judge_disconnect};
 pub use invoking::{Invocation, Invoked, judge_invocation};
 pub use laws::{
-    always_settled, one_fault, one_front, one_front_of_answers, one_judgement, one_run,
+    always_settled, one_fault, one_judgement, one_prefix, one_prefix_of_answers, one_run,
     one_run_of_answers, one_taking, run_reads_no_trace, taking_settles,
 };
 pub use machine::ObjectMachine;

@@ -3,7 +3,7 @@ use Rattle.std.{proofs.Common.{ℕ, ◌≤◌, Bool, true, false, List, [], ◌�
 use Rattle.basic_types.specs.{Laws.{IsNormalType, IsNormalSig}, Normal.{pointer_type}, Signatures.{IsFreeName, most_parameters}, Types.{value_type}, declared.normal.ConstPlace.TheVariants.{Nowhere, Before, After}, declared.normal.TypeEnding.TheVariants.{Bare, Reference, Pointer}}
 use Rattle.basic_types.specs.declared.word.Word.TheVariants as word
 use Rattle.token_reading.specs.{Lists.{spell_each, spell_further, spell_listed}, Literals.{spell_literal}, Signatures.{TypeReading, spelled_type, spell_type, tree_of_type, spell_sig}}
-use Rattle.texts.{specs.Pieces.{AreTokens, Piece, IsCut, tokens_of}, specs.declared.token.Token.{Token}, proofs.Fronts.{named}}
+use Rattle.texts.{specs.Pieces.{AreTokens, Piece, IsCut, tokens_of}, specs.declared.token.Token.{Token}, proofs.FirstPieces.{named}}
 use Rattle.texts.specs.Pieces as piece
 use Rattle.syntax_trees.specs.{declared.program.Parameter.{Parameter}, declared.program.Property.{Property}, declared.program.Signal.{Signal}, declared.program.Slot.{Slot}, declared.program.Class.{Class}, declared.program.Program.{Program}}
 use Rattle.texts.specs.declared.symbol.Symbol.TheVariants as s

@@ -8,7 +8,7 @@ use Rattle.native_slots.specs.Promises.{Takes}
 use Rattle.trace_entries.specs.{declared.fault.Answer.{Answer}, declared.fault.Fault.{Fault}, declared.entry.Entry.{Entry}}
 use Rattle.machine_state.specs.{declared.world.World.{World}, Worlds.{at, untouched}, State.{State}}
 use Rattle.machine_rules.specs.{Good.{HasArguments, Spares, IsAcyclic, AreSettled, IsTyped}, Natives.{NativeAnswers, KeepPromises}}
-use Rattle.object_machine.{specs.Causes.{StopsFor}, specs.Laws.{in_front}, specs.Runs.{Run, done}, proofs.Fronts.{run-front, each-behind, writes-ill-front, stops-front}, proofs.Running.{run-trans, each-weaker}, specs.CheckedLaws.{IsFaultless, IsReached}, proofs.CheckedRuns.Claims.{only_limits, each_run_is_faultless}, specs.Checked.{HasCome, IsChecked, IsLimit, StopsAtLimit}, specs.Claims.{Claims}, specs.Seen.{Seen, AreKept, InEachRun, Completes, Halts, Stays, begun, cleared}}
+use Rattle.object_machine.{specs.Causes.{StopsFor}, specs.Laws.{in_front}, specs.Runs.{Run, done}, proofs.Prefixes.{run-front, each-behind, writes-ill-front, stops-front}, proofs.Running.{run-trans, each-weaker}, specs.CheckedLaws.{IsFaultless, IsReached}, proofs.CheckedRuns.Claims.{only_limits, each_run_is_faultless}, specs.Checked.{HasCome, IsChecked, IsLimit, StopsAtLimit}, specs.Claims.{Claims}, specs.Seen.{Seen, AreKept, InEachRun, Completes, Halts, Stays, begun, cleared}}
 use Rattle.qt_runtime.proofs.Halting.{seen}
 
 -- the program that is within is the one that is seen

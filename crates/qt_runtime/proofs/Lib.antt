@@ -1,5 +1,5 @@
 pub mod Checking
-pub mod Fronts
+pub mod Prefixes
 mod Halting
 mod Taken
 mod Pushed

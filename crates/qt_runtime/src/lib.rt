@@ -12,9 +12,9 @@ pub use meta_model::Meta;
 pub use native_slots::{Answering, Natives};
 pub use object_machine::{
     ObjectMachine, always_settled, each_is_faultless, each_run_is_faultless, never_in_use,
-    never_lacks_value, never_loops, never_stuck, never_too_deep, one_fault, one_front,
-    one_front_of_answers, one_judgement, one_run, one_run_of_answers, one_taking,
-    run_reads_no_trace, stops_at_limits, taking_settles,
+    never_lacks_value, never_loops, never_stuck, never_too_deep, one_fault, one_judgement,
+    one_prefix, one_prefix_of_answers, one_run, one_run_of_answers, one_taking, run_reads_no_trace,
+    stops_at_limits, taking_settles,
 };
 pub use rank_check::Checked;
 pub use script_lang::{ConnectionType, Endpoints, Event, Input, Literal, ScriptFault, read_script};

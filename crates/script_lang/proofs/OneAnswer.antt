@@ -6,9 +6,9 @@ use Rattle.script_lang.specs.declared.event.Event.{Event}
 use Rattle.script_lang.specs.declared.fault.ScriptFault.{ScriptFault}
 use Rattle.script_lang.specs.declared.fault.ScriptFault.TheVariants.{TooLarge, BadLine, Memory}
 use Rattle.script_lang.specs.Grammar.{IsEvent}
-use Rattle.texts.specs.Lines.{IsFrontLine, AreFrontLines, AreLines}
+use Rattle.texts.specs.Lines.{IsFirstLine, AreFirstLines, AreLines}
 use Rattle.script_lang.specs.Reads.{Holds, AreEvents, IsScript, IsBadLine, ReadsScript}
-use Rattle.texts.proofs.FrontLines.{one_front_line, no_line_at_end}
+use Rattle.texts.proofs.FirstLines.{one_first_line, no_line_at_end}
 use Rattle.script_lang.proofs.Scripts.{IsRefused}
 use Rattle.script_lang.proofs.OneTree.{one_event}
 
@@ -34,7 +34,7 @@ same_events text [] [] es fs l m h k = h ∙ sym k
 same_events text [] (y ∷ ms) es fs l m h k = absurd (no_line_at_end text y m.0 l m.1)
 same_events text (x ∷ ls) [] es fs l m h k = absurd (no_line_at_end text x l.0 m l.1)
 same_events text (x ∷ ls) (y ∷ ms) es fs l m h k =
-    let front = one_front_line text x y l.0 m.0 l.1 m.1 in
+    let front = one_first_line text x y l.0 m.0 l.1 m.1 in
     let found : h.0 ≡ k.0 = one_content y h.0 k.0 (rw front.0 at h.2) k.2 in
     let later : h.1 ≡ k.1 = same_events m.0 ls ms h.1 k.1 (rw front.1 at l.2) m.2 h.3 k.3 in
     let e = h.4 in
@@ -42,27 +42,27 @@ same_events text (x ∷ ls) (y ∷ ms) es fs l m h k =
     cc
 
 -- a text with a bad line is no script
-no_script : (text : List ℕ) (good ls : List (List ℕ)) (from line after : List ℕ) (es : List Event) → AreFrontLines text good from → IsFrontLine from line after → IsRefused line → AreLines text ls → AreEvents ls es → ⊥
+no_script : (text : List ℕ) (good ls : List (List ℕ)) (from line after : List ℕ) (es : List Event) → AreFirstLines text good from → IsFirstLine from line after → IsRefused line → AreLines text ls → AreEvents ls es → ⊥
 no_script text [] [] from line after es lead front bad l h = no_line_at_end from line after (sym lead ∙ l) front
 no_script text [] (x ∷ ls) from line after es lead front bad l h =
-    let same = one_front_line from x line l.0 after (rw lead at l.1) front in
+    let same = one_first_line from x line l.0 after (rw lead at l.1) front in
     bad h.0 (rw same.0 at h.2)
 no_script text (g ∷ good) [] from line after es lead front bad l h = no_line_at_end text g lead.0 l lead.1
 no_script text (g ∷ good) (x ∷ ls) from line after es lead front bad l h =
-    let same = one_front_line text x g l.0 lead.0 l.1 lead.1 in
+    let same = one_first_line text x g l.0 lead.0 l.1 lead.1 in
     no_script lead.0 good ls from line after h.1 lead.2 front bad (rw same.1 at l.2) h.3
 
 -- the first bad line is one
-same_count : (text : List ℕ) (xs ys : List (List ℕ)) (x_from x x_after y_from y y_after : List ℕ) (es fs : List Event) → AreFrontLines text xs x_from → IsFrontLine x_from x x_after → IsRefused x → AreEvents xs es → AreFrontLines text ys y_from → IsFrontLine y_from y y_after → IsRefused y → AreEvents ys fs → length xs ≡ length ys
+same_count : (text : List ℕ) (xs ys : List (List ℕ)) (x_from x x_after y_from y y_after : List ℕ) (es fs : List Event) → AreFirstLines text xs x_from → IsFirstLine x_from x x_after → IsRefused x → AreEvents xs es → AreFirstLines text ys y_from → IsFirstLine y_from y y_after → IsRefused y → AreEvents ys fs → length xs ≡ length ys
 same_count text [] [] x_from x x_after y_from y y_after es fs l p bad_x h m q bad_y k = refl
 same_count text [] (g ∷ ys) x_from x x_after y_from y y_after es fs l p bad_x h m q bad_y k =
-    let same = one_front_line x_from g x m.0 x_after (rw l at m.1) p in
+    let same = one_first_line x_from g x m.0 x_after (rw l at m.1) p in
     absurd (bad_x k.0 (rw same.0 at k.2))
 same_count text (g ∷ xs) [] x_from x x_after y_from y y_after es fs l p bad_x h m q bad_y k =
-    let same = one_front_line y_from g y l.0 y_after (rw m at l.1) q in
+    let same = one_first_line y_from g y l.0 y_after (rw m at l.1) q in
     absurd (bad_y h.0 (rw same.0 at h.2))
 same_count text (g ∷ xs) (f ∷ ys) x_from x x_after y_from y y_after es fs l p bad_x h m q bad_y k =
-    let same = one_front_line text g f l.0 m.0 l.1 m.1 in
+    let same = one_first_line text g f l.0 m.0 l.1 m.1 in
     let more = same_count m.0 xs ys x_from x x_after y_from y y_after h.1 k.1 (rw same.1 at l.2) p bad_x h.3 m.2 q bad_y k.3 in
     omega (arith, more)
 

@@ -1,6 +1,6 @@
 -- The events of lines, and of a script.
 use Rattle.std.proofs.{Common.{◌≡◌, ℕ, ◌≤◌, ◌+◌, List, [], ◌∷◌, ◌++◌, length, refl, sym, ◌∙◌, ap, Option, Some, None, Bool, true, false, IsTrue, ◌↔◌, All, arith}, lemmas.List.{append-nil, length-append}}
-use Rattle.texts.{proofs.Cut.{same_tokens}, specs.Limits.{most_bytes}, specs.Pieces.{AreTokens}, specs.declared.lexer.LexFault.{LexFault}, specs.declared.token.Token.{Token}, specs.Lines.{IsFrontLine, AreFrontLines}, proofs.FrontLines.{one_more_line}}
+use Rattle.texts.{proofs.Cut.{same_tokens}, specs.Limits.{most_bytes}, specs.Pieces.{AreTokens}, specs.declared.lexer.LexFault.{LexFault}, specs.declared.token.Token.{Token}, specs.Lines.{IsFirstLine, AreFirstLines}, proofs.FirstLines.{one_more_line}}
 use Rattle.token_reading.specs.{code.Reading.{Found, IsAtEnd}, Signatures.{HasPlainReference}, declared.fault.ParseFault.{ParseFault}}
 use Rattle.syntax_trees.specs.Connections.{HasFewTypes}
 use Rattle.token_reading.specs.declared.fault.ParseFault.TheVariants as parse
@@ -74,7 +74,7 @@ events_more (l ∷ lines) events line found w h =
 -- after so many lines, each of them empty or an event
 pub record LinesSoFar (text : List ℕ) (events : List Event) (number : ℕ) (rest : List ℕ) : Type 0 where
   pub good : List (List ℕ)
-  pub lead : AreFrontLines text good rest
+  pub lead : AreFirstLines text good rest
   pub are_events : AreEvents good events
   pub counted : number ≡ length good
 
@@ -82,7 +82,7 @@ pub no_line_yet : (text : List ℕ) → LinesSoFar text [] 0 text
 no_line_yet text = record { good = []; lead = refl; are_events = refl; counted = refl }
 
 module _ {text : List ℕ} {events : List Event} {number : ℕ} {rest : List ℕ} (h : LinesSoFar text events number rest) where
-  module _ {line after : List ℕ} (front : IsFrontLine rest line after) where
+  module _ {line after : List ℕ} (front : IsFirstLine rest line after) where
     next_line : (found : Option Event) → Holds line found → LinesSoFar text (events ++ before found []) (number + 1) after
     next_line found holds = record {
       good = h.good ++ line ∷ [];

@@ -4,7 +4,7 @@ use Rattle.texts.specs.Pieces.{AreTokens}
 use Rattle.texts.specs.declared.token.Token.{Token}
 use Rattle.script_lang.specs.Grammar.{IsEvent}
 use Rattle.texts.specs.Limits.{most_bytes}
-use Rattle.texts.specs.Lines.{IsFrontLine, AreFrontLines, AreLines}
+use Rattle.texts.specs.Lines.{IsFirstLine, AreFirstLines, AreLines}
 use Rattle.script_lang.specs.declared.event.Event.{Event}
 use Rattle.script_lang.specs.declared.fault.LineFault.TheVariants as line
 use Rattle.script_lang.specs.declared.fault.ScriptFault.{ScriptFault}
@@ -51,8 +51,8 @@ pub record IsBadLine (text : List ℕ) (n : ℕ) : Type 0 where
   pub line : List ℕ
   pub from_line : List ℕ
   pub after : List ℕ
-  pub lead : AreFrontLines text good from_line
-  pub front : IsFrontLine from_line line after
+  pub lead : AreFirstLines text good from_line
+  pub front : IsFirstLine from_line line after
   pub bad : (found : Option Event) → Holds line found → ⊥
   pub counted : n ≡ length good + 1
 

@@ -3,9 +3,9 @@ use Rattle.std.proofs.Common.{◌≡◌, ℕ, List, [], ◌∷◌, ◌++◌, ref
 use Rattle.std.proofs.lemmas.List.{append-nil}
 use Rattle.std.proofs.lemmas.Bool.{eqb-true}
 use Rattle.texts.specs.declared.token.Token.{Token}
-use Rattle.texts.proofs.Only.{one_front, one_list}
-use Rattle.texts.proofs.Fronts.{no_front_at_end, empty}
-use Rattle.texts.specs.Pieces.{Piece, IsFront, IsCut, tokens_of, before, AreTokens}
+use Rattle.texts.proofs.Only.{one_prefix, one_list}
+use Rattle.texts.proofs.FirstPieces.{no_front_at_end, empty}
+use Rattle.texts.specs.Pieces.{Piece, IsFirstPiece, IsCut, tokens_of, before, AreTokens}
 use Rattle.texts.specs.code.Splitting.{Cuts}
 
 -- with the pieces of what is left, those found are the tokens of the whole, and each cut of the whole cuts what is left
@@ -19,11 +19,11 @@ cut_start whole = record { goes_on = λ ps h. (ps, h, refl); all = λ qs h. (qs,
 next : (ps : List Piece) (left : List ℕ) (t : Option Token) (rest : List ℕ) → Cuts left t rest → IsCut ps left → (qs : List Piece) × IsCut qs rest
 next [] left t rest c h = absurd (no_front_at_end left h c.piece rest c.front)
 next (p ∷ ps) left t rest c h =
-    let m = one_front p c.piece left h.0 rest h.1 c.front in
+    let m = one_prefix p c.piece left h.0 rest h.1 c.front in
     let e = m.1 in
     (ps, rw e at h.2)
 
-none_next : (ps : List Piece) (left : List ℕ) → (left ≡ [] → ⊥) → ((p : Piece) (rest : List ℕ) → IsFront p left rest → ⊥) → IsCut ps left → ⊥
+none_next : (ps : List Piece) (left : List ℕ) → (left ≡ [] → ⊥) → ((p : Piece) (rest : List ℕ) → IsFirstPiece p left rest → ⊥) → IsCut ps left → ⊥
 none_next [] left some none h = some h
 none_next (p ∷ ps) left some none h = none p h.0 h.1
 
@@ -47,7 +47,7 @@ module _ {whole : List ℕ} {found : List Token} {left : List ℕ} (h : CutSoFar
   pub cut_done : left ≡ [] → AreTokens whole found
   cut_done e = let w = h.goes_on [] e in record { pieces = w.0; cut = w.1; tokens_are = w.2 ∙ append-nil found }
 
-  pub cut_stuck : (left ≡ [] → ⊥) → ((p : Piece) (rest : List ℕ) → IsFront p left rest → ⊥) → (tokens : List Token) → AreTokens whole tokens → ⊥
+  pub cut_stuck : (left ≡ [] → ⊥) → ((p : Piece) (rest : List ℕ) → IsFirstPiece p left rest → ⊥) → (tokens : List Token) → AreTokens whole tokens → ⊥
   cut_stuck some none tokens a = let w = h.all a.pieces a.cut in none_next w.0 left some none w.1
 
 pub same_tokens : (bytes : List ℕ) (s t : List Token) → AreTokens bytes s → AreTokens bytes t → s ≡ t

@@ -1,10 +1,10 @@
 pub mod Numbers
 pub mod Runs
 pub mod Table
-pub mod Fronts
+pub mod FirstPieces
 pub mod Only
 pub mod Cut
 pub mod Counting
-pub mod FrontLines
+pub mod FirstLines
 pub mod Partings
 pub mod Placing

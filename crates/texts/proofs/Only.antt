@@ -7,9 +7,9 @@ use Rattle.texts.proofs.Table.{doubles, singles}
 use Rattle.texts.specs.Symbols.{spelling}
 use Rattle.basic_types.specs.Words.{word_spelling}
 use Rattle.basic_types.proofs.Words.{one_word}
-use Rattle.texts.specs.Pieces.{Piece, blank, comment, name, reserved, number, text, symbol, IsFront, IsCut}
+use Rattle.texts.specs.Pieces.{Piece, blank, comment, name, reserved, number, text, symbol, IsFirstPiece, IsCut}
 use Rattle.texts.proofs.Runs.{one_run}
-use Rattle.texts.proofs.Fronts.{class_at_front, no_front_at_end}
+use Rattle.texts.proofs.FirstPieces.{class_at_front, no_front_at_end}
 
 abbrev number_of : List ℕ → ℕ
 number_of [] = 0
@@ -38,27 +38,27 @@ same_length [] (y ∷ b) r q h e = absurd (omega arith)
 same_length (x ∷ a) [] r q h e = absurd (omega arith)
 same_length (x ∷ a) (y ∷ b) r q h e = let m = same_length a b r q (omega arith) (cc) in (cc, m.1)
 
-pub one_front : (p q : Piece) (bytes r s : List ℕ) → IsFront p bytes r → IsFront q bytes s → (p ≡ q) × (r ≡ s)
-one_front (blank b) (blank c) bytes r s f g = let e = f.1 in let d = g.1 in (cc, cc)
-one_front (comment a) (comment b) bytes r s f g =
+pub one_prefix : (p q : Piece) (bytes r s : List ℕ) → IsFirstPiece p bytes r → IsFirstPiece q bytes s → (p ≡ q) × (r ≡ s)
+one_prefix (blank b) (blank c) bytes r s f g = let e = f.1 in let d = g.1 in (cc, cc)
+one_prefix (comment a) (comment b) bytes r s f g =
     let e = f.1 in let d = g.1 in let k : g.0 ≡ f.0 = cc in
     let m = one_run run.Line f.0 a b r s f.2 (rw k at g.2) in (cc, m.1)
-one_front (name a) (name b) bytes r s f g = let m = one_run run.Name bytes a b r s f.2 g.2 in (cc, m.1)
-one_front (reserved a) (reserved b) bytes r s f g =
+one_prefix (name a) (name b) bytes r s f g = let m = one_run run.Name bytes a b r s f.2 g.2 in (cc, m.1)
+one_prefix (reserved a) (reserved b) bytes r s f g =
     let m = one_run run.Name bytes (word_spelling a) (word_spelling b) r s f g in
     let n = one_word a b m.0 in (cc, m.1)
-one_front (name a) (reserved b) bytes r s f g = let m = one_run run.Name bytes a (word_spelling b) r s f.2 g in absurd (f.1 b m.0)
-one_front (reserved a) (name b) bytes r s f g = let m = one_run run.Name bytes (word_spelling a) b r s f g.2 in absurd (g.1 a (sym m.0))
-one_front (number a) (number b) bytes r s f g = let m = one_run run.Number bytes a b r s f.1 g.1 in (cc, m.1)
-one_front (text a) (text b) bytes r s f g =
+one_prefix (name a) (reserved b) bytes r s f g = let m = one_run run.Name bytes a (word_spelling b) r s f.2 g in absurd (f.1 b m.0)
+one_prefix (reserved a) (name b) bytes r s f g = let m = one_run run.Name bytes (word_spelling a) b r s f g.2 in absurd (g.1 a (sym m.0))
+one_prefix (number a) (number b) bytes r s f g = let m = one_run run.Number bytes a b r s f.1 g.1 in (cc, m.1)
+one_prefix (text a) (text b) bytes r s f g =
     let e = f.1 in let d = g.1 in let k : g.0 ≡ f.0 = cc in
     let m = one_run run.Text f.0 a b (34 ∷ r) (34 ∷ s) f.2 (rw k at g.2) in (cc, cc)
-one_front (symbol a) (symbol b) bytes r s f g =
+one_prefix (symbol a) (symbol b) bytes r s f g =
     let x = f.longest b (s, g.split) in
     let y = g.longest a (r, f.split) in
     let m = same_length (spelling a) (spelling b) r s (omega arith) (sym f.split ∙ g.split) in
     let n = one_symbol a b m.0 in (cc, m.1)
-one_front p q bytes r s f g =
+one_prefix p q bytes r s f g =
     let a = class_at_front p bytes r f in let b = class_at_front q bytes s g in cc
 
 pub one_list : (ps qs : List Piece) (bytes : List ℕ) → IsCut ps bytes → IsCut qs bytes → ps ≡ qs
@@ -66,6 +66,6 @@ one_list [] [] bytes f g = refl
 one_list [] (q ∷ qs) bytes f g = absurd (no_front_at_end bytes f q g.0 g.1)
 one_list (p ∷ ps) [] bytes f g = absurd (no_front_at_end bytes g p f.0 f.1)
 one_list (p ∷ ps) (q ∷ qs) bytes f g =
-    let m = one_front p q bytes f.0 g.0 f.1 g.1 in
+    let m = one_prefix p q bytes f.0 g.0 f.1 g.1 in
     let e = m.1 in
     let n = one_list ps qs f.0 f.2 (rw (← e) at g.2) in cc

@@ -2,15 +2,15 @@
 use Rattle.std.proofs.Common.{◌≡◌, ◌≢◌, ◌∙◌, ℕ, ◌-◌, List, [], ◌∷◌, ◌++◌, length, take, refl, sym, ap, inl, inr, ◌⊎◌, arith}
 use Rattle.std.proofs.Math.Seq.{take-append_seam}
 use Rattle.std.proofs.lemmas.List.{length-append, append_assoc, append-nil, append_cancel_right}
-use Rattle.texts.specs.Lines.{IsFrontLine, AreFrontLines, AreOthers, IsPartedAt, LacksLine}
-use Rattle.texts.proofs.FrontLines.{one_front_line, one_more_line, no_line_at_end}
+use Rattle.texts.specs.Lines.{IsFirstLine, AreFirstLines, AreOthers, IsPartedAt, LacksLine}
+use Rattle.texts.proofs.FirstLines.{one_first_line, one_more_line, no_line_at_end}
 
 -- the lines so far are others, and `left` is what follows them
 pub record OthersSoFar (line text left : List ℕ) : Type 0 where
   pub lines : List (List ℕ)
   pub front : List ℕ
   pub joined : text ≡ front ++ left
-  pub lead : AreFrontLines text lines left
+  pub lead : AreFirstLines text lines left
   pub others : AreOthers line lines
 
 pub none_so_far : (line text : List ℕ) → OthersSoFar line text text
@@ -26,7 +26,7 @@ line_taken left found after (inl e) = (found ++ 10 ∷ [], e ∙ sym (append_ass
 line_taken left found after (inr e) = (found, e.0 ∙ (sym (append-nil found) ∙ ap (λ x. found ++ x) (sym e.2)))
 
 module _ {line text left : List ℕ} (h : OthersSoFar line text left) where
-  pub other_next : {found after : List ℕ} → IsFrontLine left found after → found ≢ line → OthersSoFar line text after
+  pub other_next : {found after : List ℕ} → IsFirstLine left found after → found ≢ line → OthersSoFar line text after
   other_next {found} {after} f other =
       let t = line_taken left found after f.ends in
       record {
@@ -42,7 +42,7 @@ module _ {line text left : List ℕ} (h : OthersSoFar line text left) where
       let n : length text - length left ≡ length h.front = omega (arith, ap (λ (x : List ℕ). length x) h.joined, length-append h.front left) in
       rw (n, h.joined) (take-append_seam h.front left)
 
-  pub parted_here : {rest : List ℕ} → IsFrontLine left line rest → IsPartedAt line text (take (length text - length left) text) rest
+  pub parted_here : {rest : List ℕ} → IsFirstLine left line rest → IsPartedAt line text (take (length text - length left) text) rest
   parted_here f = rw front_is record {
     lines = h.lines;
     from_line = left;
@@ -57,16 +57,16 @@ module _ {line text left : List ℕ} (h : OthersSoFar line text left) where
 
 -- ---- a text is cut at the line in one way
 
-one_lead : (line : List ℕ) (ls ks : List (List ℕ)) (text from other r s : List ℕ) → AreFrontLines text ls from → AreOthers line ls → IsFrontLine from line r → AreFrontLines text ks other → AreOthers line ks → IsFrontLine other line s → (from ≡ other) × (r ≡ s)
+one_lead : (line : List ℕ) (ls ks : List (List ℕ)) (text from other r s : List ℕ) → AreFirstLines text ls from → AreOthers line ls → IsFirstLine from line r → AreFirstLines text ks other → AreOthers line ks → IsFirstLine other line s → (from ≡ other) × (r ≡ s)
 one_lead line [] [] text from other r s p po h q qo k =
     let same = sym p ∙ q in
-    (same, (one_front_line from line line r s h (rw (sym same) at k)).1)
+    (same, (one_first_line from line line r s h (rw (sym same) at k)).1)
 one_lead line [] (l ∷ ks) text from other r s p po h q qo k =
-    absurd (qo.0 (one_front_line text l line q.0 r q.1 (rw (sym p) at h)).0)
+    absurd (qo.0 (one_first_line text l line q.0 r q.1 (rw (sym p) at h)).0)
 one_lead line (l ∷ ls) [] text from other r s p po h q qo k =
-    absurd (po.0 (one_front_line text l line p.0 s p.1 (rw (sym q) at k)).0)
+    absurd (po.0 (one_first_line text l line p.0 s p.1 (rw (sym q) at k)).0)
 one_lead line (l ∷ ls) (m ∷ ks) text from other r s p po h q qo k =
-    let same = one_front_line text l m p.0 q.0 p.1 q.1 in
+    let same = one_first_line text l m p.0 q.0 p.1 q.1 in
     one_lead line ls ks p.0 from other r s p.2 po.1 h (rw (sym same.1) at q.2) qo.1 k
 
 pub one_parting : {line text front rest other left : List ℕ} → IsPartedAt line text front rest → IsPartedAt line text other left → (front ≡ other) × (rest ≡ left)
@@ -74,12 +74,12 @@ one_parting {line} {text} {front} {rest} {other} {left} p q =
     let same = one_lead line p.lines q.lines text p.from_line q.from_line rest left p.lead p.others p.here q.lead q.others q.here in
     (append_cancel_right front other p.from_line (sym p.joined ∙ (q.joined ∙ ap (λ x. other ++ x) (sym same.0))), same.1)
 
-lacks_lead : (line : List ℕ) (ls ks : List (List ℕ)) (text from r : List ℕ) → AreFrontLines text ls from → AreOthers line ls → IsFrontLine from line r → AreFrontLines text ks [] → AreOthers line ks → ⊥
+lacks_lead : (line : List ℕ) (ls ks : List (List ℕ)) (text from r : List ℕ) → AreFirstLines text ls from → AreOthers line ls → IsFirstLine from line r → AreFirstLines text ks [] → AreOthers line ks → ⊥
 lacks_lead line [] [] text from r p po h q qo = no_line_at_end from line r (sym p ∙ q) h
-lacks_lead line [] (l ∷ ks) text from r p po h q qo = qo.0 (one_front_line text l line q.0 r q.1 (rw (sym p) at h)).0
+lacks_lead line [] (l ∷ ks) text from r p po h q qo = qo.0 (one_first_line text l line q.0 r q.1 (rw (sym p) at h)).0
 lacks_lead line (l ∷ ls) [] text from r p po h q qo = no_line_at_end text l p.0 q p.1
 lacks_lead line (l ∷ ls) (m ∷ ks) text from r p po h q qo =
-    let same = one_front_line text l m p.0 q.0 p.1 q.1 in
+    let same = one_first_line text l m p.0 q.0 p.1 q.1 in
     lacks_lead line ls ks p.0 from r p.2 po.1 h (rw (sym same.1) at q.2) qo.1
 
 -- or it lacks the line

@@ -2,24 +2,24 @@
 use Rattle.std.proofs.Common.{ℕ, ◌≡◌, ◌<◌, ◌≤◌, List, [], ◌∷◌, ◌++◌, length, map, All, Some, None, refl, sym, subst, arith, rules}
 use Rattle.std.proofs.lemmas.List.{map-append}
 use Rattle.std.proofs.lemmas.List.Elements.{All-append}
-use Rattle.texts.specs.Pieces.{Piece, IsFront}
+use Rattle.texts.specs.Pieces.{Piece, IsFirstPiece}
 use Rattle.texts.specs.code.Splitting.{Cuts}
 use Rattle.texts.proofs.Cut.{CutSoFar, cut_token, cut_blank, cut_done}
 use Rattle.texts.specs.declared.token.Token.{Token}
 use Rattle.texts.specs.declared.placed.PlacedToken.{PlacedToken}
-use Rattle.texts.specs.code.Places.{AreFrontPieces, ArePlaced}
+use Rattle.texts.specs.code.Places.{AreFirstPieces, ArePlaced}
 
 -- so far the text is cut into pieces, with these placed tokens, and `left` is left
 pub record PlacedSoFar (text : List ℕ) (placed : List PlacedToken) (left : List ℕ) : Type 0 where
   pub cut : CutSoFar text (map (λ m. m.token) placed) left
   pub pieces : List Piece
-  pub front : AreFrontPieces text pieces left
+  pub front : AreFirstPieces text pieces left
   pub shorter : length left ≤ length text
   pub within : All (λ m. m.at < length text) placed
 
 -- one more piece
-pub more_pieces : (text : List ℕ) (pieces : List Piece) (left : List ℕ) (piece : Piece) (rest : List ℕ) → AreFrontPieces text pieces left → IsFront piece left rest → AreFrontPieces text (pieces ++ piece ∷ []) rest
-more_pieces text [] left piece rest e h = (rest, (let P : List ℕ → Type 0 = λ t. IsFront piece t rest in subst P (sym e) h), refl)
+pub more_pieces : (text : List ℕ) (pieces : List Piece) (left : List ℕ) (piece : Piece) (rest : List ℕ) → AreFirstPieces text pieces left → IsFirstPiece piece left rest → AreFirstPieces text (pieces ++ piece ∷ []) rest
+more_pieces text [] left piece rest e h = (rest, (let P : List ℕ → Type 0 = λ t. IsFirstPiece piece t rest in subst P (sym e) h), refl)
 more_pieces text (p ∷ ps) left piece rest h front = (h.0, h.1, more_pieces h.0 ps left piece rest h.2 front)
 
 module _ {text : List ℕ} {placed : List PlacedToken} {left : List ℕ} (h : PlacedSoFar text placed left) where

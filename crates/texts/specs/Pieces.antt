@@ -40,19 +40,19 @@ abbrev pub IsQuoted : List ℕ → List ℕ → List ℕ → Type 0
 IsQuoted bytes inner rest = IsRun run.Text bytes inner (34 ∷ rest)
 
 -- the piece is at the front of the bytes, and `rest` follows it
-abbrev pub IsFront : Piece → List ℕ → List ℕ → Type 0
-IsFront (blank b) bytes rest = (is_blank b ≡ true) × (bytes ≡ b ∷ rest)
-IsFront (comment line) bytes rest = (tail : List ℕ) × (bytes ≡ 47 ∷ 47 ∷ tail) × IsRun run.Line tail line rest
-IsFront (name letters) bytes rest = StartsWithLetter letters × IsFree letters × IsRun run.Name bytes letters rest
-IsFront (reserved word) bytes rest = IsRun run.Name bytes (word_spelling word) rest
-IsFront (number digits) bytes rest = IsNotEmpty digits × IsRun run.Number bytes digits rest
-IsFront (text inner) bytes rest = (tail : List ℕ) × (bytes ≡ 34 ∷ tail) × IsQuoted tail inner rest
-IsFront (symbol s) bytes rest = IsSymbolAt s bytes rest
+abbrev pub IsFirstPiece : Piece → List ℕ → List ℕ → Type 0
+IsFirstPiece (blank b) bytes rest = (is_blank b ≡ true) × (bytes ≡ b ∷ rest)
+IsFirstPiece (comment line) bytes rest = (tail : List ℕ) × (bytes ≡ 47 ∷ 47 ∷ tail) × IsRun run.Line tail line rest
+IsFirstPiece (name letters) bytes rest = StartsWithLetter letters × IsFree letters × IsRun run.Name bytes letters rest
+IsFirstPiece (reserved word) bytes rest = IsRun run.Name bytes (word_spelling word) rest
+IsFirstPiece (number digits) bytes rest = IsNotEmpty digits × IsRun run.Number bytes digits rest
+IsFirstPiece (text inner) bytes rest = (tail : List ℕ) × (bytes ≡ 34 ∷ tail) × IsQuoted tail inner rest
+IsFirstPiece (symbol s) bytes rest = IsSymbolAt s bytes rest
 
 -- the bytes are these pieces, one after another
 abbrev pub IsCut : List Piece → List ℕ → Type 0
 IsCut [] bytes = bytes ≡ []
-IsCut (piece ∷ pieces) bytes = (rest : List ℕ) × IsFront piece bytes rest × IsCut pieces rest
+IsCut (piece ∷ pieces) bytes = (rest : List ℕ) × IsFirstPiece piece bytes rest × IsCut pieces rest
 
 abbrev pub token_of : Piece → Option Token
 token_of (blank b) = None

@@ -5,7 +5,7 @@ use Rattle.basic_types.specs.Signatures as scanned
 use Rattle.basic_types.specs.Tokens as scanner
 use Rattle.basic_types.specs.declared.mark.Mark.TheVariants as mark
 use Rattle.basic_types.specs.declared.word.Word.TheVariants as reserved_word
-use Rattle.texts.{specs.Bytes.{IsRun}, specs.Pieces.{AreTokens, Piece, IsFront, StartsWithLetter, token_of, before}, specs.Symbols.{spelling}, specs.declared.symbol.Symbol.{Symbol}, specs.declared.token.Token.{Token}, proofs.Table.{NoneBegins, doubles, is_longest_single}}
+use Rattle.texts.{specs.Bytes.{IsRun}, specs.Pieces.{AreTokens, Piece, IsFirstPiece, StartsWithLetter, token_of, before}, specs.Symbols.{spelling}, specs.declared.symbol.Symbol.{Symbol}, specs.declared.token.Token.{Token}, proofs.Table.{NoneBegins, doubles, is_longest_single}}
 use Rattle.token_reading.{specs.code.Cursor.{NotAt}, specs.Lists.{spell_others, spell_listed}, specs.Signatures.{TypeReading, spelled_type, spell_ending, spell_named, spell_type, sig, spell_sig}, specs.SignatureTexts.{IsNormalFormOf, NormalFormsAreInTokens}, proofs.SignatureTexts.{scan_of, IsSigToken, blank_next, word_next, as_scanned, scan_list, sig_ending, sig_named}}
 use Rattle.texts.specs.Pieces as piece
 use Rattle.texts.specs.declared.bytes.Run.TheVariants as run
@@ -129,7 +129,7 @@ starts_with_letter : (letters : List ℕ) → IsFreeName letters → StartsWithL
 starts_with_letter [] free = absurd free.name
 starts_with_letter (b ∷ bs) free = free.name.0
 
-prepended : (p : Piece) (bytes rest : List ℕ) (tokens : List Token) → IsFront p bytes rest → AreTokens rest tokens → AreTokens bytes (before (token_of p) tokens)
+prepended : (p : Piece) (bytes rest : List ℕ) (tokens : List Token) → IsFirstPiece p bytes rest → AreTokens rest tokens → AreTokens bytes (before (token_of p) tokens)
 prepended p bytes rest tokens front cut = record { pieces = p ∷ cut.pieces; cut = (rest, front, cut.cut); tokens_are = ap (before (token_of p)) cut.tokens_are }
 
 -- texts of at most so many bytes are cut as they are scanned

@@ -5,7 +5,7 @@ use Rattle.basic_types.specs.Signatures as scanned
 use Rattle.basic_types.specs.Tokens as scanner
 use Rattle.basic_types.specs.declared.mark.Mark.TheVariants as mark
 use Rattle.basic_types.specs.declared.word.Word.TheVariants as reserved_word
-use Rattle.texts.{specs.Bytes.{IsRun}, specs.Pieces.{AreTokens, Piece, IsNotEmpty, IsCut, tokens_of}, specs.Symbols.{spelling}, specs.declared.symbol.Symbol.{Symbol}, specs.declared.token.Token.{Token}, proofs.Fronts.{named}}
+use Rattle.texts.{specs.Bytes.{IsRun}, specs.Pieces.{AreTokens, Piece, IsNotEmpty, IsCut, tokens_of}, specs.Symbols.{spelling}, specs.declared.symbol.Symbol.{Symbol}, specs.declared.token.Token.{Token}, proofs.FirstPieces.{named}}
 use Rattle.token_reading.specs.{Lists.{spell_others, spell_listed}, Signatures.{TypeReading, spelled_type, spell_ending, spell_named, spell_type, sig, spell_sig}, SignatureTexts.{IsSigByte, IsNormalFormOf, TokensGiveNormalForms}}
 use Rattle.texts.specs.Pieces as piece
 use Rattle.texts.specs.declared.bytes.Run.TheVariants as run

@@ -8,10 +8,10 @@ use Rattle.script_lang.specs.declared.event.Event.{Event}
 use Rattle.trace_entries.specs.{declared.fault.Answer.{Answer}, declared.fault.Fault.{Fault}, declared.fault.Fault.TheVariants.{Steps}}
 use Rattle.machine_state.specs.{State.{State, Activation, IsIdle}, Worlds.{at, untouched}}
 use Rattle.machine_rules.specs.{Natives.{NativeAnswers, AnswersOnce}, code.Keeps.{Grows}}
-use Rattle.object_machine.{specs.Causes.{Brings, StopsFor, spent, short as of_memory, brings, lacks_value, writes_ill, binds_ill, goes_ill, goes_fatal, binds_loop, writes_deep, goes_deep}, specs.Runs.{Run, done, goes, takes, RunsWhole, RunsFront, IsDue, goes_on as is_under_way, is_next}, proofs.OneRun.{no-rule, one_run, one_front, one_front_of_answers}, proofs.CheckedRuns.Kept.{start-invariant}, specs.Seen.{Seen, RunsAll, Halts, begun}}
+use Rattle.object_machine.{specs.Causes.{Brings, StopsFor, spent, short as of_memory, brings, lacks_value, writes_ill, binds_ill, goes_ill, goes_fatal, binds_loop, writes_deep, goes_deep}, specs.Runs.{Run, done, goes, takes, RunsWhole, RunsPrefix, IsDue, goes_on as is_under_way, is_next}, proofs.OneRun.{no-rule, one_run, one_prefix, one_prefix_of_answers}, proofs.CheckedRuns.Kept.{start-invariant}, specs.Seen.{Seen, RunsAll, Halts, begun}}
 use Rattle.class_lang.specs.declared.size.Limits.{Limits}
 use Rattle.program_commands.{specs.Loading.{LoadsCertified}, specs.Steps.{First, fails, goes_on}, proofs.Once.{OneOf, both_fail, one_fails, same_found, IsShortResult, never_short, loaded_sound}, proofs.Stepping.{went}}
-use Rattle.trace_tool.{specs.declared.any_machine.outcome.Outcome.{Outcome}, specs.declared.any_machine.outcome.Ran.{Ran}, specs.Outcomes.{IsShort}, specs.Commands.{Accepting, MayRun, Runs, RunsFaultless, ran, short, ran_faultless, short_of_memory}, specs.Laws.{AreOneRun, IsSameOutcome, OneRunOutcome, OneUncheckedOutcome, StoppedIsFront}, proofs.Accepted.{accepting_once, may_run_once, short_refused}}
+use Rattle.trace_tool.{specs.declared.any_machine.outcome.Outcome.{Outcome}, specs.declared.any_machine.outcome.Ran.{Ran}, specs.Outcomes.{IsShort}, specs.Commands.{Accepting, MayRun, Runs, RunsFaultless, ran, short, ran_faultless, short_of_memory}, specs.Laws.{AreOneRun, IsSameOutcome, OneRunOutcome, OneUncheckedOutcome, StoppedIsPrefix}, proofs.Accepted.{accepting_once, may_run_once, short_refused}}
 
 -- ---- where a run ends for good
 
@@ -62,7 +62,7 @@ module _ {N : Type 0} (gives : N → NativeAnswers) (p : Loaded) (natives : N) (
   record Took (after : Seen N) : Type 0 where
     pub stack : List Activation
     pub left : ℕ
-    pub front : RunsFront p (gives natives) depth (at (untouched steps) []) steps events (at after.world stack) left
+    pub front : RunsPrefix p (gives natives) depth (at (untouched steps) []) steps events (at after.world stack) left
 
   took : (ended : Result (Unit {0}) Fault) (after : Seen N) → RunsAll gives (begun p natives depth steps) events ended after → Took after
   took (Ok _) after all = record {
@@ -87,10 +87,10 @@ module _ {N : Type 0} (gives : N → NativeAnswers) (p : Loaded) (natives : N) (
     same_trace (Err f) s a b x y is also = absurd (cc is)
     same_trace (Ok _) (Err f) a b x y is also = absurd (cc also)
 
-    one_front_of : {a b : Seen N} → Took a → Took b → Grows a.world.trace b.world.trace ⊎ Grows b.world.trace a.world.trace
-    one_front_of {a} {b} x y =
+    one_prefix_of : {a b : Seen N} → Took a → Took b → Grows a.world.trace b.world.trace ⊎ Grows b.world.trace a.world.trace
+    one_prefix_of {a} {b} x y =
         let agree = (start-invariant p steps).sound.agree in
-        elim (one_front (gives natives) once p depth (at (untouched steps) []) steps events (at a.world x.stack) (at b.world y.stack) x.left y.left is_sound agree x.front y.front) [
+        elim (one_prefix (gives natives) once p depth (at (untouched steps) []) steps events (at a.world x.stack) (at b.world y.stack) x.left y.left is_sound agree x.front y.front) [
           | inl leads ↦ inl leads.grows
           | inr leads ↦ inr leads.grows
         ]
@@ -103,9 +103,9 @@ module _ {N : Type 0} (gives : N → NativeAnswers) (p : Loaded) (natives : N) (
         let way = halts in
         let last : State = at b.world way.stack in
         let cause = stops-spent e way.cause in
-        let all : RunsFront p (gives natives) depth (at (untouched steps) []) steps events (at a.world []) a.world.left =
+        let all : RunsPrefix p (gives natives) depth (at (untouched steps) []) steps events (at a.world []) a.world.left =
         record { taken = events; rest = []; split = sym (append-nil events); answers = answers; runs = whole.runs } in
-        elim (one_front (gives natives) once p depth (at (untouched steps) []) steps events (at a.world []) last a.world.left b.world.left is_sound agree all way.front) [
+        elim (one_prefix (gives natives) once p depth (at (untouched steps) []) steps events (at a.world []) last a.world.left b.world.left is_sound agree all way.front) [
           | inl leads ↦
               let split : events ≡ (events ++ leads.more) ++ way.front.rest = way.front.split ∙ ap (λ (l : List Event). l ++ way.front.rest) leads.taken in
               let none = nothing-more events leads.more way.front.rest split in
@@ -128,7 +128,7 @@ module _ {N : Type 0} (gives : N → NativeAnswers) (p : Loaded) (natives : N) (
     pub one_of_runs : (x y : Ran (Seen N)) → RunsAll gives (begun p natives depth steps) events x.ended x.machine → RunsAll gives (begun p natives depth steps) events y.ended y.machine → AreOneRun x y
     one_of_runs x y a b = record {
       whole = same_trace x.ended y.ended x.machine y.machine a b;
-      front = one_front_of (took x.ended x.machine a) (took y.ended y.machine b);
+      front = one_prefix_of (took x.ended x.machine a) (took y.ended y.machine b);
       enough = enough x.ended y.ended x.machine y.machine a b;
       enough_too = enough y.ended x.ended y.machine x.machine b a;
     }
@@ -213,12 +213,12 @@ one_unchecked_outcome gives limits heads natives program script depth steps a b 
 still : {p : Loaded} {natives : NativeAnswers} {u t : State} {k j : ℕ} {es : List Event} {xs : List Answer} → es ≡ [] → IsIdle u → Run p natives u k es xs t j → Grows t.trace u.trace
 still {t = t} none idle run = record { more = []; is = ap (λ (s : State). s.trace) (stays-there none idle run) ∙ sym (append-nil t.trace) }
 
-pub stopped_is_front : {N : Type 0} (gives : N → NativeAnswers) → StoppedIsFront gives
-stopped_is_front gives said p natives depth steps events fault after answers u k is_sound stopped whole alike also =
+pub stopped_is_prefix : {N : Type 0} (gives : N → NativeAnswers) → StoppedIsPrefix gives
+stopped_is_prefix gives said p natives depth steps events fault after answers u k is_sound stopped whole alike also =
     let agree = (start-invariant p steps).sound.agree in
-    let all : RunsFront p (gives natives) depth (at (untouched steps) []) steps events u k =
+    let all : RunsPrefix p (gives natives) depth (at (untouched steps) []) steps events u k =
     record { taken = events; rest = []; split = sym (append-nil events); answers = answers; runs = whole.runs } in
-    elim (one_front_of_answers (gives natives) said p depth (at (untouched steps) []) steps events (at after.world stopped.stack) u after.world.left k is_sound agree stopped.front all alike also) [
+    elim (one_prefix_of_answers (gives natives) said p depth (at (untouched steps) []) steps events (at after.world stopped.stack) u after.world.left k is_sound agree stopped.front all alike also) [
       | inl leads ↦ leads.grows
       | inr leads ↦
           let split : events ≡ (events ++ leads.more) ++ stopped.front.rest = stopped.front.split ∙ ap (λ (l : List Event). l ++ stopped.front.rest) leads.taken in

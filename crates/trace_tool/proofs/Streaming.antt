@@ -11,7 +11,7 @@ use Rattle.object_machine.specs.Checked.{StopsAtLimit}
 use Rattle.object_machine.specs.Seen.{Seen, Completes, Halts, Stays, cleared, with_front}
 use Rattle.object_machine.proofs.Applying.{completes-none, completes-then, run-stops}
 use Rattle.object_machine.proofs.Applying.{limit-behind}
-use Rattle.object_machine.proofs.SeenFronts.{completes-front, stop-front}
+use Rattle.object_machine.proofs.SeenPrefixes.{completes-front, stop-front}
 use Rattle.command_lines.specs.Lines.{entry_line, trace_text}
 use Rattle.command_lines.specs.Sent.{Puts}
 use Rattle.command_lines.specs.declared.output.Output.{Output}

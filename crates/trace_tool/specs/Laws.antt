@@ -55,10 +55,10 @@ OneCommandOutcome {N} gives =
     AnswersOnce (gives natives) → CommandComesTo gives heads natives words input a →
     CommandComesTo gives heads natives words input b → IsShort a ⊎ IsShort b ⊎ IsSameOutcome a b
 
--- Whatever natives may answer: a run that stopped, as memory ran out or for another fault, wrote a front of what each
+-- Whatever natives may answer: a run that stopped, as memory ran out or for another fault, wrote a prefix of what each
 -- whole run of the same events writes in which they answered alike.
-abbrev pub StoppedIsFront : {N : Type 0} → (N → NativeAnswers) → Type 0
-StoppedIsFront {N} gives =
+abbrev pub StoppedIsPrefix : {N : Type 0} → (N → NativeAnswers) → Type 0
+StoppedIsPrefix {N} gives =
     (said : ℕ → List Action) (p : Loaded) (natives : N) (depth steps : ℕ) (events : List Event) (fault : Fault) (after : Seen N)
     (answers : List Answer) (u : State) (k : ℕ) → IsSound p → (stopped : Halts gives (begun p natives depth steps) events fault after) →
     (whole : RunsWhole p (gives natives) depth (at (untouched steps) []) steps events answers u k) →

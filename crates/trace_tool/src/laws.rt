@@ -1,6 +1,6 @@
 //! Laws on what runs come to.
 
-ghost use Rattle.trace_tool.specs.Laws.{UndoneIsALine, OneRunOutcome, OneUncheckedOutcome, OneCommandOutcome, StoppedIsFront};
+ghost use Rattle.trace_tool.specs.Laws.{UndoneIsALine, OneRunOutcome, OneUncheckedOutcome, OneCommandOutcome, StoppedIsPrefix};
 
 use native_slots::Answering;
 
@@ -11,7 +11,7 @@ pub fn undone_is_a_line<N: Answering>(_natives: &N)
 {}
 
 /// Where natives have one answer to one question, what both forms of `run` come to is determined by their arguments,
-/// unless memory runs out: one refusal, or runs of which the one wrote a front of what the other did, and the same
+/// unless memory runs out: one refusal, or runs of which the one wrote a prefix of what the other did, and the same
 /// where both took all events; where one did, the other wasn't stopped by the limit of rules. A run with a certificate
 /// stops for nothing else but memory: so where one is whole each other one is, or had no memory.
 pub fn one_run_outcome<N: Answering>(_natives: &N)
@@ -25,8 +25,8 @@ pub fn one_command_outcome<N: Answering>(_natives: &N)
     ensures { OneCommandOutcome N.gives }
 {}
 
-/// Whatever natives may answer, a run that a fault stopped wrote a front of what each whole run of the same events writes in
+/// Whatever natives may answer, a run that a fault stopped wrote a prefix of what each whole run of the same events writes in
 /// which they answered alike: so does a run that ran out of memory, whose trace `fault 65` follows.
-pub fn stopped_is_front<N: Answering>(_natives: &N)
-    ensures { StoppedIsFront N.gives }
+pub fn stopped_is_prefix<N: Answering>(_natives: &N)
+    ensures { StoppedIsPrefix N.gives }
 {}

@@ -12,7 +12,7 @@ pub use any_machine::{
     limits_of, prepare_for, prepare_run, prepare_unchecked_run, sent,
 };
 pub use commands::{command, respond};
-pub use laws::{one_command_outcome, one_run_outcome, stopped_is_front, undone_is_a_line};
+pub use laws::{one_command_outcome, one_run_outcome, stopped_is_prefix, undone_is_a_line};
 pub use program_commands::{certify, check, meta};
 pub use qt_runtime::{Entry, Fault, Machine, ScriptFault};
 pub use runs::{run, run_outcome, run_unchecked, unchecked_run_outcome};

@@ -2,8 +2,8 @@
 use Rattle.std.proofs.Common.{◌≡◌, ◌∙◌, sym, ap, refl, subst, ℕ, Bool, List, [], ◌∷◌, ◌++◌, ◌↔◌, inl, inr, Option, Some, None, Result, Ok, Err, Bor, option_map, append_assoc}
 use Rattle.std.specs.Prelude.{IfOk}
 use Rattle.std.proofs.lemmas.List.{append-nil}
-use Rattle.texts.specs.Lines.{IsFrontLine, AreFrontLines}
-use Rattle.texts.proofs.FrontLines.{one_more_line}
+use Rattle.texts.specs.Lines.{IsFirstLine, AreFirstLines}
+use Rattle.texts.proofs.FirstLines.{one_more_line}
 use Rattle.traces.specs.Shown.{ShowsLine}
 use Rattle.traces.specs.Events.{IsEventsLine}
 use Rattle.traces.specs.Statements.{AreStatements, statement_of}
@@ -39,7 +39,7 @@ laid_out_line colours statements text before shown more whole found s f m n =
 -- the lines up to what is left, laid out
 pub record LaidOutSoFar (colours : Bool) (statements : List (List ℕ)) (trace left output : List ℕ) : Type 0 where
   pub lines : List (List ℕ)
-  pub lead : AreFrontLines trace lines left
+  pub lead : AreFirstLines trace lines left
   pub laid_out : AreLaidOutAs colours statements lines output
 
 pub nothing_yet : (colours : Bool) (statements : List (List ℕ)) (trace output : List ℕ) → output ≡ [] → LaidOutSoFar colours statements trace trace output
@@ -50,7 +50,7 @@ behind_them colours statements [] line output more e m = (more, [], m, refl, ap 
 behind_them colours statements (l ∷ lines) line output more w m =
     (w.0, w.1 ++ more, w.2, behind_them colours statements lines line w.1 more w.3 m, ap (λ o. o ++ more) w.4 ∙ append_assoc w.0 w.1 more)
 
-pub one_more : (colours : Bool) (statements : List (List ℕ)) (trace left line rest before after : List ℕ) → LaidOutSoFar colours statements trace left before → IsFrontLine left line rest → LaysOutLine colours statements line before after → LaidOutSoFar colours statements trace rest after
+pub one_more : (colours : Bool) (statements : List (List ℕ)) (trace left line rest before after : List ℕ) → LaidOutSoFar colours statements trace left before → IsFirstLine left line rest → LaysOutLine colours statements line before after → LaidOutSoFar colours statements trace rest after
 one_more colours statements trace left line rest before after s f l = record {
   lines = s.lines ++ line ∷ [];
   lead = one_more_line trace s.lines left line rest s.lead f;
@@ -60,7 +60,7 @@ one_more colours statements trace left line rest before after s f l = record {
 pub all_lines : (colours : Bool) (statements : List (List ℕ)) (trace left output : List ℕ) → left ≡ [] → LaidOutSoFar colours statements trace left output → IsLaidOutBeside colours statements trace output
 all_lines colours statements trace left output e s = record {
   lines = s.lines;
-  cut = subst (AreFrontLines trace s.lines) e s.lead;
+  cut = subst (AreFirstLines trace s.lines) e s.lead;
   laid_out = s.laid_out;
 }
 

@@ -6,9 +6,9 @@ use Rattle.std.specs.List.{AllByRecursion}
 use Rattle.std.specs.Io.KnownBytes.{Appends, Keeps, IsAtEnd}
 use Rattle.std.specs.Io.BufRead.{take_through, drop_through, DropsThrough}
 use Rattle.std.proofs.KnownBytes.{Appends-nil, Appends-trans}
-use Rattle.texts.specs.Lines.{IsFrontLine}
-use Rattle.texts.proofs.FrontLines.{one_front_line, no_line_at_end}
-use Rattle.traces.specs.Shown.{ShownLine, ShowsFront, ShowsUpTo, ShowsRead, ShowsTrace, ShowsLine, AddsColoured, AddsRemark, indent_of}
+use Rattle.texts.specs.Lines.{IsFirstLine}
+use Rattle.texts.proofs.FirstLines.{one_first_line, no_line_at_end}
+use Rattle.traces.specs.Shown.{ShownLine, ShowsPrefix, ShowsUpTo, ShowsRead, ShowsTrace, ShowsLine, AddsColoured, AddsRemark, indent_of}
 use Rattle.traces.specs.Lines.{TellsLine}
 use Rattle.traces.specs.declared.reading.line.TraceLine.{TraceLine}
 
@@ -41,7 +41,7 @@ read_through (x ∷ xs) = read_on x xs (x == 10) refl (read_through xs)
 -- ---- one more line
 
 -- no line stands where nothing is left
-no_front : (colours : Bool) (line : ShownLine) (input output input_rest output_rest : List ℕ) → input ≡ [] → ShowsFront colours line input output input_rest output_rest → ⊥
+no_front : (colours : Bool) (line : ShownLine) (input output input_rest output_rest : List ℕ) → input ≡ [] → ShowsPrefix colours line input output input_rest output_rest → ⊥
 no_front colours line input output input_rest output_rest e f = go line.text f.ends
   where
     go : (text : List ℕ) → ((input ≡ text ++ 10 ∷ input_rest) × (output ≡ line.shown ++ 10 ∷ output_rest)) ⊎ ((text ≢ []) × (input ≡ text) × (output ≡ line.shown) × (input_rest ≡ []) × (output_rest ≡ [])) → ⊥
@@ -53,15 +53,15 @@ end_stays : (colours : Bool) (lines : List ShownLine) (input rest output : List 
 end_stays colours [] input rest output e w = sym w.0 ∙ e
 end_stays colours (l ∷ lines) input rest output e w = absurd (no_front colours l input output w.0 w.1 e w.2)
 
-one_more : (colours : Bool) (lines : List ShownLine) (line : ShownLine) (input rest output more after : List ℕ) → ShowsUpTo colours lines input rest output → ShowsFront colours line rest more after [] → ShowsUpTo colours (lines ++ line ∷ []) input after (output ++ more)
+one_more : (colours : Bool) (lines : List ShownLine) (line : ShownLine) (input rest output more after : List ℕ) → ShowsUpTo colours lines input rest output → ShowsPrefix colours line rest more after [] → ShowsUpTo colours (lines ++ line ∷ []) input after (output ++ more)
 one_more colours [] line input rest output more after w f =
     let e : output ++ more ≡ more = ap (λ o. o ++ more) w.1 in
-    let g : ShowsFront colours line input more after [] = subst (λ i. ShowsFront colours line i more after []) (sym w.0) f in
-    (after, [], subst (λ o. ShowsFront colours line input o after []) (sym e) g, (refl, refl))
+    let g : ShowsPrefix colours line input more after [] = subst (λ i. ShowsPrefix colours line i more after []) (sym w.0) f in
+    (after, [], subst (λ o. ShowsPrefix colours line input o after []) (sym e) g, (refl, refl))
 one_more colours (l ∷ lines) line input rest output more after w f =
     (w.0, w.1 ++ more, further w.2.ends, one_more colours lines line w.0 rest w.1 more after w.3 f)
   where
-    further : ((input ≡ l.text ++ 10 ∷ w.0) × (output ≡ l.shown ++ 10 ∷ w.1)) ⊎ ((l.text ≢ []) × (input ≡ l.text) × (output ≡ l.shown) × (w.0 ≡ []) × (w.1 ≡ [])) → ShowsFront colours l input (output ++ more) w.0 (w.1 ++ more)
+    further : ((input ≡ l.text ++ 10 ∷ w.0) × (output ≡ l.shown ++ 10 ∷ w.1)) ⊎ ((l.text ≢ []) × (input ≡ l.text) × (output ≡ l.shown) × (w.0 ≡ []) × (w.1 ≡ [])) → ShowsPrefix colours l input (output ++ more) w.0 (w.1 ++ more)
     further (inl e) = record { unbroken = w.2.unbroken; is_shown = w.2.is_shown; ends = inl (e.0, ap (λ o. o ++ more) e.1 ∙ append_assoc l.shown (10 ∷ w.1) more) }
     further (inr e) = absurd (no_front colours line rest more after [] (end_stays colours lines w.0 rest w.1 e.3 w.3) f)
 
@@ -71,19 +71,19 @@ self_longer : (a r : List ℕ) → a ≡ a ++ 10 ∷ r → ⊥
 self_longer a r e = absurd (omega (arith, simp length-append at (ap length e)))
 
 -- what is read up to a newline, as a line at the front of the text
-shown_front : (colours : Bool) (xs read rest shown : List ℕ) → read ≢ [] → IsReadUpTo xs read rest → (s : ShowsRead colours read [] shown) → ShowsFront colours s.line xs shown rest []
+shown_front : (colours : Bool) (xs read rest shown : List ℕ) → read ≢ [] → IsReadUpTo xs read rest → (s : ShowsRead colours read [] shown) → ShowsPrefix colours s.line xs shown rest []
 shown_front colours xs read rest shown some r s = go r.ends s.ends
   where
-    go : ((read ≡ r.line ++ 10 ∷ []) × (xs ≡ r.line ++ 10 ∷ rest)) ⊎ ((read ≡ r.line) × (xs ≡ r.line) × (rest ≡ [])) → ((read ≡ s.line.text ++ 10 ∷ s.rest) × (shown ≡ [] ++ (s.line.shown ++ 10 ∷ []))) ⊎ ((read ≡ s.line.text) × (shown ≡ [] ++ s.line.shown)) → ShowsFront colours s.line xs shown rest []
+    go : ((read ≡ r.line ++ 10 ∷ []) × (xs ≡ r.line ++ 10 ∷ rest)) ⊎ ((read ≡ r.line) × (xs ≡ r.line) × (rest ≡ [])) → ((read ≡ s.line.text ++ 10 ∷ s.rest) × (shown ≡ [] ++ (s.line.shown ++ 10 ∷ []))) ⊎ ((read ≡ s.line.text) × (shown ≡ [] ++ s.line.shown)) → ShowsPrefix colours s.line xs shown rest []
     go (inl p) (inl q) =
-        let same = one_front_line read r.line s.line.text [] s.rest (record { unbroken = r.unbroken; ends = inl p.0 }) s.front in
+        let same = one_first_line read r.line s.line.text [] s.rest (record { unbroken = r.unbroken; ends = inl p.0 }) s.front in
         record { unbroken = s.front.unbroken; is_shown = s.is_shown; ends = inl (p.1 ∙ ap (λ l. l ++ 10 ∷ rest) same.0, q.1) }
     go (inl p) (inr q) =
-        let same = one_front_line read r.line s.line.text [] s.rest (record { unbroken = r.unbroken; ends = inl p.0 }) s.front in
+        let same = one_first_line read r.line s.line.text [] s.rest (record { unbroken = r.unbroken; ends = inl p.0 }) s.front in
         absurd (self_longer r.line [] (same.0 ∙ sym q.0 ∙ p.0))
     go (inr p) (inl q) =
         let filled : r.line ≢ [] = λ e. some (p.0 ∙ e) in
-        let same = one_front_line read r.line s.line.text [] s.rest (record { unbroken = r.unbroken; ends = inr (p.0, filled, refl) }) s.front in
+        let same = one_first_line read r.line s.line.text [] s.rest (record { unbroken = r.unbroken; ends = inr (p.0, filled, refl) }) s.front in
         absurd (self_longer s.line.text s.rest (sym same.0 ∙ sym p.0 ∙ q.0))
     go (inr p) (inr q) = record {
       unbroken = s.front.unbroken;
@@ -160,14 +160,14 @@ pub as_it_is : {X E : Type 0} (colours : Bool) (text before after : List ℕ) (a
 as_it_is colours text before after (Ok done) t e = (text, inl ((λ told is. let k : None ≡ Some told = (t told).0 is in cc), refl), e)
 as_it_is colours text before after (Err why) t e = tt
 
-pub read_ended : (colours : Bool) (read text rest before shown after : List ℕ) → IsFrontLine read text rest → length text < length read → ShowsLine colours text before shown → after ≡ shown ++ 10 ∷ [] → ShowsRead colours read before after
+pub read_ended : (colours : Bool) (read text rest before shown after : List ℕ) → IsFirstLine read text rest → length text < length read → ShowsLine colours text before shown → after ≡ shown ++ 10 ∷ [] → ShowsRead colours read before after
 read_ended colours read text rest before shown after f shorter s e = go f.ends
   where
     go : (read ≡ text ++ 10 ∷ rest) ⊎ ((read ≡ text) × (text ≢ []) × (rest ≡ [])) → ShowsRead colours read before after
     go (inl p) = record { line = record { text = text; shown = s.0 }; rest = rest; is_shown = s.1; front = f; ends = inl (p, e ∙ ap (λ x. x ++ 10 ∷ []) s.2 ∙ append_assoc before s.0 (10 ∷ [])) }
     go (inr p) = absurd (omega (arith, ap length p.0))
 
-pub read_whole : (colours : Bool) (read text rest before after : List ℕ) → IsFrontLine read text rest → length read ≤ length text → ShowsLine colours text before after → ShowsRead colours read before after
+pub read_whole : (colours : Bool) (read text rest before after : List ℕ) → IsFirstLine read text rest → length read ≤ length text → ShowsLine colours text before after → ShowsRead colours read before after
 read_whole colours read text rest before after f as_long s = go f.ends
   where
     go : (read ≡ text ++ 10 ∷ rest) ⊎ ((read ≡ text) × (text ≢ []) × (rest ≡ [])) → ShowsRead colours read before after

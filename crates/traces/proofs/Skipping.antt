@@ -5,8 +5,8 @@ use Rattle.std.proofs.lemmas.Option.{slice_get-map, slice_get_past, slice_get_re
 use Rattle.std.specs.Prelude.{option_map, option_copied, slice_get}
 use Rattle.std.specs.Slice.{IsItemAt}
 use Rattle.std.specs.Str.{IsTrimAscii}
-use Rattle.texts.specs.Lines.{IsFrontLine, AreFrontLines}
-use Rattle.texts.proofs.FrontLines.{one_more_line}
+use Rattle.texts.specs.Lines.{IsFirstLine, AreFirstLines}
+use Rattle.texts.proofs.FirstLines.{one_more_line}
 use Rattle.diagnostics.specs.Blank.{IsBlank}
 use Rattle.traces.specs.Statements.{IsStatement, HaveStatements, AreStatements, statement_of}
 
@@ -16,7 +16,7 @@ texts_of lines = map (λ line. line.now) lines
 -- the lines up to what is left have these statements
 pub record StatementsSoFar (script left : List ℕ) (found : List (Bor (List ℕ))) : Type 0 where
   pub lines : List (List ℕ)
-  pub lead : AreFrontLines script lines left
+  pub lead : AreFirstLines script lines left
   pub have : HaveStatements lines (texts_of found)
 
 skipped_behind : (lines : List (List ℕ)) (line : List ℕ) (statements : List (List ℕ)) → HaveStatements lines statements → IsBlank line → HaveStatements (lines ++ line ∷ []) statements
@@ -32,14 +32,14 @@ statement_behind (l ∷ lines) line statements statement (inr w) h = inr (w.0, w
 pub none_yet : (script : List ℕ) → StatementsSoFar script script []
 none_yet script = record { lines = []; lead = refl; have = refl }
 
-pub skipped : (script left line rest : List ℕ) (found : List (Bor (List ℕ))) → StatementsSoFar script left found → IsFrontLine left line rest → IsBlank line → StatementsSoFar script rest found
+pub skipped : (script left line rest : List ℕ) (found : List (Bor (List ℕ))) → StatementsSoFar script left found → IsFirstLine left line rest → IsBlank line → StatementsSoFar script rest found
 skipped script left line rest found s f h = record {
   lines = s.lines ++ line ∷ [];
   lead = one_more_line script s.lines left line rest s.lead f;
   have = skipped_behind s.lines line (texts_of found) s.have h;
 }
 
-pub added : (script left line rest : List ℕ) (found more : List (Bor (List ℕ))) (statement : Bor (List ℕ)) → StatementsSoFar script left found → IsFrontLine left line rest → (¬ IsBlank line) → IsTrimAscii line statement.now → more ≡ found ++ statement ∷ [] → StatementsSoFar script rest more
+pub added : (script left line rest : List ℕ) (found more : List (Bor (List ℕ))) (statement : Bor (List ℕ)) → StatementsSoFar script left found → IsFirstLine left line rest → (¬ IsBlank line) → IsTrimAscii line statement.now → more ≡ found ++ statement ∷ [] → StatementsSoFar script rest more
 added script left line rest found more statement s f h t e = record {
   lines = s.lines ++ line ∷ [];
   lead = one_more_line script s.lines left line rest s.lead f;
@@ -47,7 +47,7 @@ added script left line rest found more statement s f h t e = record {
 }
 
 pub all_lines : (script left : List ℕ) (found : List (Bor (List ℕ))) → left ≡ [] → StatementsSoFar script left found → AreStatements script (texts_of found)
-all_lines script left found e s = record { lines = s.lines; cut = subst (AreFrontLines script s.lines) e s.lead; have = s.have }
+all_lines script left found e s = record { lines = s.lines; cut = subst (AreFirstLines script s.lines) e s.lead; have = s.have }
 
 -- ---- the line of an event
 

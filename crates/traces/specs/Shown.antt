@@ -3,7 +3,7 @@ use Rattle.std.specs.Prelude.{ℕ, ◌≡◌, ◌≢◌, ◌*◌, ◌==◌, ◌&
 use Rattle.std.specs.List.{AllByRecursion}
 use Rattle.std.specs.Io.KnownBytes.{Appends}
 use Rattle.texts.specs.Limits.{most_depth}
-use Rattle.texts.specs.Lines.{IsFrontLine}
+use Rattle.texts.specs.Lines.{IsFirstLine}
 use Rattle.traces.specs.Lines.{IsLine}
 use Rattle.traces.specs.declared.reading.line.TraceLine.{TraceLine}
 use Rattle.traces.specs.declared.reading.line.TraceLine.TheVariants as line
@@ -69,7 +69,7 @@ pub record ShownLine : Type 0 where
 
 -- The line is at the front of the text, and what it is shown as at the front of the output; where a newline ends the
 -- one, a newline ends the other.
-pub record ShowsFront (colours : Bool) (line : ShownLine) (input output input_rest output_rest : List ℕ) : Type 0 where
+pub record ShowsPrefix (colours : Bool) (line : ShownLine) (input output input_rest output_rest : List ℕ) : Type 0 where
   pub unbroken : AllByRecursion (λ b. b ≢ 10) line.text
   pub is_shown : IsShownAs colours line.text line.shown
   pub ends :
@@ -80,7 +80,7 @@ pub record ShowsFront (colours : Bool) (line : ShownLine) (input output input_re
 abbrev pub ShowsUpTo : Bool → List ShownLine → List ℕ → List ℕ → List ℕ → Type 0
 ShowsUpTo colours [] input rest output = (input ≡ rest) × (output ≡ [])
 ShowsUpTo colours (line ∷ lines) input rest output =
-    (input_rest output_rest : List ℕ) × ShowsFront colours line input output input_rest output_rest
+    (input_rest output_rest : List ℕ) × ShowsPrefix colours line input output input_rest output_rest
     × ShowsUpTo colours lines input_rest rest output_rest
 
 -- the output is the text, line for line, each as it is shown
@@ -97,7 +97,7 @@ pub record ShowsRead (colours : Bool) (read before after : List ℕ) : Type 0 wh
   pub line : ShownLine
   pub rest : List ℕ
   pub is_shown : IsShownAs colours line.text line.shown
-  pub front : IsFrontLine read line.text rest
+  pub front : IsFirstLine read line.text rest
   pub ends :
       ((read ≡ line.text ++ 10 ∷ rest) × (after ≡ before ++ (line.shown ++ 10 ∷ [])))
       ⊎ ((read ≡ line.text) × (after ≡ before ++ line.shown))

@@ -1,23 +1,23 @@
 -- Tokens with the places at which they begin (docs/language.md, "Tokens").
 use Rattle.std.specs.Prelude.{ℕ, ◌≡◌, ◌≢◌, ◌+◌, ◌<◌, List, [], ◌∷◌, length, map, All}
-use Rattle.texts.specs.Pieces.{Piece, IsFront, AreTokens}
-use Rattle.texts.specs.code.Splitting.{HasNoFront}
+use Rattle.texts.specs.Pieces.{Piece, IsFirstPiece, AreTokens}
+use Rattle.texts.specs.code.Splitting.{HasNoFirstPiece}
 use Rattle.texts.specs.declared.placed.PlacedToken.{PlacedToken}
 use Rattle.texts.specs.declared.placed.PlaceFault.{PlaceFault}
 use Rattle.texts.specs.declared.placed.PlaceFault.TheVariants.{BadByte, Memory}
 
 -- the pieces are at the front of the text, one after another, and `rest` follows them
-abbrev pub AreFrontPieces : List ℕ → List Piece → List ℕ → Type 0
-AreFrontPieces text [] rest = text ≡ rest
-AreFrontPieces text (piece ∷ pieces) rest = (after : List ℕ) × IsFront piece text after × AreFrontPieces after pieces rest
+abbrev pub AreFirstPieces : List ℕ → List Piece → List ℕ → Type 0
+AreFirstPieces text [] rest = text ≡ rest
+AreFirstPieces text (piece ∷ pieces) rest = (after : List ℕ) × IsFirstPiece piece text after × AreFirstPieces after pieces rest
 
 -- the text is cut up to this byte, where no piece begins
 pub record IsStuckAt (text : List ℕ) (at : ℕ) : Type 0 where
   pub pieces : List Piece
   pub rest : List ℕ
-  pub cut : AreFrontPieces text pieces rest
+  pub cut : AreFirstPieces text pieces rest
   pub left : rest ≢ []
-  pub stuck : HasNoFront rest
+  pub stuck : HasNoFirstPiece rest
   pub at_is : at + length rest ≡ length text
 
 -- the tokens of the text, each with a byte of it

@@ -1,8 +1,8 @@
 -- What each step of cutting a text splits off at its front, and the fault where nothing stands there.
 use Rattle.std.specs.Borrow.{Bor}
 use Rattle.std.specs.Prelude.{ℕ, ◌≡◌, List, [], Option, Some, None, Result, Ok, Err, ◌⊎◌}
-use Rattle.texts.specs.Lines.{IsFrontLine, IsPartedAt, LacksLine}
-use Rattle.texts.specs.Pieces.{IsComment, IsQuoted, Piece, IsFront, token_of}
+use Rattle.texts.specs.Lines.{IsFirstLine, IsPartedAt, LacksLine}
+use Rattle.texts.specs.Pieces.{IsComment, IsQuoted, Piece, IsFirstPiece, token_of}
 use Rattle.texts.specs.Symbols.{spelling, Begins, IsSymbolAt}
 use Rattle.texts.specs.declared.lexer.LexFault.{LexFault}
 use Rattle.texts.specs.declared.lexer.LexFault.TheVariants.{BadByte}
@@ -15,7 +15,7 @@ use Rattle.basic_types.specs.Words.{word_spelling, IsFree}
 -- a line, or none where no text is left
 abbrev pub SplitsLine : List ℕ → Option (Bor (List ℕ) × Bor (List ℕ)) → Type 0
 SplitsLine text None = text ≡ []
-SplitsLine text (Some parts) = IsFrontLine text parts.0.now parts.1.now
+SplitsLine text (Some parts) = IsFirstLine text parts.0.now parts.1.now
 
 -- what comes before the first line that is this one, and what follows it, or none where no line is
 abbrev pub SplitsAtLine : List ℕ → List ℕ → Option (Bor (List ℕ) × Bor (List ℕ)) → Type 0
@@ -25,17 +25,17 @@ SplitsAtLine line text (Some parts) = IsPartedAt line text parts.0.now parts.1.n
 -- a piece at the front, and its token
 pub record Cuts (bytes : List ℕ) (found : Option Token) (rest : List ℕ) : Type 0 where
   pub piece : Piece
-  pub front : IsFront piece bytes rest
+  pub front : IsFirstPiece piece bytes rest
   pub token_is : token_of piece ≡ found
 
 -- no piece is at the front
-abbrev pub HasNoFront : List ℕ → Type 0
-HasNoFront bytes = (piece : Piece) → (rest : List ℕ) → IsFront piece bytes rest → ⊥
+abbrev pub HasNoFirstPiece : List ℕ → Type 0
+HasNoFirstPiece bytes = (piece : Piece) → (rest : List ℕ) → IsFirstPiece piece bytes rest → ⊥
 
 -- a piece, by its token; a bad byte only where there is none
 abbrev pub SplitsPiece : List ℕ → Result (Option Token × Bor (List ℕ)) LexFault → Type 0
 SplitsPiece bytes (Ok parts) = Cuts bytes parts.0 parts.1.now
-SplitsPiece bytes (Err fault) = fault ≡ BadByte → HasNoFront bytes
+SplitsPiece bytes (Err fault) = fault ≡ BadByte → HasNoFirstPiece bytes
 
 -- the token is the reserved word with these letters, or the name where there is none
 abbrev pub IsWordOrName : Token → List ℕ → Type 0

@@ -1,7 +1,7 @@
 use Rattle.std.proofs.Common.{◌∙◌, sym, ap}
 use Rattle.name_indexes.specs.CallPlaces.{Layers, place_by}
 use Rattle.name_indexes.proofs.Layers.{next_layer, this_layer}
-use Rattle.name_indexes.proofs.Fronts.{drop_end}
+use Rattle.name_indexes.proofs.Prefixes.{drop_end}
 use Rattle.name_indexes.proofs.call_index.find_in.Goals as goal
 
 pub loop-layer-preserved : goal.loop-layer-preserved

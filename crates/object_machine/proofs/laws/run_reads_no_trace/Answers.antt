@@ -1,4 +1,4 @@
-use Rattle.object_machine.proofs.Fronts as law
+use Rattle.object_machine.proofs.Prefixes as law
 use Rattle.object_machine.proofs.laws.run_reads_no_trace.Goals as goal
 
 pub returns : goal.returns

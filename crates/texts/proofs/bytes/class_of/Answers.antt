@@ -1,5 +1,5 @@
 use Rattle.std.proofs.Common.{sym}
-use Rattle.texts.proofs.Fronts.{letter_class, digit_class}
+use Rattle.texts.proofs.FirstPieces.{letter_class, digit_class}
 use Rattle.texts.proofs.bytes.class_of.Goals as goal
 
 pub returns-then-is_letter : goal.returns-then-is_letter

@@ -1,6 +1,6 @@
 use Rattle.std.proofs.Common.{sym}
 use Rattle.std.proofs.lemmas.Result.{err_from_is_err_and}
-use Rattle.texts.proofs.Fronts.{blank_cut, comment_cut, are_name, letters_cut, number_cut, text_cut, symbol_cut, no_comment, no_text, no_other, no_front_at_end, empty}
+use Rattle.texts.proofs.FirstPieces.{blank_cut, comment_cut, are_name, letters_cut, number_cut, text_cut, symbol_cut, no_comment, no_text, no_other, no_front_at_end, empty}
 use Rattle.texts.proofs.lexer.split_piece.Goals as goal
 
 pub returns-in_default-clause-cut : goal.returns-in_default-clause-cut

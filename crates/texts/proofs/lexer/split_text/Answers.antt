@@ -1,7 +1,7 @@
 use Rattle.std.proofs.Common.{◌∷◌, refl}
 use Rattle.texts.specs.declared.bytes.Run.TheVariants as run
 use Rattle.texts.proofs.Runs.{one_run}
-use Rattle.texts.proofs.Fronts.{empty}
+use Rattle.texts.proofs.FirstPieces.{empty}
 use Rattle.texts.proofs.lexer.split_text.Goals as goal
 use Rattle.texts.proofs.lexer.split_text.Goals.{in_default-via-in-Some+else-quote-eq34, in_default-via-in_default}
 

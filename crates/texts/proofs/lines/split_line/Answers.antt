@@ -1,6 +1,6 @@
 use Rattle.std.proofs.Common.{sym, subst, ◌∙◌}
 use Rattle.memchr.specs.Find.{is_byte, IsFirstByte}
-use Rattle.texts.proofs.FrontLines.{ended_line, last_line, some_text}
+use Rattle.texts.proofs.FirstLines.{ended_line, last_line, some_text}
 use Rattle.texts.proofs.lines.split_line.Goals as goal
 
 pub returns-in-Some-clause-line : goal.returns-in-Some-clause-line

@@ -3,7 +3,7 @@ use Rattle.trace_entries.specs.declared.entry.Entry.{Entry}
 use Rattle.object_machine.specs.Checked.{IsChecked}
 use Rattle.object_machine.specs.Seen.{Seen, cleared}
 use Rattle.qt_runtime.proofs.Checking.{cleared-checked}
-use Rattle.qt_runtime.proofs.Fronts.{invariant-with}
+use Rattle.qt_runtime.proofs.Prefixes.{invariant-with}
 use Rattle.qt_runtime.proofs.Halting.{seen}
 use Rattle.qt_runtime.proofs.machine.MachineObjectMachine.hand_over.Goals as goal
 

@@ -5,7 +5,7 @@ use Rattle.trace_entries.specs.declared.entry.Entry.{Entry}
 use Rattle.trace_entries.specs.declared.fault.Answer.{Answer}
 use Rattle.trace_entries.specs.declared.fault.Fault.{Fault}
 use Rattle.machine_rules.specs.Natives.{NativeAnswers}
-use Rattle.object_machine.proofs.Fronts.{good-front, stops-front}
+use Rattle.object_machine.proofs.Prefixes.{good-front, stops-front}
 use Rattle.object_machine.specs.Seen.{Seen, Completes, Halts, Stays, with_front}
 
 module _ {N : Type 0} {gives : N → NativeAnswers} (front : List Entry) where

@@ -1,6 +1,6 @@
 -- What is at the front of a text, by its first byte.
 use Rattle.std.{proofs.Common.{◌≡◌, ℕ, Bool, true, false, nat_eq, List, [], ◌∷◌, ◌++◌, length, inl, inr, Option, Some, None, refl, sym, ◌∙◌, ap, arith}, proofs.lemmas.Bool.Decides.{nat_tests}, proofs.lemmas.Bool.{eqb-true}, specs.List.{AllByRecursion}, proofs.lemmas.List.Elements.{All-from_recursion}}
-use Rattle.texts.specs.{declared.bytes.ByteClass.{ByteClass}, declared.bytes.ByteClass.TheVariants.{Blank, Slash, Letter, Digit, Quote, Other}, declared.symbol.Symbol.{Symbol}, code.Bytes.{class_by, class_of}, Bytes.{belongs, IsRun}, declared.token.Token.{Token}, Symbols.{spelling, IsSymbolAt, Begins}, Pieces.{Piece, blank, comment, name, reserved, number, text, symbol, IsFront, IsComment, StartsWithLetter, IsNotEmpty}, code.Splitting.{IsWordOrName, Cuts}}
+use Rattle.texts.specs.{declared.bytes.ByteClass.{ByteClass}, declared.bytes.ByteClass.TheVariants.{Blank, Slash, Letter, Digit, Quote, Other}, declared.symbol.Symbol.{Symbol}, code.Bytes.{class_by, class_of}, Bytes.{belongs, IsRun}, declared.token.Token.{Token}, Symbols.{spelling, IsSymbolAt, Begins}, Pieces.{Piece, blank, comment, name, reserved, number, text, symbol, IsFirstPiece, IsComment, StartsWithLetter, IsNotEmpty}, code.Splitting.{IsWordOrName, Cuts}}
 use Rattle.texts.specs.declared.bytes.Run.TheVariants as run
 use Rattle.texts.specs.declared.symbol.Symbol.TheVariants as s
 use Rattle.texts.specs.declared.token.Token.TheVariants as token
@@ -45,7 +45,7 @@ word_class w.Class bytes rest e = ap class_at e
 word_class _ bytes rest e = ap class_at e
 
 -- a run that isn't empty begins with the first byte
-pub class_at_front : (p : Piece) (bytes rest : List ℕ) → IsFront p bytes rest → class_at bytes ≡ Some (class_of_piece p)
+pub class_at_front : (p : Piece) (bytes rest : List ℕ) → IsFirstPiece p bytes rest → class_at bytes ≡ Some (class_of_piece p)
 class_at_front (blank b) bytes rest h = ap class_at h.1 ∙ ap Some (blank_class b h.0)
 class_at_front (comment line) bytes rest h = ap class_at h.1
 class_at_front (name []) bytes rest h = absurd h.0
@@ -139,22 +139,22 @@ module _ (bytes : List ℕ) (b : ℕ) (after : List ℕ) (at : bytes ≡ b ∷ a
   class_here : {k : ByteClass} → class_of b ≡ k → class_at bytes ≡ Some k
   class_here h = ap class_at at ∙ ap Some h
 
-  pub no_comment : class_of b ≡ Slash → ((rest : List ℕ) → IsComment after rest → ⊥) → (p : Piece) (rest : List ℕ) → IsFront p bytes rest → ⊥
+  pub no_comment : class_of b ≡ Slash → ((rest : List ℕ) → IsComment after rest → ⊥) → (p : Piece) (rest : List ℕ) → IsFirstPiece p bytes rest → ⊥
   no_comment h none (comment line) rest f = let k = f.1 in none rest (f.0, line, cc, f.2)
   no_comment h none p rest f = let k = class_here h in let m = class_at_front p bytes rest f in cc
 
-  pub no_text : class_of b ≡ Quote → ((inner rest : List ℕ) → IsRun run.Text after inner (34 ∷ rest) → ⊥) → (p : Piece) (rest : List ℕ) → IsFront p bytes rest → ⊥
+  pub no_text : class_of b ≡ Quote → ((inner rest : List ℕ) → IsRun run.Text after inner (34 ∷ rest) → ⊥) → (p : Piece) (rest : List ℕ) → IsFirstPiece p bytes rest → ⊥
   no_text h none (text inner) rest f = let k = f.1 in let e : f.0 ≡ after = cc in none inner rest (rw e at f.2)
   no_text h none p rest f = let k = class_here h in let m = class_at_front p bytes rest f in cc
 
-  pub no_other : class_of b ≡ Other → ((s : Symbol) → Begins (spelling s) bytes → ⊥) → (p : Piece) (rest : List ℕ) → IsFront p bytes rest → ⊥
+  pub no_other : class_of b ≡ Other → ((s : Symbol) → Begins (spelling s) bytes → ⊥) → (p : Piece) (rest : List ℕ) → IsFirstPiece p bytes rest → ⊥
   no_other h none (symbol s) rest f = none s (rest, f.split)
   no_other h none p rest f = let k = class_here h in let m = class_at_front p bytes rest f in cc
 
 pub symbol_cut : (bytes : List ℕ) (s : Symbol) (rest : List ℕ) → IsSymbolAt s bytes rest → Cuts bytes (Some (token.Symbol s)) rest
 symbol_cut bytes s rest h = record { piece = symbol s; front = h; token_is = refl }
 
-pub no_front_at_end : (bytes : List ℕ) → bytes ≡ [] → (p : Piece) (rest : List ℕ) → IsFront p bytes rest → ⊥
+pub no_front_at_end : (bytes : List ℕ) → bytes ≡ [] → (p : Piece) (rest : List ℕ) → IsFirstPiece p bytes rest → ⊥
 no_front_at_end bytes e p rest f = let m = class_at_front p bytes rest f in let k : class_at bytes ≡ None = ap class_at e in cc
 
 pub empty : (bytes : List ℕ) → length bytes ≡ 0 → bytes ≡ []

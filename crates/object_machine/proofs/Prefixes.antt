@@ -10,7 +10,7 @@ use Rattle.trace_entries.specs.{Refusals.{refusal_number}, declared.entry.Entry.
 use Rattle.trace_entries.specs.declared.entry.Entry.TheVariants as entry
 use Rattle.binding_graph.specs.{Places.{property_of}, declared.binding.Binding.{Binding}}
 use Rattle.machine_rules.specs.{Destroying.{deleting, Schedules}, Next.{WritesIll}, Good.{IsWell, IsGood}, Judgement.{Then, goes_on, ends, Gives, gives, Becomes, becomes}, Natives.{NativeAnswers}, Rules.{Begins}, Settling.{Writes, Installs}}
-use Rattle.object_machine.{specs.Causes.{BindsNext, Brings, StopsFor, spent, short, brings, lacks_value, writes_ill, binds_ill, goes_ill, goes_fatal, binds_loop, writes_deep, goes_deep}, specs.Events.{judged}, specs.Laws.{in_front, RunReadsNoTrace}, specs.Runs.{Run, done, goes, takes, Each, GoodRun, Follows, by_rule, by_event, IsDue, goes_on as is_under_way, is_next}, specs.Takes.{Takes, accepts, refuses}, proofs.RuleFronts.{reads-no-trace, begins-front, writes-front, installs-front, schedules-front}}
+use Rattle.object_machine.{specs.Causes.{BindsNext, Brings, StopsFor, spent, short, brings, lacks_value, writes_ill, binds_ill, goes_ill, goes_fatal, binds_loop, writes_deep, goes_deep}, specs.Events.{judged}, specs.Laws.{in_front, RunReadsNoTrace}, specs.Runs.{Run, done, goes, takes, Each, GoodRun, Follows, by_rule, by_event, IsDue, goes_on as is_under_way, is_next}, specs.Takes.{Takes, accepts, refuses}, proofs.RulePrefixes.{reads-no-trace, begins-front, writes-front, installs-front, schedules-front}}
 
 module _ (front : List Entry) where
   abbrev shifted : Result State Refusal → Result State Refusal

@@ -1,5 +1,0 @@
-use Rattle.object_machine.proofs.OneRun as law
-use Rattle.object_machine.proofs.laws.one_front.Goals as goal
-
-pub returns : goal.returns
-returns g c = law.one_front (g.N.Answering.gives c.args._natives.now)
