@@ -10,7 +10,7 @@ use Rattle.class_outlines.specs.declared.outline.Heading.{Heading}
 use Rattle.class_outlines.specs.declared.outline.Outline.{Outline}
 use Rattle.class_outlines.specs.declared.outline.Sort.TheVariants as sort
 use Rattle.meta_model.specs.QObject.{sig_of}
-use Rattle.class_outlines.specs.Outlines.{kinds_of, base_name, signal_heading, slot_headings, own_methods, qobject, Outlines}
+use Rattle.class_outlines.specs.Outlines.{types_of, base_name, signal_heading, slot_headings, own_methods, qobject, Outlines}
 use Rattle.class_outlines.specs.Clashes.{DuplicateClass, IsTaken}
 use Rattle.name_indexes.proofs.Prefixes.{get_take, inside}
 use Rattle.name_indexes.proofs.Zips.{any_of}
@@ -31,14 +31,14 @@ pub record Declared (classes : List Class) (all : List Outline) (c : ℕ) (o : O
 
 -- ---- own methods
 abbrev heading_by : ℕ → Slot → ℕ → Heading
-heading_by i slot j = record { sig = sig_of slot.name (kinds_of slot.parameters); sort = sort.Slot i j }
+heading_by i slot j = record { sig = sig_of slot.name (types_of slot.parameters); sort = sort.Slot i j }
 
 module _ (i : ℕ) where
   -- an own method with a body is a slot
   record IsSlotHeading (slots : List Slot) (from k : ℕ) (h : Heading) : Type 0 where
     pub slot : Slot
     pub is : slice_get slots k ≡ Some slot
-    pub shape : h ≡ record { sig = sig_of slot.name (kinds_of slot.parameters); sort = sort.Slot i (from + k) }
+    pub shape : h ≡ record { sig = sig_of slot.name (types_of slot.parameters); sort = sort.Slot i (from + k) }
 
   slot_at : (slots : List Slot) (from k : ℕ) (h : Heading) → slice_get (slot_headings i from slots) k ≡ Some h → IsSlotHeading slots from k h
   slot_at [] from k h e = absurd (none-some h e)
@@ -74,7 +74,7 @@ pub record HasSlot (classes : List Class) (all : List Outline) (c i j m : ℕ) (
   pub is_class : slice_get classes i ≡ Some class
   pub slot : Slot
   pub is_slot : slice_get class.slots j ≡ Some slot
-  pub signed : h.sig ≡ sig_of slot.name (kinds_of slot.parameters)
+  pub signed : h.sig ≡ sig_of slot.name (types_of slot.parameters)
   pub reaches : Reaches all c (suc i)
   pub outline : Outline
   pub is_outline : slice_get all (suc i) ≡ Some outline

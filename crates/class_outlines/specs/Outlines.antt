@@ -36,16 +36,16 @@ qobject = record {
 }
 
 -- ---- declared classes
-abbrev pub kinds_of : List Parameter → List QType
-kinds_of parameters = map (λ (p : Parameter). p.kind) parameters
+abbrev pub types_of : List Parameter → List QType
+types_of parameters = map (λ (p : Parameter). p.kind) parameters
 
 abbrev pub signal_heading : Signal → Heading
-signal_heading signal = heading (sig_of signal.name (kinds_of signal.parameters)) sort.Signal
+signal_heading signal = heading (sig_of signal.name (types_of signal.parameters)) sort.Signal
 
 -- the slots and natives of class i of the program, from place j on
 abbrev pub slot_headings : ℕ → ℕ → List Slot → List Heading
 slot_headings i j [] = []
-slot_headings i j (slot ∷ slots) = heading (sig_of slot.name (kinds_of slot.parameters)) (sort.Slot i j) ∷ slot_headings i (suc j) slots
+slot_headings i j (slot ∷ slots) = heading (sig_of slot.name (types_of slot.parameters)) (sort.Slot i j) ∷ slot_headings i (suc j) slots
 
 -- a class's own methods: its signals, then its slots and natives, each as declared
 abbrev pub own_methods : ℕ → Class → List Heading

@@ -7,7 +7,6 @@ mod bases;
 mod class_table;
 mod fault;
 mod indexed;
-mod kinds;
 mod names;
 mod offence;
 mod outline;
@@ -17,11 +16,11 @@ mod qobject;
 mod reason;
 mod site_properties;
 mod twin_members;
+mod types;
 
 pub use class_table::ClassTable;
 pub use fault::MetaFault;
 pub use indexed::{IndexedOutline, index_outlines};
-pub use kinds::{kind_of, read_kind, read_kinds};
 pub use names::{
     names_before_expression, names_before_parameter, names_before_work, names_of_parameters,
     names_of_sig,
@@ -33,3 +32,4 @@ pub use places::{Named, find};
 pub use qobject::reference_to;
 pub use reason::{BasePlace, ClassClash, End, Missing, Near, Reason, Repeated, Sought, Unfit};
 pub use site_properties::{FoundProperty, FoundSource, property_in, source_property};
+pub use types::{kind_of, read_type, read_types};

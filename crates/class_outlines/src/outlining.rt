@@ -3,7 +3,7 @@
 ghost use Rattle.std.specs.Prelude.{◌≡◌, ℕ, map, IfOk, OnOk, codes, [], ◌∷◌, ◌++◌};
 ghost use Rattle.class_outlines.specs.Bases.{LacksBase};
 ghost use Rattle.meta_model.specs.QObject.{sig_of};
-ghost use Rattle.class_outlines.specs.Outlines.{kinds_of, signal_heading, slot_headings, own_methods};
+ghost use Rattle.class_outlines.specs.Outlines.{types_of, signal_heading, slot_headings, own_methods};
 ghost use Rattle.class_outlines.specs.Outlines.{FindsBase, OutlinesClass, Outlines};
 ghost use Rattle.class_outlines.specs.Offences.{fault_of, LoadsOf};
 ghost use Rattle.class_outlines.specs.declared.fault.MetaFault.TheVariants as fault;
@@ -185,7 +185,7 @@ fn slot_headings(
 
 /// The signature of a method with these parameters.
 fn declared_sig(alloc: Global, name: &Name, parameters: &[Parameter]) -> Result<Sig, AllocError>
-    ensures { IfOk result (λ sig. sig ≡ sig_of name.now (kinds_of parameters.now)) }
+    ensures { IfOk result (λ sig. sig ≡ sig_of name.now (types_of parameters.now)) }
 {
     let name = name.copy()?;
     let mut types: Items<QType> = Items::new(alloc);

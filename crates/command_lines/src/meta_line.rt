@@ -23,21 +23,21 @@ impl<W: Write> Output<'_, W> {
     }
 
     /// Adds types, separated by commas.
-    fn kinds(&mut self, kinds: &[QType])
-        ensures { Puts W.contents self.old self.new (text_of_types kinds.now) }
+    fn types(&mut self, types: &[QType])
+        ensures { Puts W.contents self.old self.new (text_of_types types.now) }
     {
-        let Some((first, rest)) = kinds.split_first() else {
+        let Some((first, rest)) = types.split_first() else {
             return;
         };
         self.kind(first);
-        self.other_kinds(rest);
+        self.other_types(rest);
     }
 
     /// Adds types, a comma in front of each.
-    fn other_kinds(&mut self, kinds: &[QType])
-        ensures { Puts W.contents self.old self.new (text_of_others kinds.now) }
+    fn other_types(&mut self, types: &[QType])
+        ensures { Puts W.contents self.old self.new (text_of_others types.now) }
     {
-        let mut left = kinds;
+        let mut left = types;
         while let Some((kind, after)) = left.split_first() {
             self.put_byte(b',');
             self.kind(kind);
@@ -51,7 +51,7 @@ impl<W: Write> Output<'_, W> {
     {
         self.name(&sig.name);
         self.put_byte(b'(');
-        self.kinds(sig.types.as_slice());
+        self.types(sig.types.as_slice());
         self.put_byte(b')');
     }
 

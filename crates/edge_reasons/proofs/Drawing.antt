@@ -7,11 +7,11 @@ use Rattle.meta_model.specs.declared.object.Statement.TheVariants as whole
 use Rattle.effect_scan.{specs.declared.node.Node.{Node}, specs.declared.node.Member.{Member}, specs.declared.node.Member.TheVariants.{Method, Property}, specs.Nodes.{node}, specs.declared.effect.Reach.TheVariants.{Own}, specs.declared.effect.Effect.{Effect}, specs.Effects.{effect_of, Occurs, here, chosen, otherwise, grouped, BodyHas, WorkHas}, specs.Edges.{Reaches, ByWork}, proofs.Occurring.{occurs_at}, proofs.Containing.{has_any}}
 use Rattle.edge_reasons.specs.Reasons.{BodyLeads, NativeLeads}
 
-module _ (p : Loaded) (c : ℕ) (kinds : List ValueType) (y : Node) where
-  pub leads_alone : (t : Statement) (e : Effect) → effect_of kinds (out-Statement t) ≡ Some e → Reaches p c e y → BodyLeads p c kinds (t ∷ []) y
+module _ (p : Loaded) (c : ℕ) (types : List ValueType) (y : Node) where
+  pub leads_alone : (t : Statement) (e : Effect) → effect_of types (out-Statement t) ≡ Some e → Reaches p c e y → BodyLeads p c types (t ∷ []) y
   leads_alone t e is to = record { statement = t; occurs = here; effect = e; is = is; to = to }
 
-  pub leads_at : (body : List Statement) (i : ℕ) (t : Statement) → i < length body → t ≡ get_or body i t → BodyLeads p c kinds (t ∷ []) y → BodyLeads p c kinds body y
+  pub leads_at : (body : List Statement) (i : ℕ) (t : Statement) → i < length body → t ≡ get_or body i t → BodyLeads p c types (t ∷ []) y → BodyLeads p c types body y
   leads_at body i t inside is h = record {
     statement = h.statement;
     occurs = occurs_at body i t h.statement (slice_get_read body (length body) i t refl inside is) h.occurs;
@@ -25,7 +25,7 @@ module _ (p : Loaded) (c : ℕ) (kinds : List ValueType) (y : Node) where
     open_if : out-Statement t ≡ layer.If x block other
     open_if = ap out-Statement is ∙ whole.outs-If x block other
 
-    pub leads_chosen : given ≡ block → BodyLeads p c kinds given y → BodyLeads p c kinds (t ∷ []) y
+    pub leads_chosen : given ≡ block → BodyLeads p c types given y → BodyLeads p c types (t ∷ []) y
     leads_chosen e h = record {
       statement = h.statement;
       occurs = chosen open_if (subst (λ (b : List Statement). Occurs h.statement b) e h.occurs);
@@ -34,7 +34,7 @@ module _ (p : Loaded) (c : ℕ) (kinds : List ValueType) (y : Node) where
       to = h.to;
     }
 
-    pub leads_otherwise : given ≡ other → BodyLeads p c kinds given y → BodyLeads p c kinds (t ∷ []) y
+    pub leads_otherwise : given ≡ other → BodyLeads p c types given y → BodyLeads p c types (t ∷ []) y
     leads_otherwise e h = record {
       statement = h.statement;
       occurs = otherwise open_if (subst (λ (b : List Statement). Occurs h.statement b) e h.occurs);
@@ -44,7 +44,7 @@ module _ (p : Loaded) (c : ℕ) (kinds : List ValueType) (y : Node) where
     }
 
   -- a set in a group
-  pub leads_grouped : (t : Statement) (sets given : List Statement) → t ≡ whole.Group sets → given ≡ sets → BodyLeads p c kinds given y → BodyLeads p c kinds (t ∷ []) y
+  pub leads_grouped : (t : Statement) (sets given : List Statement) → t ≡ whole.Group sets → given ≡ sets → BodyLeads p c types given y → BodyLeads p c types (t ∷ []) y
   leads_grouped t sets given is e h = record {
     statement = h.statement;
     occurs = grouped (ap out-Statement is ∙ whole.outs-Group sets) (subst (λ (b : List Statement). Occurs h.statement b) e h.occurs);
@@ -54,20 +54,20 @@ module _ (p : Loaded) (c : ℕ) (kinds : List ValueType) (y : Node) where
   }
 
 module _ (p : Loaded) (x y : Node) (m : ℕ) (method : MetaMethod) (is : IsMethod p x.class m method) (from : x.member ≡ Method m) where
-  drawn : (e : Effect) → WorkHas method.kinds method.work e → Reaches p x.class e y → ByWork p x y
+  drawn : (e : Effect) → WorkHas method.types method.work e → Reaches p x.class e y → ByWork p x y
   drawn e has to = record { number = m; method = method; is = is; from = from; effect = e; has = has; to = to }
 
-  pub by_body : (body given : List Statement) (kinds : List ValueType) → method.work ≡ Slot body → given ≡ body → kinds ≡ method.kinds → BodyLeads p x.class kinds given y → ByWork p x y
-  by_body body given kinds slots at typed h =
-      let has : BodyHas kinds given h.effect = record { statement = h.statement; occurs = h.occurs; is = h.is } in
+  pub by_body : (body given : List Statement) (types : List ValueType) → method.work ≡ Slot body → given ≡ body → types ≡ method.types → BodyLeads p x.class types given y → ByWork p x y
+  by_body body given types slots at typed h =
+      let has : BodyHas types given h.effect = record { statement = h.statement; occurs = h.occurs; is = h.is } in
       drawn h.effect
-      (subst (λ (w : Work). WorkHas method.kinds w h.effect) (sym slots)
-      (subst (λ (ks : List ValueType). BodyHas ks body h.effect) typed (subst (λ (b : List Statement). BodyHas kinds b h.effect) at has))) h.to
+      (subst (λ (w : Work). WorkHas method.types w h.effect) (sym slots)
+      (subst (λ (ks : List ValueType). BodyHas ks body h.effect) typed (subst (λ (b : List Statement). BodyHas types b h.effect) at has))) h.to
 
   pub by_native : (effects : MetaEffects) → method.work ≡ Native effects → NativeLeads x.class effects y → ByWork p x y
   by_native effects natives h =
       let e : Effect = record { reach = Own; member = h.member } in
-      drawn e (subst (λ (w : Work). WorkHas method.kinds w e) (sym natives) h.has) h.to
+      drawn e (subst (λ (w : Work). WorkHas method.types w e) (sym natives) h.has) h.to
 
 -- ---- natives
 -- the member of an object of class c

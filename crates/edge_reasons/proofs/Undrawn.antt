@@ -56,48 +56,48 @@ reached_member p c member reach.Own y h = sym (ap (λ (x : Node). x.member) h)
 reached_member p c member (reach.Below k) y h = sym h.is
 
 -- ---- statements
-module _ (p : Loaded) (c : ℕ) (kinds : List ValueType) (y : Node) where
-  pub does_so : (t : Statement) (e : Effect) → Some e ≡ effect_of kinds (out-Statement t) → Reaches p c e y → DoesTo p c kinds t y
+module _ (p : Loaded) (c : ℕ) (types : List ValueType) (y : Node) where
+  pub does_so : (t : Statement) (e : Effect) → Some e ≡ effect_of types (out-Statement t) → Reaches p c e y → DoesTo p c types t y
   does_so t e is to = record { effect = e; is = sym is; to = to }
 
-  pub does_it : (t : Statement) (e : Effect) → Some e ≡ effect_of kinds (out-Statement t) → DoesTo p c kinds t y → Reaches p c e y
+  pub does_it : (t : Statement) (e : Effect) → Some e ≡ effect_of types (out-Statement t) → DoesTo p c types t y → Reaches p c e y
   does_it t e is d = subst (λ (x : Effect). Reaches p c x y) (same_Some _ _ (sym d.is ∙ sym is)) d.to
 
-  pub does_leads : (t : Statement) → DoesTo p c kinds t y → BodyLeads p c kinds (t ∷ []) y
-  does_leads t d = leads_alone p c kinds y t d.effect d.is d.to
+  pub does_leads : (t : Statement) → DoesTo p c types t y → BodyLeads p c types (t ∷ []) y
+  does_leads t d = leads_alone p c types y t d.effect d.is d.to
 
-  has_of : (body : List Statement) (h : BodyLeads p c kinds body y) → BodyHas kinds body h.effect
+  has_of : (body : List Statement) (h : BodyLeads p c types body y) → BodyHas types body h.effect
   has_of body h = record { statement = h.statement; occurs = h.occurs; is = h.is }
 
-  of_has : (body : List Statement) (e : Effect) → BodyHas kinds body e → Reaches p c e y → BodyLeads p c kinds body y
+  of_has : (body : List Statement) (e : Effect) → BodyHas types body e → Reaches p c e y → BodyLeads p c types body y
   of_has body e b to = record { statement = b.statement; occurs = b.occurs; effect = e; is = b.is; to = to }
 
-  pub plain_does : (t : Statement) → IsPlain t → BodyLeads p c kinds (t ∷ []) y → DoesTo p c kinds t y
+  pub plain_does : (t : Statement) → IsPlain t → BodyLeads p c types (t ∷ []) y → DoesTo p c types t y
   plain_does t bare h = record {
     effect = h.effect;
-    is = plain_only kinds (out-Statement t) h.effect (no_blocks t bare) (alone kinds t h.effect (has_of (t ∷ []) h));
+    is = plain_only types (out-Statement t) h.effect (no_blocks t bare) (alone types t h.effect (has_of (t ∷ []) h));
     to = h.to;
   }
 
-  pub if_leads : (t : Statement) (x : Expr MetaPath) (block other left right : List Statement) → t ≡ whole.If x block other → left ≡ block → right ≡ other → BodyLeads p c kinds (t ∷ []) y → BodyLeads p c kinds left y ⊎ BodyLeads p c kinds right y
+  pub if_leads : (t : Statement) (x : Expr MetaPath) (block other left right : List Statement) → t ≡ whole.If x block other → left ≡ block → right ≡ other → BodyLeads p c types (t ∷ []) y → BodyLeads p c types left y ⊎ BodyLeads p c types right y
   if_leads t x block other left right is l r h =
-      let has : BodyHas kinds block h.effect ⊎ BodyHas kinds other h.effect =
-      subst (λ (z : layer.Statement-F Statement). StatementHas kinds z h.effect) (ap out-Statement is ∙ whole.outs-If x block other) (alone kinds t h.effect (has_of (t ∷ []) h)) in
+      let has : BodyHas types block h.effect ⊎ BodyHas types other h.effect =
+      subst (λ (z : layer.Statement-F Statement). StatementHas types z h.effect) (ap out-Statement is ∙ whole.outs-If x block other) (alone types t h.effect (has_of (t ∷ []) h)) in
       elim has [
-        | inl one ↦ inl (subst (λ (b : List Statement). BodyLeads p c kinds b y) (sym l) (of_has block h.effect one h.to))
-        | inr two ↦ inr (subst (λ (b : List Statement). BodyLeads p c kinds b y) (sym r) (of_has other h.effect two h.to))
+        | inl one ↦ inl (subst (λ (b : List Statement). BodyLeads p c types b y) (sym l) (of_has block h.effect one h.to))
+        | inr two ↦ inr (subst (λ (b : List Statement). BodyLeads p c types b y) (sym r) (of_has other h.effect two h.to))
       ]
 
-  pub group_leads : (t : Statement) (sets given : List Statement) → t ≡ whole.Group sets → given ≡ sets → BodyLeads p c kinds (t ∷ []) y → BodyLeads p c kinds given y
+  pub group_leads : (t : Statement) (sets given : List Statement) → t ≡ whole.Group sets → given ≡ sets → BodyLeads p c types (t ∷ []) y → BodyLeads p c types given y
   group_leads t sets given is e h =
-      let has : BodyHas kinds sets h.effect =
-      subst (λ (z : layer.Statement-F Statement). StatementHas kinds z h.effect) (ap out-Statement is ∙ whole.outs-Group sets) (alone kinds t h.effect (has_of (t ∷ []) h)) in
-      subst (λ (b : List Statement). BodyLeads p c kinds b y) (sym e) (of_has sets h.effect has h.to)
+      let has : BodyHas types sets h.effect =
+      subst (λ (z : layer.Statement-F Statement). StatementHas types z h.effect) (ap out-Statement is ∙ whole.outs-Group sets) (alone types t h.effect (has_of (t ∷ []) h)) in
+      subst (λ (b : List Statement). BodyLeads p c types b y) (sym e) (of_has sets h.effect has h.to)
 
-  pub no_leads : ¬ BodyLeads p c kinds [] y
-  no_leads h = body_none kinds h.effect (has_of [] h)
+  pub no_leads : ¬ BodyLeads p c types [] y
+  no_leads h = body_none types h.effect (has_of [] h)
 
-  pub leads_no_more : (body : List Statement) (i : ℕ) (t : Statement) → i < length body → t ≡ get_or body i t → ¬ BodyLeads p c kinds (take i body) y → ¬ BodyLeads p c kinds (t ∷ []) y → ¬ BodyLeads p c kinds (take (i + 1) body) y
+  pub leads_no_more : (body : List Statement) (i : ℕ) (t : Statement) → i < length body → t ≡ get_or body i t → ¬ BodyLeads p c types (take i body) y → ¬ BodyLeads p c types (t ∷ []) y → ¬ BodyLeads p c types (take (i + 1) body) y
   leads_no_more body i t inside is before now h =
       let more : take (i + 1) body ≡ take i body ++ t ∷ [] = take_more body i t inside ∙ ap (λ (z : Statement). take i body ++ z ∷ []) (sym is) in
       elim (occurs_either h.statement (take i body) (t ∷ []) (subst (λ (l : List Statement). Occurs h.statement l) more h.occurs)) [
@@ -105,8 +105,8 @@ module _ (p : Loaded) (c : ℕ) (kinds : List ValueType) (y : Node) where
         | inr r ↦ now (record { statement = h.statement; occurs = r; effect = h.effect; is = h.is; to = h.to })
       ]
 
-  pub leads_never : (body : List Statement) (i : ℕ) → length body ≤ i → ¬ BodyLeads p c kinds (take i body) y → ¬ BodyLeads p c kinds body y
-  leads_never body i past none h = none (subst (λ (l : List Statement). BodyLeads p c kinds l y) (sym (take_all i body past)) h)
+  pub leads_never : (body : List Statement) (i : ℕ) → length body ≤ i → ¬ BodyLeads p c types (take i body) y → ¬ BodyLeads p c types body y
+  leads_never body i past none h = none (subst (λ (l : List Statement). BodyLeads p c types l y) (sym (take_all i body past)) h)
 
 -- ---- natives
 module _ (c : ℕ) (effects : MetaEffects) (y : Node) where
@@ -155,21 +155,21 @@ module _ (p : Loaded) (x y : Node) (m : ℕ) (from : x.member ≡ Method m) wher
   no_method none w = none w.method (is_method w)
 
   module _ (method : MetaMethod) (is : IsMethod p x.class m method) where
-    work_has : (w : ByWork p x y) → WorkHas method.kinds method.work w.effect
-    work_has w = subst (λ (f : MetaMethod). WorkHas f.kinds f.work w.effect) (one_method p x.class m w.method method (is_method w) is) w.has
+    work_has : (w : ByWork p x y) → WorkHas method.types method.work w.effect
+    work_has w = subst (λ (f : MetaMethod). WorkHas f.types f.work w.effect) (one_method p x.class m w.method method (is_method w) is) w.has
 
     pub no_signal : method.work ≡ Signal → ¬ ByWork p x y
-    no_signal signals w = subst (λ (k : Work). WorkHas method.kinds k w.effect) signals (work_has w)
+    no_signal signals w = subst (λ (k : Work). WorkHas method.types k w.effect) signals (work_has w)
 
-    pub no_body : (body given : List Statement) (kinds : List ValueType) → method.work ≡ Slot body → given ≡ body → kinds ≡ method.kinds → ¬ BodyLeads p x.class kinds given y → ¬ ByWork p x y
-    no_body body given kinds slots at typed none w =
-        let has : BodyHas method.kinds body w.effect = subst (λ (k : Work). WorkHas method.kinds k w.effect) slots (work_has w) in
-        let told : BodyHas kinds given w.effect = subst (λ (ks : List ValueType). BodyHas ks given w.effect) (sym typed) (subst (λ (b : List Statement). BodyHas method.kinds b w.effect) (sym at) has) in
+    pub no_body : (body given : List Statement) (types : List ValueType) → method.work ≡ Slot body → given ≡ body → types ≡ method.types → ¬ BodyLeads p x.class types given y → ¬ ByWork p x y
+    no_body body given types slots at typed none w =
+        let has : BodyHas method.types body w.effect = subst (λ (k : Work). WorkHas method.types k w.effect) slots (work_has w) in
+        let told : BodyHas types given w.effect = subst (λ (ks : List ValueType). BodyHas ks given w.effect) (sym typed) (subst (λ (b : List Statement). BodyHas method.types b w.effect) (sym at) has) in
         none (record { statement = told.statement; occurs = told.occurs; effect = w.effect; is = told.is; to = w.to })
 
     pub no_native : (effects : MetaEffects) → method.work ≡ Native effects → ¬ NativeLeads x.class effects y → ¬ ByWork p x y
     no_native effects natives none w =
-        let has : NativeHas effects w.effect = subst (λ (k : Work). WorkHas method.kinds k w.effect) natives (work_has w) in
+        let has : NativeHas effects w.effect = subst (λ (k : Work). WorkHas method.types k w.effect) natives (work_has w) in
         elim has [
           | inl emits ↦ none (record {
             member = Method emits.number;

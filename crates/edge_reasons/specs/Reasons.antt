@@ -9,17 +9,17 @@ use Rattle.edge_reasons.specs.{declared.reasons.Reason.{Reason}, Order.{in_order
 use Rattle.edge_reasons.specs.declared.reasons.Reason.TheVariants as reason
 
 -- a statement of the body of a slot of class c does something to the node at once
-pub record BodyLeads (p : Loaded) (c : ℕ) (kinds : List ValueType) (body : List Statement) (y : Node) : Type 0 where
+pub record BodyLeads (p : Loaded) (c : ℕ) (types : List ValueType) (body : List Statement) (y : Node) : Type 0 where
   pub statement : Statement
   pub occurs : Occurs statement body
   pub effect : Effect
-  pub is : effect_of kinds (out-Statement statement) ≡ Some effect
+  pub is : effect_of types (out-Statement statement) ≡ Some effect
   pub to : Reaches p c effect y
 
 -- the statement does something to the node at once, by itself
-pub record DoesTo (p : Loaded) (c : ℕ) (kinds : List ValueType) (t : Statement) (y : Node) : Type 0 where
+pub record DoesTo (p : Loaded) (c : ℕ) (types : List ValueType) (t : Statement) (y : Node) : Type 0 where
   pub effect : Effect
-  pub is : effect_of kinds (out-Statement t) ≡ Some effect
+  pub is : effect_of types (out-Statement t) ≡ Some effect
   pub to : Reaches p c effect y
 
 -- the node is a native
@@ -69,7 +69,7 @@ pub record StatementDraws (p : Loaded) (x y : Node) (number : ℕ) : Type 0 wher
   pub body : List Statement
   pub slot : method.work ≡ Slot body
   pub place : ℕ
-  pub first : StandsFirst (λ t. DoesTo p x.class method.kinds t y) (in_order body) place
+  pub first : StandsFirst (λ t. DoesTo p x.class method.types t y) (in_order body) place
   pub counted : number ≡ capped place
 
 -- The destruction announces a destruction: where it leads to that at all, one of the classes that are destroyed with this one

@@ -73,7 +73,7 @@ pub fn reason_for(meta: &Meta, from: Node, to: Node) -> Option<Reason>
 struct ReasonSearch<'m> {
     meta: &'m Meta,
     class: usize,
-    kinds: &'m [ValueType],
+    types: &'m [ValueType],
     to: Node,
 }
 
@@ -95,9 +95,9 @@ impl<'m> ReasonSearch<'m> {
     /// Whether the statement does something to the node by itself.
     fn is_done_by(&self, statement: &Statement) -> bool
         ensures { IsTrue result ↔
-            DoesTo self.now.meta.now self.now.class self.now.kinds.now statement.now self.now.to }
+            DoesTo self.now.meta.now self.now.class self.now.types.now statement.now self.now.to }
     {
-        match effect_of(self.kinds, statement) {
+        match effect_of(self.types, statement) {
             Some(effect) => self.reaches(effect),
             None => false,
         }
@@ -107,7 +107,7 @@ impl<'m> ReasonSearch<'m> {
     /// what comes behind them all. The first of them has the number `start`.
     #[cycle(bodies)]
     fn first_among(&self, body: &[Statement], start: usize) -> ControlFlow<usize, usize>
-        ensures { Seeks self.now.meta.now self.now.class self.now.kinds.now body.now self.now.to start result }
+        ensures { Seeks self.now.meta.now self.now.class self.now.types.now body.now self.now.to start result }
     {
         let mut next = start;
         for statement in body {
@@ -119,7 +119,7 @@ impl<'m> ReasonSearch<'m> {
     /// The same of one statement, which has the number `start`, and of those that are in it.
     #[cycle(bodies)]
     fn first_in(&self, statement: &Statement, start: usize) -> ControlFlow<usize, usize>
-        ensures { Seeks self.now.meta.now self.now.class self.now.kinds.now (statement.now ∷ []) self.now.to start result }
+        ensures { Seeks self.now.meta.now self.now.class self.now.types.now (statement.now ∷ []) self.now.to start result }
     {
         if self.is_done_by(statement) {
             return ControlFlow::Break(start);
@@ -151,7 +151,7 @@ fn work_reason(meta: &Meta, from: Node, method: usize, to: Node) -> Option<Reaso
             let search = ReasonSearch {
                 meta,
                 class: from.class,
-                kinds: found.kinds.as_slice(),
+                types: found.types.as_slice(),
                 to,
             };
             match search.first_among(body.as_slice(), 0) {

@@ -169,7 +169,7 @@ row_absent [] a e = refl
 row_absent (r ∷ rs) zero e = absurd (none-some r (sym e))
 row_absent (r ∷ rs) (suc a) e = row_absent rs a e
 
--- ---- what joins the numbers of two kinds of nodes
+-- ---- what joins the numbers of two types of nodes
 module _ (P Q : ℕ → Type 0) (R : ℕ → ℕ → Type 0) (both : (a b : ℕ) → R a b ↔ (P a × Q b)) where
   pub join_leads : (from to sources targets : List ℕ) (before after : List (List ℕ)) → ((n : ℕ) → Contains from n ↔ P n) → ((n : ℕ) → Contains to n ↔ Q n) → sources ≡ from → targets ≡ to
       → Adds (Joins sources targets) before after → Adds R before after

@@ -38,9 +38,9 @@ module _ (places : NodePlaces) where
   )
 
   -- what some of the effects reach, where they are those of the work
-  pub work_reaches : (c : ℕ) (method : MetaMethod) (kinds : List ValueType) (effects found : List Effect) → kinds ≡ method.kinds → effects ≡ found → ((e : Effect) → Contains found e ↔ WorkHas kinds method.work e) → (b : ℕ)
+  pub work_reaches : (c : ℕ) (method : MetaMethod) (types : List ValueType) (effects found : List Effect) → types ≡ method.types → effects ≡ found → ((e : Effect) → Contains found e ↔ WorkHas types method.work e) → (b : ℕ)
       → WorkReaches places c method b ↔ OfSome (IsReached places c) effects b
-  work_reaches c method kinds effects found k e has b = (
+  work_reaches c method types effects found k e has b = (
     λ h.
         let among = (has h.effect).1 (subst (λ (ks : List ValueType). WorkHas ks method.work h.effect) (sym k) h.has) in
         (h.effect, subst (λ (l : List Effect). Contains l h.effect) (sym e) among, h.to),

@@ -88,9 +88,9 @@ no_blocks t bare = (
   λ sets at. bare.1 sets (rolled t (whole.Group sets) (layer.Group sets) at (whole.outs-Group sets)),
 )
 
-module _ (kinds : List ValueType) where
+module _ (types : List ValueType) where
   -- the effects of one statement, by its parts
-  plain : (z : layer.Statement-F Statement) (e : Effect) → effect_of kinds z ≡ Some e → StatementHas kinds z e
+  plain : (z : layer.Statement-F Statement) (e : Effect) → effect_of types z ≡ Some e → StatementHas types z e
   plain (layer.Set path q x) e is = is
   plain (layer.Emit m xs) e is = is
   plain (layer.Call path m xs) e is = is
@@ -101,7 +101,7 @@ module _ (kinds : List ValueType) where
   plain (layer.Later path) e is = is
   plain (layer.Group sets) e is = absurd (none-some e is)
 
-  pub plain_only : (z : layer.Statement-F Statement) (e : Effect) → HasNoBlocks z → StatementHas kinds z e → effect_of kinds z ≡ Some e
+  pub plain_only : (z : layer.Statement-F Statement) (e : Effect) → HasNoBlocks z → StatementHas types z e → effect_of types z ≡ Some e
   plain_only (layer.Set path q x) e bare has = has
   plain_only (layer.Emit m xs) e bare has = has
   plain_only (layer.Call path m xs) e bare has = has
@@ -112,43 +112,43 @@ module _ (kinds : List ValueType) where
   plain_only (layer.Later path) e bare has = has
   plain_only (layer.Group sets) e bare has = absurd (bare.1 sets refl)
 
-  in_blocks : (z : layer.Statement-F Statement) (x : Expr MetaPath) (block other : List Statement) (e : Effect) → z ≡ layer.If x block other → BodyHas kinds block e ⊎ BodyHas kinds other e → StatementHas kinds z e
-  in_blocks z x block other e is has = subst (λ (w : layer.Statement-F Statement). StatementHas kinds w e) (sym is) has
+  in_blocks : (z : layer.Statement-F Statement) (x : Expr MetaPath) (block other : List Statement) (e : Effect) → z ≡ layer.If x block other → BodyHas types block e ⊎ BodyHas types other e → StatementHas types z e
+  in_blocks z x block other e is has = subst (λ (w : layer.Statement-F Statement). StatementHas types w e) (sym is) has
 
-  in_group : (z : layer.Statement-F Statement) (sets : List Statement) (e : Effect) → z ≡ layer.Group sets → BodyHas kinds sets e → StatementHas kinds z e
-  in_group z sets e is has = subst (λ (w : layer.Statement-F Statement). StatementHas kinds w e) (sym is) has
+  in_group : (z : layer.Statement-F Statement) (sets : List Statement) (e : Effect) → z ≡ layer.Group sets → BodyHas types sets e → StatementHas types z e
+  in_group z sets e is has = subst (λ (w : layer.Statement-F Statement). StatementHas types w e) (sym is) has
 
   -- a body of one statement
-  pub alone : (t : Statement) (e : Effect) → BodyHas kinds (t ∷ []) e → StatementHas kinds (out-Statement t) e
+  pub alone : (t : Statement) (e : Effect) → BodyHas types (t ∷ []) e → StatementHas types (out-Statement t) e
   alone t e has = given has.statement has.occurs has.is
     where
-      given : (s : Statement) → Occurs s (t ∷ []) → effect_of kinds (out-Statement s) ≡ Some e → StatementHas kinds (out-Statement t) e
+      given : (s : Statement) → Occurs s (t ∷ []) → effect_of types (out-Statement s) ≡ Some e → StatementHas types (out-Statement t) e
       given s here is = plain (out-Statement t) e is
       given s (after o) is = elim o [ ]
       given s (chosen {e = x} {block = block} {other = other} at o) is = in_blocks (out-Statement t) x block other e at (inl (record { statement = s; occurs = o; is = is }))
       given s (otherwise {e = x} {block = block} {other = other} at o) is = in_blocks (out-Statement t) x block other e at (inr (record { statement = s; occurs = o; is = is }))
       given s (grouped {sets = sets} at o) is = in_group (out-Statement t) sets e at (record { statement = s; occurs = o; is = is })
 
-  of_one : (t : Statement) (e : Effect) (z : layer.Statement-F Statement) → out-Statement t ≡ z → StatementHas kinds z e → BodyHas kinds (t ∷ []) e
-  of_one t e (layer.Set path q x) at has = record { statement = t; occurs = here; is = ap (effect_of kinds) at ∙ has }
-  of_one t e (layer.Emit m xs) at has = record { statement = t; occurs = here; is = ap (effect_of kinds) at ∙ has }
-  of_one t e (layer.Call path m xs) at has = record { statement = t; occurs = here; is = ap (effect_of kinds) at ∙ has }
+  of_one : (t : Statement) (e : Effect) (z : layer.Statement-F Statement) → out-Statement t ≡ z → StatementHas types z e → BodyHas types (t ∷ []) e
+  of_one t e (layer.Set path q x) at has = record { statement = t; occurs = here; is = ap (effect_of types) at ∙ has }
+  of_one t e (layer.Emit m xs) at has = record { statement = t; occurs = here; is = ap (effect_of types) at ∙ has }
+  of_one t e (layer.Call path m xs) at has = record { statement = t; occurs = here; is = ap (effect_of types) at ∙ has }
   of_one t e (layer.If x block other) at has =
       elim has [
         | inl one ↦ record { statement = one.statement; occurs = chosen at one.occurs; is = one.is }
         | inr two ↦ record { statement = two.statement; occurs = otherwise at two.occurs; is = two.is }
       ]
-  of_one t e (layer.Connect ends how) at has = record { statement = t; occurs = here; is = ap (effect_of kinds) at ∙ has }
-  of_one t e (layer.Disconnect ends) at has = record { statement = t; occurs = here; is = ap (effect_of kinds) at ∙ has }
-  of_one t e (layer.Delete path) at has = record { statement = t; occurs = here; is = ap (effect_of kinds) at ∙ has }
-  of_one t e (layer.Later path) at has = record { statement = t; occurs = here; is = ap (effect_of kinds) at ∙ has }
+  of_one t e (layer.Connect ends how) at has = record { statement = t; occurs = here; is = ap (effect_of types) at ∙ has }
+  of_one t e (layer.Disconnect ends) at has = record { statement = t; occurs = here; is = ap (effect_of types) at ∙ has }
+  of_one t e (layer.Delete path) at has = record { statement = t; occurs = here; is = ap (effect_of types) at ∙ has }
+  of_one t e (layer.Later path) at has = record { statement = t; occurs = here; is = ap (effect_of types) at ∙ has }
   of_one t e (layer.Group sets) at has = record { statement = has.statement; occurs = grouped at has.occurs; is = has.is }
 
-  pub body_none : (e : Effect) → ¬ BodyHas kinds [] e
+  pub body_none : (e : Effect) → ¬ BodyHas types [] e
   body_none e has = elim has.occurs [ ]
 
   -- one statement more
-  pub body_more : (xs : List Statement) (t : Statement) (e : Effect) → BodyHas kinds (xs ++ t ∷ []) e ↔ (BodyHas kinds xs e ⊎ StatementHas kinds (out-Statement t) e)
+  pub body_more : (xs : List Statement) (t : Statement) (e : Effect) → BodyHas types (xs ++ t ∷ []) e ↔ (BodyHas types xs e ⊎ StatementHas types (out-Statement t) e)
   body_more xs t e = (
     λ h.
         elim (occurs_either h.statement xs (t ∷ []) h.occurs) [
@@ -163,48 +163,48 @@ module _ (kinds : List ValueType) where
   )
 
   pub gather_more : (body : List Statement) (i : ℕ) (t : Statement) (first then last : List Effect) → i < length body → t ≡ get_or body i t
-      → Gathers (BodyHas kinds (take i body)) first then → Gathers (StatementHas kinds (out-Statement t)) then last → Gathers (BodyHas kinds (take (i + 1) body)) first last
+      → Gathers (BodyHas types (take i body)) first then → Gathers (StatementHas types (out-Statement t)) then last → Gathers (BodyHas types (take (i + 1) body)) first last
   gather_more body i t first then last inside is p q =
       let more : take (i + 1) body ≡ take i body ++ t ∷ [] = take_more body i t inside ∙ ap (λ (y : Statement). take i body ++ y ∷ []) (sym is) in
-      gathers_then (BodyHas kinds (take i body)) (StatementHas kinds (out-Statement t)) (BodyHas kinds (take (i + 1) body)) first then last p q
-      (λ e. subst (λ (l : List Statement). BodyHas kinds l e ↔ (BodyHas kinds (take i body) e ⊎ StatementHas kinds (out-Statement t) e)) (sym more) (body_more (take i body) t e))
+      gathers_then (BodyHas types (take i body)) (StatementHas types (out-Statement t)) (BodyHas types (take (i + 1) body)) first then last p q
+      (λ e. subst (λ (l : List Statement). BodyHas types l e ↔ (BodyHas types (take i body) e ⊎ StatementHas types (out-Statement t) e)) (sym more) (body_more (take i body) t e))
 
-  pub gather_all : (body : List Statement) (i : ℕ) (first last : List Effect) → length body ≤ i → Gathers (BodyHas kinds (take i body)) first last → Gathers (BodyHas kinds body) first last
-  gather_all body i first last past p = subst (λ (l : List Statement). Gathers (BodyHas kinds l) first last) (take_all i body past) p
+  pub gather_all : (body : List Statement) (i : ℕ) (first last : List Effect) → length body ≤ i → Gathers (BodyHas types (take i body)) first last → Gathers (BodyHas types body) first last
+  gather_all body i first last past p = subst (λ (l : List Statement). Gathers (BodyHas types l) first last) (take_all i body past) p
 
   -- both blocks of an `if`
   pub gather_blocks : (z : layer.Statement-F Statement) (x : Expr MetaPath) (block other : List Statement) (first then last : List Effect) → z ≡ layer.If x block other
-      → Gathers (BodyHas kinds block) first then → Gathers (BodyHas kinds other) then last → Gathers (StatementHas kinds z) first last
+      → Gathers (BodyHas types block) first then → Gathers (BodyHas types other) then last → Gathers (StatementHas types z) first last
   gather_blocks z x block other first then last is p q =
-      gathers_then (BodyHas kinds block) (BodyHas kinds other) (StatementHas kinds z) first then last p q
-      (λ e. subst (λ (w : layer.Statement-F Statement). StatementHas kinds w e ↔ (BodyHas kinds block e ⊎ BodyHas kinds other e)) (sym is) (λ h. h, λ h. h))
+      gathers_then (BodyHas types block) (BodyHas types other) (StatementHas types z) first then last p q
+      (λ e. subst (λ (w : layer.Statement-F Statement). StatementHas types w e ↔ (BodyHas types block e ⊎ BodyHas types other e)) (sym is) (λ h. h, λ h. h))
 
   -- a statement in which none is
-  gather_effect : (z : layer.Statement-F Statement) (e : Effect) (xs ys : List Effect) → HasNoBlocks z → effect_of kinds z ≡ Some e → ys ≡ xs ++ e ∷ [] → Gathers (StatementHas kinds z) xs ys
-  gather_effect z e xs ys bare is eq = gathers_one (StatementHas kinds z) e xs ys eq (plain z e is) (λ f has. same_Some _ _ (sym (plain_only z f bare has) ∙ is))
+  gather_effect : (z : layer.Statement-F Statement) (e : Effect) (xs ys : List Effect) → HasNoBlocks z → effect_of types z ≡ Some e → ys ≡ xs ++ e ∷ [] → Gathers (StatementHas types z) xs ys
+  gather_effect z e xs ys bare is eq = gathers_one (StatementHas types z) e xs ys eq (plain z e is) (λ f has. same_Some _ _ (sym (plain_only z f bare has) ∙ is))
 
-  gather_nothing : (z : layer.Statement-F Statement) (xs : List Effect) → HasNoBlocks z → effect_of kinds z ≡ None → Gathers (StatementHas kinds z) xs xs
-  gather_nothing z xs bare is = gathers_none (StatementHas kinds z) xs (λ e has. absurd (none-some e (sym is ∙ plain_only z e bare has)))
+  gather_nothing : (z : layer.Statement-F Statement) (xs : List Effect) → HasNoBlocks z → effect_of types z ≡ None → Gathers (StatementHas types z) xs xs
+  gather_nothing z xs bare is = gathers_none (StatementHas types z) xs (λ e has. absurd (none-some e (sym is ∙ plain_only z e bare has)))
 
   -- the same of a statement, by what it is
   pub gather_if : {T E : Type 0} (r : Result T E) (t : Statement) (x : Expr MetaPath) (block other left right : List Statement) (first then last : List Effect) → t ≡ whole.If x block other → left ≡ block → right ≡ other
-      → Gathers (BodyHas kinds left) first then → IfOk r (λ _. Gathers (BodyHas kinds right) then last) → IfOk r (λ _. Gathers (StatementHas kinds (out-Statement t)) first last)
+      → Gathers (BodyHas types left) first then → IfOk r (λ _. Gathers (BodyHas types right) then last) → IfOk r (λ _. Gathers (StatementHas types (out-Statement t)) first last)
   gather_if (Ok v) t x block other left right first then last is l r p q =
       gather_blocks (out-Statement t) x block other first then last (ap out-Statement is ∙ whole.outs-If x block other)
-      (subst (λ (b : List Statement). Gathers (BodyHas kinds b) first then) l p) (subst (λ (b : List Statement). Gathers (BodyHas kinds b) then last) r q)
+      (subst (λ (b : List Statement). Gathers (BodyHas types b) first then) l p) (subst (λ (b : List Statement). Gathers (BodyHas types b) then last) r q)
   gather_if (Err v) t x block other left right first then last is l r p q = tt
 
-  pub gather_group : {T E : Type 0} (r : Result T E) (t : Statement) (sets given : List Statement) (first last : List Effect) → t ≡ whole.Group sets → given ≡ sets → IfOk r (λ _. Gathers (BodyHas kinds given) first last)
-      → IfOk r (λ _. Gathers (StatementHas kinds (out-Statement t)) first last)
+  pub gather_group : {T E : Type 0} (r : Result T E) (t : Statement) (sets given : List Statement) (first last : List Effect) → t ≡ whole.Group sets → given ≡ sets → IfOk r (λ _. Gathers (BodyHas types given) first last)
+      → IfOk r (λ _. Gathers (StatementHas types (out-Statement t)) first last)
   gather_group (Ok v) t sets given first last is same h =
-      subst (λ (z : layer.Statement-F Statement). Gathers (StatementHas kinds z) first last) (sym (ap out-Statement is ∙ whole.outs-Group sets))
-      (subst (λ (b : List Statement). Gathers (BodyHas kinds b) first last) same h)
+      subst (λ (z : layer.Statement-F Statement). Gathers (StatementHas types z) first last) (sym (ap out-Statement is ∙ whole.outs-Group sets))
+      (subst (λ (b : List Statement). Gathers (BodyHas types b) first last) same h)
   gather_group (Err v) t sets given first last is same h = tt
 
-  pub gather_pushed : {T E : Type 0} (r : Result T E) (t : Statement) (e : Effect) (xs ys : List Effect) → IsPlain t → effect_of kinds (out-Statement t) ≡ Some e
-      → IfOk r (λ _. ys ≡ xs ++ e ∷ []) → IfOk r (λ _. Gathers (StatementHas kinds (out-Statement t)) xs ys)
+  pub gather_pushed : {T E : Type 0} (r : Result T E) (t : Statement) (e : Effect) (xs ys : List Effect) → IsPlain t → effect_of types (out-Statement t) ≡ Some e
+      → IfOk r (λ _. ys ≡ xs ++ e ∷ []) → IfOk r (λ _. Gathers (StatementHas types (out-Statement t)) xs ys)
   gather_pushed (Ok v) t e xs ys bare is eq = gather_effect (out-Statement t) e xs ys (no_blocks t bare) is eq
   gather_pushed (Err v) t e xs ys bare is eq = tt
 
-  pub gather_silent : (t : Statement) (xs : List Effect) → IsPlain t → effect_of kinds (out-Statement t) ≡ None → Gathers (StatementHas kinds (out-Statement t)) xs xs
+  pub gather_silent : (t : Statement) (xs : List Effect) → IsPlain t → effect_of types (out-Statement t) ≡ None → Gathers (StatementHas types (out-Statement t)) xs xs
   gather_silent t xs bare is = gather_nothing (out-Statement t) xs (no_blocks t bare) is

@@ -28,20 +28,20 @@ ReachesClass me class r = ((r ≡ reach.Own) × (class ≡ me)) ⊎ (r ≡ reach
 class_of_type : (T : ValueType) (me class : ℕ) (constant : Bool) (r : Reach) → T ≡ type.Reference class constant → reach_of_type T ≡ Some r → ReachesClass me class r
 class_of_type T me class constant r e h = inr (same_Some _ _ (sym h ∙ ap reach_of_type e))
 
-of_root : (me : ℕ) (kinds : List ValueType) (root : MetaRoot) (T : ValueType) (class : ℕ) (constant : Bool) (r : Reach) → HasRoot me kinds root T → T ≡ type.Reference class constant → reach_of_root kinds root ≡ Some r → ReachesClass me class r
-of_root me kinds This T class constant r this_has e h = let is : type.Reference me false ≡ type.Reference class constant = e in inl (sym (same_Some _ _ h), cc)
-of_root me kinds (Parameter k) T class constant r (parameter_has at) e h = class_of_type T me class constant r e (sym (ap (option_and_then reach_of_type) at) ∙ h)
+of_root : (me : ℕ) (value_types : List ValueType) (root : MetaRoot) (T : ValueType) (class : ℕ) (constant : Bool) (r : Reach) → HasRoot me value_types root T → T ≡ type.Reference class constant → reach_of_root value_types root ≡ Some r → ReachesClass me class r
+of_root me value_types This T class constant r this_has e h = let is : type.Reference me false ≡ type.Reference class constant = e in inl (sym (same_Some _ _ h), cc)
+of_root me value_types (Parameter k) T class constant r (parameter_has at) e h = class_of_type T me class constant r e (sym (ap (option_and_then reach_of_type) at) ∙ h)
 
-of_steps : {p : Loaded} (me : ℕ) (kinds : List ValueType) (root : MetaRoot) (steps : List Step) (T U : ValueType) (class : ℕ) (constant : Bool) (r : Reach) → HasRoot me kinds root T → Leads p T steps U → U ≡ type.Reference class constant
-    → reach_after kinds root (slice_get steps (length steps - 1)) ≡ Some r → ReachesClass me class r
-of_steps me kinds root [] T U class constant r has here e h = of_root me kinds root T class constant r has e h
-of_steps me kinds root (s ∷ steps) T U class constant r has leads e h =
+of_steps : {p : Loaded} (me : ℕ) (value_types : List ValueType) (root : MetaRoot) (steps : List Step) (T U : ValueType) (class : ℕ) (constant : Bool) (r : Reach) → HasRoot me value_types root T → Leads p T steps U → U ≡ type.Reference class constant
+    → reach_after value_types root (slice_get steps (length steps - 1)) ≡ Some r → ReachesClass me class r
+of_steps me value_types root [] T U class constant r has here e h = of_root me value_types root T class constant r has e h
+of_steps me value_types root (s ∷ steps) T U class constant r has leads e h =
     let last = last_kind s steps leads in
     let at : slice_get (s ∷ steps) (suc (length steps) - 1) ≡ Some last.0 = ap (slice_get (s ∷ steps)) (omega arith) ∙ last.1 in
-    class_of_type last.0.kind me class constant r (last.2 ∙ e) (sym (ap (reach_after kinds root) at) ∙ h)
+    class_of_type last.0.kind me class constant r (last.2 ∙ e) (sym (ap (reach_after value_types root) at) ∙ h)
 
-pub reach_is : {p : Loaded} (me : ℕ) (kinds : List ValueType) (path : MetaPath) (class : ℕ) (r : Reach) → LeadsToClass p me kinds path class → reach_of kinds path ≡ Some r → ReachesClass me class r
-reach_is me kinds path class r leads h = of_steps me kinds path.root path.steps leads.leads.root_type (type.Reference class leads.constant) class leads.constant r leads.leads.root leads.leads.steps refl h
+pub reach_is : {p : Loaded} (me : ℕ) (value_types : List ValueType) (path : MetaPath) (class : ℕ) (r : Reach) → LeadsToClass p me value_types path class → reach_of value_types path ≡ Some r → ReachesClass me class r
+reach_is me value_types path class r leads h = of_steps me value_types path.root path.steps leads.leads.root_type (type.Reference class leads.constant) class leads.constant r leads.leads.root leads.leads.steps refl h
 
 module _ {p : Loaded} (sound : IsSound p) where
   -- ---- members of classes below
@@ -143,21 +143,21 @@ module _ {p : Loaded} (sound : IsSound p) where
   Stands me x reach.Own = Has me x
   Stands me x (reach.Below k) = Has k x
 
-  on_path : (me : ℕ) (kinds : List ValueType) (path : MetaPath) (class : ℕ) (x : Member) (effect : Effect) → LeadsToClass p me kinds path class → Has class x → effect_on kinds x path ≡ Some effect → Stands me effect.member effect.reach
-  on_path me kinds path class x effect leads has h = given (reach_of kinds path) refl h
+  on_path : (me : ℕ) (value_types : List ValueType) (path : MetaPath) (class : ℕ) (x : Member) (effect : Effect) → LeadsToClass p me value_types path class → Has class x → effect_on value_types x path ≡ Some effect → Stands me effect.member effect.reach
+  on_path me value_types path class x effect leads has h = given (reach_of value_types path) refl h
     where
       at : (r : Reach) → ReachesClass me class r → Stands me x r
       at r (inl own) = subst (λ (k : Reach). Stands me x k) (sym own.0) (subst (λ (c : ℕ). Has c x) own.1 has)
       at r (inr is) = subst (λ (k : Reach). Stands me x k) (sym is) has
 
-      given : (found : Option Reach) → reach_of kinds path ≡ found → option_map (λ (r : Reach). record { reach = r; member = x }) found ≡ Some effect → Stands me effect.member effect.reach
+      given : (found : Option Reach) → reach_of value_types path ≡ found → option_map (λ (r : Reach). record { reach = r; member = x }) found ≡ Some effect → Stands me effect.member effect.reach
       given None e k = absurd (none-some effect k)
-      given (Some r) e k = subst (λ (f : Effect). Stands me f.member f.reach) (same_Some _ _ k) (at r (reach_is me kinds path class r leads e))
+      given (Some r) e k = subst (λ (f : Effect). Stands me f.member f.reach) (same_Some _ _ k) (at r (reach_is me value_types path class r leads e))
 
-  effect_stands : (me : ℕ) (kinds : List ValueType) (z : layer.Statement-F Statement) (effect : Effect) → ((path : MetaPath) (class : ℕ) → LeadsToClass p me kinds path class → class < length p.classes) → IsSoundStatement p me kinds z → effect_of kinds z ≡ Some effect → Stands me effect.member effect.reach
-  effect_stands me kinds (layer.Set path q e) effect classes (set_sound s) h = on_path me kinds path s.class (member.Property q) effect s.leads (s.property, s.is) h
-  effect_stands me kinds (layer.Emit m es) effect classes (emit_sound s) h = subst (λ (f : Effect). Stands me f.member f.reach) (same_Some _ _ h) (s.signal, s.is, s.emitted)
-  effect_stands me kinds (layer.Call path m es) effect classes (call_sound s) h = on_path me kinds path s.class (member.Method m) effect s.leads (s.slot, s.is, above) h
+  effect_stands : (me : ℕ) (value_types : List ValueType) (z : layer.Statement-F Statement) (effect : Effect) → ((path : MetaPath) (class : ℕ) → LeadsToClass p me value_types path class → class < length p.classes) → IsSoundStatement p me value_types z → effect_of value_types z ≡ Some effect → Stands me effect.member effect.reach
+  effect_stands me value_types (layer.Set path q e) effect classes (set_sound s) h = on_path me value_types path s.class (member.Property q) effect s.leads (s.property, s.is) h
+  effect_stands me value_types (layer.Emit m es) effect classes (emit_sound s) h = subst (λ (f : Effect). Stands me f.member f.reach) (same_Some _ _ h) (s.signal, s.is, s.emitted)
+  effect_stands me value_types (layer.Call path m es) effect classes (call_sound s) h = on_path me value_types path s.class (member.Method m) effect s.leads (s.slot, s.is, above) h
     where
       above : OBJECT_NAME_CHANGED < m
       above =
@@ -165,43 +165,43 @@ module _ {p : Loaded} (sound : IsSound p) where
             | inl l ↦ l
             | inr low ↦ absurd (s.callable (root_signal s.class m s.slot s.is low))
           ]
-  effect_stands me kinds (layer.If e block other) effect classes s h = absurd (none-some effect h)
-  effect_stands me kinds (layer.Connect ends how) effect classes s h = absurd (none-some effect h)
-  effect_stands me kinds (layer.Disconnect ends) effect classes s h = absurd (none-some effect h)
-  effect_stands me kinds (layer.Delete path) effect classes (delete_sound {class = class} leads) h = on_path me kinds path class member.Destruction effect leads (classes path class leads) h
-  effect_stands me kinds (layer.Later path) effect classes s h = absurd (none-some effect h)
-  effect_stands me kinds (layer.Group sets) effect classes s h = absurd (none-some effect h)
+  effect_stands me value_types (layer.If e block other) effect classes s h = absurd (none-some effect h)
+  effect_stands me value_types (layer.Connect ends how) effect classes s h = absurd (none-some effect h)
+  effect_stands me value_types (layer.Disconnect ends) effect classes s h = absurd (none-some effect h)
+  effect_stands me value_types (layer.Delete path) effect classes (delete_sound {class = class} leads) h = on_path me value_types path class member.Destruction effect leads (classes path class leads) h
+  effect_stands me value_types (layer.Later path) effect classes s h = absurd (none-some effect h)
+  effect_stands me value_types (layer.Group sets) effect classes s h = absurd (none-some effect h)
 
-  tail_of : {me : ℕ} {kinds : List ValueType} {t : Statement} {rest : List Statement} → AreSound p me kinds (t ∷ rest) → AreSound p me kinds rest
+  tail_of : {me : ℕ} {value_types : List ValueType} {t : Statement} {rest : List Statement} → AreSound p me value_types (t ∷ rest) → AreSound p me value_types rest
   tail_of (next_sound one rest) = rest
 
-  one_of : {me : ℕ} {kinds : List ValueType} {t : Statement} {rest : List Statement} → AreSound p me kinds (t ∷ rest) → IsSoundStatement p me kinds (out-Statement t)
+  one_of : {me : ℕ} {value_types : List ValueType} {t : Statement} {rest : List Statement} → AreSound p me value_types (t ∷ rest) → IsSoundStatement p me value_types (out-Statement t)
   one_of (next_sound one rest) = one
 
-  blocks_of : (me : ℕ) (kinds : List ValueType) (z : layer.Statement-F Statement) (e : Expr MetaPath) (block other : List Statement) → IsSoundStatement p me kinds z → z ≡ layer.If e block other → AreSound p me kinds block × AreSound p me kinds other
-  blocks_of me kinds z e block other s at = given (subst (IsSoundStatement p me kinds) at s)
+  blocks_of : (me : ℕ) (value_types : List ValueType) (z : layer.Statement-F Statement) (e : Expr MetaPath) (block other : List Statement) → IsSoundStatement p me value_types z → z ≡ layer.If e block other → AreSound p me value_types block × AreSound p me value_types other
+  blocks_of me value_types z e block other s at = given (subst (IsSoundStatement p me value_types) at s)
     where
-      given : IsSoundStatement p me kinds (layer.If e block other) → AreSound p me kinds block × AreSound p me kinds other
+      given : IsSoundStatement p me value_types (layer.If e block other) → AreSound p me value_types block × AreSound p me value_types other
       given (if_sound test one two) = (one, two)
 
-  sets_of : (me : ℕ) (kinds : List ValueType) (z : layer.Statement-F Statement) (sets : List Statement) → IsSoundStatement p me kinds z → z ≡ layer.Group sets → AreSound p me kinds sets
-  sets_of me kinds z sets s at = given (subst (IsSoundStatement p me kinds) at s)
+  sets_of : (me : ℕ) (value_types : List ValueType) (z : layer.Statement-F Statement) (sets : List Statement) → IsSoundStatement p me value_types z → z ≡ layer.Group sets → AreSound p me value_types sets
+  sets_of me value_types z sets s at = given (subst (IsSoundStatement p me value_types) at s)
     where
-      given : IsSoundStatement p me kinds (layer.Group sets) → AreSound p me kinds sets
+      given : IsSoundStatement p me value_types (layer.Group sets) → AreSound p me value_types sets
       given (group_sound are all) = are
 
-  occurs_sound : (me : ℕ) (kinds : List ValueType) (s : Statement) (body : List Statement) → AreSound p me kinds body → Occurs s body → IsSoundStatement p me kinds (out-Statement s)
-  occurs_sound me kinds s body all first = one_of all
-  occurs_sound me kinds s body all (after {rest = rest} o) = occurs_sound me kinds s rest (tail_of all) o
-  occurs_sound me kinds s body all (chosen {t = t} {e = e} {block = block} {other = other} at o) = occurs_sound me kinds s block (blocks_of me kinds (out-Statement t) e block other (one_of all) at).0 o
-  occurs_sound me kinds s body all (otherwise {t = t} {e = e} {block = block} {other = other} at o) = occurs_sound me kinds s other (blocks_of me kinds (out-Statement t) e block other (one_of all) at).1 o
-  occurs_sound me kinds s body all (grouped {t = t} {sets = sets} at o) = occurs_sound me kinds s sets (sets_of me kinds (out-Statement t) sets (one_of all) at) o
+  occurs_sound : (me : ℕ) (value_types : List ValueType) (s : Statement) (body : List Statement) → AreSound p me value_types body → Occurs s body → IsSoundStatement p me value_types (out-Statement s)
+  occurs_sound me value_types s body all first = one_of all
+  occurs_sound me value_types s body all (after {rest = rest} o) = occurs_sound me value_types s rest (tail_of all) o
+  occurs_sound me value_types s body all (chosen {t = t} {e = e} {block = block} {other = other} at o) = occurs_sound me value_types s block (blocks_of me value_types (out-Statement t) e block other (one_of all) at).0 o
+  occurs_sound me value_types s body all (otherwise {t = t} {e = e} {block = block} {other = other} at o) = occurs_sound me value_types s other (blocks_of me value_types (out-Statement t) e block other (one_of all) at).1 o
+  occurs_sound me value_types s body all (grouped {t = t} {sets = sets} at o) = occurs_sound me value_types s sets (sets_of me value_types (out-Statement t) sets (one_of all) at) o
 
   -- a path that leads to a class leads to one of the program
-  root_there : (me : ℕ) (kinds : List ValueType) → me < length p.classes → ((k class : ℕ) (constant : Bool) → slice_get kinds k ≡ Some (type.Reference class constant) → class < length p.classes)
-      → (root : MetaRoot) (T : ValueType) (class : ℕ) (constant : Bool) → HasRoot me kinds root T → T ≡ type.Reference class constant → class < length p.classes
-  root_there me kinds low all This T class constant this_has e = let is : type.Reference me false ≡ type.Reference class constant = e in let same_class : me ≡ class = cc in subst (λ (c : ℕ). c < length p.classes) same_class low
-  root_there me kinds low all (Parameter k) T class constant (parameter_has at) e = all k class constant (at ∙ ap (λ (t : ValueType). Some t) e)
+  root_there : (me : ℕ) (value_types : List ValueType) → me < length p.classes → ((k class : ℕ) (constant : Bool) → slice_get value_types k ≡ Some (type.Reference class constant) → class < length p.classes)
+      → (root : MetaRoot) (T : ValueType) (class : ℕ) (constant : Bool) → HasRoot me value_types root T → T ≡ type.Reference class constant → class < length p.classes
+  root_there me value_types low all This T class constant this_has e = let is : type.Reference me false ≡ type.Reference class constant = e in let same_class : me ≡ class = cc in subst (λ (c : ℕ). c < length p.classes) same_class low
+  root_there me value_types low all (Parameter k) T class constant (parameter_has at) e = all k class constant (at ∙ ap (λ (t : ValueType). Some t) e)
 
   kind_there : (declared : QType) (T : ValueType) (class : ℕ) (constant : Bool) → IsKind p declared T → T ≡ type.Reference class constant → class < length p.classes
   kind_there declared T class constant kind e = given (subst (IsKind p declared) e kind)
@@ -215,13 +215,13 @@ module _ {p : Loaded} (sound : IsSound p) where
       let sound_property = (sound.classes c is.class is.is_class).properties s.property property is.is in
       steps_there steps s.kind U class constant rest (λ d k f. kind_there property.declared property.kind d k sound_property.kind (kind ∙ f)) e
 
-  path_there : (me : ℕ) (kinds : List ValueType) → me < length p.classes → ((k class : ℕ) (constant : Bool) → slice_get kinds k ≡ Some (type.Reference class constant) → class < length p.classes) → (path : MetaPath) (class : ℕ) → LeadsToClass p me kinds path class → class < length p.classes
-  path_there me kinds low all path class leads =
-      steps_there path.steps leads.leads.root_type (type.Reference class leads.constant) class leads.constant leads.leads.steps (λ c k e. root_there me kinds low all path.root leads.leads.root_type c k leads.leads.root e) refl
+  path_there : (me : ℕ) (value_types : List ValueType) → me < length p.classes → ((k class : ℕ) (constant : Bool) → slice_get value_types k ≡ Some (type.Reference class constant) → class < length p.classes) → (path : MetaPath) (class : ℕ) → LeadsToClass p me value_types path class → class < length p.classes
+  path_there me value_types low all path class leads =
+      steps_there path.steps leads.leads.root_type (type.Reference class leads.constant) class leads.constant leads.leads.steps (λ c k e. root_there me value_types low all path.root leads.leads.root_type c k leads.leads.root e) refl
 
-  kinds_there : (types : List QType) (kinds : List ValueType) → AllZip (IsKind p) types kinds → (k class : ℕ) (constant : Bool) → slice_get kinds k ≡ Some (type.Reference class constant) → class < length p.classes
-  kinds_there types kinds zip k class constant at =
-      let pair = zip_right (IsKind p) types kinds zip k (type.Reference class constant) at in
+  kinds_there : (types : List QType) (value_types : List ValueType) → AllZip (IsKind p) types value_types → (k class : ℕ) (constant : Bool) → slice_get value_types k ≡ Some (type.Reference class constant) → class < length p.classes
+  kinds_there types value_types zip k class constant at =
+      let pair = zip_right (IsKind p) types value_types zip k (type.Reference class constant) at in
       kind_there pair.0 (type.Reference class constant) class constant pair.2 refl
 
   -- ---- natives
@@ -234,25 +234,25 @@ module _ {p : Loaded} (sound : IsSound p) where
       subst (λ (f : Effect). Stands me f.member f.reach) (sym h.is) (property.property, property.is)
 
   -- ---- edges
-  work_stands : (c m : ℕ) (method : MetaMethod) (effect : Effect) → IsMethod p c m method → WorkHas method.kinds method.work effect → (d : ℕ) × Below p c d × Stands d effect.member effect.reach × (m ≢ DESTROYED_ALONE)
+  work_stands : (c m : ℕ) (method : MetaMethod) (effect : Effect) → IsMethod p c m method → WorkHas method.types method.work effect → (d : ℕ) × Below p c d × Stands d effect.member effect.reach × (m ≢ DESTROYED_ALONE)
   work_stands c m method effect is has = given method.work refl has
     where
       sound_method : IsSoundMethod p c m method
       sound_method = (sound.classes c is.class is.is_class).methods m method is.is
 
-      given : (work : Work) → method.work ≡ work → WorkHas method.kinds work effect → (d : ℕ) × Below p c d × Stands d effect.member effect.reach × (m ≢ DESTROYED_ALONE)
+      given : (work : Work) → method.work ≡ work → WorkHas method.types work effect → (d : ℕ) × Below p c d × Stands d effect.member effect.reach × (m ≢ DESTROYED_ALONE)
       given Signal e h = absurd h
       given (Slot body) e h =
-          let s : IsSoundWork p c m method.kinds (Slot body) = subst (IsSoundWork p c m method.kinds) e sound_method.work in
+          let s : IsSoundWork p c m method.types (Slot body) = subst (IsSoundWork p c m method.types) e sound_method.work in
           let low = below_last p c s.declaring s.below in
-          let all = kinds_there method.sig.types method.kinds sound_method.kinds in (
+          let all = kinds_there method.sig.types method.types sound_method.types in (
             s.declaring,
             s.below,
-            effect_stands s.declaring method.kinds (out-Statement h.statement) effect (path_there s.declaring method.kinds low all) (occurs_sound s.declaring method.kinds h.statement body s.sound h.occurs) h.is,
+            effect_stands s.declaring method.types (out-Statement h.statement) effect (path_there s.declaring method.types low all) (occurs_sound s.declaring method.types h.statement body s.sound h.occurs) h.is,
             λ one. let signal = root_signal c m method is (omega (arith, one)) in let bad : Slot body ≡ Signal = sym e ∙ signal in absurd (cc),
           )
       given (Native effects) e h =
-          let s : IsSoundWork p c m method.kinds (Native effects) = subst (IsSoundWork p c m method.kinds) e sound_method.work in (
+          let s : IsSoundWork p c m method.types (Native effects) = subst (IsSoundWork p c m method.types) e sound_method.work in (
             s.declaring,
             s.below,
             native_stands s.declaring effects effect s.sound h,

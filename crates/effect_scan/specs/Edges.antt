@@ -26,7 +26,7 @@ pub record ByWork (p : Loaded) (x y : Node) : Type 0 where
   pub is : IsMethod p x.class number method
   pub from : x.member ≡ Method number
   pub effect : Effect
-  pub has : WorkHas method.kinds method.work effect
+  pub has : WorkHas method.types method.work effect
   pub to : Reaches p x.class effect y
 
 -- a signal to what it is wired to, but by a queued connection

@@ -16,29 +16,29 @@ reach_of_type (type.Reference class constant) = Some (Below class)
 
 -- `this` is the object itself, anything else one of its declared type
 abbrev pub reach_of_root : List ValueType → MetaRoot → Option Reach
-reach_of_root kinds root = of_root (Some Own) (option_and_then reach_of_type) kinds root
+reach_of_root types root = of_root (Some Own) (option_and_then reach_of_type) types root
 
 abbrev pub reach_after : List ValueType → MetaRoot → Option Step → Option Reach
-reach_after kinds root last = of_last (Some Own) (option_and_then reach_of_type) kinds root last
+reach_after types root last = of_last (Some Own) (option_and_then reach_of_type) types root last
 
 abbrev pub reach_of : List ValueType → MetaPath → Option Reach
-reach_of kinds path = of_path (Some Own) (option_and_then reach_of_type) kinds path
+reach_of types path = of_path (Some Own) (option_and_then reach_of_type) types path
 
 -- ---- statements
 abbrev pub effect_on : List ValueType → Member → MetaPath → Option Effect
-effect_on kinds member path = option_map (λ reach. record { reach = reach; member = member }) (reach_of kinds path)
+effect_on types member path = option_map (λ reach. record { reach = reach; member = member }) (reach_of types path)
 
 -- what a statement does at once; what is in the blocks of an `if` and in a group is looked at on its own
 abbrev pub effect_of : List ValueType → layer.Statement-F Statement → Option Effect
-effect_of kinds (layer.Set path q e) = effect_on kinds (Property q) path
-effect_of kinds (layer.Emit m es) = Some (record { reach = Own; member = Method m })
-effect_of kinds (layer.Call path m es) = effect_on kinds (Method m) path
-effect_of kinds (layer.If e chosen other) = None
-effect_of kinds (layer.Connect ends how) = None
-effect_of kinds (layer.Disconnect ends) = None
-effect_of kinds (layer.Delete path) = effect_on kinds Destruction path
-effect_of kinds (layer.Later path) = None
-effect_of kinds (layer.Group sets) = None
+effect_of types (layer.Set path q e) = effect_on types (Property q) path
+effect_of types (layer.Emit m es) = Some (record { reach = Own; member = Method m })
+effect_of types (layer.Call path m es) = effect_on types (Method m) path
+effect_of types (layer.If e chosen other) = None
+effect_of types (layer.Connect ends how) = None
+effect_of types (layer.Disconnect ends) = None
+effect_of types (layer.Delete path) = effect_on types Destruction path
+effect_of types (layer.Later path) = None
+effect_of types (layer.Group sets) = None
 
 -- a statement is in a body, or in a block or a group of it
 pub data Occurs : Statement → List Statement → Type 0 where
@@ -52,22 +52,22 @@ pub data Occurs : Statement → List Statement → Type 0 where
       → out-Statement t ≡ layer.Group sets → Occurs s sets → Occurs s (t ∷ rest)
 
 -- a statement of the body does this, where the parameters are of these types
-pub record BodyHas (kinds : List ValueType) (body : List Statement) (effect : Effect) : Type 0 where
+pub record BodyHas (types : List ValueType) (body : List Statement) (effect : Effect) : Type 0 where
   pub statement : Statement
   pub occurs : Occurs statement body
-  pub is : effect_of kinds (out-Statement statement) ≡ Some effect
+  pub is : effect_of types (out-Statement statement) ≡ Some effect
 
 -- one statement does this, or one that is in it
 abbrev pub StatementHas : List ValueType → layer.Statement-F Statement → Effect → Type 0
-StatementHas kinds (layer.If e block other) effect = BodyHas kinds block effect ⊎ BodyHas kinds other effect
-StatementHas kinds (layer.Set path q e) effect = effect_of kinds (layer.Set path q e) ≡ Some effect
-StatementHas kinds (layer.Emit m es) effect = effect_of kinds (layer.Emit m es) ≡ Some effect
-StatementHas kinds (layer.Call path m es) effect = effect_of kinds (layer.Call path m es) ≡ Some effect
-StatementHas kinds (layer.Connect ends how) effect = effect_of kinds (layer.Connect ends how) ≡ Some effect
-StatementHas kinds (layer.Disconnect ends) effect = effect_of kinds (layer.Disconnect ends) ≡ Some effect
-StatementHas kinds (layer.Delete path) effect = effect_of kinds (layer.Delete path) ≡ Some effect
-StatementHas kinds (layer.Later path) effect = effect_of kinds (layer.Later path) ≡ Some effect
-StatementHas kinds (layer.Group sets) effect = BodyHas kinds sets effect
+StatementHas types (layer.If e block other) effect = BodyHas types block effect ⊎ BodyHas types other effect
+StatementHas types (layer.Set path q e) effect = effect_of types (layer.Set path q e) ≡ Some effect
+StatementHas types (layer.Emit m es) effect = effect_of types (layer.Emit m es) ≡ Some effect
+StatementHas types (layer.Call path m es) effect = effect_of types (layer.Call path m es) ≡ Some effect
+StatementHas types (layer.Connect ends how) effect = effect_of types (layer.Connect ends how) ≡ Some effect
+StatementHas types (layer.Disconnect ends) effect = effect_of types (layer.Disconnect ends) ≡ Some effect
+StatementHas types (layer.Delete path) effect = effect_of types (layer.Delete path) ≡ Some effect
+StatementHas types (layer.Later path) effect = effect_of types (layer.Later path) ≡ Some effect
+StatementHas types (layer.Group sets) effect = BodyHas types sets effect
 
 -- ---- natives
 -- something is done to the object's own member of one of these numbers
@@ -85,9 +85,9 @@ NativeHas effects effect =
 -- what a method does at once when it is called: a signal nothing by itself, a slot what a statement of its body does, a
 -- native what it may do
 abbrev pub WorkHas : List ValueType → Work → Effect → Type 0
-WorkHas kinds Signal effect = ⊥
-WorkHas kinds (Slot body) effect = BodyHas kinds body effect
-WorkHas kinds (Native effects) effect = NativeHas effects effect
+WorkHas types Signal effect = ⊥
+WorkHas types (Slot body) effect = BodyHas types body effect
+WorkHas types (Native effects) effect = NativeHas effects effect
 
 -- ---- lists
 -- just those with P were added

@@ -137,22 +137,22 @@ fn add_work(
     ensures { IfOk result (λ _.
         Gathers (WorkReaches places.now class method.now) numbers.old numbers.new) }
 {
-    let effects = effects_of(alloc, method.kinds.as_slice(), &method.work)?;
+    let effects = effects_of(alloc, method.types.as_slice(), &method.work)?;
     let mut found = Added::new(alloc);
     add_all_reached(places, class, effects.as_slice(), &mut found)?;
     numbers.add_all(alloc, found.as_slice())
 }
 
 /// What is done at once when the method is called, whose parameters are of these types.
-fn effects_of(alloc: Global, kinds: &[ValueType], work: &Work) -> Result<Items<Effect>, AllocError>
+fn effects_of(alloc: Global, types: &[ValueType], work: &Work) -> Result<Items<Effect>, AllocError>
     ensures { IfOk result (λ effects.
-        (e : AnEffect) → Contains effects e ↔ WorkHas kinds.now work.now e) }
+        (e : AnEffect) → Contains effects e ↔ WorkHas types.now work.now e) }
 {
     let mut effects = Items::new(alloc);
     match work {
         Work::Signal => Ok(effects),
         Work::Slot(body) => {
-            gather(kinds, body.as_slice(), &mut effects)?;
+            gather(types, body.as_slice(), &mut effects)?;
             Ok(effects)
         }
         Work::Native(native) => {

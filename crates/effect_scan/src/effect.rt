@@ -32,14 +32,14 @@ pub struct Effect {
 
 /// The objects that a path may lead to, where the parameters are of these types: one of the declared class or below it; or
 /// `None` where it isn't declared to lead to objects.
-pub fn reach_of(kinds: &[ValueType], path: &MetaPath) -> Option<Reach>
-    ensures { result ≡ reach_of kinds.now path.now }
+pub fn reach_of(types: &[ValueType], path: &MetaPath) -> Option<Reach>
+    ensures { result ≡ reach_of types.now path.now }
 {
     match path.steps.as_slice().last() {
         Some(step) => reach_of_type(step.kind),
         None => match path.root {
             MetaRoot::This => Some(Reach::Own),
-            MetaRoot::Parameter(parameter) => reach_of_type(*kinds.get(parameter)?),
+            MetaRoot::Parameter(parameter) => reach_of_type(*types.get(parameter)?),
         },
     }
 }
@@ -56,17 +56,17 @@ fn reach_of_type(kind: ValueType) -> Option<Reach>
 
 /// What the statement does at once, where the parameters are of these types; nothing, where what is in it does it, or
 /// where it connects or posts.
-pub fn effect_of(kinds: &[ValueType], statement: &Statement) -> Option<Effect>
-    ensures { result ≡ effect_of kinds.now (out-Statement statement.now) }
+pub fn effect_of(types: &[ValueType], statement: &Statement) -> Option<Effect>
+    ensures { result ≡ effect_of types.now (out-Statement statement.now) }
 {
     match statement {
-        Statement::Set(path, property, _) => effect_on(kinds, path, Member::Property(*property)),
+        Statement::Set(path, property, _) => effect_on(types, path, Member::Property(*property)),
         Statement::Emit(signal, _) => Some(Effect {
             reach: Reach::Own,
             member: Member::Method(*signal),
         }),
-        Statement::Call(path, method, _) => effect_on(kinds, path, Member::Method(*method)),
-        Statement::Delete(path) => effect_on(kinds, path, Member::Destruction),
+        Statement::Call(path, method, _) => effect_on(types, path, Member::Method(*method)),
+        Statement::Delete(path) => effect_on(types, path, Member::Destruction),
         Statement::If(_, _, _)
         | Statement::Connect(_, _)
         | Statement::Disconnect(_)
@@ -76,24 +76,24 @@ pub fn effect_of(kinds: &[ValueType], statement: &Statement) -> Option<Effect>
 }
 
 /// Something that is done to this member of the objects that the path may lead to.
-fn effect_on(kinds: &[ValueType], path: &MetaPath, member: Member) -> Option<Effect>
-    ensures { result ≡ effect_on kinds.now member path.now }
+fn effect_on(types: &[ValueType], path: &MetaPath, member: Member) -> Option<Effect>
+    ensures { result ≡ effect_on types.now member path.now }
 {
-    let reach = reach_of(kinds, path)?;
+    let reach = reach_of(types, path)?;
     Some(Effect { reach, member })
 }
 
 /// What the statements of the body do at once, those in its blocks and groups too.
 #[cycle(bodies)]
 pub fn gather(
-    kinds: &[ValueType],
+    types: &[ValueType],
     body: &[Statement],
     effects: &mut Items<Effect>,
 ) -> Result<(), AllocError>
-    ensures { IfOk result (λ _. Gathers (BodyHas kinds.now body.now) effects.old effects.new) }
+    ensures { IfOk result (λ _. Gathers (BodyHas types.now body.now) effects.old effects.new) }
 {
     for statement in body {
-        gather_one(kinds, statement, effects)?;
+        gather_one(types, statement, effects)?;
     }
     Ok(())
 }
@@ -101,20 +101,20 @@ pub fn gather(
 /// What the statement does at once, and those that are in it.
 #[cycle(bodies)]
 fn gather_one(
-    kinds: &[ValueType],
+    types: &[ValueType],
     statement: &Statement,
     effects: &mut Items<Effect>,
 ) -> Result<(), AllocError>
     ensures { IfOk result (λ _.
-        Gathers (StatementHas kinds.now (out-Statement statement.now)) effects.old effects.new) }
+        Gathers (StatementHas types.now (out-Statement statement.now)) effects.old effects.new) }
 {
     match statement {
         Statement::If(_, chosen, other) => {
-            gather(kinds, chosen.as_slice(), effects)?;
-            gather(kinds, other.as_slice(), effects)
+            gather(types, chosen.as_slice(), effects)?;
+            gather(types, other.as_slice(), effects)
         }
-        Statement::Group(sets) => gather(kinds, sets.as_slice(), effects),
-        _ => match effect_of(kinds, statement) {
+        Statement::Group(sets) => gather(types, sets.as_slice(), effects),
+        _ => match effect_of(types, statement) {
             Some(effect) => effects.push(effect),
             None => Ok(()),
         },

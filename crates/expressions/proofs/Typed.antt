@@ -8,17 +8,17 @@ use Rattle.syntax_trees.specs.declared.syntax.Expr.TheOpen as layer
 use Rattle.expressions.specs.{declared.sort.Sort.{Sort}, declared.typing.ExprType.{ExprType}, declared.typing.ExprType.TheVariants.{Null, Of}, Operators.{unary, binary}, Evaluation.{value, value_step}, Typing.{value_sort, sort_of, declared_sort, type_of_sort, unary_sort, binary_sort, literal_type, type_step, type_of, declared_types, IsOf, HasValueOf, TypedPaths, Accepts, TakesValues}}
 use Rattle.expressions.specs.declared.sort.Sort.TheVariants as sort
 
-pub type_of-Literal : {P : Type 0} (kinds : P → Option QType) (v : Value) → type_of kinds (e.Literal v) ≡ literal_type v
-type_of-Literal {P} kinds v = ap (type_of kinds) (sym (e.rolls-Literal v)) ∙ fold-roll-Expr P (Option ExprType) (type_step kinds) (layer.Literal v)
+pub type_of-Literal : {P : Type 0} (types : P → Option QType) (v : Value) → type_of types (e.Literal v) ≡ literal_type v
+type_of-Literal {P} types v = ap (type_of types) (sym (e.rolls-Literal v)) ∙ fold-roll-Expr P (Option ExprType) (type_step types) (layer.Literal v)
 
-pub type_of-Path : {P : Type 0} (kinds : P → Option QType) (p : P) → type_of kinds (e.Path p) ≡ option_map (λ t. Of t) (kinds p)
-type_of-Path {P} kinds p = ap (type_of kinds) (sym (e.rolls-Path p)) ∙ fold-roll-Expr P (Option ExprType) (type_step kinds) (layer.Path p)
+pub type_of-Path : {P : Type 0} (types : P → Option QType) (p : P) → type_of types (e.Path p) ≡ option_map (λ t. Of t) (types p)
+type_of-Path {P} types p = ap (type_of types) (sym (e.rolls-Path p)) ∙ fold-roll-Expr P (Option ExprType) (type_step types) (layer.Path p)
 
-pub type_of-Unary : {P : Type 0} (kinds : P → Option QType) (op : Unary) (z : Expr P) → type_of kinds (e.Unary op z) ≡ option_map type_of_sort (option_and_then (unary_sort op) (option_and_then sort_of (type_of kinds z)))
-type_of-Unary {P} kinds op z = ap (type_of kinds) (sym (e.rolls-Unary op z)) ∙ fold-roll-Expr P (Option ExprType) (type_step kinds) (layer.Unary op z)
+pub type_of-Unary : {P : Type 0} (types : P → Option QType) (op : Unary) (z : Expr P) → type_of types (e.Unary op z) ≡ option_map type_of_sort (option_and_then (unary_sort op) (option_and_then sort_of (type_of types z)))
+type_of-Unary {P} types op z = ap (type_of types) (sym (e.rolls-Unary op z)) ∙ fold-roll-Expr P (Option ExprType) (type_step types) (layer.Unary op z)
 
-pub type_of-Binary : {P : Type 0} (kinds : P → Option QType) (op : Binary) (x y : Expr P) → type_of kinds (e.Binary op x y) ≡ option_map type_of_sort (option_and_then (λ a. option_and_then (binary_sort op a) (option_and_then sort_of (type_of kinds y))) (option_and_then sort_of (type_of kinds x)))
-type_of-Binary {P} kinds op x y = ap (type_of kinds) (sym (e.rolls-Binary op x y)) ∙ fold-roll-Expr P (Option ExprType) (type_step kinds) (layer.Binary op x y)
+pub type_of-Binary : {P : Type 0} (types : P → Option QType) (op : Binary) (x y : Expr P) → type_of types (e.Binary op x y) ≡ option_map type_of_sort (option_and_then (λ a. option_and_then (binary_sort op a) (option_and_then sort_of (type_of types y))) (option_and_then sort_of (type_of types x)))
+type_of-Binary {P} types op x y = ap (type_of types) (sym (e.rolls-Binary op x y)) ∙ fold-roll-Expr P (Option ExprType) (type_step types) (layer.Binary op x y)
 
 pub ruleset type_equations = (type_of-Literal, type_of-Path, type_of-Unary, type_of-Binary)
 
@@ -112,22 +112,22 @@ module _ (class : ℕ → Option (List ℕ)) (below : List ℕ → List ℕ → 
   path_typed found (Some s) t has is = subst (λ u. HasValueOf class below u found) (same_Some (Of s) t is) (has s refl)
 
   abbrev IsTyped : {P : Type 0} → (P → Option Value) → (P → Option QType) → Expr P → Type 0
-  IsTyped read kinds z = (t : ExprType) → type_of kinds z ≡ Some t → HasValueOf class below t (value read z)
+  IsTyped read types z = (t : ExprType) → type_of types z ≡ Some t → HasValueOf class below t (value read z)
 
-  opened : {P : Type 0} (read : P → Option Value) (kinds : P → Option QType) (l : layer.Expr-F P (Expr P)) (t : ExprType) → (type_step kinds (map-Expr P (Expr P) (Option ExprType) (type_of kinds) l) ≡ Some t → HasValueOf class below t (value_step read (map-Expr P (Expr P) (Option Value) (value read) l))) → type_of kinds (roll-Expr P l) ≡ Some t → HasValueOf class below t (value read (roll-Expr P l))
-  opened {P} read kinds l t has is =
+  opened : {P : Type 0} (read : P → Option Value) (types : P → Option QType) (l : layer.Expr-F P (Expr P)) (t : ExprType) → (type_step types (map-Expr P (Expr P) (Option ExprType) (type_of types) l) ≡ Some t → HasValueOf class below t (value_step read (map-Expr P (Expr P) (Option Value) (value read) l))) → type_of types (roll-Expr P l) ≡ Some t → HasValueOf class below t (value read (roll-Expr P l))
+  opened {P} read types l t has is =
       let at = fold-roll-Expr P (Option Value) (value_step read) l in
-      subst (λ found. HasValueOf class below t found) (sym at) (has (sym (fold-roll-Expr P (Option ExprType) (type_step kinds) l) ∙ is))
+      subst (λ found. HasValueOf class below t found) (sym at) (has (sym (fold-roll-Expr P (Option ExprType) (type_step types) l) ∙ is))
 
-  typed_layer : {P : Type 0} (read : P → Option Value) (kinds : P → Option QType) → TypedPaths class below read kinds → (y : layer.Expr-F P ((z : Expr P) × IsTyped read kinds z)) → IsTyped read kinds (roll-Expr P (map-Expr P ((z : Expr P) × IsTyped read kinds z) (Expr P) (λ e. e.0) y))
-  typed_layer read kinds paths (layer.Literal v) t is = opened read kinds (layer.Literal v) t (λ typed. (v, refl, literal_typed v t typed)) is
-  typed_layer read kinds paths (layer.Path p) t is = opened read kinds (layer.Path p) t (path_typed (read p) (kinds p) t (paths p)) is
-  typed_layer read kinds paths (layer.Unary op x) t is = opened read kinds (layer.Unary op x.0) t (unary_typed op (value read x.0) (type_of kinds x.0) t x.1) is
-  typed_layer read kinds paths (layer.Binary op x y) t is = opened read kinds (layer.Binary op x.0 y.0) t (binary_typed op (value read x.0) (value read y.0) (type_of kinds x.0) (type_of kinds y.0) t x.1 y.1) is
+  typed_layer : {P : Type 0} (read : P → Option Value) (types : P → Option QType) → TypedPaths class below read types → (y : layer.Expr-F P ((z : Expr P) × IsTyped read types z)) → IsTyped read types (roll-Expr P (map-Expr P ((z : Expr P) × IsTyped read types z) (Expr P) (λ e. e.0) y))
+  typed_layer read types paths (layer.Literal v) t is = opened read types (layer.Literal v) t (λ typed. (v, refl, literal_typed v t typed)) is
+  typed_layer read types paths (layer.Path p) t is = opened read types (layer.Path p) t (path_typed (read p) (types p) t (paths p)) is
+  typed_layer read types paths (layer.Unary op x) t is = opened read types (layer.Unary op x.0) t (unary_typed op (value read x.0) (type_of types x.0) t x.1) is
+  typed_layer read types paths (layer.Binary op x y) t is = opened read types (layer.Binary op x.0 y.0) t (binary_typed op (value read x.0) (value read y.0) (type_of types x.0) (type_of types y.0) t x.1 y.1) is
 
   -- by induction on the expression
-  pub typed_has_value : {P : Type 0} (read : P → Option Value) (kinds : P → Option QType) → TypedPaths class below read kinds → (z : Expr P) (t : ExprType) → type_of kinds z ≡ Some t → HasValueOf class below t (value read z)
-  typed_has_value {P} read kinds paths = ind-Expr P (IsTyped read kinds) (λ x y is. subst (λ l. IsTyped read kinds (roll-Expr P l)) is (typed_layer read kinds paths y))
+  pub typed_has_value : {P : Type 0} (read : P → Option Value) (types : P → Option QType) → TypedPaths class below read types → (z : Expr P) (t : ExprType) → type_of types z ≡ Some t → HasValueOf class below t (value read z)
+  typed_has_value {P} read types paths = ind-Expr P (IsTyped read types) (λ x y is. subst (λ l. IsTyped read types (roll-Expr P l)) is (typed_layer read types paths y))
 
 -- ---- accepted types
 

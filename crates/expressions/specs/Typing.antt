@@ -67,15 +67,15 @@ abbrev pub literal_type : Value → Option ExprType
 literal_type (value.Ref (Some o)) = None
 literal_type v = Some (type_of_sort (value_sort v))
 
--- the type of an expression from those of its parts, where `kinds` gives the declared types of its paths
+-- the type of an expression from those of its parts, where `types` gives the declared types of its paths
 abbrev pub type_step : {P : Type 0} → (P → Option QType) → layer.Expr-F P (Option ExprType) → Option ExprType
-type_step kinds (layer.Literal v) = literal_type v
-type_step kinds (layer.Path p) = option_map (λ t. Of t) (kinds p)
-type_step kinds (layer.Unary op t) = option_map type_of_sort (option_and_then (unary_sort op) (option_and_then sort_of t))
-type_step kinds (layer.Binary op t u) = option_map type_of_sort (option_and_then (λ a. option_and_then (binary_sort op a) (option_and_then sort_of u)) (option_and_then sort_of t))
+type_step types (layer.Literal v) = literal_type v
+type_step types (layer.Path p) = option_map (λ t. Of t) (types p)
+type_step types (layer.Unary op t) = option_map type_of_sort (option_and_then (unary_sort op) (option_and_then sort_of t))
+type_step types (layer.Binary op t u) = option_map type_of_sort (option_and_then (λ a. option_and_then (binary_sort op a) (option_and_then sort_of u)) (option_and_then sort_of t))
 
 abbrev pub type_of : {P : Type 0} → (P → Option QType) → Expr P → Option ExprType
-type_of {P} kinds = fold-Expr P (Option ExprType) (type_step kinds)
+type_of {P} types = fold-Expr P (Option ExprType) (type_step types)
 
 -- A declared type accepts the same value type; a reference type accepts the references to its class or one below it,
 -- but a const one only if it is const itself, and null.
@@ -103,14 +103,14 @@ HasValueOf class below t found = (v : Value) × (found ≡ Some v) × IsOf class
 
 -- every path with a type leads to a value of that type
 abbrev pub TypedPaths : {P : Type 0} → (ℕ → Option (List ℕ)) → (List ℕ → List ℕ → Type 0) → (P → Option Value) → (P → Option QType) → Type 0
-TypedPaths {P} class below read kinds = (p : P) (t : QType) → kinds p ≡ Some t → HasValueOf class below (Of t) (read p)
+TypedPaths {P} class below read types = (p : P) (t : QType) → types p ≡ Some t → HasValueOf class below (Of t) (read p)
 
 -- Whatever classes the objects have: where every path with a type leads to a value of that type, every expression with
 -- a type has a value, and it is of that type.
 abbrev pub TypedHaveValues : {P : Type 0} → (List ℕ → List ℕ → Type 0) → (P → Option Value) → (P → Option QType) → Type 0
-TypedHaveValues {P} below read kinds =
-    (class : ℕ → Option (List ℕ)) → TypedPaths class below read kinds →
-    (z : Expr P) (t : ExprType) → type_of kinds z ≡ Some t → HasValueOf class below t (value_of read z)
+TypedHaveValues {P} below read types =
+    (class : ℕ → Option (List ℕ)) → TypedPaths class below read types →
+    (z : Expr P) (t : ExprType) → type_of types z ≡ Some t → HasValueOf class below t (value_of read z)
 
 -- whatever is of the given type is of the declared one
 abbrev pub TakesValues : (List ℕ → List ℕ → Type 0) → QType → ExprType → Type 0

@@ -36,11 +36,11 @@ impl ExprType {
 /// What the paths of expressions are declared as.
 pub trait Names<P> {
     /// The declared type of what a path leads to, if there is one.
-    ghost kinds: { Self → P → Option AQType };
+    ghost types: { Self → P → Option AQType };
 
     /// The declared type of what a path leads to, if there is one.
     fn kind(&self, path: &P) -> Result<Option<QType>, AllocError>
-        ensures { IfOk result (λ found. found ≡ kinds self.now path.now) };
+        ensures { IfOk result (λ found. found ≡ types self.now path.now) };
 }
 
 /// Which classes inherit which.
@@ -63,7 +63,7 @@ pub fn type_of<P: Drop, N: Names<P>>(
     expression: &Expr<P>,
     names: &N,
 ) -> Result<Option<ExprType>, AllocError>
-    ensures { IfOk result (λ found. found ≡ type_of (N.kinds names.now) expression.now) }
+    ensures { IfOk result (λ found. found ≡ type_of (N.types names.now) expression.now) }
 {
     match expression {
         Expr::Literal(value) => literal_type(alloc, value),
@@ -154,6 +154,6 @@ pub fn typed_have_values<P: Drop, W: World<P>, N: Names<P>, C: Classes>(
     names: &N,
     classes: &C,
 )
-    ensures values { TypedHaveValues (C.below classes.now) (W.read world.now) (N.kinds names.now) }
+    ensures values { TypedHaveValues (C.below classes.now) (W.read world.now) (N.types names.now) }
     ensures this { ThisIsTyped (C.below classes.now) }
 {}

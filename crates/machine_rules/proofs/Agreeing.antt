@@ -146,7 +146,7 @@ module _ {p : Loaded} {s t : State} (agree : Agree p s.objects s.bindings) (well
   emission-agrees : (o g : ℕ) (arguments : List Value) (last : ℕ) (below : List Activation) (found : Option Connection) → EmitRule p s o g arguments last below t found → Agree p t.objects t.bindings
   emission-agrees o g arguments last below None r = agree-at _ r agree
   emission-agrees o g arguments last below (Some c) r =
-      arrives-agrees (with_used s c) (Emit o g arguments c.number last ∷ below) r.home c.receiver r.receiver c.method r.method (take (length r.method.kinds) arguments) (reaches_at_once c.kind r.home (running s.turn)) agree r.arrives
+      arrives-agrees (with_used s c) (Emit o g arguments c.number last ∷ below) r.home c.receiver r.receiver c.method r.method (take (length r.method.types) arguments) (reaches_at_once c.kind r.home (running s.turn)) agree r.arrives
 
   update-agrees : (below : List Activation) (places : List Place) → UpdateRule p s below t places → Agree p t.objects t.bindings
   update-agrees below [] r = agree-at _ r agree
@@ -154,7 +154,7 @@ module _ {p : Loaded} {s t : State} (agree : Agree p s.objects s.bindings) (well
     where
       by_life : (life : Option Life) → NotifiesIf p s (Update places ∷ below) place t life → Agree p t.objects t.bindings
       by_life None e = agree-at _ e agree
-      by_life (Some l) n = begun-agrees s (Update places ∷ below) place.object n.object n.signal n.method (take (length n.method.kinds) (n.present ∷ [])) Signal agree n.gives
+      by_life (Some l) n = begun-agrees s (Update places ∷ below) place.object n.object n.signal n.method (take (length n.method.types) (n.present ∷ [])) Signal agree n.gives
 
   delivers-agrees : (u : State) (item : Item) → Agree p u.objects u.bindings → Delivers p u t item → Agree p t.objects t.bindings
   delivers-agrees u (Call o m arguments) before r = by_life (life_of u.objects o) r

@@ -7,18 +7,18 @@ use Rattle.object_tree.{specs.Objects.{Lives, life_of}, proofs.Changing.{lives-o
 use Rattle.machine_state.{specs.Connections.{is_living, next_used}, proofs.Due.{used-among, used-due, used-living}}
 use Rattle.machine_rules.{specs.Good.{ArgumentsFit}, specs.code.Sound.{Sends, SendsThese, Joined, IsDelivered, MayBeHeard}, specs.There.{IsMember, IsDead}, proofs.Dying.{lives-or-dead}, proofs.Fields.{member-method, method-unique, read-front}}
 
-pub fit-of : {p : Loaded} {objects : List Object} {o m : ℕ} {x : Object} {method : MetaMethod} {arguments : List Value} → IsMember p objects o m x method → ReadAs p objects arguments method.kinds → ArgumentsFit p objects o m arguments
+pub fit-of : {p : Loaded} {objects : List Object} {o m : ℕ} {x : Object} {method : MetaMethod} {arguments : List Value} → IsMember p objects o m x method → ReadAs p objects arguments method.types → ArgumentsFit p objects o m arguments
 fit-of {x = x} {method = method} is typed = record { object = x; method = method; is = is; typed = typed }
 
 -- ---- connections
 
 -- a signal that is heard has one list of types
-heard-kinds : {p : Loaded} (objects : List Object) (o g : ℕ) {a b : List ValueType} → Sends p objects o g a → Sends p objects o g b → (IsDead objects o → g ≡ DESTROYED) → a ≡ b
-heard-kinds {p} objects o g {a} {b} x y last_one = elim (lives-or-dead objects o x.takes.created) as (λ h. a ≡ b) [
+heard-types : {p : Loaded} (objects : List Object) (o g : ℕ) {a b : List ValueType} → Sends p objects o g a → Sends p objects o g b → (IsDead objects o → g ≡ DESTROYED) → a ≡ b
+heard-types {p} objects o g {a} {b} x y last_one = elim (lives-or-dead objects o x.takes.created) as (λ h. a ≡ b) [
   | inl there ↦
       let first = x.takes.living there.0 there.1 there.2 in
       let second = y.takes.living there.0 there.1 there.2 in
-      sym first.takes ∙ ap (λ (k : MetaMethod). k.kinds) (method-unique first.is second.is) ∙ second.takes
+      sym first.takes ∙ ap (λ (k : MetaMethod). k.types) (method-unique first.is second.is) ∙ second.takes
   | inr gone ↦ x.last (last_one gone) ∙ sym (y.last (last_one gone))
 ]
 
@@ -35,15 +35,15 @@ pub next-delivered : {p : Loaded} {objects : List Object} {arguments : List Valu
 next-delivered {p} {objects} {arguments} connections o g used last c all emitted may found =
     let j : Joined p objects c = used-among (Joined p objects) objects connections o g used last c all found in
     let is = (used-due objects connections o g used last c found).0 in
-    let sends : Sends p objects o g (j.kinds ++ j.rest) =
-    subst (λ (n : ℕ). Sends p objects o n (j.kinds ++ j.rest)) is.1 (subst (λ (n : ℕ). Sends p objects n c.signal (j.kinds ++ j.rest)) is.0 j.sends) in
+    let sends : Sends p objects o g (j.types ++ j.rest) =
+    subst (λ (n : ℕ). Sends p objects o n (j.types ++ j.rest)) is.1 (subst (λ (n : ℕ). Sends p objects n c.signal (j.types ++ j.rest)) is.0 j.sends) in
     let last_one : IsDead objects o → g ≡ DESTROYED = λ gone. elim may as (λ h. g ≡ DESTROYED) [
       | inl is_last ↦ is_last
       | inr quiet ↦ absurd (used-among (λ (d : Connection). d.sender ≢ o) objects connections o g used last c (quiet gone) found is.0)
     ] in
-    let same : emitted.kinds ≡ j.kinds ++ j.rest = heard-kinds objects o g emitted.sends sends last_one in
-    let split : ReadAs p objects arguments (j.kinds ++ j.rest) = subst (λ (l : List ValueType). ReadAs p objects arguments l) same emitted.typed in
-    let front : ReadAs p objects (take (length j.kinds) arguments) j.kinds = read-front p objects arguments j.kinds j.rest split in
+    let same : emitted.types ≡ j.types ++ j.rest = heard-types objects o g emitted.sends sends last_one in
+    let split : ReadAs p objects arguments (j.types ++ j.rest) = subst (λ (l : List ValueType). ReadAs p objects arguments l) same emitted.typed in
+    let front : ReadAs p objects (take (length j.types) arguments) j.types = read-front p objects arguments j.types j.rest split in
     let receiver = has-life objects c.receiver (used-living objects connections o g used last c found) in
     let declared = j.receives.living receiver.0 receiver.1 receiver.2 in
     record {
@@ -54,8 +54,8 @@ next-delivered {p} {objects} {arguments} connections o g used last c all emitted
     }
 
 -- .. which are those that it is given
-pub delivered-fits : {p : Loaded} {objects : List Object} {c : Connection} {x : Object} {method : MetaMethod} {arguments taken : List Value} {count : ℕ} → IsDelivered p objects c arguments → IsMember p objects c.receiver c.method x method → taken ≡ take count arguments → count ≡ length method.kinds → ArgumentsFit p objects c.receiver c.method taken
+pub delivered-fits : {p : Loaded} {objects : List Object} {c : Connection} {x : Object} {method : MetaMethod} {arguments taken : List Value} {count : ℕ} → IsDelivered p objects c arguments → IsMember p objects c.receiver c.method x method → taken ≡ take count arguments → count ≡ length method.types → ArgumentsFit p objects c.receiver c.method taken
 delivered-fits {p} {objects} {c} {x} {method} {arguments} {taken} d is cut count_is =
     let same : method ≡ d.method = member-method is d.is in
-    let taken_is : taken ≡ take (length d.method.kinds) arguments = cut ∙ ap (λ (n : ℕ). take n arguments) count_is ∙ ap (λ (k : MetaMethod). take (length k.kinds) arguments) same in
+    let taken_is : taken ≡ take (length d.method.types) arguments = cut ∙ ap (λ (n : ℕ). take n arguments) count_is ∙ ap (λ (k : MetaMethod). take (length k.types) arguments) same in
     subst (λ (l : List Value). ArgumentsFit p objects c.receiver c.method l) (sym taken_is) (fit-of d.is d.typed)

@@ -1,4 +1,4 @@
--- A method that fits a signal by its declared types fits it by their kinds.
+-- A method that fits a signal by its declared types fits it by their value_types.
 use Rattle.std.proofs.Common.{◌≡◌, ◌≢◌, inl, inr, ℕ, Bool, true, false, cond, List, [], ◌∷◌, ◌++◌, length, Some, slice_get, codes, refl, sym, ap, ◌∙◌, subst, arith}
 use Rattle.std.specs.List.{AllZip}
 use Rattle.std.proofs.lemmas.Bool.{cases_eq, ne_eqb}
@@ -51,28 +51,28 @@ kind-unique p T (kind.Reference c j) (kind.Reference d k) distinct x y =
     let same_constant : j ≡ k = sym x.1 ∙ y.1 in
     ap (λ (n : ℕ). kind.Reference n j) same_class ∙ ap (λ (b : Bool). kind.Reference d b) same_constant
 
--- the kinds of a front of types are a front of the types' kinds
-pub kinds-front : (p : Loaded) (types front : List QType) (kinds fronts : List ValueType) (more : List QType) → AreDistinctClasses p.classes → AllZip (IsKind p) types kinds → AllZip (IsKind p) front fronts → types ≡ front ++ more → (rest : List ValueType) × (kinds ≡ fronts ++ rest)
-kinds-front p types [] kinds [] more distinct x y e = (kinds, refl)
-kinds-front p types [] kinds (k ∷ fronts) more distinct x y e = absurd y
-kinds-front p types (T ∷ front) kinds [] more distinct x y e = absurd y
-kinds-front p [] (T ∷ front) kinds (k ∷ fronts) more distinct x y e = absurd (cc e)
-kinds-front p (U ∷ types) (T ∷ front) [] (k ∷ fronts) more distinct x y e = absurd x
-kinds-front p (U ∷ types) (T ∷ front) (l ∷ kinds) (k ∷ fronts) more distinct x y e =
+-- the value_types of a front of types are a front of the types' value_types
+pub types-front : (p : Loaded) (types front : List QType) (value_types fronts : List ValueType) (more : List QType) → AreDistinctClasses p.classes → AllZip (IsKind p) types value_types → AllZip (IsKind p) front fronts → types ≡ front ++ more → (rest : List ValueType) × (value_types ≡ fronts ++ rest)
+types-front p types [] value_types [] more distinct x y e = (value_types, refl)
+types-front p types [] value_types (k ∷ fronts) more distinct x y e = absurd y
+types-front p types (T ∷ front) value_types [] more distinct x y e = absurd y
+types-front p [] (T ∷ front) value_types (k ∷ fronts) more distinct x y e = absurd (cc e)
+types-front p (U ∷ types) (T ∷ front) [] (k ∷ fronts) more distinct x y e = absurd x
+types-front p (U ∷ types) (T ∷ front) (l ∷ value_types) (k ∷ fronts) more distinct x y e =
     let first : U ≡ T = cc e in
     let later : types ≡ front ++ more = cc e in
-    let found = kinds-front p types front kinds fronts more distinct x.1 y.1 later in
+    let found = types-front p types front value_types fronts more distinct x.1 y.1 later in
     let same : l ≡ k = kind-unique p T l k distinct (subst (λ (t : QType). IsKind p t l) first x.0) y.0 in
-    (found.0, ap (λ (h : ValueType). h ∷ kinds) same ∙ ap (λ (ks : List ValueType). k ∷ ks) found.1)
+    (found.0, ap (λ (h : ValueType). h ∷ value_types) same ∙ ap (λ (ks : List ValueType). k ∷ ks) found.1)
 
--- the kinds that a method declares
-kinds-of : {p : Loaded} {c m : ℕ} {method : MetaMethod} → IsSound p → IsMethod p c m method → AllZip (IsKind p) method.sig.types method.kinds
-kinds-of {c = c} {m = m} {method = method} sound is = ((sound.classes c is.class is.is_class).methods m method is.is).kinds
+-- the value_types that a method declares
+value_types-of : {p : Loaded} {c m : ℕ} {method : MetaMethod} → IsSound p → IsMethod p c m method → AllZip (IsKind p) method.sig.types method.types
+value_types-of {c = c} {m = m} {method = method} sound is = ((sound.classes c is.class is.is_class).methods m method is.is).types
 
-none-kinds : (p : Loaded) (types : List QType) (kinds : List ValueType) → types ≡ [] → AllZip (IsKind p) types kinds → kinds ≡ []
-none-kinds p [] [] e x = refl
-none-kinds p [] (k ∷ kinds) e x = absurd x
-none-kinds p (T ∷ types) kinds e x = absurd (cc e)
+none-value_types : (p : Loaded) (types : List QType) (value_types : List ValueType) → types ≡ [] → AllZip (IsKind p) types value_types → value_types ≡ []
+none-value_types p [] [] e x = refl
+none-value_types p [] (k ∷ value_types) e x = absurd x
+none-value_types p (T ∷ types) value_types e x = absurd (cc e)
 
 -- nothing but nothing is a front of nothing
 front-none : (front more : List QType) → [] ≡ front ++ more → front ≡ []
@@ -90,16 +90,16 @@ named-other g other = ap (λ (b : Bool). cond b DESTROYED g) (ne_eqb g DESTROYED
 
 -- a method of the class that gives what this one takes
 abbrev Gives : Loaded → ℕ → MetaMethod → ℕ → Type 0
-Gives p c method n = (kept : MetaMethod) × IsMethod p c n kept × ((rest : List ValueType) × (kept.kinds ≡ method.kinds ++ rest))
+Gives p c method n = (kept : MetaMethod) × IsMethod p c n kept × ((rest : List ValueType) × (kept.types ≡ method.types ++ rest))
 
 destroyed-gives : {p : Loaded} {c d m : ℕ} {signal method : MetaMethod} → IsSound p → IsMethod p c DESTROYED_ALONE signal → IsMethod p d m method → Fits signal.sig method.sig → Gives p c method DESTROYED
 destroyed-gives {p} {c} {signal = signal} {method = method} sound is has fits =
     let none = destroyed_alone_types sound c signal is in
     let takes_none = front-none method.sig.types fits.0 (sym none ∙ fits.1) in
-    let empty : method.kinds ≡ [] = none-kinds p method.sig.types method.kinds takes_none (kinds-of sound has) in
+    let empty : method.types ≡ [] = none-value_types p method.sig.types method.types takes_none (value_types-of sound has) in
     let first = first-there is.class.methods signal is.is in
-    let all : first.0.kinds ≡ method.kinds ++ first.0.kinds = sym (ap (λ (ks : List ValueType). ks ++ first.0.kinds) empty) in
-    (first.0, record { class = is.class; is_class = is.is_class; is = first.1 }, (first.0.kinds, all))
+    let all : first.0.types ≡ method.types ++ first.0.types = sym (ap (λ (ks : List ValueType). ks ++ first.0.types) empty) in
+    (first.0, record { class = is.class; is_class = is.is_class; is = first.1 }, (first.0.types, all))
 
 -- the signal that a spelling names is there
 pub named-there : {p : Loaded} {c : ℕ} (g : ℕ) {signal : MetaMethod} → IsMethod p c g signal → (kept : MetaMethod) × IsMethod p c (named_signal g) kept
@@ -115,11 +115,11 @@ named-there {p} {c} g {signal} is =
     ]
 
 -- the signal that a connection keeps gives what a method takes that fits the signal that is spelled
-pub kinds-fit : {p : Loaded} {c d g m : ℕ} {signal method : MetaMethod} → IsSound p → IsMethod p c g signal → IsMethod p d m method → Fits signal.sig method.sig → (kept : MetaMethod) × IsMethod p c (named_signal g) kept × ((rest : List ValueType) × (kept.kinds ≡ method.kinds ++ rest))
-kinds-fit {p} {c} {g = g} {signal = signal} {method = method} sound is has fits =
+pub types-fit : {p : Loaded} {c d g m : ℕ} {signal method : MetaMethod} → IsSound p → IsMethod p c g signal → IsMethod p d m method → Fits signal.sig method.sig → (kept : MetaMethod) × IsMethod p c (named_signal g) kept × ((rest : List ValueType) × (kept.types ≡ method.types ++ rest))
+types-fit {p} {c} {g = g} {signal = signal} {method = method} sound is has fits =
     let Is : ℕ → Type 0 = λ n. IsMethod p c n signal in
     elim (cases_eq g DESTROYED_ALONE) as (λ r. Gives p c method (named_signal g)) [
       | inl same ↦ subst (λ (n : ℕ). Gives p c method (named_signal n)) (sym same) (destroyed-gives sound (subst Is same is) has fits)
       | inr other ↦ subst (λ (n : ℕ). Gives p c method n) (sym (named-other g other))
-          (signal, is, kinds-front p signal.sig.types method.sig.types signal.kinds method.kinds fits.0 sound.distinct_classes (kinds-of sound is) (kinds-of sound has) fits.1)
+          (signal, is, types-front p signal.sig.types method.sig.types signal.types method.types fits.0 sound.distinct_classes (value_types-of sound is) (value_types-of sound has) fits.1)
     ]

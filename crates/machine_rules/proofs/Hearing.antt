@@ -172,7 +172,7 @@ module _ (p : Loaded) (s t : State) where
   emission-heard : (o g : ℕ) (arguments : List Value) (last : ℕ) (below : List Activation) (found : Option Connection) → ((n : ℕ) → In (Emit o g arguments n last ∷ below)) → EmitRule p s o g arguments last below t found → Heard t
   emission-heard o g arguments last below None all r = heard-as r (all 0).1
   emission-heard o g arguments last below (Some c) all r =
-      arrives-heard t (with_used s c) (Emit o g arguments c.number last ∷ below) r.home c.receiver r.receiver c.method r.method (take (length r.method.kinds) arguments) (reaches_at_once c.kind r.home (running s.turn)) r.is r.arrives
+      arrives-heard t (with_used s c) (Emit o g arguments c.number last ∷ below) r.home c.receiver r.receiver c.method r.method (take (length r.method.types) arguments) (reaches_at_once c.kind r.home (running s.turn)) r.is r.arrives
       (still-heard s.objects s.objects s.connected.connections (after_use c s.connected).connections (λ k gone. gone) (λ k gone none. fewer-used k c s.connected none) (Emit o g arguments c.number last ∷ below) (all c.number))
 
   update-heard : (below : List Activation) (places : List Place) → In below → UpdateRule p s below t places → Heard t

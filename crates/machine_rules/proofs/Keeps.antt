@@ -7,7 +7,7 @@ use Rattle.event_loops.specs.{declared.item.Item.{Item}, declared.item.Item.TheV
 use Rattle.object_tree.{specs.declared.life.Life.{Life}, specs.declared.object.Object.{Object}, specs.Objects.{Lives, life_of, class_of, change_life, scheduled}, specs.Family.{without_life}, proofs.Changing.{life-of-lives, lives-of-life}, specs.Typed.{ReadAs}, proofs.TypedObjects.{Follow, read-still}}
 use Rattle.connections.specs.{declared.connection.Connection.{Connection}, Connected.{touches}}
 use Rattle.binding_graph.specs.{declared.place.Place.{Place}, declared.binding.Binding.{Binding}}
-use Rattle.machine_rules.{specs.Destroying.{Dies, forgotten, NextRule, ChildRule, DestroyRule, living_child, Schedules}, specs.Rules.{RuleAt, BodyRule, Does, EmitRule, UpdateRule, NotifiesIf, Begins, BeginsIf, begun, with_used, linked, unlinked, TurnRule, Serves, Delivers, Arrives}, specs.Operations.{Operation, Write, Begin, Choose, Connect, Disconnect, Delete, Schedule, TakeAnswer, Nothing}, proofs.Doing.{step-of}, proofs.Waiting.{length-change, housed-same, home-change}, specs.There.{IsMember, IsDead}, specs.Connecting.{AreThere, kept_ends, named_signal, names_of, found_ends, may_connect}, specs.Judgement.{goes_on, holds}, proofs.Fitting.{kinds-fit}, proofs.Lists.{all-snoc}, proofs.Declared.{member-takes, member-sends}, proofs.Dying.{lives-or-dead, lives-not-dead, died-stay, died-home, scheduled-stay}, specs.code.Going.{GoodRules, done, then}, specs.code.Sound.{IsDeclared, Receives, Sends, Joined, AgreeIn}, specs.Reaches.{Reaches}, specs.Settling.{Settles, Writes, Installs}, proofs.Agreeing.{rules-settled}, proofs.Differing.{differ-stay, differ-home}, specs.code.Keeps.{StayThere, AllJoined, Grows, Keeps, KeepsWorld}, specs.Natives.{NativeAnswers}, specs.Good.{whose, shows}, proofs.Scheduling.{deferred, schedule-cases}}
+use Rattle.machine_rules.{specs.Destroying.{Dies, forgotten, NextRule, ChildRule, DestroyRule, living_child, Schedules}, specs.Rules.{RuleAt, BodyRule, Does, EmitRule, UpdateRule, NotifiesIf, Begins, BeginsIf, begun, with_used, linked, unlinked, TurnRule, Serves, Delivers, Arrives}, specs.Operations.{Operation, Write, Begin, Choose, Connect, Disconnect, Delete, Schedule, TakeAnswer, Nothing}, proofs.Doing.{step-of}, proofs.Waiting.{length-change, housed-same, home-change}, specs.There.{IsMember, IsDead}, specs.Connecting.{AreThere, kept_ends, named_signal, names_of, found_ends, may_connect}, specs.Judgement.{goes_on, holds}, proofs.Fitting.{types-fit}, proofs.Lists.{all-snoc}, proofs.Declared.{member-takes, member-sends}, proofs.Dying.{lives-or-dead, lives-not-dead, died-stay, died-home, scheduled-stay}, specs.code.Going.{GoodRules, done, then}, specs.code.Sound.{IsDeclared, Receives, Sends, Joined, AgreeIn}, specs.Reaches.{Reaches}, specs.Settling.{Settles, Writes, Installs}, proofs.Agreeing.{rules-settled}, proofs.Differing.{differ-stay, differ-home}, specs.code.Keeps.{StayThere, AllJoined, Grows, Keeps, KeepsWorld}, specs.Natives.{NativeAnswers}, specs.Good.{whose, shows}, proofs.Scheduling.{deferred, schedule-cases}}
 use Rattle.trace_entries.specs.{declared.entry.Entry.{Entry}, declared.refusal.Refusal.{Refusal}}
 use Rattle.syntax_trees.specs.{declared.connection.ConnectionType.{ConnectionType}, declared.connection.Endpoints.{Endpoints as Named}}
 use Rattle.prop_bindings.specs.Changes.{DifferInValues}
@@ -46,15 +46,15 @@ lives-on old new o {x} {l} stay spared lives = elim (stay.living o l.class (clas
 ]
 
 -- what a method takes it takes still
-pub takes-still : {p : Loaded} {old new : List Object} {o m : ℕ} {kinds : List ValueType} → StayThere old new → Receives p old o m kinds → Receives p new o m kinds
-takes-still {p} {old} {new} {o} {m} {kinds} stay takes =
-    let Declared : ℕ → Type 0 = λ k. IsDeclared p k m kinds in
+pub takes-still : {p : Loaded} {old new : List Object} {o m : ℕ} {types : List ValueType} → StayThere old new → Receives p old o m types → Receives p new o m types
+takes-still {p} {old} {new} {o} {m} {types} stay takes =
+    let Declared : ℕ → Type 0 = λ k. IsDeclared p k m types in
     record {
       created = omega (arith, takes.created, stay.created);
       living = λ x l lives. let before = lived old new o stay takes.created lives in subst Declared before.3 (takes.living before.0 before.1 before.2);
     }
 
-pub sends-still : {p : Loaded} {old new : List Object} {o g : ℕ} {kinds : List ValueType} → StayThere old new → Sends p old o g kinds → Sends p new o g kinds
+pub sends-still : {p : Loaded} {old new : List Object} {o g : ℕ} {types : List ValueType} → StayThere old new → Sends p old o g types → Sends p new o g types
 sends-still stay sends = record { takes = takes-still stay sends.takes; last = sends.last }
 
 -- what reads as a type does so still
@@ -80,7 +80,7 @@ stay-then {a} {b} {c} x y = record {
 -- ---- connections join what they joined
 
 joined-still : {p : Loaded} {old new : List Object} (c : Connection) → StayThere old new → Joined p old c → Joined p new c
-joined-still c stay j = record { kinds = j.kinds; rest = j.rest; sends = sends-still stay j.sends; receives = takes-still stay j.receives }
+joined-still c stay j = record { types = j.types; rest = j.rest; sends = sends-still stay j.sends; receives = takes-still stay j.receives }
 
 pub all-joined-still : (p : Loaded) (old new : List Object) (connections : List Connection) → StayThere old new → AllJoined p old connections → AllJoined p new connections
 all-joined-still p old new [] stay all = tt
@@ -90,12 +90,12 @@ all-joined-still p old new (c ∷ cs) stay all = (joined-still c stay all.0, all
 pub joined-by : {p : Loaded} {objects : List Object} {ends : Endpoints} (how : ConnectionType) (n : ℕ) (spelled : AreThere p objects ends) → IsSound p → Fits spelled.signal.sig spelled.method.sig →
     Joined p objects (record { number = n; sender = ends.sender; signal = named_signal ends.signal; receiver = ends.receiver; method = ends.method; kind = how.kind; single = how.single })
 joined-by {p} {objects} {ends} how n spelled program fits =
-    let front = kinds-fit program spelled.sends.is_method spelled.receives.is_method fits in
+    let front = types-fit program spelled.sends.is_method spelled.receives.is_method fits in
     let kept : IsMember p objects ends.sender (named_signal ends.signal) spelled.sender front.0 = record { life = spelled.sends.life; lives = spelled.sends.lives; is_method = front.1 } in
     record {
-      kinds = spelled.method.kinds;
+      types = spelled.method.types;
       rest = front.2.0;
-      sends = subst (λ (kinds : List ValueType). Sends p objects ends.sender (named_signal ends.signal) kinds) front.2.1 (member-sends program kept);
+      sends = subst (λ (types : List ValueType). Sends p objects ends.sender (named_signal ends.signal) types) front.2.1 (member-sends program kept);
       receives = member-takes spelled.receives;
     }
 

@@ -123,24 +123,24 @@ abbrev announced-field : {p : Loaded} {objects : List Object} {place : Place} {s
 announced-field a = record { life = a.life; lives = a.lives; class = a.notifies.object; is_class = a.notifies.is_class; is_property = a.notifies.is }
 
 -- .. and takes the property's value, or nothing
-taken-fits : (p : Loaded) (objects : List Object) (present : Value) (kind : ValueType) (kinds : List ValueType) → (kinds ≡ []) ⊎ (kinds ≡ kind ∷ []) → ReadsAs p objects present kind → ReadAs p objects (take (length kinds) (present ∷ [])) kinds
-taken-fits p objects present kind kinds (inl none) reads = subst (λ (l : List ValueType). ReadAs p objects (take (length l) (present ∷ [])) l) (sym none) tt
-taken-fits p objects present kind kinds (inr one) reads = subst (λ (l : List ValueType). ReadAs p objects (take (length l) (present ∷ [])) l) (sym one) (reads, tt)
+taken-fits : (p : Loaded) (objects : List Object) (present : Value) (kind : ValueType) (types : List ValueType) → (types ≡ []) ⊎ (types ≡ kind ∷ []) → ReadsAs p objects present kind → ReadAs p objects (take (length types) (present ∷ [])) types
+taken-fits p objects present kind types (inl none) reads = subst (λ (l : List ValueType). ReadAs p objects (take (length l) (present ∷ [])) l) (sym none) tt
+taken-fits p objects present kind types (inr one) reads = subst (λ (l : List ValueType). ReadAs p objects (take (length l) (present ∷ [])) l) (sym one) (reads, tt)
 
 pub announced-value : {p : Loaded} {objects : List Object} {place : Place} {signal : ℕ} → (a : Announces p objects place signal) → AreTyped p objects → (v : Value) × (stored objects place.object place.property ≡ Some v)
 announced-value a typed = old-there (announced-field a) typed
 
-pub announced-fits : {p : Loaded} {objects : List Object} {place : Place} {signal count : ℕ} {x : Object} {method : MetaMethod} {present : Value} {taken : List Value} → Announces p objects place signal → AreTyped p objects → IsMember p objects place.object signal x method → stored objects place.object place.property ≡ Some present → taken ≡ take count (present ∷ []) → count ≡ length method.kinds → ArgumentsFit p objects place.object signal taken
+pub announced-fits : {p : Loaded} {objects : List Object} {place : Place} {signal count : ℕ} {x : Object} {method : MetaMethod} {present : Value} {taken : List Value} → Announces p objects place signal → AreTyped p objects → IsMember p objects place.object signal x method → stored objects place.object place.property ≡ Some present → taken ≡ take count (present ∷ []) → count ≡ length method.types → ArgumentsFit p objects place.object signal taken
 announced-fits {p} {objects} {place} {signal} {count} {x} {method} {present} {taken} a typed is is_present cut count_is =
     let declared : MetaMethod = a.notifies.sound.signal in
     let method_is : declared ≡ method = member-method (announced-member a) is in
     let reads = stored-reads (announced-field a) typed is_present in
-    let fits : ReadAs p objects (take (length declared.kinds) (present ∷ [])) declared.kinds = taken-fits p objects present a.notifies.property.kind declared.kinds a.notifies.sound.fits reads in
-    let taken_is : taken ≡ take (length declared.kinds) (present ∷ []) = cut ∙ ap (λ (n : ℕ). take n (present ∷ [])) count_is ∙ ap (λ (k : MetaMethod). take (length k.kinds) (present ∷ [])) (sym method_is) in
+    let fits : ReadAs p objects (take (length declared.types) (present ∷ [])) declared.types = taken-fits p objects present a.notifies.property.kind declared.types a.notifies.sound.fits reads in
+    let taken_is : taken ≡ take (length declared.types) (present ∷ []) = cut ∙ ap (λ (n : ℕ). take n (present ∷ [])) count_is ∙ ap (λ (k : MetaMethod). take (length k.types) (present ∷ [])) (sym method_is) in
     subst (λ (l : List Value). ArgumentsFit p objects place.object signal l) (sym taken_is) (fit-of (announced-member a) fits)
 
 -- the notify signal begins by the next rule of the update
-pub announcement-calls : {p : Loaded} {natives : NativeAnswers} {w : World} {place : Place} {signal count : ℕ} {x : Object} {method : MetaMethod} {present : Value} {taken : List Value} (rest : List Place) → Announces p w.store.tree place signal → IsMember p w.store.tree place.object signal x method → stored w.store.tree place.object place.property ≡ Some present → taken ≡ take count (present ∷ []) → count ≡ length method.kinds → Calls p natives w (Update (place ∷ rest) ∷ []) (Update rest ∷ []) place.object signal taken
+pub announcement-calls : {p : Loaded} {natives : NativeAnswers} {w : World} {place : Place} {signal count : ℕ} {x : Object} {method : MetaMethod} {present : Value} {taken : List Value} (rest : List Place) → Announces p w.store.tree place signal → IsMember p w.store.tree place.object signal x method → stored w.store.tree place.object place.property ≡ Some present → taken ≡ take count (present ∷ []) → count ≡ length method.types → Calls p natives w (Update (place ∷ rest) ∷ []) (Update rest ∷ []) place.object signal taken
 announcement-calls {p} {natives} {w} {place} {signal} {count} {x} {method} {present} {taken} rest a is is_present cut count_is = record {
   no_lower = omega arith;
   objects = refl;
@@ -153,7 +153,7 @@ announcement-calls {p} {natives} {w} {place} {signal} {count} {x} {method} {pres
       let declared_is : n.sound.signal ≡ b.method = member-method (announced-member a) b.is in
       let found_is : method ≡ b.method = member-method is b.is in
       let work_is : b.method.work ≡ Signal = ap (λ (k : MetaMethod). k.work) (sym declared_is) ∙ n.sound.signals in
-      let taken_is : taken ≡ take (length b.method.kinds) (present ∷ []) = cut ∙ ap (λ (i : ℕ). take i (present ∷ [])) count_is ∙ ap (λ (k : MetaMethod). take (length k.kinds) (present ∷ [])) found_is in
+      let taken_is : taken ≡ take (length b.method.types) (present ∷ []) = cut ∙ ap (λ (i : ℕ). take i (present ∷ [])) count_is ∙ ap (λ (k : MetaMethod). take (length k.types) (present ∷ [])) found_is in
       let class_is : IsClass p b.is.life.class n.object = subst (λ (l : Life). IsClass p l.class n.object) (life-unique a.lives b.is.lives) n.is_class in
       let notifies : Notifies p s over place t = record {
         object = b.object;
@@ -165,7 +165,7 @@ announcement-calls {p} {natives} {w} {place} {signal} {count} {x} {method} {pres
         is_present = is_present;
         method = b.method;
         is_method = b.is.is_method;
-        gives = b.gives ∙ ap (λ (l : List Value). begun s over o b.object signal b.method l b.method.work) taken_is ∙ ap (λ (k : Work). begun s over o b.object signal b.method (take (length b.method.kinds) (present ∷ [])) k) work_is;
+        gives = b.gives ∙ ap (λ (l : List Value). begun s over o b.object signal b.method l b.method.work) taken_is ∙ ap (λ (k : Work). begun s over o b.object signal b.method (take (length b.method.types) (present ∷ [])) k) work_is;
       } in
       let Next : Option Life → Type 0 = λ life. NotifiesIf p s over place t life in
       subst Next (sym (life-of-lives b.is.lives)) notifies;

@@ -152,11 +152,11 @@ uses-one {s = s} {u = u} {below = below} {c = c} {arguments = arguments} a b =
     let method_is : a.method ≡ b.method = member-method a.is b.is in
     let homes : Some a.home ≡ Some b.home = sym a.lives_in ∙ b.lives_in in
     let home_is : a.home ≡ b.home = cc homes in
-    let Arrive : ℕ → Object → MetaMethod → Type 0 = λ home x k. Arrives (with_used s c) below home c.receiver x c.method k (take (length k.kinds) arguments) u (reaches_at_once c.kind home (running s.turn)) in
+    let Arrive : ℕ → Object → MetaMethod → Type 0 = λ home x k. Arrives (with_used s c) below home c.receiver x c.method k (take (length k.types) arguments) u (reaches_at_once c.kind home (running s.turn)) in
     let with_home : Arrive a.home b.receiver b.method = subst (λ (home : ℕ). Arrive home b.receiver b.method) (sym home_is) b.arrives in
     let with_receiver : Arrive a.home a.receiver b.method = subst (λ (x : Object). Arrive a.home x b.method) (sym receiver_is) with_home in
     let with_all : Arrive a.home a.receiver a.method = subst (λ (k : MetaMethod). Arrive a.home a.receiver k) (sym method_is) with_receiver in
-    arrives-one (with_used s c) below a.home c.receiver a.receiver c.method a.method (take (length a.method.kinds) arguments) (reaches_at_once c.kind a.home (running s.turn)) a.arrives with_all
+    arrives-one (with_used s c) below a.home c.receiver a.receiver c.method a.method (take (length a.method.types) arguments) (reaches_at_once c.kind a.home (running s.turn)) a.arrives with_all
 
 emit-one : (p : Loaded) (s : State) (o g : ℕ) (arguments : List Value) (last : ℕ) (below : List Activation) (t u : State) (found : Option Connection) → EmitRule p s o g arguments last below t found → EmitRule p s o g arguments last below u found → t ≡ u
 emit-one p s o g arguments last below t u None a b = a ∙ sym b
@@ -170,7 +170,7 @@ notifies-one {s = s} {below = below} {place = place} a b =
     let signal_is : a.signal ≡ b.signal = cc both in
     let present_is : a.present ≡ b.present = some-is a.is_present b.is_present in
     let method_is : a.method ≡ b.method = method-is (life-unique a.is.lives b.is.lives) signal_is a.is_method b.is_method in
-    let state_of : Object → ℕ → Value → MetaMethod → State = λ x g v k. begun s below place.object x g k (take (length k.kinds) (v ∷ [])) Signal in
+    let state_of : Object → ℕ → Value → MetaMethod → State = λ x g v k. begun s below place.object x g k (take (length k.types) (v ∷ [])) Signal in
     a.gives
     ∙ ap (λ (x : Object). state_of x a.signal a.present a.method) object_is
     ∙ ap (λ (g : ℕ). state_of b.object g a.present a.method) signal_is

@@ -123,11 +123,11 @@ module _ {p : Loaded} (sound : IsSound p) {objects : List Object} (typed : AreTy
           is = set_shown e (field-of (record { class = class; is_class = is_class; is = is }));
         }
 
-    emit-told : (k : ℕ) (vs : List Value) (at : Option ℕ) → slice_get effects.emits k ≡ at → IsTrue (option_map_or (λ (signal : MetaMethod). are_of vs signal.kinds) (option_and_then (λ g. slice_get class.methods g) at) false) → IsTellable p objects o effects (action.Emit k vs)
+    emit-told : (k : ℕ) (vs : List Value) (at : Option ℕ) → slice_get effects.emits k ≡ at → IsTrue (option_map_or (λ (signal : MetaMethod). are_of vs signal.types) (option_and_then (λ g. slice_get class.methods g) at) false) → IsTellable p objects o effects (action.Emit k vs)
     emit-told k vs None e declared = absurd (cc declared)
     emit-told k vs (Some g) e declared = by_method (slice_get class.methods g) refl declared
       where
-        by_method : (found : Option MetaMethod) → slice_get class.methods g ≡ found → IsTrue (option_map_or (λ (signal : MetaMethod). are_of vs signal.kinds) found false) → IsTellable p objects o effects (action.Emit k vs)
+        by_method : (found : Option MetaMethod) → slice_get class.methods g ≡ found → IsTrue (option_map_or (λ (signal : MetaMethod). are_of vs signal.types) found false) → IsTellable p objects o effects (action.Emit k vs)
         by_method None is declared = absurd (cc declared)
         by_method (Some signal) is declared = record {
           line = show.Emit signal.sig.name (all_shown objects vs);
@@ -168,9 +168,9 @@ native-of {p} {m = m} {method = method} sound does is declared is_class =
       native = ap (λ (k : MetaMethod). k.work) (member-method is does.is) ∙ sym does.is_work;
     }
 
-pub sound-native : {p : Loaded} {number m : ℕ} {method : MetaMethod} {class : MetaObject} {effects : MetaEffects} → IsSound p → IsNative p number m class method effects → IsSoundNative p number m method.kinds effects
+pub sound-native : {p : Loaded} {number m : ℕ} {method : MetaMethod} {class : MetaObject} {effects : MetaEffects} → IsSound p → IsNative p number m class method effects → IsSoundNative p number m method.types effects
 sound-native {p} {number} {m} {method} {class} sound n =
-    subst (λ (w : Work). IsSoundWork p number m method.kinds w) n.native ((sound.classes number class n.is_class).methods m method n.is).work
+    subst (λ (w : Work). IsSoundWork p number m method.types w) n.native ((sound.classes number class n.is_class).methods m method n.is).work
 
 -- its promise
 pub promised : {p : Loaded} (takes : Takes) (gives : Gives) {objects : List Object} {o m number : ℕ} {x : Object} {method : MetaMethod} {class : MetaObject} {effects : MetaEffects} {arguments reads : List Value} → IsSound p → Promises p takes gives → AreTyped p objects → ArgumentsFit p objects o m arguments → DoesWork p objects o m (Native effects) → (is : IsMember p objects o m x method) → DeclaredBy p m is.life.class number → IsClass p number class → AreRead objects o effects.reads reads → KeepsPromise takes gives class method effects arguments reads
@@ -178,9 +178,9 @@ promised {p} takes gives {objects = objects} {number = number} {method = method}
     let n = native-of sound does is declared is_class in
     let safe = sound-native sound n in
     let at = declared-at sound declared is.is_method in
-    let given : ReadAs p objects arguments method.kinds = subst (λ (k : MetaMethod). ReadAs p objects arguments k.kinds) (member-method fit.is is) fit.typed in
+    let given : ReadAs p objects arguments method.types = subst (λ (k : MetaMethod). ReadAs p objects arguments k.types) (member-method fit.is is) fit.typed in
     promises number _ class method effects n (class_of objects) arguments reads
-    (plain-values p objects arguments method.kinds (recursion_from_All IsPlain method.kinds safe.plain) given)
+    (plain-values p objects arguments method.types (recursion_from_All IsPlain method.types safe.plain) given)
     (all-values sound typed is.lives at.0 is_class safe.below effects.reads reads (recursion_from_All (IsPlainProperty p safe.declaring) effects.reads safe.sound.reads) are)
 
 -- the object has what it reads

@@ -15,13 +15,13 @@ use Rattle.syntax_trees.specs.{declared.connection.ConnectionType.{ConnectionTyp
 -- ---- as long as the objects stay there
 
 sends-stays : {p : Loaded} {old new : List Object} {o g : ℕ} {arguments : List Value} → StayThere old new → SendsThese p old o g arguments → SendsThese p new o g arguments
-sends-stays {p} {arguments = arguments} stay s = record { kinds = s.kinds; sends = sends-still stay s.sends; typed = values-stay p stay arguments s.kinds s.typed }
+sends-stays {p} {arguments = arguments} stay s = record { types = s.types; sends = sends-still stay s.sends; typed = values-stay p stay arguments s.types s.typed }
 
 pub emitted-still : {p : Loaded} {w v : World} {o g : ℕ} {arguments : List Value} → KeepsWorld p w v → SendsThese p w.store.tree o g arguments → SendsThese p v.store.tree o g arguments
 emitted-still keeps s = sends-stays keeps.objects s
 
 waits-still : (p : Loaded) (old new : List Object) (item : Item) → StayThere old new → Waits p old item → Waits p new item
-waits-still p old new (Call o m arguments) stay t = record { kinds = t.kinds; takes = takes-still stay t.takes; typed = values-stay p stay arguments t.kinds t.typed }
+waits-still p old new (Call o m arguments) stay t = record { types = t.types; takes = takes-still stay t.takes; typed = values-stay p stay arguments t.types t.typed }
 waits-still p old new (Deletion o) stay created = omega (arith, created, stay.created)
 
 pub all-wait-still : (p : Loaded) (old new : List Object) (loops : List Loop) → StayThere old new → AllWait p old loops → AllWait p new loops
@@ -187,8 +187,8 @@ module _ {p : Loaded} {s t : State} (program : IsSound p) (well : IsWell p s t) 
   emission-fair o g arguments used last below None joined is fit may lower high r = quiet-fair r lower
   emission-fair o g arguments used last below (Some c) joined is fit may lower high r =
       let d : IsDelivered p s.objects c arguments = next-delivered s.connected.connections o g used last c joined fit may is in
-      let given : ArgumentsFit p s.objects c.receiver c.method (take (length r.method.kinds) arguments) = delivered-fits d r.is refl refl in
-      arrives-fair p program (with_used s c) t (length s.stack) (Emit o g arguments c.number last ∷ below) r.home c.receiver r.receiver c.method r.method (take (length r.method.kinds) arguments) (reaches_at_once c.kind r.home (running s.turn)) given waiting (fit, lower) (omega (arith, high)) well.arguments r.arrives
+      let given : ArgumentsFit p s.objects c.receiver c.method (take (length r.method.types) arguments) = delivered-fits d r.is refl refl in
+      arrives-fair p program (with_used s c) t (length s.stack) (Emit o g arguments c.number last ∷ below) r.home c.receiver r.receiver c.method r.method (take (length r.method.types) arguments) (reaches_at_once c.kind r.home (running s.turn)) given waiting (fit, lower) (omega (arith, high)) well.arguments r.arrives
 
   update-fair : (below : List Activation) (places : List Place) → AllFit p s.objects below → length s.stack ≡ suc (length below) → UpdateRule p s below t places → Fair p t
   update-fair below [] lower high r = quiet-fair r lower
@@ -197,7 +197,7 @@ module _ {p : Loaded} {s t : State} (program : IsSound p) (well : IsWell p s t) 
       by_life : (life : Option Life) → NotifiesIf p s (Update places ∷ below) place t life → Fair p t
       by_life None e = quiet-fair e (tt, lower)
       by_life (Some l) n =
-          begun-fair p program s t (length s.stack) (Update places ∷ below) place.object n.object n.signal n.method (take (length n.method.kinds) (n.present ∷ [])) Signal n.gives (omega (arith, high)) well.arguments waiting (tt, lower)
+          begun-fair p program s t (length s.stack) (Update places ∷ below) place.object n.object n.signal n.method (take (length n.method.types) (n.present ∷ [])) Signal n.gives (omega (arith, high)) well.arguments waiting (tt, lower)
 
   -- an item is delivered, or the turn ends
   delivers-fair : (turn : Turn) (item : Item) → length s.stack ≡ 0 → AllFit p s.objects s.stack → Delivers p (record s { queues = taken_before turn.home turn.limit s.queues }) t item → Fair p t

@@ -21,7 +21,7 @@ pub record ArgumentsFit (p : Loaded) (objects : List Object) (o m : ℕ) (argume
   pub object : Object
   pub method : MetaMethod
   pub is : IsMember p objects o m object method
-  pub typed : ReadAs p objects arguments method.kinds
+  pub typed : ReadAs p objects arguments method.types
 
 -- an emission has the arguments that the object's signal declares; of a dead object only `destroyed(QObject*)` is emitted
 pub data EmissionFits (p : Loaded) (objects : List Object) (o g : ℕ) (arguments : List Value) : Type 0 where
@@ -35,8 +35,8 @@ TopFits p objects (Emit o g arguments used last ∷ below) = EmissionFits p obje
 TopFits p objects _ = Unit {0}
 
 -- the types that `destroyed(QObject*)` declares, in every class
-abbrev pub destroyed_kinds : List ValueType
-destroyed_kinds = type.Reference QOBJECT false ∷ []
+abbrev pub destroyed_types : List ValueType
+destroyed_types = type.Reference QOBJECT false ∷ []
 
 -- ---- active bodies
 

@@ -53,7 +53,7 @@ pub record Notifies (p : Loaded) (s : State) (below : List Activation) (place : 
   pub is_present : stored s.objects place.object place.property ≡ Some present
   pub method : MetaMethod
   pub is_method : IsMethod p is.life.class signal method
-  pub gives : t ≡ begun s below place.object object signal method (take (length method.kinds) (present ∷ [])) Signal
+  pub gives : t ≡ begun s below place.object object signal method (take (length method.types) (present ∷ [])) Signal
 
 -- the next property is notified, if its object lives: a dead one notifies nobody; with none left the update ends
 abbrev pub UpdateRule : Loaded → State → List Activation → State → List Place → Type 0
@@ -141,7 +141,7 @@ pub record Uses (p : Loaded) (s : State) (below : List Activation) (c : Connecti
   pub home : ℕ
   pub lives_in : home_of s.objects c.receiver ≡ Some home
   pub arrives :
-      Arrives (record s { connected = after_use c s.connected }) below home c.receiver receiver c.method method (take (length method.kinds) arguments) t
+      Arrives (record s { connected = after_use c s.connected }) below home c.receiver receiver c.method method (take (length method.types) arguments) t
       (reaches_at_once c.kind home (running s.turn))
 
 -- ---- turns of event loops

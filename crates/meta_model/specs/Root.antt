@@ -18,7 +18,7 @@ use Rattle.meta_model.specs.declared.qobject.TheConstants.{QOBJECT, OBJECT_NAME_
 use Rattle.meta_model.specs.QObject.{destroyed, destroyed_alone, name_changed, delete_later}
 
 abbrev pub root_method : Sig → List ValueType → Work → MetaMethod
-root_method sig kinds work = record { sig = sig; kinds = kinds; work = work }
+root_method sig types work = record { sig = sig; types = types; work = work }
 
 -- the body of `deleteLater()`: `later this;`
 abbrev pub delete_later_body : List Statement

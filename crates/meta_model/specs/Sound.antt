@@ -11,10 +11,10 @@ use Rattle.meta_model.specs.declared.object.Statement.TheOpen as statement
 pub use Rattle.meta_model.specs.Kinds.{IsKind}
 use Rattle.name_indexes.specs.Twice.{StandsTwice}
 
--- ---- paths, where `this` is declared to be of class `me`, and a body's parameters have `kinds`
-pub data HasRoot (me : ℕ) (kinds : List ValueType) : MetaRoot → ValueType → Type 0 where
-  this_has : HasRoot me kinds This (type.Reference me false)
-  parameter_has : {k : ℕ} {T : ValueType} → slice_get kinds k ≡ Some T → HasRoot me kinds (Parameter k) T
+-- ---- paths, where `this` is declared to be of class `me`, and a body's parameters have `types`
+pub data HasRoot (me : ℕ) (types : List ValueType) : MetaRoot → ValueType → Type 0 where
+  this_has : HasRoot me types This (type.Reference me false)
+  parameter_has : {k : ℕ} {T : ValueType} → slice_get types k ≡ Some T → HasRoot me types (Parameter k) T
 
 -- each step's property is there, of the step's type, in the class that the path so far is declared to lead to
 pub data Leads (p : Loaded) : ValueType → List Step → ValueType → Type 0 where
@@ -24,54 +24,54 @@ pub data Leads (p : Loaded) : ValueType → List Step → ValueType → Type 0 w
       → Leads p (type.Reference c constant) (s ∷ steps) T
 
 -- the path's names are there, and it is declared to lead to a value of type T
-pub record LeadsTo (p : Loaded) (me : ℕ) (kinds : List ValueType) (path : MetaPath) (T : ValueType) : Type 0 where
+pub record LeadsTo (p : Loaded) (me : ℕ) (types : List ValueType) (path : MetaPath) (T : ValueType) : Type 0 where
   pub root_type : ValueType
-  pub root : HasRoot me kinds path.root root_type
+  pub root : HasRoot me types path.root root_type
   pub steps : Leads p root_type path.steps T
 
 -- the path's names are there, and it is declared to lead to a reference of class c
-pub record LeadsToClass (p : Loaded) (me : ℕ) (kinds : List ValueType) (path : MetaPath) (c : ℕ) : Type 0 where
+pub record LeadsToClass (p : Loaded) (me : ℕ) (types : List ValueType) (path : MetaPath) (c : ℕ) : Type 0 where
   pub constant : Bool
-  pub leads : LeadsTo p me kinds path (type.Reference c constant)
+  pub leads : LeadsTo p me types path (type.Reference c constant)
 
 -- ---- bodies
 -- each path of the expression leads somewhere, and no literal holds an object
-pub data IsSoundExpr (p : Loaded) (me : ℕ) (kinds : List ValueType) : Expr MetaPath → Type 0 where
-  literal_sound : {e : Expr MetaPath} {v : Value} → out-Expr MetaPath e ≡ expr.Literal v → HoldsNoObject v → IsSoundExpr p me kinds e
-  path_sound : {e : Expr MetaPath} {path : MetaPath} {T : ValueType} → out-Expr MetaPath e ≡ expr.Path path → LeadsTo p me kinds path T → IsSoundExpr p me kinds e
-  unary_sound : {e : Expr MetaPath} {op : Unary} {a : Expr MetaPath} → out-Expr MetaPath e ≡ expr.Unary op a → IsSoundExpr p me kinds a → IsSoundExpr p me kinds e
-  binary_sound : {e : Expr MetaPath} {op : Binary} {a b : Expr MetaPath} → out-Expr MetaPath e ≡ expr.Binary op a b → IsSoundExpr p me kinds a → IsSoundExpr p me kinds b → IsSoundExpr p me kinds e
+pub data IsSoundExpr (p : Loaded) (me : ℕ) (types : List ValueType) : Expr MetaPath → Type 0 where
+  literal_sound : {e : Expr MetaPath} {v : Value} → out-Expr MetaPath e ≡ expr.Literal v → HoldsNoObject v → IsSoundExpr p me types e
+  path_sound : {e : Expr MetaPath} {path : MetaPath} {T : ValueType} → out-Expr MetaPath e ≡ expr.Path path → LeadsTo p me types path T → IsSoundExpr p me types e
+  unary_sound : {e : Expr MetaPath} {op : Unary} {a : Expr MetaPath} → out-Expr MetaPath e ≡ expr.Unary op a → IsSoundExpr p me types a → IsSoundExpr p me types e
+  binary_sound : {e : Expr MetaPath} {op : Binary} {a b : Expr MetaPath} → out-Expr MetaPath e ≡ expr.Binary op a b → IsSoundExpr p me types a → IsSoundExpr p me types b → IsSoundExpr p me types e
 
 abbrev pub AreSoundExprs : Loaded → ℕ → List ValueType → List (Expr MetaPath) → Type 0
-AreSoundExprs p me kinds [] = Unit {0}
-AreSoundExprs p me kinds (e ∷ es) = IsSoundExpr p me kinds e × AreSoundExprs p me kinds es
+AreSoundExprs p me types [] = Unit {0}
+AreSoundExprs p me types (e ∷ es) = IsSoundExpr p me types e × AreSoundExprs p me types es
 
 -- `set`: the object's class has the property
-pub record IsSoundSet (p : Loaded) (me : ℕ) (kinds : List ValueType) (path : MetaPath) (q : ℕ) (e : Expr MetaPath) : Type 0 where
+pub record IsSoundSet (p : Loaded) (me : ℕ) (types : List ValueType) (path : MetaPath) (q : ℕ) (e : Expr MetaPath) : Type 0 where
   pub class : ℕ
-  pub leads : LeadsToClass p me kinds path class
+  pub leads : LeadsToClass p me types path class
   pub property : MetaProperty
   pub is : IsProperty p class q property
-  pub value : IsSoundExpr p me kinds e
+  pub value : IsSoundExpr p me types e
 
 -- `emit`: the body's class has the signal, which isn't one that the runtime emits, with as many parameters
-pub record IsSoundEmit (p : Loaded) (me : ℕ) (kinds : List ValueType) (m : ℕ) (es : List (Expr MetaPath)) : Type 0 where
+pub record IsSoundEmit (p : Loaded) (me : ℕ) (types : List ValueType) (m : ℕ) (es : List (Expr MetaPath)) : Type 0 where
   pub signal : MetaMethod
   pub is : IsMethod p me m signal
   pub signals : signal.work ≡ Signal
   pub emitted : OBJECT_NAME_CHANGED < m
-  pub counted : length signal.kinds ≡ length es
-  pub values : AreSoundExprs p me kinds es
+  pub counted : length signal.types ≡ length es
+  pub values : AreSoundExprs p me types es
 
 -- `call`: the object's class has the slot or native, with as many parameters
-pub record IsSoundCall (p : Loaded) (me : ℕ) (kinds : List ValueType) (path : MetaPath) (m : ℕ) (es : List (Expr MetaPath)) : Type 0 where
+pub record IsSoundCall (p : Loaded) (me : ℕ) (types : List ValueType) (path : MetaPath) (m : ℕ) (es : List (Expr MetaPath)) : Type 0 where
   pub class : ℕ
-  pub leads : LeadsToClass p me kinds path class
+  pub leads : LeadsToClass p me types path class
   pub slot : MetaMethod
   pub is : IsMethod p class m slot
   pub callable : slot.work ≢ Signal
-  pub counted : length slot.kinds ≡ length es
-  pub values : AreSoundExprs p me kinds es
+  pub counted : length slot.types ≡ length es
+  pub values : AreSoundExprs p me types es
 
 -- signal g of class c can be connected to method m of class d, which isn't one that the runtime emits
 pub record AreConnectable (p : Loaded) (c g d m : ℕ) : Type 0 where
@@ -83,11 +83,11 @@ pub record AreConnectable (p : Loaded) (c g d m : ℕ) : Type 0 where
   pub called : OBJECT_NAME_CHANGED < m
 
 -- `connect` and `disconnect`: the sender's class has the signal, the receiver's the method
-pub record AreSoundEnds (p : Loaded) (me : ℕ) (kinds : List ValueType) (ends : MetaEndpoints) : Type 0 where
+pub record AreSoundEnds (p : Loaded) (me : ℕ) (types : List ValueType) (ends : MetaEndpoints) : Type 0 where
   pub from_class : ℕ
-  pub sender : LeadsToClass p me kinds ends.sender from_class
+  pub sender : LeadsToClass p me types ends.sender from_class
   pub to_class : ℕ
-  pub receiver : LeadsToClass p me kinds ends.receiver to_class
+  pub receiver : LeadsToClass p me types ends.receiver to_class
   pub connects : AreConnectable p from_class ends.signal to_class ends.method
 
 -- the statement is a `set`: nothing else is in a group
@@ -103,39 +103,39 @@ AreSets statements = (statements ≢ []) × All IsSet statements
 
 mutual
   -- the members and paths of one statement, by its parts, are there
-  pub data IsSoundStatement (p : Loaded) (me : ℕ) (kinds : List ValueType) : statement.Statement-F Statement → Type 0 where
+  pub data IsSoundStatement (p : Loaded) (me : ℕ) (types : List ValueType) : statement.Statement-F Statement → Type 0 where
     set_sound : {path : MetaPath} {q : ℕ} {e : Expr MetaPath}
-        → IsSoundSet p me kinds path q e → IsSoundStatement p me kinds (statement.Set path q e)
+        → IsSoundSet p me types path q e → IsSoundStatement p me types (statement.Set path q e)
     emit_sound : {m : ℕ} {es : List (Expr MetaPath)}
-        → IsSoundEmit p me kinds m es → IsSoundStatement p me kinds (statement.Emit m es)
+        → IsSoundEmit p me types m es → IsSoundStatement p me types (statement.Emit m es)
     call_sound : {path : MetaPath} {m : ℕ} {es : List (Expr MetaPath)}
-        → IsSoundCall p me kinds path m es → IsSoundStatement p me kinds (statement.Call path m es)
+        → IsSoundCall p me types path m es → IsSoundStatement p me types (statement.Call path m es)
     if_sound : {e : Expr MetaPath} {chosen other : List Statement}
-        → IsSoundExpr p me kinds e → AreSound p me kinds chosen → AreSound p me kinds other
-        → IsSoundStatement p me kinds (statement.If e chosen other)
+        → IsSoundExpr p me types e → AreSound p me types chosen → AreSound p me types other
+        → IsSoundStatement p me types (statement.If e chosen other)
     connect_sound : {ends : MetaEndpoints} {type : ConnectionType}
-        → AreSoundEnds p me kinds ends → IsSoundStatement p me kinds (statement.Connect ends type)
+        → AreSoundEnds p me types ends → IsSoundStatement p me types (statement.Connect ends type)
     disconnect_sound : {ends : MetaEndpoints}
-        → AreSoundEnds p me kinds ends → IsSoundStatement p me kinds (statement.Disconnect ends)
+        → AreSoundEnds p me types ends → IsSoundStatement p me types (statement.Disconnect ends)
     delete_sound : {path : MetaPath} {class : ℕ}
-        → LeadsToClass p me kinds path class → IsSoundStatement p me kinds (statement.Delete path)
+        → LeadsToClass p me types path class → IsSoundStatement p me types (statement.Delete path)
     later_sound : {path : MetaPath} {class : ℕ}
-        → LeadsToClass p me kinds path class → IsSoundStatement p me kinds (statement.Later path)
+        → LeadsToClass p me types path class → IsSoundStatement p me types (statement.Later path)
     group_sound : {sets : List Statement}
-        → AreSound p me kinds sets → AreSets sets → IsSoundStatement p me kinds (statement.Group sets)
+        → AreSound p me types sets → AreSets sets → IsSoundStatement p me types (statement.Group sets)
 
   -- the members and paths of the statements of a block are there
-  pub data AreSound (p : Loaded) (me : ℕ) (kinds : List ValueType) : List Statement → Type 0 where
-    none_sound : AreSound p me kinds []
+  pub data AreSound (p : Loaded) (me : ℕ) (types : List ValueType) : List Statement → Type 0 where
+    none_sound : AreSound p me types []
     next_sound : {s : Statement} {rest : List Statement}
-        → IsSoundStatement p me kinds (out-Statement s) → AreSound p me kinds rest → AreSound p me kinds (s ∷ rest)
+        → IsSoundStatement p me types (out-Statement s) → AreSound p me types rest → AreSound p me types (s ∷ rest)
 
 -- the body of method m of class c speaks of objects of the class that declares the method, which is c or above it
-pub record IsSoundBody (p : Loaded) (c m : ℕ) (kinds : List ValueType) (body : List Statement) : Type 0 where
+pub record IsSoundBody (p : Loaded) (c m : ℕ) (types : List ValueType) (body : List Statement) : Type 0 where
   pub declaring : ℕ
   pub below : Below p c declaring
   pub declares : Declares p declaring m
-  pub sound : AreSound p declaring kinds body
+  pub sound : AreSound p declaring types body
 
 -- ---- natives
 -- no reference
@@ -154,7 +154,7 @@ pub record IsPlainSignal (p : Loaded) (c m : ℕ) : Type 0 where
   pub is : IsMethod p c m signal
   pub signals : signal.work ≡ Signal
   pub emitted : OBJECT_NAME_CHANGED < m
-  pub plain : All IsPlain signal.kinds
+  pub plain : All IsPlain signal.types
 
 -- no number appears twice in the list
 abbrev pub AreOnce : List ℕ → Type 0
@@ -171,29 +171,29 @@ pub record AreSoundEffects (p : Loaded) (c : ℕ) (effects : MetaEffects) : Type
 
 -- the native that is method m of class c takes values, and its effects are those of the class that declares it, which is c
 -- or above it
-pub record IsSoundNative (p : Loaded) (c m : ℕ) (kinds : List ValueType) (effects : MetaEffects) : Type 0 where
+pub record IsSoundNative (p : Loaded) (c m : ℕ) (types : List ValueType) (effects : MetaEffects) : Type 0 where
   pub declaring : ℕ
   pub below : Below p c declaring
   pub declares : Declares p declaring m
-  pub plain : All IsPlain kinds
+  pub plain : All IsPlain types
   pub sound : AreSoundEffects p declaring effects
 
 abbrev pub IsSoundWork : Loaded → ℕ → ℕ → List ValueType → Work → Type 0
-IsSoundWork p c m kinds Signal = Unit {0}
-IsSoundWork p c m kinds (Slot body) = IsSoundBody p c m kinds body
-IsSoundWork p c m kinds (Native effects) = IsSoundNative p c m kinds effects
+IsSoundWork p c m types Signal = Unit {0}
+IsSoundWork p c m types (Slot body) = IsSoundBody p c m types body
+IsSoundWork p c m types (Native effects) = IsSoundNative p c m types effects
 
 -- ---- members of class c
 pub record IsSoundMethod (p : Loaded) (c m : ℕ) (method : MetaMethod) : Type 0 where
-  pub kinds : AllZip (IsKind p) method.sig.types method.kinds
-  pub work : IsSoundWork p c m method.kinds method.work
+  pub types : AllZip (IsKind p) method.sig.types method.types
+  pub work : IsSoundWork p c m method.types method.work
 
 -- the notify signal is a signal of the class, without parameter or with one of the property's type
 pub record IsNotifier (class : MetaObject) (property : MetaProperty) (m : ℕ) : Type 0 where
   pub signal : MetaMethod
   pub is : slice_get class.methods m ≡ Some signal
   pub signals : signal.work ≡ Signal
-  pub fits : (signal.kinds ≡ []) ⊎ (signal.kinds ≡ property.kind ∷ [])
+  pub fits : (signal.types ≡ []) ⊎ (signal.types ≡ property.kind ∷ [])
 
 pub record IsSoundProperty (p : Loaded) (class : MetaObject) (property : MetaProperty) : Type 0 where
   pub kind : IsKind p property.declared property.kind

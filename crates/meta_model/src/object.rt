@@ -132,7 +132,7 @@ pub struct MetaMethod {
     /// Its name and its parameters' types, as declared.
     pub sig: Shared<Sig>,
     /// Its parameters' types, by the numbers of their classes.
-    pub kinds: Items<ValueType>,
+    pub types: Items<ValueType>,
     /// What a call of it does.
     pub work: Work,
 }
@@ -141,7 +141,7 @@ impl Drop for MetaMethod {
     fn drop(self) {
         let MetaMethod {
             sig: _,
-            kinds: _,
+            types: _,
             work: _,
         } = self;
     }

@@ -7,7 +7,7 @@ use Rattle.meta_model.specs.{declared.object.ValueType.{ValueType}, declared.obj
 use Rattle.meta_model.specs.declared.object.ValueType.TheVariants as type
 use Rattle.meta_model.specs.declared.object.Statement.TheOpen as statement
 use Rattle.meta_model.specs.declared.object.Work.TheVariants as work
-use Rattle.class_outlines.{specs.declared.outline.Sort.{Sort}, specs.declared.outline.Heading.{Heading}, specs.declared.outline.Outline.{Outline}, specs.Outlines.{IsOutlineNamed, kinds_of}, specs.code.ReadTypes.{IsReadAs}, specs.Clashes.{AreOneCall, HasTwoMembers}, specs.Notifiers.{IsSignalOf}, specs.Ends.{IsSigned}, specs.Indexed.{IsCallOf}, proofs.Once.{once}, proofs.OneMember.{called_by}, proofs.Zips.{zip_left, zip_right}}
+use Rattle.class_outlines.{specs.declared.outline.Sort.{Sort}, specs.declared.outline.Heading.{Heading}, specs.declared.outline.Outline.{Outline}, specs.Outlines.{IsOutlineNamed, types_of}, specs.code.ReadTypes.{IsReadAs}, specs.Clashes.{AreOneCall, HasTwoMembers}, specs.Notifiers.{IsSignalOf}, specs.Ends.{IsSigned}, specs.Indexed.{IsCallOf}, proofs.Once.{once}, proofs.OneMember.{called_by}, proofs.Zips.{zip_left, zip_right}}
 use Rattle.class_outlines.specs.declared.outline.Sort.TheVariants as sort
 use Rattle.name_indexes.specs.Places.{StandsFirst}
 use Rattle.name_resolution.specs.{declared.body_resolution.work.ResolvedWork.{ResolvedWork}, code.Bodies.{Scope, IsRoot, this_root, parameter_root, PointsTo, AreSteps, IsPath, IsExpr, literal_is, path_is, unary_is, binary_is, AreExprs, IsObjectPath, IsReferencePath, IsSet, IsEmit, IsCall, AreEnds, IsStatement, set_is, emit_is, call_is, if_is, connect_is, disconnect_is, delete_is, later_is, group_is, AreStatements, none_are, next_is}, code.Loading.{work_at, found_work, work_of, IsMethodOf, IsPropertyOf, IsObject}}
@@ -139,18 +139,18 @@ module _ (outlines : List Outline) (works : List (List ResolvedWork)) (p : Loade
   method_end c sig m h f = first_signed f.outline (each_once c f.outline f.is_outline) sig m f.heading f.is (sym f.by.signed ∙ h.signed)
 
   -- ---- bodies
-  module _ (name : List ℕ) (parameters : List Parameter) (me : ℕ) (is_me : IsOutlineNamed outlines name me) (kinds : List ValueType)
-      (typed : AllZip (IsReadAs outlines) (kinds_of parameters) kinds) where
+  module _ (name : List ℕ) (parameters : List Parameter) (me : ℕ) (is_me : IsOutlineNamed outlines name me) (types : List ValueType)
+      (typed : AllZip (IsReadAs outlines) (types_of parameters) types) where
     abbrev scope : Scope
     scope = record { outlines = outlines; me = name; parameters = parameters }
 
     abbrev loaded_site : Site
-    loaded_site = site p me parameters kinds
+    loaded_site = site p me parameters types
 
     root_found : (r : Root) (f : MetaRoot) (k : ValueType) → IsLoadedRoot loaded_site r f k → (T : QType) × IsReadAs outlines T k × IsRoot scope r f T
     root_found r f k this_loaded = (_, inl (refl, refl, is_me), this_root)
     root_found r f k (parameter_loaded {k = i} at is) =
-        let y = zip_left (IsReadAs outlines) (kinds_of parameters) kinds typed i at.at.item.kind (map_at (λ (x : Parameter). x.kind) parameters i at.at.item at.at.is) in
+        let y = zip_left (IsReadAs outlines) (types_of parameters) types typed i at.at.item.kind (map_at (λ (x : Parameter). x.kind) parameters i at.at.item at.at.is) in
         (at.at.item.kind, subst (λ l. IsReadAs outlines at.at.item.kind l) (same_Some _ _ (sym y.1 ∙ is)) y.2, parameter_root at)
 
     steps_found : (names : List (List ℕ)) (k : ValueType) (steps : List Step) (l : ValueType) → AreLoadedSteps p k names steps l → (T : QType) → IsReadAs outlines T k

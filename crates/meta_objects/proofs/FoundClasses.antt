@@ -7,7 +7,7 @@ use Rattle.syntax_trees.specs.declared.program.SlotWork.TheVariants as does
 use Rattle.meta_model.specs.{declared.object.ValueType.{ValueType}, declared.object.Work.{Work}, declared.object.MetaMethod.{MetaMethod}, declared.object.MetaProperty.{MetaProperty}, declared.object.MetaObject.{MetaObject}, Loaded.{Loaded}, Members.{IsClass, IsClassNamed}, Kinds.{IsKind}, Sound.{IsSound}, Root.{root_class}}
 use Rattle.meta_model.specs.declared.object.ValueType.TheVariants as type
 use Rattle.meta_model.specs.declared.object.Work.TheVariants as work
-use Rattle.class_outlines.{specs.declared.outline.Heading.{Heading}, specs.declared.outline.Outline.{Outline}, specs.Outlines.{IsOutlineNamed, kinds_of, signal_heading, slot_headings, own_methods, qobject}, specs.code.ReadTypes.{IsReadAs}, specs.Clashes.{HasTwoMembers}, specs.Conditions.{DuplicateMember}, specs.Notifiers.{IsSignalOf}, proofs.Once.{none_at}, proofs.Outlined.{Declared, outline_of, outlines_count, root_at, distinct_outlines}, proofs.Zips.{zip_right, zip_append, zip_also, zip_both}, proofs.Firsts.{first_in_front}}
+use Rattle.class_outlines.{specs.declared.outline.Heading.{Heading}, specs.declared.outline.Outline.{Outline}, specs.Outlines.{IsOutlineNamed, types_of, signal_heading, slot_headings, own_methods, qobject}, specs.code.ReadTypes.{IsReadAs}, specs.Clashes.{HasTwoMembers}, specs.Conditions.{DuplicateMember}, specs.Notifiers.{IsSignalOf}, proofs.Once.{none_at}, proofs.Outlined.{Declared, outline_of, outlines_count, root_at, distinct_outlines}, proofs.Zips.{zip_right, zip_append, zip_also, zip_both}, proofs.Firsts.{first_in_front}}
 use Rattle.name_indexes.specs.Places.{StandsFirst}
 use Rattle.name_resolution.{specs.declared.body_resolution.work.ResolvedWork.{ResolvedWork}, specs.code.Bodies.{scope_of, IsWork, IsSlotWork, AreWorks, AllWorks}, specs.code.Wires.{IsWire, IsOwns}, specs.code.Loading.{work_at, found_work, IsMethodOf, IsNotify, IsPropertyOf, IsObject, IsLoaded}, specs.code.Sites.{IsSite}, proofs.Unique.{same_loaded}}
 use Rattle.name_resolution.specs.declared.body_resolution.work.ResolvedWork.TheVariants as resolved
@@ -109,8 +109,8 @@ module _ (program : Program) (o : List Outline) (outlined : HasOutlines program 
   is_read T type.Text h = inl h
   is_read T (type.Reference c constant) h = inl (h.0, h.1, outline_named T.name c h.2)
 
-  are_read : (types : List QType) (kinds : List ValueType) → AllZip (IsKind p) types kinds → AllZip (IsReadAs o) types kinds
-  are_read types kinds h = zip_also (IsKind p) (IsReadAs o) types kinds is_read h
+  are_read : (types : List QType) (value_types : List ValueType) → AllZip (IsKind p) types value_types → AllZip (IsReadAs o) types value_types
+  are_read types value_types h = zip_also (IsKind p) (IsReadAs o) types value_types is_read h
 
   -- ---- what slots and natives do
   -- what those of class i were resolved to
@@ -135,7 +135,7 @@ module _ (program : Program) (o : List Outline) (outlined : HasOutlines program 
   signals_found [] (y ∷ ys) h = absurd h
   signals_found (x ∷ xs) [] h = absurd h
   signals_found (x ∷ xs) (y ∷ ys) h = (
-    record { signed = h.0.signed; kinds = are_read (kinds_of x.parameters) y.kinds h.0.typed; work = h.0.signals },
+    record { signed = h.0.signed; types = are_read (types_of x.parameters) y.types h.0.typed; work = h.0.signals },
     signals_found xs ys h.1,
   )
 
@@ -147,8 +147,8 @@ module _ (program : Program) (o : List Outline) (outlined : HasOutlines program 
   slots_found i from (x ∷ xs) (y ∷ ys) h at = (
     record {
       signed = h.0.signed;
-      kinds = are_read (kinds_of x.parameters) y.kinds h.0.typed;
-      work = done_work (site p (suc i) x.parameters y.kinds) x.work y.work h.0.does ∙ ap found_work (sym (at 0 from y refl (omega arith)));
+      types = are_read (types_of x.parameters) y.types h.0.typed;
+      work = done_work (site p (suc i) x.parameters y.types) x.work y.work h.0.does ∙ ap found_work (sym (at 0 from y refl (omega arith)));
     },
     slots_found i (suc from) xs ys h.1 (λ k j z e same. at (suc k) j z e (omega (arith, same))),
   )
@@ -201,10 +201,10 @@ module _ (program : Program) (o : List Outline) (outlined : HasOutlines program 
       named = refl;
       based = refl;
       methods = (
-        record { signed = refl; kinds = (inl (refl, refl, first_class (codes "QObject") 0 qobject (root_at program.classes o outlined.are) refl), tt); work = refl },
+        record { signed = refl; types = (inl (refl, refl, first_class (codes "QObject") 0 qobject (root_at program.classes o outlined.are) refl), tt); work = refl },
         (
-          record { signed = refl; kinds = tt; work = refl },
-          (record { signed = refl; kinds = (inl refl, tt); work = refl }, (record { signed = refl; kinds = tt; work = refl }, tt)),
+          record { signed = refl; types = tt; work = refl },
+          (record { signed = refl; types = (inl refl, tt); work = refl }, (record { signed = refl; types = tt; work = refl }, tt)),
         ),
       );
       properties = (record { named = refl; typed = refl; kind = inl refl; initial = refl; notify = name_changed_first }, tt);
@@ -281,22 +281,22 @@ module _ (program : Program) (o : List Outline) (outlined : HasOutlines program 
       (λ c u e. let x = class_of c u e in (x.0, x.1, (made (suc c) c (omega arith) u e x.0 x.1).object))
 
   -- ---- bodies and natives
-  work_found : (class : Class) (c : ℕ) → IsOutlineNamed o class.name c → (slot : Slot) (kinds : List ValueType) → AllZip (IsReadAs o) (kinds_of slot.parameters) kinds
-      → (given : SlotWork) (w : Work) → IsLoadedWork (site p c slot.parameters kinds) given w → IsWork (scope_of o class slot) given (resolve w)
-  work_found class c is_me slot kinds typed (does.Body body) (work.Slot statements) h =
-      statements_found o works p objects distinct each_once class.name slot.parameters c is_me kinds typed body statements h
-  work_found class c is_me slot kinds typed (does.Native names) (work.Native effects) h = effects_found o works p objects distinct each_once class.name c is_me names effects h
-  work_found class c is_me slot kinds typed (does.Body body) (work.Native effects) h = absurd h
-  work_found class c is_me slot kinds typed (does.Body body) work.Signal h = absurd h
-  work_found class c is_me slot kinds typed (does.Native names) (work.Slot statements) h = absurd h
-  work_found class c is_me slot kinds typed (does.Native names) work.Signal h = absurd h
+  work_found : (class : Class) (c : ℕ) → IsOutlineNamed o class.name c → (slot : Slot) (value_types : List ValueType) → AllZip (IsReadAs o) (types_of slot.parameters) value_types
+      → (given : SlotWork) (w : Work) → IsLoadedWork (site p c slot.parameters value_types) given w → IsWork (scope_of o class slot) given (resolve w)
+  work_found class c is_me slot value_types typed (does.Body body) (work.Slot statements) h =
+      statements_found o works p objects distinct each_once class.name slot.parameters c is_me value_types typed body statements h
+  work_found class c is_me slot value_types typed (does.Native names) (work.Native effects) h = effects_found o works p objects distinct each_once class.name c is_me names effects h
+  work_found class c is_me slot value_types typed (does.Body body) (work.Native effects) h = absurd h
+  work_found class c is_me slot value_types typed (does.Body body) work.Signal h = absurd h
+  work_found class c is_me slot value_types typed (does.Native names) (work.Slot statements) h = absurd h
+  work_found class c is_me slot value_types typed (does.Native names) work.Signal h = absurd h
 
   works_found : (class : Class) (c : ℕ) → IsOutlineNamed o class.name c → (slots : List Slot) (ys : List MetaMethod) → AllZip (IsLoadedSlot p c) slots ys → AllZip (IsSlotWork o class) slots (map done ys)
   works_found class c is_me [] [] h = tt
   works_found class c is_me [] (y ∷ ys) h = absurd h
   works_found class c is_me (x ∷ xs) [] h = absurd h
   works_found class c is_me (x ∷ xs) (y ∷ ys) h = (
-    work_found class c is_me x y.kinds (are_read (kinds_of x.parameters) y.kinds h.0.typed) x.work y.work h.0.does,
+    work_found class c is_me x y.types (are_read (types_of x.parameters) y.types h.0.typed) x.work y.work h.0.does,
     works_found class c is_me xs ys h.1,
   )
 

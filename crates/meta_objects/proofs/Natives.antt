@@ -3,7 +3,7 @@ use Rattle.std.{proofs.Common.{◌≡◌, ℕ, zero, suc, true, List, [], ◌∷
 use Rattle.basic_types.specs.{declared.qtype.QType.{QType}, declared.sig.Sig.{Sig}}
 use Rattle.syntax_trees.specs.{declared.program.EffectNames.{EffectNames}, declared.program.Parameter.{Parameter}}
 use Rattle.meta_model.specs.{declared.effects.MetaEffects.{MetaEffects}, declared.object.MetaMethod.{MetaMethod}, declared.object.MetaObject.{MetaObject}, declared.object.MetaProperty.{MetaProperty}, declared.object.ValueType.{ValueType}, Loaded.{Loaded}, Members.{IsPropertyNamed}, Sound.{IsPlain, IsPlainProperty, IsPlainSignal, AreOnce, AreSoundEffects}}
-use Rattle.class_outlines.{specs.declared.outline.Outline.{Outline}, specs.code.ReadTypes.{IsReadAs}, specs.Natives.{RepeatsEffect, IsPointer, TakesReference, AffectsReference}, specs.Outlines.{IsOutlineNamed, kinds_of}, specs.DeclaredSites.{IsReferenceIn}, proofs.Once.{none_at}, proofs.Searches.{same_first}, proofs.Zips.{any_of, place_of_any, zip_right, zip_also}}
+use Rattle.class_outlines.{specs.declared.outline.Outline.{Outline}, specs.code.ReadTypes.{IsReadAs}, specs.Natives.{RepeatsEffect, IsPointer, TakesReference, AffectsReference}, specs.Outlines.{IsOutlineNamed, types_of}, specs.DeclaredSites.{IsReferenceIn}, proofs.Once.{none_at}, proofs.Searches.{same_first}, proofs.Zips.{any_of, place_of_any, zip_right, zip_also}}
 use Rattle.name_indexes.specs.Twice.{StandsTwice}
 use Rattle.name_resolution.specs.{declared.body_resolution.work.ResolvedWork.{ResolvedWork}, code.Loading.{work_of, IsObject}, code.Natives.{HasPropertyIn, HasSignalIn, AreEffects}}
 use Rattle.meta_objects.{specs.LoadedNatives.{IsEmitted, AreLoadedEffects}, proofs.Sited.{all_of, named_in, plain_kind, plain_in}, proofs.Soundness.{IsTyped, FoundMethod, method_at}}
@@ -40,13 +40,13 @@ one_sig p c sig other m h k =
 -- ---- the loaded classes are those of these outlines
 module _ (outlines : List Outline) (works : List (List ResolvedWork)) (p : Loaded) (objects : AllZip (IsObject outlines works) outlines p.classes) where
   -- types without references are read as none
-  plain_kinds : (types : List QType) (kinds : List ValueType) → AllZip (IsReadAs outlines) types kinds → (¬ Any IsPointer types) → All IsPlain kinds
-  plain_kinds types kinds read none =
-      all_of IsPlain kinds (λ k kind e.
-      let T = zip_right (IsReadAs outlines) types kinds read k kind e in
+  plain_types : (types : List QType) (value_types : List ValueType) → AllZip (IsReadAs outlines) types value_types → (¬ Any IsPointer types) → All IsPlain value_types
+  plain_types types value_types read none =
+      all_of IsPlain value_types (λ k kind e.
+      let T = zip_right (IsReadAs outlines) types value_types read k kind e in
       plain_kind outlines works p objects T.0 kind (none_at IsPointer types none k T.0 T.1) T.2)
 
-  plain_parameter : (ps : List Parameter) (kinds : List ValueType) → AllZip (IsTyped outlines p) (kinds_of ps) kinds → (¬ TakesReference ps) → (k : ℕ) (kind : ValueType) → slice_get kinds k ≡ Some kind → IsPlain kind
+  plain_parameter : (ps : List Parameter) (value_types : List ValueType) → AllZip (IsTyped outlines p) (types_of ps) value_types → (¬ TakesReference ps) → (k : ℕ) (kind : ValueType) → slice_get value_types k ≡ Some kind → IsPlain kind
   plain_parameter [] [] typed none k kind e = absurd (none-some kind e)
   plain_parameter [] (l ∷ ls) typed none k kind e = absurd typed
   plain_parameter (x ∷ xs) [] typed none k kind e = absurd typed
@@ -61,8 +61,8 @@ module _ (outlines : List Outline) (works : List (List ResolvedWork)) (p : Loade
       none (any_of (λ (y : Parameter). IsPointer y.kind) (x ∷ xs) (suc at.0) (record { item = at.1.item; is = at.1.is; has = at.1.has })))
       k kind e
 
-  pub plain_parameters : (ps : List Parameter) (kinds : List ValueType) → AllZip (IsTyped outlines p) (kinds_of ps) kinds → (¬ TakesReference ps) → All IsPlain kinds
-  plain_parameters ps kinds typed none = all_of IsPlain kinds (plain_parameter ps kinds typed none)
+  pub plain_parameters : (ps : List Parameter) (value_types : List ValueType) → AllZip (IsTyped outlines p) (types_of ps) value_types → (¬ TakesReference ps) → All IsPlain value_types
+  plain_parameters ps value_types typed none = all_of IsPlain value_types (plain_parameter ps value_types typed none)
 
   module _ (class : List ℕ) (c : ℕ) (is_me : IsOutlineNamed outlines class c) where
     same_class : (d : ℕ) → IsOutlineNamed outlines class d → d ≡ c
@@ -111,13 +111,13 @@ module _ (outlines : List Outline) (works : List (List ResolvedWork)) (p : Loade
         let has : HasSignalIn outlines class at.0 m = at.2 in
         let found = signal_at at.0 m has in
         let values : ¬ Any IsPointer at.0.types = none_at (λ (sig : Sig). Any IsPointer sig.types) sigs none k at.0 at.1 in
-        let read : AllZip (IsReadAs outlines) at.0.types found.loaded.kinds = subst (λ (s : Sig). AllZip (IsReadAs outlines) s.types found.loaded.kinds) has.is.method.at.has.0 found.by.kinds in
+        let read : AllZip (IsReadAs outlines) at.0.types found.loaded.types = subst (λ (s : Sig). AllZip (IsReadAs outlines) s.types found.loaded.types) has.is.method.at.has.0 found.by.types in
         subst (λ d. IsPlainSignal p d m) (same_class has.number has.is.class) (record {
           signal = found.loaded;
           is = found.is;
           signals = found.by.work ∙ ap (λ s. work_of works s) has.is.method.at.has.1;
           emitted = has.emitted;
-          plain = plain_kinds at.0.types found.loaded.kinds read values;
+          plain = plain_types at.0.types found.loaded.types read values;
         }))
 
     pub effects_sound : (names : EffectNames) (effects : MetaEffects) → AreEffects outlines class names effects → (¬ RepeatsEffect names) → (¬ AffectsReference outlines class names) → AreSoundEffects p c effects

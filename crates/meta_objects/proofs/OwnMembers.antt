@@ -3,7 +3,7 @@ use Rattle.std.{proofs.Common.{◌≡◌, ℕ, zero, suc, ◌+◌, ◌<◌, ◌�
 use Rattle.basic_types.specs.{declared.qtype.QType.{QType}, declared.sig.Sig.{Sig}}
 use Rattle.syntax_trees.specs.{declared.program.Parameter.{Parameter}, declared.program.Property.{Property}, declared.program.Signal.{Signal}, declared.program.Slot.{Slot}, declared.program.Class.{Class}}
 use Rattle.meta_model.specs.{declared.object.ValueType.TheVariants.{Text, Reference}, QObject.{destroyed, destroyed_alone, name_changed}}
-use Rattle.class_outlines.{specs.declared.outline.Heading.{Heading}, specs.declared.outline.Outline.{Outline}, specs.DeclaredKinds.{LacksType}, specs.Notifiers.{IsSignalOf, IsNotifiedBy, LacksNotifier, NotifiesBadly, BadNotify}, specs.Conditions.{LacksPropertyType, LacksParameterType, LacksTypes, LacksAnyType}, specs.Outlines.{heading, object_name, kinds_of, signal_heading, slot_headings, own_methods, qobject, IsOutlineNamed, Outlines}, proofs.Anys.{any_none, of_one, any_front, any_back, any_part}, proofs.Firsts.{first_in_front}, proofs.Once.{get_split_at}, proofs.Outlined.{Declared, outline_of}, proofs.Zips.{any_of, place_of_any}}
+use Rattle.class_outlines.{specs.declared.outline.Heading.{Heading}, specs.declared.outline.Outline.{Outline}, specs.DeclaredKinds.{LacksType}, specs.Notifiers.{IsSignalOf, IsNotifiedBy, LacksNotifier, NotifiesBadly, BadNotify}, specs.Conditions.{LacksPropertyType, LacksParameterType, LacksTypes, LacksAnyType}, specs.Outlines.{heading, object_name, types_of, signal_heading, slot_headings, own_methods, qobject, IsOutlineNamed, Outlines}, proofs.Anys.{any_none, of_one, any_front, any_back, any_part}, proofs.Firsts.{first_in_front}, proofs.Once.{get_split_at}, proofs.Outlined.{Declared, outline_of}, proofs.Zips.{any_of, place_of_any}}
 use Rattle.class_outlines.specs.declared.outline.Sort.TheVariants as sort
 use Rattle.name_indexes.specs.Places.{StandsAt, StandsFirst}
 use Rattle.meta_objects.specs.code.OwnTypes.{DeclaresUnknown}
@@ -141,36 +141,36 @@ module _ (classes : List Class) (all : List Outline) (are : Outlines classes all
 
   -- the headings of own methods
   module _ (P : List QType → Type 0) where
-    signal_any : (signals : List Signal) → Any (λ (h : Heading). P h.sig.types) (map signal_heading signals) → Any (λ (s : Signal). P (kinds_of s.parameters)) signals
+    signal_any : (signals : List Signal) → Any (λ (h : Heading). P h.sig.types) (map signal_heading signals) → Any (λ (s : Signal). P (types_of s.parameters)) signals
     signal_any signals any = let at = place_of_any (λ (h : Heading). P h.sig.types) (map signal_heading signals) any in by signals at.0 at.1
       where
-        by : (xs : List Signal) (k : ℕ) → StandsAt (λ (h : Heading). P h.sig.types) (map signal_heading xs) k → Any (λ (s : Signal). P (kinds_of s.parameters)) xs
+        by : (xs : List Signal) (k : ℕ) → StandsAt (λ (h : Heading). P h.sig.types) (map signal_heading xs) k → Any (λ (s : Signal). P (types_of s.parameters)) xs
         by [] k at = absurd (none-some at.item at.is)
-        by (x ∷ xs) zero at = any_of (λ (s : Signal). P (kinds_of s.parameters)) (x ∷ xs) 0 (record { item = x; is = refl; has = subst (λ (h : Heading). P h.sig.types) (sym (same_Some _ _ at.is)) at.has })
-        by (x ∷ xs) (suc k) at = any_later (λ (s : Signal). P (kinds_of s.parameters)) x xs (by xs k (record { item = at.item; is = at.is; has = at.has }))
+        by (x ∷ xs) zero at = any_of (λ (s : Signal). P (types_of s.parameters)) (x ∷ xs) 0 (record { item = x; is = refl; has = subst (λ (h : Heading). P h.sig.types) (sym (same_Some _ _ at.is)) at.has })
+        by (x ∷ xs) (suc k) at = any_later (λ (s : Signal). P (types_of s.parameters)) x xs (by xs k (record { item = at.item; is = at.is; has = at.has }))
 
-    any_signal : (signals : List Signal) → Any (λ (s : Signal). P (kinds_of s.parameters)) signals → Any (λ (h : Heading). P h.sig.types) (map signal_heading signals)
-    any_signal signals any = let at = place_of_any (λ (s : Signal). P (kinds_of s.parameters)) signals any in by signals at.0 at.1
+    any_signal : (signals : List Signal) → Any (λ (s : Signal). P (types_of s.parameters)) signals → Any (λ (h : Heading). P h.sig.types) (map signal_heading signals)
+    any_signal signals any = let at = place_of_any (λ (s : Signal). P (types_of s.parameters)) signals any in by signals at.0 at.1
       where
-        by : (xs : List Signal) (k : ℕ) → StandsAt (λ (s : Signal). P (kinds_of s.parameters)) xs k → Any (λ (h : Heading). P h.sig.types) (map signal_heading xs)
+        by : (xs : List Signal) (k : ℕ) → StandsAt (λ (s : Signal). P (types_of s.parameters)) xs k → Any (λ (h : Heading). P h.sig.types) (map signal_heading xs)
         by [] k at = absurd (none-some at.item at.is)
-        by (x ∷ xs) zero at = any_of (λ (h : Heading). P h.sig.types) (signal_heading x ∷ map signal_heading xs) 0 (record { item = signal_heading x; is = refl; has = subst (λ (s : Signal). P (kinds_of s.parameters)) (sym (same_Some _ _ at.is)) at.has })
+        by (x ∷ xs) zero at = any_of (λ (h : Heading). P h.sig.types) (signal_heading x ∷ map signal_heading xs) 0 (record { item = signal_heading x; is = refl; has = subst (λ (s : Signal). P (types_of s.parameters)) (sym (same_Some _ _ at.is)) at.has })
         by (x ∷ xs) (suc k) at = any_later (λ (h : Heading). P h.sig.types) (signal_heading x) (map signal_heading xs) (by xs k (record { item = at.item; is = at.is; has = at.has }))
 
-    slot_any : (i j : ℕ) (slots : List Slot) → Any (λ (h : Heading). P h.sig.types) (slot_headings i j slots) → Any (λ (s : Slot). P (kinds_of s.parameters)) slots
+    slot_any : (i j : ℕ) (slots : List Slot) → Any (λ (h : Heading). P h.sig.types) (slot_headings i j slots) → Any (λ (s : Slot). P (types_of s.parameters)) slots
     slot_any i j slots any = let at = place_of_any (λ (h : Heading). P h.sig.types) (slot_headings i j slots) any in by j slots at.0 at.1
       where
-        by : (j : ℕ) (xs : List Slot) (k : ℕ) → StandsAt (λ (h : Heading). P h.sig.types) (slot_headings i j xs) k → Any (λ (s : Slot). P (kinds_of s.parameters)) xs
+        by : (j : ℕ) (xs : List Slot) (k : ℕ) → StandsAt (λ (h : Heading). P h.sig.types) (slot_headings i j xs) k → Any (λ (s : Slot). P (types_of s.parameters)) xs
         by j [] k at = absurd (none-some at.item at.is)
-        by j (x ∷ xs) zero at = any_of (λ (s : Slot). P (kinds_of s.parameters)) (x ∷ xs) 0 (record { item = x; is = refl; has = subst (λ (h : Heading). P h.sig.types) (sym (same_Some _ _ at.is)) at.has })
-        by j (x ∷ xs) (suc k) at = any_later (λ (s : Slot). P (kinds_of s.parameters)) x xs (by (suc j) xs k (record { item = at.item; is = at.is; has = at.has }))
+        by j (x ∷ xs) zero at = any_of (λ (s : Slot). P (types_of s.parameters)) (x ∷ xs) 0 (record { item = x; is = refl; has = subst (λ (h : Heading). P h.sig.types) (sym (same_Some _ _ at.is)) at.has })
+        by j (x ∷ xs) (suc k) at = any_later (λ (s : Slot). P (types_of s.parameters)) x xs (by (suc j) xs k (record { item = at.item; is = at.is; has = at.has }))
 
-    any_slot : (i j : ℕ) (slots : List Slot) → Any (λ (s : Slot). P (kinds_of s.parameters)) slots → Any (λ (h : Heading). P h.sig.types) (slot_headings i j slots)
-    any_slot i j slots any = let at = place_of_any (λ (s : Slot). P (kinds_of s.parameters)) slots any in by j slots at.0 at.1
+    any_slot : (i j : ℕ) (slots : List Slot) → Any (λ (s : Slot). P (types_of s.parameters)) slots → Any (λ (h : Heading). P h.sig.types) (slot_headings i j slots)
+    any_slot i j slots any = let at = place_of_any (λ (s : Slot). P (types_of s.parameters)) slots any in by j slots at.0 at.1
       where
-        by : (j : ℕ) (xs : List Slot) (k : ℕ) → StandsAt (λ (s : Slot). P (kinds_of s.parameters)) xs k → Any (λ (h : Heading). P h.sig.types) (slot_headings i j xs)
+        by : (j : ℕ) (xs : List Slot) (k : ℕ) → StandsAt (λ (s : Slot). P (types_of s.parameters)) xs k → Any (λ (h : Heading). P h.sig.types) (slot_headings i j xs)
         by j [] k at = absurd (none-some at.item at.is)
-        by j (x ∷ xs) zero at = any_of (λ (h : Heading). P h.sig.types) (slot_headings i j (x ∷ xs)) 0 (record { item = _; is = refl; has = subst (λ (s : Slot). P (kinds_of s.parameters)) (sym (same_Some _ _ at.is)) at.has })
+        by j (x ∷ xs) zero at = any_of (λ (h : Heading). P h.sig.types) (slot_headings i j (x ∷ xs)) 0 (record { item = _; is = refl; has = subst (λ (s : Slot). P (types_of s.parameters)) (sym (same_Some _ _ at.is)) at.has })
         by j (x ∷ xs) (suc k) at = any_later (λ (h : Heading). P h.sig.types) _ (slot_headings i (suc j) xs) (by (suc j) xs k (record { item = at.item; is = at.is; has = at.has }))
 
   pub none_lacks_type : ((i : ℕ) (class : Class) → slice_get classes i ≡ Some class → ¬ DeclaresUnknown all class) → ¬ LacksAnyType all
@@ -187,7 +187,7 @@ module _ (classes : List Class) (all : List Outline) (are : Outlines classes all
             at.0 at.1.item at.1.is any
       ]
     where
-      own : (i : ℕ) (class : Class) → Any (LacksParameterType all) (own_methods i class) → Any (λ (s : Signal). Any (LacksType all) (kinds_of s.parameters)) class.signals ⊎ Any (λ (s : Slot). Any (LacksType all) (kinds_of s.parameters)) class.slots
+      own : (i : ℕ) (class : Class) → Any (LacksParameterType all) (own_methods i class) → Any (λ (s : Signal). Any (LacksType all) (types_of s.parameters)) class.signals ⊎ Any (λ (s : Slot). Any (LacksType all) (types_of s.parameters)) class.slots
       own i class any =
           elim (any_part (LacksParameterType all) (map signal_heading class.signals) (slot_headings i 0 class.slots) any) [
             | inl front ↦ inl (signal_any (Any (LacksType all)) class.signals front)
@@ -220,18 +220,18 @@ module _ (classes : List Class) (all : List Outline) (are : Outlines classes all
 
 -- ---- types of parameters
 module _ (P : QType → Type 0) where
-  pub kind_any : (parameters : List Parameter) → Any (λ (p : Parameter). P p.kind) parameters → Any P (kinds_of parameters)
+  pub kind_any : (parameters : List Parameter) → Any (λ (p : Parameter). P p.kind) parameters → Any P (types_of parameters)
   kind_any parameters any = let at = place_of_any (λ (p : Parameter). P p.kind) parameters any in by parameters at.0 at.1
     where
-      by : (xs : List Parameter) (k : ℕ) → StandsAt (λ (p : Parameter). P p.kind) xs k → Any P (kinds_of xs)
+      by : (xs : List Parameter) (k : ℕ) → StandsAt (λ (p : Parameter). P p.kind) xs k → Any P (types_of xs)
       by [] k at = absurd (none-some at.item at.is)
-      by (x ∷ xs) zero at = any_of P (x.kind ∷ kinds_of xs) 0 (record { item = x.kind; is = refl; has = subst (λ (p : Parameter). P p.kind) (sym (same_Some _ _ at.is)) at.has })
-      by (x ∷ xs) (suc k) at = any_later P x.kind (kinds_of xs) (by xs k (record { item = at.item; is = at.is; has = at.has }))
+      by (x ∷ xs) zero at = any_of P (x.kind ∷ types_of xs) 0 (record { item = x.kind; is = refl; has = subst (λ (p : Parameter). P p.kind) (sym (same_Some _ _ at.is)) at.has })
+      by (x ∷ xs) (suc k) at = any_later P x.kind (types_of xs) (by xs k (record { item = at.item; is = at.is; has = at.has }))
 
-  pub any_kind : (parameters : List Parameter) → Any P (kinds_of parameters) → Any (λ (p : Parameter). P p.kind) parameters
-  any_kind parameters any = let at = place_of_any P (kinds_of parameters) any in by parameters at.0 at.1
+  pub any_kind : (parameters : List Parameter) → Any P (types_of parameters) → Any (λ (p : Parameter). P p.kind) parameters
+  any_kind parameters any = let at = place_of_any P (types_of parameters) any in by parameters at.0 at.1
     where
-      by : (xs : List Parameter) (k : ℕ) → StandsAt P (kinds_of xs) k → Any (λ (p : Parameter). P p.kind) xs
+      by : (xs : List Parameter) (k : ℕ) → StandsAt P (types_of xs) k → Any (λ (p : Parameter). P p.kind) xs
       by [] k at = absurd (none-some at.item at.is)
       by (x ∷ xs) zero at = any_of (λ (p : Parameter). P p.kind) (x ∷ xs) 0 (record { item = x; is = refl; has = subst P (sym (same_Some _ _ at.is)) at.has })
       by (x ∷ xs) (suc k) at = any_later (λ (p : Parameter). P p.kind) x xs (by xs k (record { item = at.item; is = at.is; has = at.has }))

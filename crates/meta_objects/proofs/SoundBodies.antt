@@ -28,18 +28,18 @@ connects_sound h = record {
 }
 
 -- `this` is a `QObject` in the body of `deleteLater()`
-pub delete_later_sound : (p : Loaded) (kinds : List ValueType) → AreSound p QOBJECT kinds delete_later_body
-delete_later_sound p kinds =
+pub delete_later_sound : (p : Loaded) (types : List ValueType) → AreSound p QOBJECT types delete_later_body
+delete_later_sound p types =
     let this_path : MetaPath = record { root = This; steps = [] } in
-    let leads : LeadsToClass p QOBJECT kinds this_path QOBJECT = record {
+    let leads : LeadsToClass p QOBJECT types this_path QOBJECT = record {
       constant = false;
       leads = record { root_type = type.Reference QOBJECT false; root = this_has; steps = here };
     } in
-    let one : IsSoundStatement p QOBJECT kinds (statement.Later this_path) = later_sound leads in
-    next_sound (subst (λ s. IsSoundStatement p QOBJECT kinds s) (sym (statement_by.outs-Later this_path)) one) none_sound
+    let one : IsSoundStatement p QOBJECT types (statement.Later this_path) = later_sound leads in
+    next_sound (subst (λ s. IsSoundStatement p QOBJECT types s) (sym (statement_by.outs-Later this_path)) one) none_sound
 
-module _ (s : Site) (counted : (c m : ℕ) (method : MetaMethod) → IsMethod s.program c m method → length method.sig.types ≡ length method.kinds) where
-  root_sound : (r : Root) (f : MetaRoot) (T : ValueType) → IsLoadedRoot s r f T → HasRoot s.me s.kinds f T
+module _ (s : Site) (counted : (c m : ℕ) (method : MetaMethod) → IsMethod s.program c m method → length method.sig.types ≡ length method.types) where
+  root_sound : (r : Root) (f : MetaRoot) (T : ValueType) → IsLoadedRoot s r f T → HasRoot s.me s.types f T
   root_sound r f T this_loaded = this_has
   root_sound r f T (parameter_loaded at is) = parameter_has is
 
@@ -47,29 +47,29 @@ module _ (s : Site) (counted : (c m : ℕ) (method : MetaMethod) → IsMethod s.
   steps_sound T names steps U no_steps = here
   steps_sound T names steps U (step_on {names = ns} {s = step} {steps = rest} has kind more) = on has.is kind (steps_sound step.kind ns rest U more)
 
-  path_is_sound : (path : Path) (f : MetaPath) (T : ValueType) → IsLoadedPath s path f T → LeadsTo s.program s.me s.kinds f T
+  path_is_sound : (path : Path) (f : MetaPath) (T : ValueType) → IsLoadedPath s path f T → LeadsTo s.program s.me s.types f T
   path_is_sound path f T h = record {
     root_type = h.root_type;
     root = root_sound path.root f.root h.root_type h.root;
     steps = steps_sound h.root_type path.properties f.steps T h.steps;
   }
 
-  object_sound : (path : Path) (f : MetaPath) (c : ℕ) → IsLoadedObject s path f c → LeadsToClass s.program s.me s.kinds f c
+  object_sound : (path : Path) (f : MetaPath) (c : ℕ) → IsLoadedObject s path f c → LeadsToClass s.program s.me s.types f c
   object_sound path f c h = record { constant = h.constant; leads = path_is_sound path f _ h.leads }
 
-  expr_sound : (e : Expr Path) (f : Expr MetaPath) → IsLoadedExpr s e f → IsSoundExpr s.program s.me s.kinds f
+  expr_sound : (e : Expr Path) (f : Expr MetaPath) → IsLoadedExpr s e f → IsSoundExpr s.program s.me s.types f
   expr_sound e f (literal_loaded {v = v} a b) = literal_sound b (no_object v)
   expr_sound e f (path_loaded {path = path} {found = found} {T = T} a b h) = path_sound b (path_is_sound path found T h)
   expr_sound e f (unary_loaded {a = x} {b = y} a b h) = unary_sound b (expr_sound x y h)
   expr_sound e f (binary_loaded {a = x} {c = x2} {b = y} {d = y2} a b h k) = binary_sound b (expr_sound x y h) (expr_sound x2 y2 k)
 
-  exprs_sound : (es : List (Expr Path)) (fs : List (Expr MetaPath)) → AreLoadedExprs s es fs → AreSoundExprs s.program s.me s.kinds fs
+  exprs_sound : (es : List (Expr Path)) (fs : List (Expr MetaPath)) → AreLoadedExprs s es fs → AreSoundExprs s.program s.me s.types fs
   exprs_sound [] [] h = tt
   exprs_sound [] (f ∷ fs) h = absurd h
   exprs_sound (e ∷ es) [] h = absurd h
   exprs_sound (e ∷ es) (f ∷ fs) h = (expr_sound e f h.0, exprs_sound es fs h.1)
 
-  ends_sound : (ends : Endpoints Path) (found : MetaEndpoints) → AreLoadedEnds s ends found → AreSoundEnds s.program s.me s.kinds found
+  ends_sound : (ends : Endpoints Path) (found : MetaEndpoints) → AreLoadedEnds s ends found → AreSoundEnds s.program s.me s.types found
   ends_sound ends found h = record {
     from_class = h.from_class;
     sender = object_sound ends.sender found.sender h.from_class h.sender;
@@ -79,7 +79,7 @@ module _ (s : Site) (counted : (c m : ℕ) (method : MetaMethod) → IsMethod s.
   }
 
   mutual
-    statement_sound : (x : stmt.Stmt-F Stmt) (y : statement.Statement-F Statement) → IsLoadedStatement s x y → IsSoundStatement s.program s.me s.kinds y
+    statement_sound : (x : stmt.Stmt-F Stmt) (y : statement.Statement-F Statement) → IsLoadedStatement s x y → IsSoundStatement s.program s.me s.types y
     statement_sound x y (set_loaded {path = path} {e = e} {found = found} {f = f} h) =
         set_sound (record { class = h.class; leads = object_sound path found h.class h.object; property = h.property; is = h.has.is; value = expr_sound e f h.value })
     statement_sound x y (emit_loaded {es = es} {m = m} {fs = fs} h) =
@@ -109,7 +109,7 @@ module _ (s : Site) (counted : (c m : ℕ) (method : MetaMethod) → IsMethod s.
     statement_sound x y (later_loaded {path = path} {found = found} h) = later_sound (object_sound path found _ h)
     statement_sound x y (group_loaded {sets = sets} {found = found} h all) = group_sound (statements_sound sets found h) all
 
-    pub statements_sound : (xs : List Stmt) (ys : List Statement) → AreLoadedStatements s xs ys → AreSound s.program s.me s.kinds ys
+    pub statements_sound : (xs : List Stmt) (ys : List Statement) → AreLoadedStatements s xs ys → AreSound s.program s.me s.types ys
     statements_sound xs ys none_loaded = none_sound
     statements_sound xs ys (next_loaded {x = x} {xs = us} {y = y} {ys = vs} h t) =
         next_sound (statement_sound (out-Stmt x) (out-Statement y) h) (statements_sound us vs t)

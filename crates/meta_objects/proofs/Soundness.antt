@@ -7,7 +7,7 @@ use Rattle.meta_model.specs.{declared.object.ValueType.{ValueType}, declared.obj
 use Rattle.meta_model.specs.declared.object.ValueType.TheVariants as type
 use Rattle.meta_model.specs.declared.object.Statement.TheOpen as statement
 use Rattle.meta_model.specs.declared.object.Work.TheVariants as work
-use Rattle.class_outlines.{specs.declared.outline.Sort.{Sort}, specs.declared.outline.Heading.{Heading}, specs.declared.outline.Outline.{Outline}, specs.Outlines.{IsOutlineNamed, kinds_of}, specs.DeclaredKinds.{IsKindIn}, specs.code.ReadTypes.{IsReadAs}, specs.Notifiers.{IsSignalOf}, specs.Ends.{IsSigned}, specs.Indexed.{IsCallOf}, proofs.Zips.{zip_left, zip_right}, proofs.Searches.{same_first}, proofs.ReadTypes.{same_read}}
+use Rattle.class_outlines.{specs.declared.outline.Sort.{Sort}, specs.declared.outline.Heading.{Heading}, specs.declared.outline.Outline.{Outline}, specs.Outlines.{IsOutlineNamed, types_of}, specs.DeclaredKinds.{IsKindIn}, specs.code.ReadTypes.{IsReadAs}, specs.Notifiers.{IsSignalOf}, specs.Ends.{IsSigned}, specs.Indexed.{IsCallOf}, proofs.Zips.{zip_left, zip_right}, proofs.Searches.{same_first}, proofs.ReadTypes.{same_read}}
 use Rattle.class_outlines.specs.declared.outline.Sort.TheVariants as sort
 use Rattle.name_indexes.specs.Places.{StandsFirst}
 use Rattle.meta_objects.specs.{LoadedEnds.{Connects}, LoadedBodies.{Site, site, IsLoadedRoot, this_loaded, parameter_loaded, HasProperty, AreLoadedSteps, no_steps, step_on, IsLoadedPath, IsLoadedObject, IsLoadedExpr, literal_loaded, path_loaded, unary_loaded, binary_loaded, AreLoadedExprs, IsLoadedSet, IsLoadedEmit, IsLoadedCall, AreLoadedEnds, IsLoadedStatement, set_loaded, emit_loaded, call_loaded, if_loaded, connect_loaded, disconnect_loaded, delete_loaded, later_loaded, group_loaded, AreLoadedStatements, none_loaded, next_loaded}}
@@ -86,11 +86,11 @@ module _ (outlines : List Outline) (works : List (List ResolvedWork)) (p : Loade
       }
 
   -- as many types as parameters
-  pub kinds_counted : (c m : ℕ) (method : MetaMethod) → IsMethod p c m method → length method.sig.types ≡ length method.kinds
-  kinds_counted c m method h =
+  pub types_counted : (c m : ℕ) (method : MetaMethod) → IsMethod p c m method → length method.sig.types ≡ length method.types
+  types_counted c m method h =
       let o = zip_right (IsObject outlines works) outlines p.classes objects c h.class h.is_class.is in
       let x = zip_right (IsMethodOf outlines works) o.0.methods h.class.methods o.2.methods m method h.is in
-      ap (λ (s : Sig). length s.types) x.2.signed ∙ zip_length (IsReadAs outlines) x.0.sig.types method.kinds x.2.kinds
+      ap (λ (s : Sig). length s.types) x.2.signed ∙ zip_length (IsReadAs outlines) x.0.sig.types method.types x.2.types
 
   -- a pointer is read as a reference
   referred : (T : QType) (k : ValueType) → T.pointer ≡ true → IsKind p T k → (c : ℕ) × (constant : Bool) × (k ≡ type.Reference c constant)
@@ -101,13 +101,13 @@ module _ (outlines : List Outline) (works : List (List ResolvedWork)) (p : Loade
 
   -- ---- bodies, where no declared type is wanting
   module _ (properties_typed : (c q : ℕ) (property : MetaProperty) → IsProperty p c q property → IsKind p property.declared property.kind)
-      (name : List ℕ) (parameters : List Parameter) (me : ℕ) (is_me : IsOutlineNamed outlines name me) (kinds : List ValueType) (typed : AllZip (IsTyped outlines p) (kinds_of parameters) kinds) where
+      (name : List ℕ) (parameters : List Parameter) (me : ℕ) (is_me : IsOutlineNamed outlines name me) (types : List ValueType) (typed : AllZip (IsTyped outlines p) (types_of parameters) types) where
     abbrev scope : Scope
     scope = record { outlines = outlines; me = name; parameters = parameters }
 
     -- .. among the loaded classes
     abbrev loaded_site : Site
-    loaded_site = site p me parameters kinds
+    loaded_site = site p me parameters types
 
     -- a pointer's reading
     points : (T : QType) (c : ℕ) (k : ValueType) → PointsTo outlines T c → IsReadAs outlines T k → k ≡ type.Reference c T.constant
@@ -120,7 +120,7 @@ module _ (outlines : List Outline) (works : List (List ResolvedWork)) (p : Loade
     root_loads : (r : Root) (f : MetaRoot) (T : QType) → IsRoot scope r f T → (k : ValueType) × IsLoadedRoot loaded_site r f k × IsTyped outlines p T k
     root_loads r f T this_root = (type.Reference me false, this_loaded, (inl (refl, refl, is_me), (refl, refl, named name me is_me)))
     root_loads r f T (parameter_root {k = k} at) =
-        let y = zip_left (IsTyped outlines p) (kinds_of parameters) kinds typed k at.at.item.kind (map_at (λ (x : Parameter). x.kind) parameters k at.at.item at.at.is) in
+        let y = zip_left (IsTyped outlines p) (types_of parameters) types typed k at.at.item.kind (map_at (λ (x : Parameter). x.kind) parameters k at.at.item at.at.is) in
         (y.0, parameter_loaded at y.1, y.2)
 
     -- the property that a name is resolved to has it

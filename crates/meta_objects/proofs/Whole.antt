@@ -6,19 +6,19 @@ use Rattle.syntax_trees.specs.declared.syntax.Literal.TheVariants as literal
 use Rattle.syntax_trees.specs.declared.program.SlotWork.TheVariants as does
 use Rattle.meta_model.{specs.declared.object.ValueType.{ValueType}, specs.declared.object.MetaMethod.{MetaMethod}, specs.declared.object.MetaProperty.{MetaProperty}, specs.declared.object.MetaObject.{MetaObject}, specs.declared.object.MetaWire.{MetaWire}, specs.declared.object.MetaOwns.{MetaOwns}, specs.declared.site.MetaSite.{MetaSite}, specs.Loaded.{Loaded}, specs.Members.{IsClass, IsProperty, methods_in, method_count, methods_before, method_offset, Declares, base_of, Below, same, under, IsIn}, specs.Kinds.{IsKind}, specs.Sound.{IsSoundWork, IsSoundMethod, IsNotifier, IsSoundProperty, IsUnder, HasDistinctMethods, HasDistinctProperties, IsSoundClass, IsSoundWire, IsSoundOwns, IsSoundSite, AreDistinctSites, IsSound}, specs.Literals.{HoldsNoObject}, specs.Root.{root_methods, root_class, BeginsAsRoot}, proofs.InLists.{place_in}}
 use Rattle.meta_model.specs.declared.object.ValueType.TheVariants as type
-use Rattle.class_outlines.{specs.declared.outline.Sort.{Sort}, specs.declared.outline.Heading.{Heading}, specs.declared.outline.Outline.{Outline}, specs.DeclaredSites.{UsesReference}, specs.Outlines.{IsOutlineNamed, kinds_of, signal_heading, slot_headings, own_methods, qobject}, specs.DeclaredKinds.{LacksType}, specs.code.ReadTypes.{IsReadAs}, specs.Clashes.{AreOneCall, HasTwoMembers}, specs.Conditions.{RepeatsName, RepeatsInSlot, RepeatsInMethod, LacksTypes}, specs.Notifiers.{IsSignalOf, LacksNotifier}, specs.Natives.{RepeatsEffectIn, TouchesReference, HasReferenceNative}, proofs.Zips.{zip_left, zip_right, zip_split, zip_also, zip_both, same_zip_by, get_front, get_back}, proofs.Once.{once, none_at}, proofs.Firsts.{first_in_front}, proofs.ReadTypes.{same_read}, proofs.Outlined.{Declared, Reaches, here, up, HasSlot, outline_of, slot_of, outlines_count, root_at, reaches_root, delete_later_in_root, distinct_outlines}}
+use Rattle.class_outlines.{specs.declared.outline.Sort.{Sort}, specs.declared.outline.Heading.{Heading}, specs.declared.outline.Outline.{Outline}, specs.DeclaredSites.{UsesReference}, specs.Outlines.{IsOutlineNamed, types_of, signal_heading, slot_headings, own_methods, qobject}, specs.DeclaredKinds.{LacksType}, specs.code.ReadTypes.{IsReadAs}, specs.Clashes.{AreOneCall, HasTwoMembers}, specs.Conditions.{RepeatsName, RepeatsInSlot, RepeatsInMethod, LacksTypes}, specs.Notifiers.{IsSignalOf, LacksNotifier}, specs.Natives.{RepeatsEffectIn, TouchesReference, HasReferenceNative}, proofs.Zips.{zip_left, zip_right, zip_split, zip_also, zip_both, same_zip_by, get_front, get_back}, proofs.Once.{once, none_at}, proofs.Firsts.{first_in_front}, proofs.ReadTypes.{same_read}, proofs.Outlined.{Declared, Reaches, here, up, HasSlot, outline_of, slot_of, outlines_count, root_at, reaches_root, delete_later_in_root, distinct_outlines}}
 use Rattle.class_outlines.specs.declared.outline.Sort.TheVariants as sort
 use Rattle.name_indexes.specs.Places.{StandsFirst}
 use Rattle.name_resolution.{specs.declared.body_resolution.work.ResolvedWork.{ResolvedWork}, specs.code.Bodies.{scope_of, IsWork, IsSlotWork, AreWorks}, specs.code.Wires.{IsWire, IsOwns}, specs.InitialValues.{initial_of}, specs.code.Loading.{work_at, found_work, work_of, IsMethodOf, IsNotify, IsPropertyOf, IsObject, HasUses, IsLoaded}, specs.code.Sites.{IsSite}, proofs.OneSite.{same_zip}, proofs.Unique.{same_method, same_property_by, same_place, same_object}}
 use Rattle.name_resolution.specs.declared.body_resolution.work.ResolvedWork.TheVariants as resolved
-use Rattle.meta_objects.{specs.Builds.{HasOutlines, IsClean, IsLoadedForm}, specs.LoadedSites.{IsLoadedSite}, specs.LoadedBodies.{site}, specs.LoadedEnds.{Connects}, specs.LoadedProgram.{IsLoadedSignal, IsLoadedWork, IsLoadedSlot, HasNotifier, IsLoadedProperty, IsLoadedClass, HasLoadedClass, IsLoadedWire, IsLoadedOwns, IsLoadedProgram}, proofs.OwnMembers.{name_changed_first}, proofs.Deciding.{carries}, proofs.Soundness.{IsTyped, zip_length, object_at, named, kind_in, connects, kinds_counted, statements_load}, proofs.Sited.{site_loads, site_sound}, proofs.Natives.{plain_parameters, effects_load, effects_sound}, proofs.SoundBodies.{connects_sound, delete_later_sound, statements_sound}}
+use Rattle.meta_objects.{specs.Builds.{HasOutlines, IsClean, IsLoadedForm}, specs.LoadedSites.{IsLoadedSite}, specs.LoadedBodies.{site}, specs.LoadedEnds.{Connects}, specs.LoadedProgram.{IsLoadedSignal, IsLoadedWork, IsLoadedSlot, HasNotifier, IsLoadedProperty, IsLoadedClass, HasLoadedClass, IsLoadedWire, IsLoadedOwns, IsLoadedProgram}, proofs.OwnMembers.{name_changed_first}, proofs.Deciding.{carries}, proofs.Soundness.{IsTyped, zip_length, object_at, named, kind_in, connects, types_counted, statements_load}, proofs.Sited.{site_loads, site_sound}, proofs.Natives.{plain_parameters, effects_load, effects_sound}, proofs.SoundBodies.{connects_sound, delete_later_sound, statements_sound}}
 
-no_kinds : (o : List Outline) (types : List QType) (kinds : List ValueType) → AllZip (IsReadAs o) types kinds → types ≡ [] → kinds ≡ []
-no_kinds o [] [] h e = refl
-no_kinds o [] (k ∷ ks) h e = absurd h
-no_kinds o (T ∷ Ts) ks h e = absurd (cc)
+no_types : (o : List Outline) (types : List QType) (value_types : List ValueType) → AllZip (IsReadAs o) types value_types → types ≡ [] → value_types ≡ []
+no_types o [] [] h e = refl
+no_types o [] (k ∷ ks) h e = absurd h
+no_types o (T ∷ Ts) ks h e = absurd (cc)
 
-one_kind : (o : List Outline) (types : List QType) (kinds : List ValueType) → AllZip (IsReadAs o) types kinds → (T : QType) (kind : ValueType) → IsReadAs o T kind → types ≡ T ∷ [] → kinds ≡ kind ∷ []
+one_kind : (o : List Outline) (types : List QType) (value_types : List ValueType) → AllZip (IsReadAs o) types value_types → (T : QType) (kind : ValueType) → IsReadAs o T kind → types ≡ T ∷ [] → value_types ≡ kind ∷ []
 one_kind o [] ks h T kind read e = absurd (cc)
 one_kind o (U ∷ Us) [] h T kind read e = absurd h
 one_kind o (U ∷ []) (k ∷ []) h T kind read e =
@@ -87,11 +87,11 @@ module _ (program : Program) (o : List Outline) (outlined : HasOutlines program 
   kind_sound T k has (inl h) = kind_in o loaded.works p loaded.objects T k h
   kind_sound T k has (inr h) = absurd (has h.0)
 
-  kinds_sound : (types : List QType) (kinds : List ValueType) → ((i : ℕ) (T : QType) → slice_get types i ≡ Some T → ¬ LacksType o T) → AllZip (IsReadAs o) types kinds → AllZip (IsKind p) types kinds
-  kinds_sound [] [] has h = tt
-  kinds_sound [] (k ∷ ks) has h = absurd h
-  kinds_sound (T ∷ Ts) [] has h = absurd h
-  kinds_sound (T ∷ Ts) (k ∷ ks) has h = (kind_sound T k (has 0 T refl) h.0, kinds_sound Ts ks (λ i. has (suc i)) h.1)
+  types_sound : (types : List QType) (value_types : List ValueType) → ((i : ℕ) (T : QType) → slice_get types i ≡ Some T → ¬ LacksType o T) → AllZip (IsReadAs o) types value_types → AllZip (IsKind p) types value_types
+  types_sound [] [] has h = tt
+  types_sound [] (k ∷ ks) has h = absurd h
+  types_sound (T ∷ Ts) [] has h = absurd h
+  types_sound (T ∷ Ts) (k ∷ ks) has h = (kind_sound T k (has 0 T refl) h.0, types_sound Ts ks (λ i. has (suc i)) h.1)
 
   property_kind : (c : ℕ) (class : MetaObject) (u : OutlineOf c class) (q : ℕ) (property : MetaProperty) → slice_get class.properties q ≡ Some property → IsKind p property.declared property.kind
   property_kind c class u q property at =
@@ -117,19 +117,19 @@ module _ (program : Program) (o : List Outline) (outlined : HasOutlines program 
       (work.0, ap (λ ws. option_and_then (λ of_class. slice_get of_class j) ws) of_class.1 ∙ work.1, work.2)
 
   -- .. as it is loaded
-  loads_by : (i : ℕ) (class : Class) → IsOutlineNamed o class.name (suc i) → (slot : Slot) (kinds : List ValueType) → AllZip (IsTyped o p) (kinds_of slot.parameters) kinds
-      → (declared : SlotWork) (w : ResolvedWork) → IsWork (scope_of o class slot) declared w → IsLoadedWork (site p (suc i) slot.parameters kinds) declared (found_work (Some w))
-  loads_by i class is_me slot kinds typed (does.Body body) (resolved.Body statements) h =
-      statements_load o loaded.works p loaded.objects properties_typed class.name slot.parameters (suc i) is_me kinds typed body statements h
-  loads_by i class is_me slot kinds typed (does.Native names) (resolved.Native effects) h = effects_load o loaded.works p loaded.objects class.name (suc i) is_me names effects h
-  loads_by i class is_me slot kinds typed (does.Body body) (resolved.Native effects) h = absurd h
-  loads_by i class is_me slot kinds typed (does.Native names) (resolved.Body statements) h = absurd h
+  loads_by : (i : ℕ) (class : Class) → IsOutlineNamed o class.name (suc i) → (slot : Slot) (value_types : List ValueType) → AllZip (IsTyped o p) (types_of slot.parameters) value_types
+      → (declared : SlotWork) (w : ResolvedWork) → IsWork (scope_of o class slot) declared w → IsLoadedWork (site p (suc i) slot.parameters value_types) declared (found_work (Some w))
+  loads_by i class is_me slot value_types typed (does.Body body) (resolved.Body statements) h =
+      statements_load o loaded.works p loaded.objects properties_typed class.name slot.parameters (suc i) is_me value_types typed body statements h
+  loads_by i class is_me slot value_types typed (does.Native names) (resolved.Native effects) h = effects_load o loaded.works p loaded.objects class.name (suc i) is_me names effects h
+  loads_by i class is_me slot value_types typed (does.Body body) (resolved.Native effects) h = absurd h
+  loads_by i class is_me slot value_types typed (does.Native names) (resolved.Body statements) h = absurd h
 
-  work_loaded : (i : ℕ) (class : Class) → slice_get program.classes i ≡ Some class → (u : Outline) → slice_get o (suc i) ≡ Some u → u.name ≡ class.name → (j : ℕ) (slot : Slot) → slice_get class.slots j ≡ Some slot → (kinds : List ValueType) → AllZip (IsTyped o p) (kinds_of slot.parameters) kinds → IsLoadedWork (site p (suc i) slot.parameters kinds) slot.work (found_work (work_at loaded.works i j))
-  work_loaded i class is_class u is_outline u_named j slot is_slot kinds typed =
+  work_loaded : (i : ℕ) (class : Class) → slice_get program.classes i ≡ Some class → (u : Outline) → slice_get o (suc i) ≡ Some u → u.name ≡ class.name → (j : ℕ) (slot : Slot) → slice_get class.slots j ≡ Some slot → (value_types : List ValueType) → AllZip (IsTyped o p) (types_of slot.parameters) value_types → IsLoadedWork (site p (suc i) slot.parameters value_types) slot.work (found_work (work_at loaded.works i j))
+  work_loaded i class is_class u is_outline u_named j slot is_slot value_types typed =
       let found = work_found i class is_class j slot is_slot in
-      subst (λ w. IsLoadedWork (site p (suc i) slot.parameters kinds) slot.work (found_work w)) (sym found.1)
-      (loads_by i class (is_first class.name (suc i) u is_outline u_named) slot kinds typed slot.work found.0 found.2)
+      subst (λ w. IsLoadedWork (site p (suc i) slot.parameters value_types) slot.work (found_work w)) (sym found.1)
+      (loads_by i class (is_first class.name (suc i) u is_outline u_named) slot value_types typed slot.work found.0 found.2)
 
   -- no name appears twice in a list of a native, and it touches no reference
   once_in_slot : (i : ℕ) (class : Class) → slice_get program.classes i ≡ Some class → (j : ℕ) (slot : Slot) → slice_get class.slots j ≡ Some slot → ¬ RepeatsInSlot slot
@@ -141,37 +141,37 @@ module _ (program : Program) (o : List Outline) (outlined : HasOutlines program 
       none_at (λ (x : Slot). TouchesReference o class.name x.parameters x.work) class.slots
       (none_at (HasReferenceNative o) program.classes (λ any. clean.types (inr (inr any))) i class is_class) j slot is_slot
 
-  slot_sound : (c i j m : ℕ) (h : Heading) (kinds : List ValueType) → HasSlot program.classes o c i j m h → AllZip (IsTyped o p) h.sig.types kinds → IsSoundWork p c m kinds (found_work (work_at loaded.works i j))
-  slot_sound c i j m h kinds slot typed =
+  slot_sound : (c i j m : ℕ) (h : Heading) (value_types : List ValueType) → HasSlot program.classes o c i j m h → AllZip (IsTyped o p) h.sig.types value_types → IsSoundWork p c m value_types (found_work (work_at loaded.works i j))
+  slot_sound c i j m h value_types slot typed =
       let found = work_found i slot.class slot.is_class j slot.slot slot.is_slot in
-      subst (λ w. IsSoundWork p c m kinds (found_work w)) (sym found.1)
+      subst (λ w. IsSoundWork p c m value_types (found_work w)) (sym found.1)
       (sound_by slot.slot.work found.0 found.2 (once_in_slot i slot.class slot.is_class j slot.slot slot.is_slot) (no_reference i slot.class slot.is_class j slot.slot slot.is_slot))
     where
       declaring : (class : MetaObject) × IsClass p (suc i) class
       declaring = class_is (suc i) slot.outline slot.is_outline
 
-      types : AllZip (IsTyped o p) (kinds_of slot.slot.parameters) kinds
-      types = subst (λ (s : Sig). AllZip (IsTyped o p) s.types kinds) slot.signed typed
+      types : AllZip (IsTyped o p) (types_of slot.slot.parameters) value_types
+      types = subst (λ (s : Sig). AllZip (IsTyped o p) s.types value_types) slot.signed typed
 
       is_me : IsOutlineNamed o slot.class.name (suc i)
       is_me = is_first slot.class.name (suc i) slot.outline slot.is_outline slot.named
 
       sound_by : (declared : SlotWork) (w : ResolvedWork) → IsWork (scope_of o slot.class slot.slot) declared w
           → (¬ (RepeatsName slot.slot.parameters ⊎ RepeatsEffectIn declared)) → (¬ TouchesReference o slot.class.name slot.slot.parameters declared)
-          → IsSoundWork p c m kinds (found_work (Some w))
+          → IsSoundWork p c m value_types (found_work (Some w))
       sound_by (does.Body body) (resolved.Body statements) is once plain = record {
         declaring = suc i;
         below = below c (suc i) declaring.0 declaring.1 slot.reaches;
         declares = slot_declared c i j m h slot;
         sound =
-            statements_sound (site p (suc i) slot.slot.parameters kinds) (kinds_counted o loaded.works p loaded.objects) body statements
-            (loads_by i slot.class is_me slot.slot kinds types (does.Body body) (resolved.Body statements) is);
+            statements_sound (site p (suc i) slot.slot.parameters value_types) (types_counted o loaded.works p loaded.objects) body statements
+            (loads_by i slot.class is_me slot.slot value_types types (does.Body body) (resolved.Body statements) is);
       }
       sound_by (does.Native names) (resolved.Native effects) is once plain = record {
         declaring = suc i;
         below = below c (suc i) declaring.0 declaring.1 slot.reaches;
         declares = slot_declared c i j m h slot;
-        plain = plain_parameters o loaded.works p loaded.objects slot.slot.parameters kinds types (λ takes. plain (inl takes));
+        plain = plain_parameters o loaded.works p loaded.objects slot.slot.parameters value_types types (λ takes. plain (inl takes));
         sound =
             effects_sound o loaded.works p loaded.objects slot.class.name (suc i) is_me names effects is (λ twice. once (inr twice))
             (λ touches. plain (inr touches));
@@ -179,9 +179,9 @@ module _ (program : Program) (o : List Outline) (outlined : HasOutlines program 
       sound_by (does.Body body) (resolved.Native effects) is once plain = absurd is
       sound_by (does.Native names) (resolved.Body statements) is once plain = absurd is
 
-  work_sound : (c : ℕ) (u : Outline) → slice_get o c ≡ Some u → (m : ℕ) (h : Heading) → slice_get u.methods m ≡ Some h → (kinds : List ValueType) → AllZip (IsTyped o p) h.sig.types kinds → (s : Sort) → h.sort ≡ s → IsSoundWork p c m kinds (work_of loaded.works s)
-  work_sound c u e m h at kinds typed sort.Signal is = tt
-  work_sound c u e m h at kinds typed sort.DeleteLater is =
+  work_sound : (c : ℕ) (u : Outline) → slice_get o c ≡ Some u → (m : ℕ) (h : Heading) → slice_get u.methods m ≡ Some h → (value_types : List ValueType) → AllZip (IsTyped o p) h.sig.types value_types → (s : Sort) → h.sort ≡ s → IsSoundWork p c m value_types (work_of loaded.works s)
+  work_sound c u e m h at value_types typed sort.Signal is = tt
+  work_sound c u e m h at value_types typed sort.DeleteLater is =
       let root = class_is 0 qobject (root_at program.classes o outlined.are) in
       let offset : method_offset p 0 ≡ 0 = ap (methods_before p) (base_is 0 qobject (root_at program.classes o outlined.are)) in
       let count = count_is 0 qobject (root_at program.classes o outlined.are) in
@@ -190,20 +190,20 @@ module _ (program : Program) (o : List Outline) (outlined : HasOutlines program 
         declaring = 0;
         below = below c 0 root.0 root.1 (reaches_root program.classes o outlined.are (suc c) c (omega arith) u e);
         declares = record { after = omega (arith, offset); within = omega (arith, count, early) };
-        sound = delete_later_sound p kinds;
+        sound = delete_later_sound p value_types;
       }
-  work_sound c u e m h at kinds typed (sort.Slot i j) is = slot_sound c i j m h kinds (slot_of program.classes o outlined.are c u e m h at i j is) typed
+  work_sound c u e m h at value_types typed (sort.Slot i j) is = slot_sound c i j m h value_types (slot_of program.classes o outlined.are c u e m h at i j is) typed
 
   method_sound : (c : ℕ) (class : MetaObject) (u : OutlineOf c class) (m : ℕ) (method : MetaMethod) → slice_get class.methods m ≡ Some method → IsSoundMethod p c m method
   method_sound c class u m method at =
       let h = zip_right (IsMethodOf o loaded.works) u.outline.methods class.methods u.by.methods m method at in
-      let kinded = kinds_sound h.0.sig.types method.kinds
+      let kinded = types_sound h.0.sig.types method.types
       (λ i T e. none_at (LacksType o) h.0.sig.types (none_at (λ (x : Heading). Any (LacksType o) x.sig.types) u.outline.methods (λ any. has_types c u.outline u.is (inr any)) m h.0 h.1) i T e)
-      h.2.kinds in
-      let typed = zip_both (IsReadAs o) (IsKind p) h.0.sig.types method.kinds h.2.kinds kinded in
+      h.2.types in
+      let typed = zip_both (IsReadAs o) (IsKind p) h.0.sig.types method.types h.2.types kinded in
       record {
-        kinds = subst (λ (s : Sig). AllZip (IsKind p) s.types method.kinds) (sym h.2.signed) kinded;
-        work = subst (λ w. IsSoundWork p c m method.kinds w) (sym h.2.work) (work_sound c u.outline u.is m h.0 h.1 method.kinds typed h.0.sort refl);
+        types = subst (λ (s : Sig). AllZip (IsKind p) s.types method.types) (sym h.2.signed) kinded;
+        work = subst (λ w. IsSoundWork p c m method.types w) (sym h.2.work) (work_sound c u.outline u.is m h.0 h.1 method.types typed h.0.sort refl);
       }
 
   -- ---- properties
@@ -212,7 +212,7 @@ module _ (program : Program) (o : List Outline) (outlined : HasOutlines program 
   notifier c class u q d at property by (Some sig) given m is notify =
       let h = notify.at in
       let x = zip_left (IsMethodOf o loaded.works) u.outline.methods class.methods u.by.methods m h.item h.is in
-      let typed : AllZip (IsReadAs o) sig.types x.0.kinds = subst (λ (s : Sig). AllZip (IsReadAs o) s.types x.0.kinds) h.has.0 x.2.kinds in
+      let typed : AllZip (IsReadAs o) sig.types x.0.types = subst (λ (s : Sig). AllZip (IsReadAs o) s.types x.0.types) h.has.0 x.2.types in
       let fits : (sig.types ≡ []) ⊎ (sig.types ≡ d.kind ∷ []) =
       elim (carries sig.types d.kind) [
         | inl fit ↦ fit
@@ -226,8 +226,8 @@ module _ (program : Program) (o : List Outline) (outlined : HasOutlines program 
         is = x.1;
         signals = x.2.work ∙ ap (λ s. work_of loaded.works s) h.has.1;
         fits = elim fits [
-          | inl none ↦ inl (no_kinds o sig.types x.0.kinds typed none)
-          | inr one ↦ inr (one_kind o sig.types x.0.kinds typed d.kind property.kind by.kind one)
+          | inl none ↦ inl (no_types o sig.types x.0.types typed none)
+          | inr one ↦ inr (one_kind o sig.types x.0.types typed d.kind property.kind by.kind one)
         ];
       }
 
@@ -253,30 +253,30 @@ module _ (program : Program) (o : List Outline) (outlined : HasOutlines program 
       same_place o (IsSignalOf sig) u.methods x (Some m) h first
 
   -- ---- the own members of a class
-  signals_loaded : (signals : List Signal) (ys : List MetaMethod) → ((k : ℕ) (y : MetaMethod) → slice_get ys k ≡ Some y → AllZip (IsKind p) y.sig.types y.kinds) → AllZip (IsMethodOf o loaded.works) (map signal_heading signals) ys → AllZip (IsLoadedSignal p) signals ys
+  signals_loaded : (signals : List Signal) (ys : List MetaMethod) → ((k : ℕ) (y : MetaMethod) → slice_get ys k ≡ Some y → AllZip (IsKind p) y.sig.types y.types) → AllZip (IsMethodOf o loaded.works) (map signal_heading signals) ys → AllZip (IsLoadedSignal p) signals ys
   signals_loaded [] [] typed h = tt
   signals_loaded [] (y ∷ ys) typed h = absurd h
   signals_loaded (signal ∷ signals) [] typed h = absurd h
   signals_loaded (signal ∷ signals) (y ∷ ys) typed h = (
-    record { signed = h.0.signed; typed = subst (λ (g : Sig). AllZip (IsKind p) g.types y.kinds) h.0.signed (typed 0 y refl); signals = h.0.work },
+    record { signed = h.0.signed; typed = subst (λ (g : Sig). AllZip (IsKind p) g.types y.types) h.0.signed (typed 0 y refl); signals = h.0.work },
     signals_loaded signals ys (λ k. typed (suc k)) h.1,
   )
 
   slots_loaded : (i from : ℕ) (slots : List Slot) (ys : List MetaMethod)
-      → ((k j : ℕ) (slot : Slot) → slice_get slots k ≡ Some slot → from + k ≡ j → (kinds : List ValueType) → AllZip (IsTyped o p) (kinds_of slot.parameters) kinds → IsLoadedWork (site p (suc i) slot.parameters kinds) slot.work (found_work (work_at loaded.works i j)))
-      → ((k : ℕ) (y : MetaMethod) → slice_get ys k ≡ Some y → AllZip (IsKind p) y.sig.types y.kinds)
+      → ((k j : ℕ) (slot : Slot) → slice_get slots k ≡ Some slot → from + k ≡ j → (value_types : List ValueType) → AllZip (IsTyped o p) (types_of slot.parameters) value_types → IsLoadedWork (site p (suc i) slot.parameters value_types) slot.work (found_work (work_at loaded.works i j)))
+      → ((k : ℕ) (y : MetaMethod) → slice_get ys k ≡ Some y → AllZip (IsKind p) y.sig.types y.types)
       → AllZip (IsMethodOf o loaded.works) (slot_headings i from slots) ys → AllZip (IsLoadedSlot p (suc i)) slots ys
   slots_loaded i from [] [] works typed h = tt
   slots_loaded i from [] (y ∷ ys) works typed h = absurd h
   slots_loaded i from (slot ∷ slots) [] works typed h = absurd h
   slots_loaded i from (slot ∷ slots) (y ∷ ys) works typed h =
-      let kinded : AllZip (IsKind p) (kinds_of slot.parameters) y.kinds = subst (λ (g : Sig). AllZip (IsKind p) g.types y.kinds) h.0.signed (typed 0 y refl) in (
+      let kinded : AllZip (IsKind p) (types_of slot.parameters) y.types = subst (λ (g : Sig). AllZip (IsKind p) g.types y.types) h.0.signed (typed 0 y refl) in (
         record {
           signed = h.0.signed;
           typed = kinded;
           does =
-              subst (λ w. IsLoadedWork (site p (suc i) slot.parameters y.kinds) slot.work w) (sym h.0.work)
-              (works 0 from slot refl (omega arith) y.kinds (zip_both (IsReadAs o) (IsKind p) (kinds_of slot.parameters) y.kinds h.0.kinds kinded));
+              subst (λ w. IsLoadedWork (site p (suc i) slot.parameters y.types) slot.work w) (sym h.0.work)
+              (works 0 from slot refl (omega arith) y.types (zip_both (IsReadAs o) (IsKind p) (types_of slot.parameters) y.types h.0.types kinded));
         },
         slots_loaded i (suc from) slots ys (λ k j s e at. works (suc k) j s e (omega (arith, at))) (λ k. typed (suc k)) h.1,
       )
@@ -325,13 +325,13 @@ module _ (program : Program) (o : List Outline) (outlined : HasOutlines program 
       (λ i y e v w h k. same_property_by o u.outline d.base y v w h k
       (same_notified d.base_number d.base u.outline (own_methods d.i d.class) d.is_base outlined_methods i y e y.notify refl v.notify w.notify h.notify k.notify))
       properties.3 base.2.properties in
-      let method_typed : (k : ℕ) (y : MetaMethod) → slice_get methods.1 k ≡ Some y → AllZip (IsKind p) y.sig.types y.kinds =
-      λ k y e. let at = get_back methods.0 methods.1 k y e in (method_sound c class u at.0 y (ap (λ ms. slice_get ms at.0) methods.2 ∙ at.1)).kinds in
+      let method_typed : (k : ℕ) (y : MetaMethod) → slice_get methods.1 k ≡ Some y → AllZip (IsKind p) y.sig.types y.types =
+      λ k y e. let at = get_back methods.0 methods.1 k y e in (method_sound c class u at.0 y (ap (λ ms. slice_get ms at.0) methods.2 ∙ at.1)).types in
       let property_typed : (k : ℕ) (y : MetaProperty) → slice_get properties.1 k ≡ Some y → IsKind p y.declared y.kind =
       λ k y e. let at = get_back properties.0 properties.1 k y e in (property_sound c class u at.0 y (ap (λ ps. slice_get ps at.0) properties.2 ∙ at.1)).kind in
       let is_outline : slice_get o (suc d.i) ≡ Some u.outline = subst (λ n. slice_get o n ≡ Some u.outline) d.number u.is in
       let outline_named : u.outline.name ≡ d.class.name = ap (λ (v : Outline). v.name) d.shape in
-      let works : (k j : ℕ) (slot : Slot) → slice_get d.class.slots k ≡ Some slot → 0 + k ≡ j → (kinds : List ValueType) → AllZip (IsTyped o p) (kinds_of slot.parameters) kinds → IsLoadedWork (site p (suc d.i) slot.parameters kinds) slot.work (found_work (work_at loaded.works d.i j)) =
+      let works : (k j : ℕ) (slot : Slot) → slice_get d.class.slots k ≡ Some slot → 0 + k ≡ j → (value_types : List ValueType) → AllZip (IsTyped o p) (types_of slot.parameters) value_types → IsLoadedWork (site p (suc d.i) slot.parameters value_types) slot.work (found_work (work_at loaded.works d.i j)) =
       λ k j slot e at.
       let same : k ≡ j = omega (arith, at) in
       work_loaded d.i d.class d.is u.outline is_outline outline_named j slot (subst (λ n. slice_get d.class.slots n ≡ Some slot) same e) in
@@ -391,10 +391,10 @@ module _ (program : Program) (o : List Outline) (outlined : HasOutlines program 
     named = refl;
     based = refl;
     methods = (
-      record { signed = refl; kinds = (inl (refl, refl, named_root), tt); work = refl },
+      record { signed = refl; types = (inl (refl, refl, named_root), tt); work = refl },
       (
-        record { signed = refl; kinds = tt; work = refl },
-        (record { signed = refl; kinds = (inl refl, tt); work = refl }, (record { signed = refl; kinds = tt; work = refl }, tt)),
+        record { signed = refl; types = tt; work = refl },
+        (record { signed = refl; types = (inl refl, tt); work = refl }, (record { signed = refl; types = tt; work = refl }, tt)),
       ),
     );
     properties = (record { named = refl; typed = refl; kind = inl refl; initial = refl; notify = name_changed_first }, tt);

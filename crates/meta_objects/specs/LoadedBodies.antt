@@ -18,18 +18,18 @@ pub record Site : Type 0 where
   pub program : Loaded
   pub me : ℕ
   pub parameters : List Parameter
-  pub kinds : List ValueType
+  pub types : List ValueType
 
 abbrev pub site : Loaded → ℕ → List Parameter → List ValueType → Site
-site program me parameters kinds =
-    record { program = program; me = me; parameters = parameters; kinds = kinds }
+site program me parameters types =
+    record { program = program; me = me; parameters = parameters; types = types }
 
 -- ---- paths
 -- `this` is declared to be of the slot's class, a parameter of its type
 pub data IsLoadedRoot (s : Site) : Root → MetaRoot → ValueType → Type 0 where
   this_loaded : IsLoadedRoot s root.This This (type.Reference s.me false)
   parameter_loaded : {name : List ℕ} {k : ℕ} {T : ValueType}
-      → StandsFirst (λ (p : Parameter). p.name ≡ Some name) s.parameters k → slice_get s.kinds k ≡ Some T
+      → StandsFirst (λ (p : Parameter). p.name ≡ Some name) s.parameters k → slice_get s.types k ≡ Some T
       → IsLoadedRoot s (root.Name name) (AParameter k) T
 
 -- property q of class c has this name

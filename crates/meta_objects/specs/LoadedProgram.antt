@@ -6,15 +6,15 @@ use Rattle.syntax_trees.specs.{declared.program.Property.{Property}, declared.pr
 use Rattle.syntax_trees.specs.declared.program.SlotWork.TheVariants as slot
 use Rattle.meta_model.specs.{declared.object.Work.{Work}, declared.object.MetaMethod.{MetaMethod}, declared.object.MetaProperty.{MetaProperty}, declared.object.MetaObject.{MetaObject}, declared.object.MetaWire.{MetaWire}, declared.object.MetaOwns.{MetaOwns}, declared.qobject.TheConstants.{QOBJECT}, Loaded.{Loaded}, Members.{IsClass, IsClassNamed}, QObject.{sig_of}, Root.{root_class}, Kinds.{IsKind}}
 use Rattle.meta_model.specs.declared.object.Work.TheVariants as work
-use Rattle.class_outlines.specs.Outlines.{kinds_of, base_name}
+use Rattle.class_outlines.specs.Outlines.{types_of, base_name}
 use Rattle.name_resolution.specs.InitialValues.{initial_of}
 use Rattle.meta_objects.specs.{LoadedBodies.{Site, site, AreLoadedStatements}, LoadedEnds.{Connects}, LoadedNatives.{AreLoadedEffects}, LoadedSites.{IsLoadedSite}}
 
 -- ---- members
 -- a signal: its name, and its parameters' types, each resolved
 pub record IsLoadedSignal (p : Loaded) (declared : Signal) (method : MetaMethod) : Type 0 where
-  pub signed : method.sig ≡ sig_of declared.name (kinds_of declared.parameters)
-  pub typed : AllZip (IsKind p) (kinds_of declared.parameters) method.kinds
+  pub signed : method.sig ≡ sig_of declared.name (types_of declared.parameters)
+  pub typed : AllZip (IsKind p) (types_of declared.parameters) method.types
   pub signals : method.work ≡ work.Signal
 
 -- what a slot or native does: a slot's statements, and a native's effects, their names resolved
@@ -28,9 +28,9 @@ IsLoadedWork s (slot.Native names) work.Signal = ⊥
 
 -- a slot or native of class c: likewise, and what it does, in whose names `this` is of that class
 pub record IsLoadedSlot (p : Loaded) (c : ℕ) (declared : Slot) (method : MetaMethod) : Type 0 where
-  pub signed : method.sig ≡ sig_of declared.name (kinds_of declared.parameters)
-  pub typed : AllZip (IsKind p) (kinds_of declared.parameters) method.kinds
-  pub does : IsLoadedWork (site p c declared.parameters method.kinds) declared.work method.work
+  pub signed : method.sig ≡ sig_of declared.name (types_of declared.parameters)
+  pub typed : AllZip (IsKind p) (types_of declared.parameters) method.types
+  pub does : IsLoadedWork (site p c declared.parameters method.types) declared.work method.work
 
 -- method m of the class is the signal of this signature
 pub record IsSignalAt (class : MetaObject) (sig : Sig) (m : ℕ) : Type 0 where

@@ -4,7 +4,7 @@ ghost use Rattle.std.specs.Prelude.{Any};
 ghost use Rattle.class_outlines.specs.Conditions.{LacksPropertyType, LacksAnyType};
 ghost use Rattle.class_outlines.specs.DeclaredKinds.{LacksType};
 ghost use Rattle.class_outlines.specs.Offences.{TellsBreach, TellsOffence, TellsOffenceIn};
-ghost use Rattle.class_outlines.specs.Outlines.{Outlines, kinds_of};
+ghost use Rattle.class_outlines.specs.Outlines.{Outlines, types_of};
 ghost use Rattle.meta_objects.specs.code.OwnTypes.{DeclaresUnknown};
 ghost use Rattle.class_outlines.specs.declared.fault.MetaFault.TheVariants as fault;
 ghost use Rattle.syntax_trees.specs.declared.program.Signal.{Signal as ASignal};
@@ -58,7 +58,7 @@ fn unknown_of_property(number: usize, class: &Class, outlines: &ClassTable) -> O
 /// The first signal with a parameter whose type isn't there.
 fn unknown_in_signals(number: usize, class: &Class, outlines: &ClassTable) -> Option<Offence>
     ensures { TellsOffenceIn number class.now fault.NoType
-        (Any (λ (signal : ASignal). Any (LacksType outlines.now) (kinds_of signal.parameters)) class.now.signals) result }
+        (Any (λ (signal : ASignal). Any (LacksType outlines.now) (types_of signal.parameters)) class.now.signals) result }
 {
     for (place, signal) in class.signals.as_slice().iter().enumerate() {
         if let Some(breach) = unknown_of_parameter(outlines, signal.parameters.as_slice()) {
@@ -71,7 +71,7 @@ fn unknown_in_signals(number: usize, class: &Class, outlines: &ClassTable) -> Op
 /// The first slot or native with a parameter whose type isn't there.
 fn unknown_in_slots(number: usize, class: &Class, outlines: &ClassTable) -> Option<Offence>
     ensures { TellsOffenceIn number class.now fault.NoType
-        (Any (λ (slot : ASlot). Any (LacksType outlines.now) (kinds_of slot.parameters)) class.now.slots) result }
+        (Any (λ (slot : ASlot). Any (LacksType outlines.now) (types_of slot.parameters)) class.now.slots) result }
 {
     for (place, slot) in class.slots.as_slice().iter().enumerate() {
         if let Some(breach) = unknown_of_parameter(outlines, slot.parameters.as_slice()) {
@@ -83,7 +83,7 @@ fn unknown_in_slots(number: usize, class: &Class, outlines: &ClassTable) -> Opti
 
 /// The first parameter whose type isn't there.
 fn unknown_of_parameter(outlines: &ClassTable, parameters: &[Parameter]) -> Option<Breach>
-    ensures { TellsBreach fault.NoType (Any (LacksType outlines.now) (kinds_of parameters.now)) result }
+    ensures { TellsBreach fault.NoType (Any (LacksType outlines.now) (types_of parameters.now)) result }
 {
     for (place, parameter) in parameters.iter().enumerate() {
         let name = names_before_parameter(parameters, place);

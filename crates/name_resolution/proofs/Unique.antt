@@ -44,7 +44,7 @@ same_outlines classes all more h k =
 
 -- ---- records by their fields
 abbrev method_of : Sig → List ValueType → Work → MetaMethod
-method_of s ks w = record { sig = s; kinds = ks; work = w }
+method_of s ks w = record { sig = s; types = ks; work = w }
 
 abbrev property_of : List ℕ → QType → ValueType → Value → Option ℕ → MetaProperty
 property_of n t k v m = record { name = n; declared = t; kind = k; initial = v; notify = m }
@@ -67,9 +67,9 @@ loaded_of cs ws os ss = record { classes = cs; wires = ws; owns = os; sites = ss
 module _ (outlines : List Outline) where
   pub same_method : (works : List (List ResolvedWork)) (h : Heading) (m n : MetaMethod) → IsMethodOf outlines works h m → IsMethodOf outlines works h n → m ≡ n
   same_method works h m n a b =
-      ap (λ s. method_of s m.kinds m.work) (a.signed ∙ sym b.signed)
-      ∙ ap (λ ks. method_of n.sig ks m.work) (same_zip (IsReadAs outlines) h.sig.types m.kinds n.kinds (same_read outlines) a.kinds b.kinds)
-      ∙ ap (λ w. method_of n.sig n.kinds w) (a.work ∙ sym b.work)
+      ap (λ s. method_of s m.types m.work) (a.signed ∙ sym b.signed)
+      ∙ ap (λ ks. method_of n.sig ks m.work) (same_zip (IsReadAs outlines) h.sig.types m.types n.types (same_read outlines) a.types b.types)
+      ∙ ap (λ w. method_of n.sig n.types w) (a.work ∙ sym b.work)
 
   pub same_place : {X : Type 0} (P : X → Type 0) (xs : List X) (a b : Option ℕ) → IsPlace P xs a → IsPlace P xs b → a ≡ b
   same_place P xs None None h k = refl

@@ -10,7 +10,7 @@ ghost use Rattle.name_resolution.specs.code.Loading.{IsObject, AreObjects};
 
 use crate::body_resolution::ResolvedWork;
 use basic_types::{Shared, Value};
-use class_outlines::{ClassTable, Heading, IndexedOutline, Sort, read_kind, read_kinds};
+use class_outlines::{ClassTable, Heading, IndexedOutline, Sort, read_type, read_types};
 use meta_model::{
     MetaMethod, MetaObject, MetaProperty, SlotBody, ValueType, Work, delete_later_body,
 };
@@ -124,9 +124,9 @@ fn resolve_method(
 {
     let copy = heading.sig.copy()?;
     let sig = Shared::new(alloc, copy)?;
-    let kinds = read_kinds(alloc, outlines, heading.sig.types.as_slice())?;
+    let types = read_types(alloc, outlines, heading.sig.types.as_slice())?;
     let work = work_of(alloc, works, heading.sort)?;
-    Ok(MetaMethod { sig, kinds, work })
+    Ok(MetaMethod { sig, types, work })
 }
 
 /// What a method of this sort does.
@@ -244,7 +244,7 @@ fn resolve_property(
     ensures { IfOk result (IsPropertyOf outlines.now outline.now declared.now) }
 {
     let name = declared.name.copy()?;
-    let kind = read_kind(outlines, &declared.kind);
+    let kind = read_type(outlines, &declared.kind);
     let initial = initial_of(alloc, &declared.initial, kind)?;
     let notify = notify_of(outline, declared);
     let declared = declared.kind.copy()?;

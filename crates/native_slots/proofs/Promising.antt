@@ -2,7 +2,7 @@
 use Rattle.std.{proofs.Common.{◌≡◌, ℕ, zero, suc, List, [], ◌∷◌, Bool, true, false, ◌&&◌, IsTrue, length, slice_get, Option, Vec, Result, Ok, Err, refl, sym, ◌∙◌, ap, subst, map}, specs.Prelude.{nat_le, OnOk}, specs.List.{AllZip, list_all}, specs.Option.{option_map, option_map_or, option_and_then, unwrap_or}, specs.declared.alloc.Global.{Global}, specs.declared.alloc.AllocError.{AllocError}}
 use Rattle.basic_types.specs.declared.value.Value.{Value}
 use Rattle.meta_model.specs.{declared.effects.MetaEffects.{MetaEffects}, declared.object.MetaMethod.{MetaMethod}, declared.object.MetaObject.{MetaObject}, declared.object.MetaProperty.{MetaProperty}, Loaded.{Loaded}, Values.{Has, HaveTypes}}
-use Rattle.native_slots.{specs.declared.action.Action.{Action}, specs.declared.action.Action.TheVariants.{Emit, Set}, specs.declared.action.TheConstants.{MOST_ACTIONS}, specs.declared.effects.Effects.{Effects}, specs.declared.effects.PlainProperty.{PlainProperty}, specs.declared.effects.PlainSignal.{PlainSignal}, specs.declared.head.NativeHead.{NativeHead}, specs.declared.misfit.Misfit.{Misfit}, specs.declared.plain_type.PlainType.{PlainType}, specs.Answers.{takes_any, MayAnswer}, specs.Effects.{kinds_of, kinds_of_properties, accepts, is_within, are_within}, specs.Fitting.{IsPropertyAs, IsSignalAs, AreAsDeclared}, specs.Misfits.{Fits}, specs.Plain.{kind_of, is_of, are_of}, specs.Promises.{IsValueOf, Promises, is_declared, are_declared}, proofs.Asking.{heads_found}, proofs.PlainValues.{of_has}}
+use Rattle.native_slots.{specs.declared.action.Action.{Action}, specs.declared.action.Action.TheVariants.{Emit, Set}, specs.declared.action.TheConstants.{MOST_ACTIONS}, specs.declared.effects.Effects.{Effects}, specs.declared.effects.PlainProperty.{PlainProperty}, specs.declared.effects.PlainSignal.{PlainSignal}, specs.declared.head.NativeHead.{NativeHead}, specs.declared.misfit.Misfit.{Misfit}, specs.declared.plain_type.PlainType.{PlainType}, specs.Answers.{takes_any, MayAnswer}, specs.Effects.{types_of, kinds_of_properties, accepts, is_within, are_within}, specs.Fitting.{IsPropertyAs, IsSignalAs, AreAsDeclared}, specs.Misfits.{Fits}, specs.Plain.{kind_of, is_of, are_of}, specs.Promises.{IsValueOf, Promises, is_declared, are_declared}, proofs.Asking.{heads_found}, proofs.PlainValues.{of_has}}
 
 both_true : (a b : Bool) → IsTrue a → IsTrue b → IsTrue (a && b)
 both_true true b h k = k
@@ -20,7 +20,7 @@ second_true false b h = absurd (false_true h)
     false_true e = cc
 
 module _ (p : Loaded) (classes : ℕ → Option ℕ) where
-  are_typed : (vs : List Value) (Ts : List PlainType) → HaveTypes p classes vs (kinds_of Ts) → IsTrue (are_of vs (kinds_of Ts))
+  are_typed : (vs : List Value) (Ts : List PlainType) → HaveTypes p classes vs (types_of Ts) → IsTrue (are_of vs (types_of Ts))
   are_typed [] [] h = refl
   are_typed [] (T ∷ Ts) h = absurd h
   are_typed (v ∷ vs) [] h = absurd h
@@ -52,13 +52,13 @@ module _ (class : MetaObject) where
   sets_declared (q ∷ qs) (l ∷ ls) (suc place) v h w = sets_declared qs ls place v h.1 w
 
   emits_declared : (ms : List ℕ) (likes : List PlainSignal) (place : ℕ) (vs : List Value) → AllZip (IsSignalAs class) ms likes
-      → IsTrue (option_map_or (λ (signal : PlainSignal). are_of vs (kinds_of signal.types)) (slice_get likes place) false)
-      → IsTrue (option_map_or (λ (signal : MetaMethod). are_of vs signal.kinds) (option_and_then (λ m. slice_get class.methods m) (slice_get ms place)) false)
+      → IsTrue (option_map_or (λ (signal : PlainSignal). are_of vs (types_of signal.types)) (slice_get likes place) false)
+      → IsTrue (option_map_or (λ (signal : MetaMethod). are_of vs signal.types) (option_and_then (λ m. slice_get class.methods m) (slice_get ms place)) false)
   emits_declared [] [] place vs h w = w
   emits_declared [] (l ∷ ls) place vs h w = absurd h
   emits_declared (m ∷ ms) [] place vs h w = absurd h
   emits_declared (m ∷ ms) (l ∷ ls) zero vs h w =
-      subst (λ o. IsTrue (option_map_or (λ (signal : MetaMethod). are_of vs signal.kinds) o false)) (sym h.0.is) (subst (λ Ts. IsTrue (are_of vs Ts)) (sym h.0.typed) w)
+      subst (λ o. IsTrue (option_map_or (λ (signal : MetaMethod). are_of vs signal.types) o false)) (sym h.0.is) (subst (λ Ts. IsTrue (are_of vs Ts)) (sym h.0.typed) w)
   emits_declared (m ∷ ms) (l ∷ ls) (suc place) vs h w = emits_declared ms ls place vs h.1 w
 
   module _ (method : MetaMethod) (effects : MetaEffects) (kept : Effects) (same : AreAsDeclared class method effects kept) where

@@ -12,7 +12,7 @@ use Rattle.native_slots.specs.declared.effects.PlainSignal.{PlainSignal}
 use Rattle.native_slots.specs.declared.fault.NativeFault.{NativeFault}
 use Rattle.native_slots.specs.declared.fault.NativeFault.TheVariants as fault
 use Rattle.native_slots.specs.declared.head.NativeHead.{NativeHead}
-use Rattle.native_slots.specs.Effects.{kinds_of}
+use Rattle.native_slots.specs.Effects.{types_of}
 use Rattle.native_slots.specs.Heads.{first_for}
 use Rattle.native_slots.specs.Plain.{kind_of}
 use Rattle.native_slots.specs.Promises.{IsNative}
@@ -29,11 +29,11 @@ pub record IsSignalAs (class : MetaObject) (m : ℕ) (like : PlainSignal) : Type
   pub signal : MetaMethod
   pub is : slice_get class.methods m ≡ Some signal
   pub named : signal.sig.name ≡ like.name
-  pub typed : signal.kinds ≡ kinds_of like.types
+  pub typed : signal.types ≡ types_of like.types
 
 -- the effects that a closure keeps to are those declared, each list in its order
 pub record AreAsDeclared (class : MetaObject) (method : MetaMethod) (effects : MetaEffects) (kept : Effects) : Type 0 where
-  pub parameters : method.kinds ≡ kinds_of kept.parameters
+  pub parameters : method.types ≡ types_of kept.parameters
   pub reads : AllZip (IsPropertyAs class) effects.reads kept.reads
   pub emits : AllZip (IsSignalAs class) effects.emits kept.emits
   pub sets : AllZip (IsPropertyAs class) effects.sets kept.sets

@@ -14,7 +14,7 @@ use Rattle.native_slots.specs.declared.misfit.Difference.TheVariants as list
 use Rattle.native_slots.specs.declared.misfit.Misfit.{Misfit}
 use Rattle.native_slots.specs.declared.misfit.Misfit.TheVariants as misfit
 use Rattle.native_slots.specs.declared.misfit.NativePlace.{NativePlace}
-use Rattle.native_slots.specs.Effects.{kinds_of}
+use Rattle.native_slots.specs.Effects.{types_of}
 use Rattle.native_slots.specs.Fitting.{IsPropertyAs, IsSignalAs, AreAsDeclared, HasFitting, HasNone, HasOther, Natives, EachNative}
 use Rattle.native_slots.specs.Heads.{first_for}
 use Rattle.native_slots.specs.Promises.{IsNative}
@@ -32,13 +32,13 @@ place_of (misfit.EffectsDiffer at differing) = at
 -- ---- lists
 -- this is the first list in which the effects that a closure keeps to aren't those declared
 abbrev pub DiffersIn : MetaObject → MetaMethod → MetaEffects → Effects → Difference → Type 0
-DiffersIn class method effects kept list.Parameters = ¬ (method.kinds ≡ kinds_of kept.parameters)
-DiffersIn class method effects kept list.Reads = (method.kinds ≡ kinds_of kept.parameters) × ¬ AllZip (IsPropertyAs class) effects.reads kept.reads
+DiffersIn class method effects kept list.Parameters = ¬ (method.types ≡ types_of kept.parameters)
+DiffersIn class method effects kept list.Reads = (method.types ≡ types_of kept.parameters) × ¬ AllZip (IsPropertyAs class) effects.reads kept.reads
 DiffersIn class method effects kept list.Emits =
-    (method.kinds ≡ kinds_of kept.parameters) × AllZip (IsPropertyAs class) effects.reads kept.reads
+    (method.types ≡ types_of kept.parameters) × AllZip (IsPropertyAs class) effects.reads kept.reads
     × ¬ AllZip (IsSignalAs class) effects.emits kept.emits
 DiffersIn class method effects kept list.Sets =
-    (method.kinds ≡ kinds_of kept.parameters) × AllZip (IsPropertyAs class) effects.reads kept.reads
+    (method.types ≡ types_of kept.parameters) × AllZip (IsPropertyAs class) effects.reads kept.reads
     × AllZip (IsSignalAs class) effects.emits kept.emits × ¬ AllZip (IsPropertyAs class) effects.sets kept.sets
 
 -- the first such list, or `None` where the effects are those declared

@@ -48,7 +48,7 @@ property_at class effects place = option_and_then (λ q. slice_get class.propert
 -- what lies within the effects that the class declares for the native
 abbrev pub is_declared : MetaObject → MetaEffects → Action → Bool
 is_declared class effects =
-    is_allowed (λ (signal : MetaMethod). signal.kinds) (λ (property : MetaProperty). property.kind) (signal_at class effects) (property_at class effects)
+    is_allowed (λ (signal : MetaMethod). signal.types) (λ (property : MetaProperty). property.kind) (signal_at class effects) (property_at class effects)
 
 abbrev pub are_declared : MetaObject → MetaEffects → List Action → Bool
 are_declared class effects = are_allowed (is_declared class effects)
@@ -65,7 +65,7 @@ abbrev pub Promises : Loaded → Takes → Gives → Type 0
 Promises p takes gives =
     (c m : ℕ) (class : MetaObject) (method : MetaMethod) (effects : MetaEffects) → IsNative p c m class method effects
     → (classes : ℕ → Option ℕ) (arguments reads : List Value)
-    → HaveTypes p classes arguments method.kinds → AllZip (IsValueOf p classes class) effects.reads reads
+    → HaveTypes p classes arguments method.types → AllZip (IsValueOf p classes class) effects.reads reads
     → KeepsPromise takes gives class method effects arguments reads
 
 -- there is one proof of it at most, so that a struct can keep it

@@ -2,7 +2,7 @@
 
 ghost use Rattle.std.specs.Prelude.{◌≡◌, ◌↔◌, IsTrue, slice_get, Some};
 ghost use Rattle.std.specs.List.{AllZip};
-ghost use Rattle.native_slots.specs.Effects.{kinds_of};
+ghost use Rattle.native_slots.specs.Effects.{types_of};
 ghost use Rattle.native_slots.specs.Fitting.{IsPropertyAs, IsSignalAs};
 ghost use Rattle.native_slots.specs.Misfits.{TellsDifference};
 
@@ -21,7 +21,7 @@ pub fn difference(
 ) -> Option<Difference>
     ensures { TellsDifference class.now method.now declared.now kept.now result }
 {
-    if !are_kinds(method.kinds.as_slice(), kept.parameters.as_slice()) {
+    if !are_value_types(method.types.as_slice(), kept.parameters.as_slice()) {
         Some(Difference::Parameters)
     } else if !are_properties(class, declared.reads.as_slice(), kept.reads.as_slice()) {
         Some(Difference::Reads)
@@ -35,13 +35,13 @@ pub fn difference(
 }
 
 /// Whether both lists hold the same types in the same order.
-fn are_kinds(kinds: &[ValueType], types: &[PlainType]) -> bool
-    ensures { IsTrue result ↔ (kinds.now ≡ kinds_of types.now) }
+fn are_value_types(value_types: &[ValueType], types: &[PlainType]) -> bool
+    ensures { IsTrue result ↔ (value_types.now ≡ types_of types.now) }
 {
-    match (kinds.split_first(), types.split_first()) {
+    match (value_types.split_first(), types.split_first()) {
         (None, None) => true,
         (Some((kind, more)), Some((plain, others))) => {
-            *kind == plain.kind() && are_kinds(more, others)
+            *kind == plain.kind() && are_value_types(more, others)
         }
         _ => false,
     }
@@ -90,7 +90,7 @@ fn is_signal(class: &MetaObject, number: usize, signal: &PlainSignal) -> bool
     match class.method(number) {
         Some(found) => {
             found.sig.name.is_same(&signal.name)
-                && are_kinds(found.kinds.as_slice(), signal.types.as_slice())
+                && are_value_types(found.types.as_slice(), signal.types.as_slice())
         }
         None => false,
     }

@@ -50,7 +50,7 @@ IfWrites P done = IfSome done P
 
 -- ---- the sets of a group, for the body of an object
 
-module _ {p : Loaded} (sound : IsSound p) (objects : List Object) (o me : ℕ) (x : Object) (l : Life) (arguments : List Value) (kinds : List ValueType) (lives : Lives objects o x l) (below : Below p l.class me) (fit : ReadAs p objects arguments kinds) where
+module _ {p : Loaded} (sound : IsSound p) (objects : List Object) (o me : ℕ) (x : Object) (l : Life) (arguments : List Value) (types : List ValueType) (lives : Lives objects o x l) (below : Below p l.class me) (fit : ReadAs p objects arguments types) where
   -- objects as a set of a group may read them: typed ones, which differ in values alone
   pub record Within (now : List Object) : Type 0 where
     pub differ : DifferInValues objects now
@@ -66,11 +66,11 @@ module _ {p : Loaded} (sound : IsSound p) (objects : List Object) (o me : ℕ) (
   }
 
   -- a path leads to null, or to an object that lives
-  pub reaches-within : {now : List Object} → Within now → (path : MetaPath) {c : ℕ} → LeadsToClass p me kinds path c → Reaches p objects c (path_value now o arguments path)
+  pub reaches-within : {now : List Object} → Within now → (path : MetaPath) {c : ℕ} → LeadsToClass p me types path c → Reaches p objects c (path_value now o arguments path)
   reaches-within {now} w path {c} leads =
       let on = lives-on objects now w.differ o l (life-of-lives lives) in
-      let still : ReadAs p now arguments kinds = values-still p objects now w.differ arguments kinds fit in
-      back (path_value now o arguments path) (path-reaches now o me on.object on.life arguments kinds path sound w.typed on.lives (subst (λ (k : ℕ). Below p k me) (sym on.same) below) still leads)
+      let still : ReadAs p now arguments types = values-still p objects now w.differ arguments types fit in
+      back (path_value now o arguments path) (path-reaches now o me on.object on.life arguments types path sound w.typed on.lives (subst (λ (k : ℕ). Below p k me) (sym on.same) below) still leads)
     where
       back : (found : Option Value) → Reaches p now c found → Reaches p objects c found
       back found to_null = to_null
@@ -82,7 +82,7 @@ module _ {p : Loaded} (sound : IsSound p) (objects : List Object) (o me : ℕ) (
   set-act now q e y = option_map (λ (new : Value). Some (record { place = property_of y q; value = new })) (value_of now o arguments e)
 
   -- what a set writes is there
-  pub set-possible : {now : List Object} → Within now → (f : layer.Statement-F Statement) → IsSoundStatement p me kinds f → IfSome (set_in now o arguments f) (IfWrites (λ a. HasField p objects a.place))
+  pub set-possible : {now : List Object} → Within now → (f : layer.Statement-F Statement) → IsSoundStatement p me types f → IfSome (set_in now o arguments f) (IfWrites (λ a. HasField p objects a.place))
   set-possible {now} w f (set_sound {path = path} {q = q} {e = e} is) =
       led-so (IfWrites (λ a. HasField p objects a.place)) None (set-act now q e) (path_value now o arguments path) (reaches-within w path is.leads) tt
       (λ y z k alive beneath. mapped-so (IfWrites (λ a. HasField p objects a.place)) (λ (new : Value). Some (record { place = property_of y q; value = new })) (value_of now o arguments e)
@@ -127,7 +127,7 @@ module _ {p : Loaded} (sound : IsSound p) (objects : List Object) (o me : ℕ) (
     first-then None has found e front back a are before = absurd (cc e)
     first-then (Some d) has found e front back a are before = after-one d has (sets_in (after_set d now) o arguments sets) refl found e front back a are before
 
-  pub sets-possible : (sets : List Statement) → AreSound p me kinds sets → {now : List Object} → Within now → ArePossible sets now
+  pub sets-possible : (sets : List Statement) → AreSound p me types sets → {now : List Object} → Within now → ArePossible sets now
   sets-possible [] all w [] is [] back a are before = absurd (cc are)
   sets-possible [] all w [] is (f ∷ front) back a are before = absurd (cc are)
   sets-possible [] all w (d ∷ found) is front back a are before = absurd (cc is)

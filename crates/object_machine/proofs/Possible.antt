@@ -16,15 +16,15 @@ use Rattle.object_machine.proofs.{Grouped.{IfWrites, within-first, set-possible,
 -- the members that are named are there, of writes as long as those before them fit, and a block that is chosen is sound for
 -- the body
 abbrev pub IsPossible : Loaded → List Object → ℕ → List ValueType → Operation → Type 0
-IsPossible p objects me kinds (Write what) = (front back : List Assignment) (a : Assignment) → writes_of what ≡ front ++ a ∷ back → AllFit p objects front → HasField p objects a.place
-IsPossible p objects me kinds (Begin x n given) = (object : Object) × (method : MetaMethod) × IsMember p objects x n object method
-IsPossible p objects me kinds (Choose block) = AreSound p me kinds block
-IsPossible p objects me kinds (Connect ends how) = AreThere p objects ends
-IsPossible p objects me kinds (Disconnect ends) = AreThere p objects ends
-IsPossible p objects me kinds (Delete x) = Unit {0}
-IsPossible p objects me kinds (Schedule x) = Unit {0}
-IsPossible p objects me kinds (TakeAnswer effects) = Unit {0}
-IsPossible p objects me kinds Nothing = Unit {0}
+IsPossible p objects me types (Write what) = (front back : List Assignment) (a : Assignment) → writes_of what ≡ front ++ a ∷ back → AllFit p objects front → HasField p objects a.place
+IsPossible p objects me types (Begin x n given) = (object : Object) × (method : MetaMethod) × IsMember p objects x n object method
+IsPossible p objects me types (Choose block) = AreSound p me types block
+IsPossible p objects me types (Connect ends how) = AreThere p objects ends
+IsPossible p objects me types (Disconnect ends) = AreThere p objects ends
+IsPossible p objects me types (Delete x) = Unit {0}
+IsPossible p objects me types (Schedule x) = Unit {0}
+IsPossible p objects me types (TakeAnswer effects) = Unit {0}
+IsPossible p objects me types Nothing = Unit {0}
 
 -- ---- what is so of all that may be found
 
@@ -50,15 +50,15 @@ chosen-so P block other (Some (value.Ref n)) first second = tt
 module _ {p : Loaded} {objects : List Object} (sound : IsSound p) (typed : AreTyped p objects) where
   module _ {o : ℕ} {arguments : List Value} {left : List Step} (body : BodyStands p objects o arguments left) where
     abbrev Possible : Operation → Type 0
-    Possible d = IsPossible p objects body.declaring body.kinds d
+    Possible d = IsPossible p objects body.declaring body.types d
 
     -- the objects at two ends have the signal and the method
-    ends-so : (act : Endpoints → Operation) (ends : MetaEndpoints) → AreSoundEnds p body.declaring body.kinds ends → ((between : Endpoints) → AreThere p objects between → Possible (act between)) →
+    ends-so : (act : Endpoints → Operation) (ends : MetaEndpoints) → AreSoundEnds p body.declaring body.types ends → ((between : Endpoints) → AreThere p objects between → Possible (act between)) →
         IfSome (on_ends act ends (path_value objects o arguments ends.sender) (path_value objects o arguments ends.receiver)) Possible
     ends-so act ends is so =
         let between : ℕ → ℕ → Endpoints = λ x y. record { sender = x; signal = ends.signal; receiver = y; method = ends.method } in
-        let from = path-reaches objects o body.declaring body.object body.life arguments body.kinds ends.sender sound typed body.lives body.below body.typed is.sender in
-        let to = path-reaches objects o body.declaring body.object body.life arguments body.kinds ends.receiver sound typed body.lives body.below body.typed is.receiver in
+        let from = path-reaches objects o body.declaring body.object body.life arguments body.types ends.sender sound typed body.lives body.below body.typed is.sender in
+        let to = path-reaches objects o body.declaring body.object body.life arguments body.types ends.receiver sound typed body.lives body.below body.typed is.receiver in
         object-so Possible (λ x. on_object (λ y. Some (act (between x y))) (path_value objects o arguments ends.receiver)) (path_value objects o arguments ends.sender) from tt
         (λ x a k sends beneath. object-so Possible (λ y. Some (act (between x y))) (path_value objects o arguments ends.receiver) to tt
         (λ y b l receives under. so (between x y) (record {
@@ -71,9 +71,9 @@ module _ {p : Loaded} {objects : List Object} (sound : IsSound p) (typed : AreTy
         })))
 
     -- what is done with the object that a path leads to needs nothing of it
-    object-alone : (act : ℕ → Operation) (path : MetaPath) {class : ℕ} → LeadsToClass p body.declaring body.kinds path class → ((y : ℕ) → Possible (act y)) → IfSome (on_object (λ y. Some (act y)) (path_value objects o arguments path)) Possible
+    object-alone : (act : ℕ → Operation) (path : MetaPath) {class : ℕ} → LeadsToClass p body.declaring body.types path class → ((y : ℕ) → Possible (act y)) → IfSome (on_object (λ y. Some (act y)) (path_value objects o arguments path)) Possible
     object-alone act path leads so =
-        let reaches = path-reaches objects o body.declaring body.object body.life arguments body.kinds path sound typed body.lives body.below body.typed leads in
+        let reaches = path-reaches objects o body.declaring body.object body.life arguments body.types path sound typed body.lives body.below body.typed leads in
         object-so Possible (λ y. Some (act y)) (path_value objects o arguments path) reaches tt (λ y z l lives beneath. so y)
 
     -- a set alone writes a property that is there, or does nothing
@@ -91,17 +91,17 @@ module _ {p : Loaded} {objects : List Object} (sound : IsSound p) (typed : AreTy
     map-found act None all = tt
     map-found act (Some v) all = all v refl
 
-    statement-so : (f : layer.Statement-F Statement) → IsSoundStatement p body.declaring body.kinds f → IfSome (operation objects o arguments f) Possible
+    statement-so : (f : layer.Statement-F Statement) → IsSoundStatement p body.declaring body.types f → IfSome (operation objects o arguments f) Possible
     statement-so f (set_sound {path = path} {q = q} {e = e} is) =
-        alone-so (set_at objects o arguments path q e) (set-possible sound objects o body.declaring body.object body.life arguments body.kinds body.lives body.below body.typed (within-first sound objects o body.declaring body.object body.life arguments body.kinds body.lives body.below body.typed typed) f (set_sound is))
+        alone-so (set_at objects o arguments path q e) (set-possible sound objects o body.declaring body.object body.life arguments body.types body.lives body.below body.typed (within-first sound objects o body.declaring body.object body.life arguments body.types body.lives body.below body.typed typed) f (set_sound is))
     statement-so f (group_sound {sets = sets} all only) =
         map-found (λ (found : List (Option Assignment)). Write (Grouped found)) (sets_in objects o arguments sets)
-        (λ found is front back a are before. sets-possible sound objects o body.declaring body.object body.life arguments body.kinds body.lives body.below body.typed sets all (within-first sound objects o body.declaring body.object body.life arguments body.kinds body.lives body.below body.typed typed) found is front back a are before)
+        (λ found is front back a are before. sets-possible sound objects o body.declaring body.object body.life arguments body.types body.lives body.below body.typed sets all (within-first sound objects o body.declaring body.object body.life arguments body.types body.lives body.below body.typed typed) found is front back a are before)
     statement-so f (emit_sound {m = g} {es = es} is) =
         map-so Possible (λ (given : List Value). Begin o g given) (values_of objects o arguments es)
         (λ given. (body.object, _, record { life = body.life; lives = body.lives; is_method = method-below sound body.below is.is }))
     statement-so f (call_sound {path = path} {m = n} {es = es} is) =
-        let reaches = path-reaches objects o body.declaring body.object body.life arguments body.kinds path sound typed body.lives body.below body.typed is.leads in
+        let reaches = path-reaches objects o body.declaring body.object body.life arguments body.types path sound typed body.lives body.below body.typed is.leads in
         object-so Possible (λ y. option_map (λ (given : List Value). Begin y n given) (values_of objects o arguments es)) (path_value objects o arguments path) reaches tt
         (λ y z l lives beneath. map-so Possible (λ (given : List Value). Begin y n given) (values_of objects o arguments es)
         (λ given. (z, _, record { life = l; lives = lives; is_method = method-below sound beneath is.is })))
@@ -122,15 +122,15 @@ module _ {p : Loaded} {objects : List Object} (sound : IsSound p) (typed : AreTy
         let Found : Option ℕ → Type 0 = λ found. IfSome (option_map (λ (g : ℕ). Begin o g given) found) Possible in
         subst Found (sym is.2) (body.object, is.1, record { life = body.life; lives = body.lives; is_method = is.3 })
 
-    step-so : (x : Step) → StepStands p body.life.class body.declaring body.kinds x → IfSome (operation_of_step objects o arguments x) Possible
+    step-so : (x : Step) → StepStands p body.life.class body.declaring body.types x → IfSome (operation_of_step objects o arguments x) Possible
     step-so (Run x) is = statement-so (out-Statement x) is
     step-so (Ask effects) is = tt
     step-so (Act effects it) is = action-so effects it is
 
 -- the first step of what is left of a body
-pub possible : {p : Loaded} {objects : List Object} {o : ℕ} {arguments : List Value} {x : Step} {rest : List Step} → IsSound p → AreTyped p objects → (body : BodyStands p objects o arguments (x ∷ rest)) → (d : Operation) → operation_of_step objects o arguments x ≡ Some d → IsPossible p objects body.declaring body.kinds d
+pub possible : {p : Loaded} {objects : List Object} {o : ℕ} {arguments : List Value} {x : Step} {rest : List Step} → IsSound p → AreTyped p objects → (body : BodyStands p objects o arguments (x ∷ rest)) → (d : Operation) → operation_of_step objects o arguments x ≡ Some d → IsPossible p objects body.declaring body.types d
 possible {p} {objects} {x = x} sound typed body d is =
-    let Found : Option Operation → Type 0 = λ f. IfSome f (λ e. IsPossible p objects body.declaring body.kinds e) in
+    let Found : Option Operation → Type 0 = λ f. IfSome f (λ e. IsPossible p objects body.declaring body.types e) in
     subst Found is (step-so sound typed body x body.steps.0)
 
 -- an action of a body that stands does something

@@ -19,9 +19,9 @@ use Rattle.syntax_trees.specs.{declared.connection.ConnectionType.{ConnectionTyp
 -- ---- steps
 
 -- statements that are sound stand
-run-steps : (p : Loaded) (c me : ℕ) (kinds : List ValueType) (statements : List Statement) → AreSound p me kinds statements → AllByRecursion (StepStands p c me kinds) (map Run statements)
-run-steps p c me kinds [] none_sound = tt
-run-steps p c me kinds (x ∷ rest) (next_sound one more) = (one, run-steps p c me kinds rest more)
+run-steps : (p : Loaded) (c me : ℕ) (types : List ValueType) (statements : List Statement) → AreSound p me types statements → AllByRecursion (StepStands p c me types) (map Run statements)
+run-steps p c me types [] none_sound = tt
+run-steps p c me types (x ∷ rest) (next_sound one more) = (one, run-steps p c me types rest more)
 
 -- an action that is written down names what the object's class has
 action-stands : {p : Loaded} {objects : List Object} {o : ℕ} {x : Object} {l : Life} {effects : MetaEffects} {it : Action} {line : ShownAction} → Lives objects o x l → IsShownAs p objects o effects it line → ActionStands p l.class effects it
@@ -32,13 +32,13 @@ action-stands {p} lives (emit_shown {g = g} {signal = signal} placed member) =
     let Class : Life → Type 0 = λ k. IsMethod p k.class g signal in
     (g, signal, placed, subst Class (life-unique member.lives lives) member.is_method)
 
-answer-steps : (p : Loaded) {objects : List Object} {o : ℕ} {x : Object} {l : Life} (me : ℕ) (kinds : List ValueType) (effects : MetaEffects) (actions : List Action) (lines : List ShownAction) → Lives objects o x l → AreShownAs p objects o effects actions lines → AllByRecursion (StepStands p l.class me kinds) (map (Act effects) actions)
-answer-steps p me kinds effects [] lines lives shown = tt
-answer-steps p me kinds effects (it ∷ actions) [] lives shown = absurd shown
-answer-steps p me kinds effects (it ∷ actions) (line ∷ lines) lives shown = (action-stands lives shown.0, answer-steps p me kinds effects actions lines lives shown.1)
+answer-steps : (p : Loaded) {objects : List Object} {o : ℕ} {x : Object} {l : Life} (me : ℕ) (types : List ValueType) (effects : MetaEffects) (actions : List Action) (lines : List ShownAction) → Lives objects o x l → AreShownAs p objects o effects actions lines → AllByRecursion (StepStands p l.class me types) (map (Act effects) actions)
+answer-steps p me types effects [] lines lives shown = tt
+answer-steps p me types effects (it ∷ actions) [] lives shown = absurd shown
+answer-steps p me types effects (it ∷ actions) (line ∷ lines) lives shown = (action-stands lives shown.0, answer-steps p me types effects actions lines lives shown.1)
 
-body-with : {p : Loaded} {objects : List Object} {o : ℕ} {arguments : List Value} {left : List Step} (x : BodyStands p objects o arguments left) (rest : List Step) → AllByRecursion (StepStands p x.life.class x.declaring x.kinds) rest → BodyStands p objects o arguments rest
-body-with x rest steps = record { object = x.object; life = x.life; lives = x.lives; declaring = x.declaring; below = x.below; kinds = x.kinds; typed = x.typed; steps = steps }
+body-with : {p : Loaded} {objects : List Object} {o : ℕ} {arguments : List Value} {left : List Step} (x : BodyStands p objects o arguments left) (rest : List Step) → AllByRecursion (StepStands p x.life.class x.declaring x.types) rest → BodyStands p objects o arguments rest
+body-with x rest steps = record { object = x.object; life = x.life; lives = x.lives; declaring = x.declaring; below = x.below; types = x.types; typed = x.typed; steps = steps }
 
 body-rest : {p : Loaded} {objects : List Object} {o : ℕ} {arguments : List Value} {x : Step} {rest : List Step} → BodyStands p objects o arguments (x ∷ rest) → BodyStands p objects o arguments rest
 body-rest {rest = rest} x = body-with x rest x.steps.1
@@ -49,19 +49,19 @@ body-rest {rest = rest} x = body-with x rest x.steps.1
 called-stands : {p : Loaded} {objects : List Object} {o m : ℕ} {x : Object} {method : MetaMethod} {arguments : List Value} {statements : List Statement} → IsSound p → IsMember p objects o m x method → method.work ≡ Slot statements → ArgumentsFit p objects o m arguments → BodyStands p objects o arguments (map Run statements)
 called-stands {p} {objects} {m = m} {x = x} {method = method} {arguments = arguments} {statements = statements} sound is work_is fit =
     let method_is : fit.method ≡ method = member-method fit.is is in
-    let Typed : MetaMethod → Type 0 = λ k. ReadAs p objects arguments k.kinds in
-    let Sound_work : Work → Type 0 = λ w. IsSoundWork p is.life.class m method.kinds w in
-    let body : IsSoundBody p is.life.class m method.kinds statements = subst Sound_work work_is ((sound.classes is.life.class is.is_method.class is.is_method.is_class).methods m method is.is_method.is).work in
-    record { object = x; life = is.life; lives = is.lives; declaring = body.declaring; below = body.below; kinds = method.kinds; typed = subst Typed method_is fit.typed; steps = run-steps p is.life.class body.declaring method.kinds statements body.sound }
+    let Typed : MetaMethod → Type 0 = λ k. ReadAs p objects arguments k.types in
+    let Sound_work : Work → Type 0 = λ w. IsSoundWork p is.life.class m method.types w in
+    let body : IsSoundBody p is.life.class m method.types statements = subst Sound_work work_is ((sound.classes is.life.class is.is_method.class is.is_method.is_class).methods m method is.is_method.is).work in
+    record { object = x; life = is.life; lives = is.lives; declaring = body.declaring; below = body.below; types = method.types; typed = subst Typed method_is fit.typed; steps = run-steps p is.life.class body.declaring method.types statements body.sound }
 
 -- .. a native that is
 asked-stands : {p : Loaded} {objects : List Object} {o m : ℕ} {x : Object} {method : MetaMethod} {arguments : List Value} {effects : MetaEffects} → IsSound p → IsMember p objects o m x method → method.work ≡ Native effects → ArgumentsFit p objects o m arguments → BodyStands p objects o arguments (Ask effects ∷ [])
 asked-stands {p} {objects} {m = m} {x = x} {method = method} {arguments = arguments} {effects = effects} sound is work_is fit =
     let method_is : fit.method ≡ method = member-method fit.is is in
-    let Typed : MetaMethod → Type 0 = λ k. ReadAs p objects arguments k.kinds in
-    let Sound_work : Work → Type 0 = λ w. IsSoundWork p is.life.class m method.kinds w in
-    let native : IsSoundNative p is.life.class m method.kinds effects = subst Sound_work work_is ((sound.classes is.life.class is.is_method.class is.is_method.is_class).methods m method is.is_method.is).work in
-    record { object = x; life = is.life; lives = is.lives; declaring = native.declaring; below = native.below; kinds = method.kinds; typed = subst Typed method_is fit.typed; steps = (tt, tt) }
+    let Typed : MetaMethod → Type 0 = λ k. ReadAs p objects arguments k.types in
+    let Sound_work : Work → Type 0 = λ w. IsSoundWork p is.life.class m method.types w in
+    let native : IsSoundNative p is.life.class m method.types effects = subst Sound_work work_is ((sound.classes is.life.class is.is_method.class is.is_method.is_class).methods m method is.is_method.is).work in
+    record { object = x; life = is.life; lives = is.lives; declaring = native.declaring; below = native.below; types = method.types; typed = subst Typed method_is fit.typed; steps = (tt, tt) }
 
 -- a method that begins, over what stands
 begun-stands : (p : Loaded) (s : State) (below : List Activation) (o : ℕ) (x : Object) (m : ℕ) (method : MetaMethod) (arguments : List Value) (work : Work) (t : State) → IsSound p → IsMember p s.objects o m x method → method.work ≡ work → t ≡ begun s below o x m method arguments work → length s.stack < suc (length below) → IsWell p s t → AllByRecursion (Stands p s.objects) below → AllStand p t
@@ -119,8 +119,8 @@ module _ {p : Loaded} {s t : State} (sound : IsSound p) (well : IsWell p s t) wh
   does-stands natives typed o m arguments x rest below (Write what) body is lower high does = writes-stands does (body-rest body, lower)
   does-stands natives typed o m arguments x rest below (Begin y n given) body is lower high does = begins-stands does (omega (arith, high)) (body-rest body, lower)
   does-stands natives typed o m arguments x rest below (Choose block) body is lower high does =
-      let Stood : Step → Type 0 = StepStands p body.life.class body.declaring body.kinds in
-      let chosen = run-steps p body.life.class body.declaring body.kinds block (possible sound typed body (Choose block) is) in
+      let Stood : Step → Type 0 = StepStands p body.life.class body.declaring body.types in
+      let chosen = run-steps p body.life.class body.declaring body.types block (possible sound typed body (Choose block) is) in
       as-is does (body-with body (map Run block ++ rest) (all-append Stood (map Run block) rest chosen body.steps.1), lower)
   does-stands natives typed o m arguments x rest below (Link ends how) body is lower high does =
       as-is does.gives (linked-stands (Body o m arguments rest ∷ below) (kept_ends ends) how (names_of does.kept) does.answer (body-rest body, lower))
@@ -129,8 +129,8 @@ module _ {p : Loaded} {s t : State} (sound : IsSound p) (well : IsWell p s t) wh
   does-stands natives typed o m arguments x rest below (Delete y) body is lower high does = as-is does (tt, (body-rest body, lower))
   does-stands natives typed o m arguments x rest below (Schedule y) body is lower high does = schedules-stands (Body o m arguments rest ∷ below) y (life_of s.objects y) (body-rest body, lower) does
   does-stands natives typed o m arguments x rest below (TakeAnswer effects) body is lower high does =
-      let Stood : Step → Type 0 = StepStands p body.life.class body.declaring body.kinds in
-      let answered = answer-steps p body.declaring body.kinds effects does.actions does.lines body.lives does.are_shown in
+      let Stood : Step → Type 0 = StepStands p body.life.class body.declaring body.types in
+      let answered = answer-steps p body.declaring body.types effects does.actions does.lines body.lives does.are_shown in
       as-is does.gives (body-with body (map (Act effects) does.actions ++ rest) (all-append Stood (map (Act effects) does.actions) rest answered body.steps.1), lower)
   does-stands natives typed o m arguments x rest below Nothing body is lower high does = as-is does (body-rest body, lower)
 
@@ -149,7 +149,7 @@ module _ {p : Loaded} {s t : State} (sound : IsSound p) (well : IsWell p s t) wh
   emission-stands o g arguments last below None lower high r = as-is r lower
   emission-stands o g arguments last below (Some c) lower high r =
       let well_used : IsWell p (with_used s c) t = record { arguments = well.arguments; values = well.values } in
-      arrives-stands (with_used s c) (Emit o g arguments c.number last ∷ below) r.home c.receiver r.receiver c.method r.method (take (length r.method.kinds) arguments) (reaches_at_once c.kind r.home (running s.turn)) well_used r.is (omega (arith, high)) (tt, lower) r.arrives
+      arrives-stands (with_used s c) (Emit o g arguments c.number last ∷ below) r.home c.receiver r.receiver c.method r.method (take (length r.method.types) arguments) (reaches_at_once c.kind r.home (running s.turn)) well_used r.is (omega (arith, high)) (tt, lower) r.arrives
 
   update-stands : (below : List Activation) (places : List Place) → AllByRecursion (MayNotify p s.objects) places → AllByRecursion (Stands p s.objects) below → UpdateRule p s below t places → AllStand p t
   update-stands below [] there lower r = as-is r lower

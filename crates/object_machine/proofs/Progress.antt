@@ -87,19 +87,19 @@ module _ {p : Loaded} {s : State} (sound : IsSound p) (up : Invariant p s) where
           none _ (record { lines = _; told = scheduled_now unmarked named.1 (ap (option_map (λ (y : Object). y.name)) there.1.is); gives = refl })
 
   -- what is possible is done by some rule
-  possible-goes : (natives : NativeAnswers) (o m : ℕ) (arguments : List Value) (rest : List Step) (below : List Activation) (me : ℕ) (kinds : List ValueType) (d : Operation) → IsPossible p s.objects me kinds d → ((what : Assigning) → d ≡ Write what → LacksFirst p s.objects (writes_of what)) → ((effects : MetaEffects) → d ≡ TakeAnswer effects → ⊥) → ((t : State) → ¬ Does p natives s o m arguments rest below d t) → ⊥
-  possible-goes natives o m arguments rest below me kinds (Write what) may lacks asks none =
+  possible-goes : (natives : NativeAnswers) (o m : ℕ) (arguments : List Value) (rest : List Step) (below : List Activation) (me : ℕ) (types : List ValueType) (d : Operation) → IsPossible p s.objects me types d → ((what : Assigning) → d ≡ Write what → LacksFirst p s.objects (writes_of what)) → ((effects : MetaEffects) → d ≡ TakeAnswer effects → ⊥) → ((t : State) → ¬ Does p natives s o m arguments rest below d t) → ⊥
+  possible-goes natives o m arguments rest below me types (Write what) may lacks asks none =
       let lack = lacks what refl in
       let field = may lack.after.front lack.after.back lack.set lack.after.are lack.after.fit in
       lack.lacks field.object field.property field.is
-  possible-goes natives o m arguments rest below me kinds (Begin x n given) may lacks asks none = none _ (record { object = may.0; method = may.1; is = may.2; gives = refl })
-  possible-goes natives o m arguments rest below me kinds (Choose block) may lacks asks none = none _ refl
-  possible-goes natives o m arguments rest below me kinds (Connect ends how) may lacks asks none = no-connect may none
-  possible-goes natives o m arguments rest below me kinds (Disconnect ends) may lacks asks none = no-disconnect may none
-  possible-goes natives o m arguments rest below me kinds (Delete x) may lacks asks none = none _ refl
-  possible-goes natives o m arguments rest below me kinds (Schedule x) may lacks asks none = no-schedule (Body o m arguments rest ∷ below) x (life_of s.objects x) refl none
-  possible-goes natives o m arguments rest below me kinds (TakeAnswer effects) may lacks asks none = asks effects refl
-  possible-goes natives o m arguments rest below me kinds Nothing may lacks asks none = none _ refl
+  possible-goes natives o m arguments rest below me types (Begin x n given) may lacks asks none = none _ (record { object = may.0; method = may.1; is = may.2; gives = refl })
+  possible-goes natives o m arguments rest below me types (Choose block) may lacks asks none = none _ refl
+  possible-goes natives o m arguments rest below me types (Connect ends how) may lacks asks none = no-connect may none
+  possible-goes natives o m arguments rest below me types (Disconnect ends) may lacks asks none = no-disconnect may none
+  possible-goes natives o m arguments rest below me types (Delete x) may lacks asks none = none _ refl
+  possible-goes natives o m arguments rest below me types (Schedule x) may lacks asks none = no-schedule (Body o m arguments rest ∷ below) x (life_of s.objects x) refl none
+  possible-goes natives o m arguments rest below me types (TakeAnswer effects) may lacks asks none = asks effects refl
+  possible-goes natives o m arguments rest below me types Nothing may lacks asks none = none _ refl
 
   -- a step that has no next rule does nothing that is possible
   step-none : {natives : NativeAnswers} (o m : ℕ) (arguments : List Value) (x : Step) (rest : List Step) (below : List Activation) → s.stack ≡ Body o m arguments (x ∷ rest) ∷ below → IsStuck p natives s → BodyStands p s.objects o arguments (x ∷ rest) → ((t : State) → ¬ StepRule p natives s o m arguments x rest below t) → operation_of_step s.objects o arguments x ≡ None
@@ -109,7 +109,7 @@ module _ {p : Loaded} {s : State} (sound : IsSound p) (up : Invariant p s) where
       by_found None is = is
       by_found (Some d) is =
           let next : (k : Operation) → d ≡ k → DoesNext s k = λ k same. does-next s e (is ∙ ap (λ (k : Operation). Some k) same) in
-          absurd (possible-goes natives o m arguments rest below body.declaring body.kinds d (possible sound up.sound.agree.typed body d is)
+          absurd (possible-goes natives o m arguments rest below body.declaring body.types d (possible sound up.sound.agree.typed body d is)
           (λ what same. halts.lacks what (next (Write what) same)) (λ effects same. halts.asks_none effects (next (TakeAnswer effects) same))
           (λ t does. stuck t (record { what = d; is = is; does = does })))
 
@@ -128,7 +128,7 @@ module _ {p : Loaded} {s : State} (sound : IsSound p) (up : Invariant p s) where
       let home : ℕ = d.is.life.home in
       let lives : home_of s.objects c.receiver ≡ Some home = ap (λ (there : Option Life). option_map (λ (l : Life). l.home) there) (life-of-lives d.is.lives) in
       let named = loop-named s.queues.loops home (up.sound.housed.each c.receiver home lives) in
-      arrives-somehow (with_used s c) (Emit o g arguments c.number last ∷ below) home c.receiver d.receiver c.method d.method (take (length d.method.kinds) arguments) (reaches_at_once c.kind home (running s.turn)) named
+      arrives-somehow (with_used s c) (Emit o g arguments c.number last ∷ below) home c.receiver d.receiver c.method d.method (take (length d.method.types) arguments) (reaches_at_once c.kind home (running s.turn)) named
       (λ t r. stuck t (record { receiver = d.receiver; method = d.method; is = d.is; home = home; lives_in = lives; arrives = r }))
 
   -- a call that waits begins, if its object lives

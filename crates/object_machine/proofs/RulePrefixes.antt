@@ -98,7 +98,7 @@ module _ (front : List Entry) where
       is_present = x.is_present;
       method = x.method;
       is_method = x.is_method;
-      gives = begun-front s below place.object x.object x.signal x.method (take (length x.method.kinds) (x.present ∷ [])) Signal x.gives;
+      gives = begun-front s below place.object x.object x.signal x.method (take (length x.method.types) (x.present ∷ [])) Signal x.gives;
     }
 
     notifies-if-front : (below : List Activation) (place : Place) (life : Option Life) → NotifiesIf p s below place t life → NotifiesIf p (in_front front s) below place (in_front front t) life
@@ -205,7 +205,7 @@ module _ (front : List Entry) where
     is = x.is;
     home = x.home;
     lives_in = x.lives_in;
-    arrives = arrives-front p (with_used s c) t below x.home c.receiver x.receiver c.method x.method (take (length x.method.kinds) arguments) (reaches_at_once c.kind x.home (running s.turn)) x.arrives;
+    arrives = arrives-front p (with_used s c) t below x.home c.receiver x.receiver c.method x.method (take (length x.method.types) arguments) (reaches_at_once c.kind x.home (running s.turn)) x.arrives;
   }
 
   emit-front : (p : Loaded) (s t : State) (o g : ℕ) (arguments : List Value) (last : ℕ) (below : List Activation) (next : Option Connection) → EmitRule p s o g arguments last below t next →

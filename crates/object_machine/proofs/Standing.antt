@@ -18,9 +18,9 @@ ActionStands p c effects (action.Emit k given) = (g : ℕ) × (signal : MetaMeth
 
 -- a step of a body: a statement is sound, and an action names what the object's class has
 abbrev pub StepStands : Loaded → ℕ → ℕ → List ValueType → Step → Type 0
-StepStands p c me kinds (Run x) = IsSoundStatement p me kinds (out-Statement x)
-StepStands p c me kinds (Ask effects) = Unit {0}
-StepStands p c me kinds (Act effects it) = ActionStands p c effects it
+StepStands p c me types (Run x) = IsSoundStatement p me types (out-Statement x)
+StepStands p c me types (Ask effects) = Unit {0}
+StepStands p c me types (Act effects it) = ActionStands p c effects it
 
 -- a body is of a living object, and what is left of it is sound for the arguments
 pub record BodyStands (p : Loaded) (objects : List Object) (o : ℕ) (arguments : List Value) (left : List Step) : Type 0 where
@@ -29,9 +29,9 @@ pub record BodyStands (p : Loaded) (objects : List Object) (o : ℕ) (arguments 
   pub lives : Lives objects o object life
   pub declaring : ℕ
   pub below : Below p life.class declaring
-  pub kinds : List ValueType
-  pub typed : ReadAs p objects arguments kinds
-  pub steps : AllByRecursion (StepStands p life.class declaring kinds) left
+  pub types : List ValueType
+  pub typed : ReadAs p objects arguments types
+  pub steps : AllByRecursion (StepStands p life.class declaring types) left
 
 abbrev pub Stands : Loaded → List Object → Activation → Type 0
 Stands p objects (Body o m arguments left) = BodyStands p objects o arguments left
@@ -53,15 +53,15 @@ body-still : (p : Loaded) (old new : List Object) → StayThere old new → (o :
 body-still p old new stay o arguments left spared x =
     let y = lives-on old new o stay (λ gone. lives-not-dead x.lives (spared gone)) x.lives in
     let Classes : ℕ → Type 0 = λ k. Below p k x.declaring in
-    let Steps : ℕ → Type 0 = λ k. AllByRecursion (StepStands p k x.declaring x.kinds) left in
+    let Steps : ℕ → Type 0 = λ k. AllByRecursion (StepStands p k x.declaring x.types) left in
     record {
       object = y.0;
       life = y.1;
       lives = y.2;
       declaring = x.declaring;
       below = subst Classes (sym y.3) x.below;
-      kinds = x.kinds;
-      typed = values-stay p stay arguments x.kinds x.typed;
+      types = x.types;
+      typed = values-stay p stay arguments x.types x.typed;
       steps = subst Steps (sym y.3) x.steps;
     }
 

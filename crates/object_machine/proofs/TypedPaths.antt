@@ -45,14 +45,14 @@ module _ {p : Loaded} {objects : List Object} (sound : IsSound p) (typed : AreTy
       record { given = end.given; is = ap (steps_value objects rest) next.is ∙ end.is; has = end.has }
 
   -- .. for an object that is of the class that `this` is declared to be of, and arguments of the parameters' types
-  module _ (o me : ℕ) (x : Object) (l : Life) (arguments : List Value) (kinds : List ValueType) (lives : Lives objects o x l) (below : Below p l.class me) (fit : ReadAs p objects arguments kinds) where
-    root-has : (root : MetaRoot) {T : ValueType} → HasRoot me kinds root T → Yields p objects T (option_map (seen objects) (root_value o arguments root))
+  module _ (o me : ℕ) (x : Object) (l : Life) (arguments : List Value) (types : List ValueType) (lives : Lives objects o x l) (below : Below p l.class me) (fit : ReadAs p objects arguments types) where
+    root-has : (root : MetaRoot) {T : ValueType} → HasRoot me types root T → Yields p objects T (option_map (seen objects) (root_value o arguments root))
     root-has root {T} this_has = record { given = seen objects (value.Ref (Some o)); is = refl; has = has-reads p objects (value.Ref (Some o)) T (object_has (class-of-lives objects o lives) below) }
     root-has root (parameter_has {k = k} {T = T} is) =
-        let found = read-there p objects arguments kinds k T fit is in
-        record { given = seen objects found.0; is = ap (option_map (seen objects)) found.1; has = read-get p objects arguments kinds k found.0 T fit found.1 is }
+        let found = read-there p objects arguments types k T fit is in
+        record { given = seen objects found.0; is = ap (option_map (seen objects)) found.1; has = read-get p objects arguments types k found.0 T fit found.1 is }
 
-    pub path-has : (path : MetaPath) {T : ValueType} → LeadsTo p me kinds path T → Yields p objects T (path_value objects o arguments path)
+    pub path-has : (path : MetaPath) {T : ValueType} → LeadsTo p me types path T → Yields p objects T (path_value objects o arguments path)
     path-has path leads =
         let start = root-has path.root leads.root in
         let end = steps-have path.steps start.given start.has leads.steps in
@@ -71,8 +71,8 @@ reaches-has {p} {objects} {c} v (object_has {o = o} {d = d} is below) =
     to_object x.2 (subst At (sym x.3) below)
 
 -- a path in the place of an object leads to null, or to an object that has the class's members
-pub path-reaches : {p : Loaded} (objects : List Object) (o me : ℕ) {c : ℕ} (x : Object) (l : Life) (arguments : List Value) (kinds : List ValueType) (path : MetaPath) → IsSound p → AreTyped p objects → Lives objects o x l → Below p l.class me → ReadAs p objects arguments kinds → LeadsToClass p me kinds path c → Reaches p objects c (path_value objects o arguments path)
-path-reaches {p} objects o me {c} x l arguments kinds path sound typed lives below fit leads =
-    let found = path-has sound typed o me x l arguments kinds lives below fit path leads.leads in
+pub path-reaches : {p : Loaded} (objects : List Object) (o me : ℕ) {c : ℕ} (x : Object) (l : Life) (arguments : List Value) (types : List ValueType) (path : MetaPath) → IsSound p → AreTyped p objects → Lives objects o x l → Below p l.class me → ReadAs p objects arguments types → LeadsToClass p me types path c → Reaches p objects c (path_value objects o arguments path)
+path-reaches {p} objects o me {c} x l arguments types path sound typed lives below fit leads =
+    let found = path-has sound typed o me x l arguments types lives below fit path leads.leads in
     let At : Option Value → Type 0 = λ v. Reaches p objects c v in
     subst At (sym found.is) (reaches-has found.given found.has)

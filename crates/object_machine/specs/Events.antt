@@ -87,7 +87,7 @@ invoke p s invocation name called inputs =
     living s.objects name >>= λ o.
     Find NoMember (IsAskedOf p o.it.class invocation called (length inputs)) >>= λ m.
     each (value s.objects) inputs >>= λ vs.
-    Check BadArgs (ReadAs p s.objects vs m.it.kinds) >>= λ _.
+    Check BadArgs (ReadAs p s.objects vs m.it.types) >>= λ _.
     Becomes (Begins p (accepted s) s.stack o.number m.number vs)
 
 -- `block O` and `unblock O` (Qt 6, `QObject::blockSignals`): the object's emissions call nothing, or call again

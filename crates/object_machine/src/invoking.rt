@@ -79,7 +79,7 @@ pub fn judge_invocation(
         return Err(NotAccepted::Refused(Refusal::NoMember));
     };
     let values = read_inputs(context.alloc, world, inputs)?;
-    if world.store.tree.have_types(&context.meta, values.as_slice(), declared.kinds.as_slice()) {
+    if world.store.tree.have_types(&context.meta, values.as_slice(), declared.types.as_slice()) {
         Ok(Invoked {
             object: ObjectId::new(object),
             method,

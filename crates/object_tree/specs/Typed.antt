@@ -19,7 +19,7 @@ ReadsAs p objects v kind = Has p (class_of objects) (seen objects v) kind
 
 -- as they read, there are as many values as types, each of its type
 abbrev pub ReadAs : Loaded → List Object → List Value → List ValueType → Type 0
-ReadAs p objects values kinds = AllZip (Has p (class_of objects)) (map (seen objects) values) kinds
+ReadAs p objects values types = AllZip (Has p (class_of objects)) (map (seen objects) values) types
 
 -- the class is there, and the values are as many as its properties, each of its type
 pub record IsTyped (p : Loaded) (objects : List Object) (life : Life) : Type 0 where

@@ -154,10 +154,10 @@ impl Tree {
     }
 
     /// Whether there are as many values as types, each, as it reads, of its type.
-    pub fn have_types(&self, meta: &Meta, values: &[Value], kinds: &[ValueType]) -> bool
-        ensures { IsTrue result ↔ ReadAs meta.now self.now values.now kinds.now }
+    pub fn have_types(&self, meta: &Meta, values: &[Value], types: &[ValueType]) -> bool
+        ensures { IsTrue result ↔ ReadAs meta.now self.now values.now types.now }
     {
-        have_types(meta, &self.objects, values, kinds)
+        have_types(meta, &self.objects, values, types)
     }
 
     /// The name of an object, which may be dead, or `None` where no object has the number.

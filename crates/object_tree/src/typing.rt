@@ -40,10 +40,10 @@ fn begins_well(meta: &Meta, objects: &Objects, new: usize, property: &MetaProper
 }
 
 /// Whether there are as many values as types, each, as it reads, of its type.
-pub fn have_types(meta: &Meta, objects: &Objects, values: &[Value], kinds: &[ValueType]) -> bool
-    ensures { IsTrue result ↔ ReadAs meta.now objects.now values.now kinds.now }
+pub fn have_types(meta: &Meta, objects: &Objects, values: &[Value], types: &[ValueType]) -> bool
+    ensures { IsTrue result ↔ ReadAs meta.now objects.now values.now types.now }
 {
-    let (mut rest, mut left) = (values, kinds);
+    let (mut rest, mut left) = (values, types);
     while let Some((kind, more)) = left.split_first() {
         match rest.split_first() {
             Some((value, after)) if has_type(meta, objects, value, *kind) => rest = after,

@@ -4,7 +4,7 @@ use Rattle.basic_types.specs.{Laws.{IsNormalSig}, Name.{is_name_byte}, Signature
 use Rattle.basic_types.specs.declared.word.Word.TheVariants as word
 use Rattle.syntax_trees.specs.{declared.program.Property.{Property}, declared.program.Signal.{Signal}, declared.program.Slot.{Slot}, declared.program.Class.{Class}, declared.program.Program.{Program}}
 use Rattle.meta_model.specs.{declared.object.MetaMethod.{MetaMethod}, declared.object.MetaProperty.{MetaProperty}, declared.object.MetaObject.{MetaObject}, Loaded.{Loaded}, Members.{IsClass}, QObject.{sig_of}, Root.{root_class}}
-use Rattle.class_outlines.specs.Outlines.{kinds_of}
+use Rattle.class_outlines.specs.Outlines.{types_of}
 use Rattle.meta_objects.specs.LoadedProgram.{IsLoadedSignal, IsLoadedSlot, IsLoadedProperty, IsLoadedClass, IsLoadedProgram}
 use Rattle.program_commands.specs.Names.{IsNamedClass, IsNamedProgram, IsNamedObject, LoadedProgramsAreNamed}
 
@@ -111,11 +111,11 @@ root_named = record {
 
 -- ---- declared classes
 module _ (program : Program) (p : Loaded) (named : IsNamedProgram program) (is : IsLoadedProgram program p) where
-  signals_named : (xs : List Signal) (ys : List MetaMethod) → AllZip (IsLoadedSignal p) xs ys → AllByRecursion (λ (x : Signal). IsNormalSig (sig_of x.name (kinds_of x.parameters))) xs → AllByRecursion (λ (m : MetaMethod). IsNormalSig m.sig) ys
-  signals_named = all_along (IsLoadedSignal p) (λ (x : Signal). IsNormalSig (sig_of x.name (kinds_of x.parameters))) (λ (m : MetaMethod). IsNormalSig m.sig) (λ x y loaded normal. subst IsNormalSig (sym loaded.signed) normal)
+  signals_named : (xs : List Signal) (ys : List MetaMethod) → AllZip (IsLoadedSignal p) xs ys → AllByRecursion (λ (x : Signal). IsNormalSig (sig_of x.name (types_of x.parameters))) xs → AllByRecursion (λ (m : MetaMethod). IsNormalSig m.sig) ys
+  signals_named = all_along (IsLoadedSignal p) (λ (x : Signal). IsNormalSig (sig_of x.name (types_of x.parameters))) (λ (m : MetaMethod). IsNormalSig m.sig) (λ x y loaded normal. subst IsNormalSig (sym loaded.signed) normal)
 
-  slots_named : (c : ℕ) (xs : List Slot) (ys : List MetaMethod) → AllZip (IsLoadedSlot p c) xs ys → AllByRecursion (λ (x : Slot). IsNormalSig (sig_of x.name (kinds_of x.parameters))) xs → AllByRecursion (λ (m : MetaMethod). IsNormalSig m.sig) ys
-  slots_named c = all_along (IsLoadedSlot p c) (λ (x : Slot). IsNormalSig (sig_of x.name (kinds_of x.parameters))) (λ (m : MetaMethod). IsNormalSig m.sig) (λ x y loaded normal. subst IsNormalSig (sym loaded.signed) normal)
+  slots_named : (c : ℕ) (xs : List Slot) (ys : List MetaMethod) → AllZip (IsLoadedSlot p c) xs ys → AllByRecursion (λ (x : Slot). IsNormalSig (sig_of x.name (types_of x.parameters))) xs → AllByRecursion (λ (m : MetaMethod). IsNormalSig m.sig) ys
+  slots_named c = all_along (IsLoadedSlot p c) (λ (x : Slot). IsNormalSig (sig_of x.name (types_of x.parameters))) (λ (m : MetaMethod). IsNormalSig m.sig) (λ x y loaded normal. subst IsNormalSig (sym loaded.signed) normal)
 
   properties_named : (class : MetaObject) (xs : List Property) (ys : List MetaProperty) → AllZip (IsLoadedProperty p class) xs ys → AllByRecursion (λ (x : Property). IsFreeName x.name) xs → AllByRecursion (λ (q : MetaProperty). IsFreeName q.name) ys
   properties_named class = all_along (IsLoadedProperty p class) (λ (x : Property). IsFreeName x.name) (λ (q : MetaProperty). IsFreeName q.name) (λ x y loaded free. subst IsFreeName (sym loaded.named) free)

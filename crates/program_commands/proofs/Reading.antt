@@ -10,7 +10,7 @@ use Rattle.texts.specs.declared.symbol.Symbol.TheVariants as s
 use Rattle.texts.specs.declared.token.Token.TheVariants as token
 use Rattle.class_lang.specs.{Declarations.{ClassReading, class, spell_class, spell_ending, tree_of_class, DeclarationReading, a_class, a_wire, an_owns, a_site, spell_declaration, tree_of_declaration, classes_in}, Limits.{ClassHasFewParameters, SlotHasFewParameters}, Members.{MemberReading, a_property, a_signal, a_slot, a_native, property, signal, slot, spell_member, tree_of_member, properties_in, signals_in, slots_in}, Natives.{native}, Parameters.{SignalParameter, signal_parameter, spell_signal_parameter, tree_of_signal_parameter, SlotParameter, slot_parameter, spell_slot_parameter, tree_of_slot_parameter}}
 use Rattle.meta_model.specs.QObject.{sig_of}
-use Rattle.class_outlines.specs.Outlines.{kinds_of}
+use Rattle.class_outlines.specs.Outlines.{types_of}
 use Rattle.program_commands.specs.Names.{IsNamedClass, ReadProgramsAreNamed}
 use Rattle.program_commands.proofs.Behind as behind
 
@@ -65,11 +65,11 @@ slot_parameter_typed : (r : SlotParameter) (after : List Token) → AreFree (spe
 slot_parameter_typed (slot_parameter kind name) after h = type_named kind _ h
 
 module _ {R : Type 0} (spell : R → List Token → List Token) (tree : R → Parameter) (is_behind : behind.IsBehind IsFreeToken spell) (typed : (r : R) (after : List Token) → AreFree (spell r after) → IsTyped (tree r)) where
-  further_typed : (rs : List R) (after : List Token) → AreFree (spell_further spell rs after) → AllByRecursion IsNormalType (kinds_of (map tree rs))
+  further_typed : (rs : List R) (after : List Token) → AreFree (spell_further spell rs after) → AllByRecursion IsNormalType (types_of (map tree rs))
   further_typed [] after h = tt
   further_typed (r ∷ rs) after h = (typed r _ h.1, further_typed rs after (is_behind r _ h.1))
 
-  listed_typed : (rs : List R) (after : List Token) → AreFree (spell_listed spell rs after) → AllByRecursion IsNormalType (kinds_of (map tree rs))
+  listed_typed : (rs : List R) (after : List Token) → AreFree (spell_listed spell rs after) → AllByRecursion IsNormalType (types_of (map tree rs))
   listed_typed [] after h = tt
   listed_typed (r ∷ rs) after h = (typed r _ h.1, further_typed rs _ (is_behind r _ h.1))
 
@@ -77,7 +77,7 @@ module _ {R : Type 0} (spell : R → List Token → List Token) (tree : R → Pa
 -- a name and parameters, as a signal and a slot have them
 record IsTypedMethod (name : List ℕ) (parameters : List Parameter) : Type 0 where
   named : IsFreeName name
-  typed : AllByRecursion IsNormalType (kinds_of parameters)
+  typed : AllByRecursion IsNormalType (types_of parameters)
 
 abbrev IsTypedSignal : Signal → Type 0
 IsTypedSignal x = IsTypedMethod x.name x.parameters
@@ -140,15 +140,15 @@ declarations_typed (an_owns o ∷ ds) h = declarations_typed ds (behind.behind_o
 declarations_typed (a_site x ∷ ds) h = declarations_typed ds (behind.behind_site IsFreeToken x _ h.1)
 
 -- ---- limits
-method_normal : (name : List ℕ) (parameters : List Parameter) → IsTypedMethod name parameters → length parameters ≤ most_parameters → IsNormalSig (sig_of name (kinds_of parameters))
+method_normal : (name : List ℕ) (parameters : List Parameter) → IsTypedMethod name parameters → length parameters ≤ most_parameters → IsNormalSig (sig_of name (types_of parameters))
 method_normal name parameters typed few =
     record { named = typed.named; types = typed.typed; few = subst (λ (n : ℕ). n ≤ most_parameters) (sym (length-map parameters (λ (p : Parameter). p.kind))) few }
 
-signals_normal : (xs : List Signal) → AllByRecursion IsTypedSignal xs → AllByRecursion (λ x. length x.parameters ≤ most_parameters) xs → AllByRecursion (λ (x : Signal). IsNormalSig (sig_of x.name (kinds_of x.parameters))) xs
+signals_normal : (xs : List Signal) → AllByRecursion IsTypedSignal xs → AllByRecursion (λ x. length x.parameters ≤ most_parameters) xs → AllByRecursion (λ (x : Signal). IsNormalSig (sig_of x.name (types_of x.parameters))) xs
 signals_normal [] typed few = tt
 signals_normal (x ∷ xs) typed few = (method_normal x.name x.parameters typed.0 few.0, signals_normal xs typed.1 few.1)
 
-slots_normal : (xs : List Slot) → AllByRecursion IsTypedSlot xs → AllByRecursion SlotHasFewParameters xs → AllByRecursion (λ (x : Slot). IsNormalSig (sig_of x.name (kinds_of x.parameters))) xs
+slots_normal : (xs : List Slot) → AllByRecursion IsTypedSlot xs → AllByRecursion SlotHasFewParameters xs → AllByRecursion (λ (x : Slot). IsNormalSig (sig_of x.name (types_of x.parameters))) xs
 slots_normal [] typed few = tt
 slots_normal (x ∷ xs) typed few = (method_normal x.name x.parameters typed.0 few.0.own, slots_normal xs typed.1 few.1)
 

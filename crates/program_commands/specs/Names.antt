@@ -15,7 +15,7 @@ use Rattle.meta_model.specs.declared.object.MetaProperty.{MetaProperty}
 use Rattle.meta_model.specs.declared.object.MetaObject.{MetaObject}
 use Rattle.meta_model.specs.Loaded.{Loaded}
 use Rattle.meta_model.specs.QObject.{sig_of}
-use Rattle.class_outlines.specs.Outlines.{kinds_of}
+use Rattle.class_outlines.specs.Outlines.{types_of}
 use Rattle.meta_objects.specs.Builds.{Builds}
 
 -- ---- what is declared
@@ -23,8 +23,8 @@ use Rattle.meta_objects.specs.Builds.{Builds}
 pub record IsNamedClass (class : Class) : Type 0 where
   pub named : IsFreeName class.name
   pub properties : AllByRecursion (λ (p : Property). IsFreeName p.name) class.properties
-  pub signals : AllByRecursion (λ (s : Signal). IsNormalSig (sig_of s.name (kinds_of s.parameters))) class.signals
-  pub slots : AllByRecursion (λ (s : Slot). IsNormalSig (sig_of s.name (kinds_of s.parameters))) class.slots
+  pub signals : AllByRecursion (λ (s : Signal). IsNormalSig (sig_of s.name (types_of s.parameters))) class.signals
+  pub slots : AllByRecursion (λ (s : Slot). IsNormalSig (sig_of s.name (types_of s.parameters))) class.slots
 
 abbrev pub IsNamedProgram : Program → Type 0
 IsNamedProgram program = AllByRecursion IsNamedClass program.classes

@@ -16,7 +16,7 @@ pub struct BodyContext<'s> {
     /// The class that declares the slot.
     pub class: usize,
     /// The types of the slot's parameters.
-    pub kinds: &'s [ValueType],
+    pub types: &'s [ValueType],
     /// The slot's declaration, which has the names of its parameters.
     pub slot: Option<&'s Slot>,
 }
@@ -38,7 +38,7 @@ pub fn statement_of<'s>(
     let body = BodyContext {
         source,
         class: source.declaring(node.class, method),
-        kinds: found.kinds.as_slice(),
+        types: found.types.as_slice(),
         slot: source.slot(node.class, method),
     };
     Some((body, numbered))
@@ -128,7 +128,7 @@ impl<'s> BodyContext<'s> {
             }
             MetaRoot::Parameter(parameter) => {
                 let text = self.parameter_text(parameter)?;
-                let class = match self.kinds.get(parameter) {
+                let class = match self.types.get(parameter) {
                     Some(kind) => class_of(*kind),
                     None => None,
                 };

@@ -135,14 +135,14 @@ pub reads-sort : (p : Loaded) (objects : List Object) (v : Value) (kind : ValueT
 reads-sort p objects v kind h = sym (seen-sort objects v) ∙ has-sort p _ (seen objects v) kind h
 
 -- values of the same types are alike, place by place
-pub lists-alike : (p : Loaded) (old new : List Object) (vs ws : List Value) (kinds : List ValueType) → ReadAs p old vs kinds → ReadAs p new ws kinds → (q : ℕ) → BothAlike (slice_get vs q) (slice_get ws q)
+pub lists-alike : (p : Loaded) (old new : List Object) (vs ws : List Value) (types : List ValueType) → ReadAs p old vs types → ReadAs p new ws types → (q : ℕ) → BothAlike (slice_get vs q) (slice_get ws q)
 lists-alike p old new [] [] [] h g q = refl
 lists-alike p old new [] (w ∷ ws) [] h g q = absurd g
 lists-alike p old new (v ∷ vs) ws [] h g q = absurd h
-lists-alike p old new [] ws (k ∷ kinds) h g q = absurd h
-lists-alike p old new (v ∷ vs) [] (k ∷ kinds) h g q = absurd g
-lists-alike p old new (v ∷ vs) (w ∷ ws) (k ∷ kinds) h g zero = ap Some (reads-sort p old v k h.0 ∙ sym (reads-sort p new w k g.0))
-lists-alike p old new (v ∷ vs) (w ∷ ws) (k ∷ kinds) h g (suc q) = lists-alike p old new vs ws kinds h.1 g.1 q
+lists-alike p old new [] ws (k ∷ types) h g q = absurd h
+lists-alike p old new (v ∷ vs) [] (k ∷ types) h g q = absurd g
+lists-alike p old new (v ∷ vs) (w ∷ ws) (k ∷ types) h g zero = ap Some (reads-sort p old v k h.0 ∙ sym (reads-sort p new w k g.0))
+lists-alike p old new (v ∷ vs) (w ∷ ws) (k ∷ types) h g (suc q) = lists-alike p old new vs ws types h.1 g.1 q
 
 -- a value of a value type is of it by its sort
 pub plain-has : (p : Loaded) (objects : List Object) (v : Value) (kind : ValueType) → ((class : ℕ) (constant : Bool) → kind ≢ type.Reference class constant) → sort_of v ≡ sort_for kind → ReadsAs p objects v kind

@@ -7,8 +7,8 @@ use Rattle.object_tree.{specs.declared.life.Life.{Life}, specs.declared.object.O
 use Rattle.binding_graph.specs.{declared.place.Place.{Place}, declared.binding.Binding.{Binding}, Bindings.{source_place, value_of}}
 use Rattle.prop_bindings.{specs.Values.{values_in}, specs.Changes.{valueless, DifferInValues}, specs.Fits.{IsFit}, proofs.Alive.{LivesOn, emptied, lives-alike, lives-on, seen-number, seen-same}, proofs.Alike.{BothAlike, sort_of, values-alike, lists-alike, reads-sort, plain-has}}
 
-abbrev kinds_of : MetaObject → List ValueType
-kinds_of class = map (λ (q : MetaProperty). q.kind) class.properties
+abbrev types_of : MetaObject → List ValueType
+types_of class = map (λ (q : MetaProperty). q.kind) class.properties
 
 -- ---- the values stay of their sorts
 module _ (p : Loaded) (old new : List Object) (before : AreTyped p old) (after : AreTyped p new) (differ : DifferInValues old new) where
@@ -19,7 +19,7 @@ module _ (p : Loaded) (old new : List Object) (before : AreTyped p old) (after :
       let t : IsTyped p old l = before o x.0 l x.1 in
       let u : IsTyped p new m = after o y.0 m y.1 in
       let class : t.class ≡ u.class = same_Some t.class u.class (sym t.is_class.is ∙ ap (slice_get p.classes) (sym same) ∙ u.is_class.is) in
-      lists-alike p old new l.values m.values (kinds_of t.class) t.typed (subst (λ (c : MetaObject). ReadAs p new m.values (kinds_of c)) (sym class) u.typed) q
+      lists-alike p old new l.values m.values (types_of t.class) t.typed (subst (λ (c : MetaObject). ReadAs p new m.values (types_of c)) (sym class) u.typed) q
 
   by-lives : (o q : ℕ) (a b : Option Life) → life_of old o ≡ a → life_of new o ≡ b → option_map emptied b ≡ option_map emptied a → BothAlike (option_and_then (λ (l : Life). slice_get l.values q) a) (option_and_then (λ (l : Life). slice_get l.values q) b)
   by-lives o q None None was now e = refl

@@ -25,12 +25,12 @@ get-map f (x ∷ xs) zero = refl
 get-map f (x ∷ xs) (suc k) = get-map f xs k
 
 -- where there is a type there is a value
-read-at : (p : Loaded) (objects : List Object) (vs : List Value) (kinds : List ValueType) (q : ℕ) (kind : ValueType) → ReadAs p objects vs kinds → slice_get kinds q ≡ Some kind → (w : Value) × (slice_get vs q ≡ Some w)
+read-at : (p : Loaded) (objects : List Object) (vs : List Value) (types : List ValueType) (q : ℕ) (kind : ValueType) → ReadAs p objects vs types → slice_get types q ≡ Some kind → (w : Value) × (slice_get vs q ≡ Some w)
 read-at p objects [] [] q kind h is = absurd (cc is)
-read-at p objects [] (k ∷ kinds) q kind h is = absurd h
+read-at p objects [] (k ∷ types) q kind h is = absurd h
 read-at p objects (v ∷ vs) [] q kind h is = absurd h
-read-at p objects (v ∷ vs) (k ∷ kinds) zero kind h is = (v, refl)
-read-at p objects (v ∷ vs) (k ∷ kinds) (suc q) kind h is = read-at p objects vs kinds q kind h.1 is
+read-at p objects (v ∷ vs) (k ∷ types) zero kind h is = (v, refl)
+read-at p objects (v ∷ vs) (k ∷ types) (suc q) kind h is = read-at p objects vs types q kind h.1 is
 
 -- a property that some value fits has a value
 pub has-value : (p : Loaded) (objects : List Object) → AreTyped p objects → (at : Place) (v : Value) → FitsAt p objects at v → (w : Value) × (values_in objects at ≡ Some w)

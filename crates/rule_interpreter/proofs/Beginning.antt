@@ -105,14 +105,14 @@ stops-no-member {o = o} {m = m} {arguments = arguments} calls only none some =
     (λ below effects next. let same : TakeAnswer effects ≡ Begin o m arguments = only.next below (TakeAnswer effects) next in absurd (cc same))
 
 -- the arguments that fit are of the method's types
-fit-typed : {p : Loaded} {objects : List Object} {o m : ℕ} {x : Object} {method : MetaMethod} {arguments : List Value} → IsMember p objects o m x method → ArgumentsFit p objects o m arguments → ReadAs p objects arguments method.kinds
+fit-typed : {p : Loaded} {objects : List Object} {o m : ℕ} {x : Object} {method : MetaMethod} {arguments : List Value} → IsMember p objects o m x method → ArgumentsFit p objects o m arguments → ReadAs p objects arguments method.types
 fit-typed {p} {objects} {o} {m} {x} {method} {arguments} is fit =
-    let Kinds : MetaMethod → Type 0 = λ k. ReadAs p objects arguments k.kinds in
+    let Kinds : MetaMethod → Type 0 = λ k. ReadAs p objects arguments k.types in
     subst Kinds (member-method fit.is is) fit.typed
 
 -- the arguments aren't of the method's types
 pub stops-ill-typed : {p : Loaded} {natives : NativeAnswers} {d o m : ℕ} {h : List (Option ℕ)} {w : World} {from to : List Activation} {x : Object} {method : MetaMethod} {arguments : List Value} →
-    Calls p natives w from to o m arguments → IsMember p w.store.tree o m x method → (¬ ReadAs p w.store.tree arguments method.kinds) → AgreeIn p w → 0 < w.left → StopsIn p natives d h w from w BadType
+    Calls p natives w from to o m arguments → IsMember p w.store.tree o m x method → (¬ ReadAs p w.store.tree arguments method.types) → AgreeIn p w → 0 < w.left → StopsIn p natives d h w from w BadType
 stops-ill-typed {p} {natives} {o = o} {m = m} {w = w} {from = from} {to = to} {x = x} {method = method} {arguments = arguments} calls is ill agree some =
     stops-ill some (λ below.
     let t : State = at (begun_world w (suc (length (to ++ below))) x m method arguments) (top_of o m arguments w.store.connections.last method.work ∷ to ++ below) in (
@@ -129,7 +129,7 @@ pub begun-used : {p : Loaded} {d n o m : ℕ} {w : World} {arguments : List Valu
 begun-used {w = w} c x = record { room = x.room; object = x.object; method = x.method; is = x.is; is_line = x.is_line; is_work = x.is_work; is_last = x.is_last ∙ sym (last-used c w.store.connections) }
 
 -- a connection that comes next begins its method, where it reaches its receiver at once
-pub delivery-calls : {p : Loaded} {natives : NativeAnswers} {w : World} {c : Connection} {x : Object} {method : MetaMethod} {arguments taken : List Value} {count : ℕ} (o g used last : ℕ) → next_used w.store.tree w.store.connections.connections o g used last ≡ Some c → IsMember p w.store.tree c.receiver c.method x method → taken ≡ take count arguments → count ≡ length method.kinds → {home : ℕ} → home_of w.store.tree c.receiver ≡ Some home → reaches_at_once c.kind home (running w.turn) ≡ true → CallsIn p natives w (having_used w c) (Emit o g arguments used last ∷ []) (Emit o g arguments c.number last ∷ []) c.receiver c.method taken
+pub delivery-calls : {p : Loaded} {natives : NativeAnswers} {w : World} {c : Connection} {x : Object} {method : MetaMethod} {arguments taken : List Value} {count : ℕ} (o g used last : ℕ) → next_used w.store.tree w.store.connections.connections o g used last ≡ Some c → IsMember p w.store.tree c.receiver c.method x method → taken ≡ take count arguments → count ≡ length method.types → {home : ℕ} → home_of w.store.tree c.receiver ≡ Some home → reaches_at_once c.kind home (running w.turn) ≡ true → CallsIn p natives w (having_used w c) (Emit o g arguments used last ∷ []) (Emit o g arguments c.number last ∷ []) c.receiver c.method taken
 delivery-calls {p} {natives} {w} {c} {x} {method} {arguments} {taken} {count} o g used last found is cut count_is {home} lives at_once = record {
   no_lower = omega arith;
   objects = refl;
@@ -138,9 +138,9 @@ delivery-calls {p} {natives} {w} {c} {x} {method} {arguments} {taken} {count} o 
       let s : State = at w (Emit o g arguments used last ∷ below) in
       let over : List Activation = Emit o g arguments c.number last ∷ below in
       let same : method ≡ b.method = member-method is b.is in
-      let taken_is : taken ≡ take (length b.method.kinds) arguments = cut ∙ ap (λ (n : ℕ). take n arguments) count_is ∙ ap (λ (k : MetaMethod). take (length k.kinds) arguments) same in
-      let begins : t ≡ begun (with_used s c) over c.receiver b.object c.method b.method (take (length b.method.kinds) arguments) b.method.work = b.gives ∙ ap (λ (l : List Value). begun (with_used s c) over c.receiver b.object c.method b.method l b.method.work) taken_is in
-      let Arrive : Bool → Type 0 = λ n. Arrives (with_used s c) over home c.receiver b.object c.method b.method (take (length b.method.kinds) arguments) t n in
+      let taken_is : taken ≡ take (length b.method.types) arguments = cut ∙ ap (λ (n : ℕ). take n arguments) count_is ∙ ap (λ (k : MetaMethod). take (length k.types) arguments) same in
+      let begins : t ≡ begun (with_used s c) over c.receiver b.object c.method b.method (take (length b.method.types) arguments) b.method.work = b.gives ∙ ap (λ (l : List Value). begun (with_used s c) over c.receiver b.object c.method b.method l b.method.work) taken_is in
+      let Arrive : Bool → Type 0 = λ n. Arrives (with_used s c) over home c.receiver b.object c.method b.method (take (length b.method.types) arguments) t n in
       let uses : Uses p s over c arguments t = record {
         receiver = b.object;
         method = b.method;
@@ -154,7 +154,7 @@ delivery-calls {p} {natives} {w} {c} {x} {method} {arguments} {taken} {count} o 
 }
 
 -- .. and else posts a call of it
-pub ends-posted : {p : Loaded} {natives : NativeAnswers} {d : ℕ} {h : List (Option ℕ)} {w v : World} {c : Connection} {x : Object} {method : MetaMethod} {arguments taken : List Value} {count : ℕ} (o g used last n : ℕ) (r : Result (Unit {0}) Fault) → next_used w.store.tree w.store.connections.connections o g used last ≡ Some c → IsMember p w.store.tree c.receiver c.method x method → taken ≡ take count arguments → count ≡ length method.kinds → {home : ℕ} → home_of w.store.tree c.receiver ≡ Some home → reaches_at_once c.kind home (running w.turn) ≡ false → length h < d → AgreeIn p w → 0 < w.left → n ≡ length h + 1 → PostsCall p w n c c.receiver c.method taken v r → RunsTo p natives d h w (Emit o g arguments used last ∷ []) v (Emit o g arguments c.number last ∷ []) r
+pub ends-posted : {p : Loaded} {natives : NativeAnswers} {d : ℕ} {h : List (Option ℕ)} {w v : World} {c : Connection} {x : Object} {method : MetaMethod} {arguments taken : List Value} {count : ℕ} (o g used last n : ℕ) (r : Result (Unit {0}) Fault) → next_used w.store.tree w.store.connections.connections o g used last ≡ Some c → IsMember p w.store.tree c.receiver c.method x method → taken ≡ take count arguments → count ≡ length method.types → {home : ℕ} → home_of w.store.tree c.receiver ≡ Some home → reaches_at_once c.kind home (running w.turn) ≡ false → length h < d → AgreeIn p w → 0 < w.left → n ≡ length h + 1 → PostsCall p w n c c.receiver c.method taken v r → RunsTo p natives d h w (Emit o g arguments used last ∷ []) v (Emit o g arguments c.number last ∷ []) r
 ends-posted {p} {natives} {w = w} {v = v} {c = c} {x = x} {method = method} {arguments = arguments} {taken = taken} o g used last n r found is cut count_is {home} lives later room agree some n_is posts =
     let target : World = posting (having_used w c) (entry_of_post w n posts.name posts.object posts.method taken ∷ []) posts.home (Call c.receiver c.method taken) in
     ends-noted target r
@@ -162,15 +162,15 @@ ends-posted {p} {natives} {w = w} {v = v} {c = c} {x = x} {method = method} {arg
     let s : State = at w (Emit o g arguments used last ∷ below) in
     let over : List Activation = Emit o g arguments c.number last ∷ below in
     let same : method ≡ posts.method = member-method is posts.is in
-    let taken_is : taken ≡ take (length posts.method.kinds) arguments = cut ∙ ap (λ (i : ℕ). take i arguments) count_is ∙ ap (λ (y : MetaMethod). take (length y.kinds) arguments) same in
+    let taken_is : taken ≡ take (length posts.method.types) arguments = cut ∙ ap (λ (i : ℕ). take i arguments) count_is ∙ ap (λ (y : MetaMethod). take (length y.types) arguments) same in
     let depth_is : n ≡ suc (length below) = omega (arith, n_is, high below k) in
     let to : State = at target over in
     let with_depth : ℕ → State = λ i. at (posting (having_used w c) (entry_of_post w i posts.name posts.object posts.method taken ∷ []) posts.home (Call c.receiver c.method taken)) over in
-    let put : to ≡ posted (with_used s c) over posts.name posts.home c.receiver posts.object c.method posts.method (take (length posts.method.kinds) arguments) = ap with_depth depth_is ∙ ap (λ (l : List Value). posted (with_used s c) over posts.name posts.home c.receiver posts.object c.method posts.method l) taken_is in
+    let put : to ≡ posted (with_used s c) over posts.name posts.home c.receiver posts.object c.method posts.method (take (length posts.method.types) arguments) = ap with_depth depth_is ∙ ap (λ (l : List Value). posted (with_used s c) over posts.name posts.home c.receiver posts.object c.method posts.method l) taken_is in
     let both : Some home ≡ Some posts.home = sym lives ∙ posts.lives_in in
     let home_is : home ≡ posts.home = cc both in
     let not_now : reaches_at_once c.kind posts.home (running w.turn) ≡ false = ap (λ (i : ℕ). reaches_at_once c.kind i (running w.turn)) (sym home_is) ∙ later in
-    let Arrive : Bool → Type 0 = λ b. Arrives (with_used s c) over posts.home c.receiver posts.object c.method posts.method (take (length posts.method.kinds) arguments) to b in
+    let Arrive : Bool → Type 0 = λ b. Arrives (with_used s c) over posts.home c.receiver posts.object c.method posts.method (take (length posts.method.types) arguments) to b in
     let uses : Uses p s over c arguments to = record {
       receiver = posts.object;
       method = posts.method;

@@ -83,7 +83,7 @@ impl<N: Answering> Interpreter<N> {
         let Some(home) = world.home(to) else {
             unreachable!()
         };
-        let taken = front(arguments, method.kinds.len());
+        let taken = front(arguments, method.types.len());
         let call = MethodCall {
             object: to,
             method: number,
@@ -148,7 +148,7 @@ impl<N: Answering> Interpreter<N> {
         if !world.store.tree.have_types(
             &self.context.meta,
             call.arguments,
-            declared.kinds.as_slice(),
+            declared.types.as_slice(),
         ) {
             return Err(Fault::BadType);
         }

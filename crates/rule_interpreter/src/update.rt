@@ -234,7 +234,7 @@ impl<N: Answering> Interpreter<N> {
             unreachable!()
         };
         let present = [value.copy()?];
-        let taken = front(present.as_slice(), declared.kinds.len());
+        let taken = front(present.as_slice(), declared.types.len());
         let over = (&*active).over(None);
         let call = MethodCall {
             object: place.object,

@@ -149,7 +149,7 @@ fn push_call(
     text.push_str(".")?;
     push_name(text, &found.sig.name)?;
     text.push_str("(")?;
-    for (place, kind) in found.kinds.as_slice().iter().enumerate() {
+    for (place, kind) in found.types.as_slice().iter().enumerate() {
         if place > 0 {
             text.push_str(", ")?;
         }

@@ -25,19 +25,19 @@ module _ {p : Loaded} {certificate : SettlingCertificate} (sound : IsSound p) (v
 
   -- what begins has the arguments that its method declares
   pub fits-begun : (u t : State) (n : ℕ) (below : List Activation) (o : ℕ) (x : Object) (m : ℕ) (method : MetaMethod) (arguments : List Value) (work : Work) → IsMember p u.objects o m x method
-      → n < suc (length below) → (n < length t.stack → TopFits p t.objects t.stack) → t ≡ begun u below o x m method arguments work → ReadAs p u.objects arguments method.kinds
+      → n < suc (length below) → (n < length t.stack → TopFits p t.objects t.stack) → t ≡ begun u below o x m method arguments work → ReadAs p u.objects arguments method.types
   fits-begun u t n below o x m method arguments work is higher fits e =
       let Family : State → Type 0 = λ v. n < length v.stack → TopFits p v.objects v.stack in
       by_work work (subst Family e fits)
     where
-      of_method : ArgumentsFit p u.objects o m arguments → ReadAs p u.objects arguments method.kinds
-      of_method fit = subst (λ (k : MetaMethod). ReadAs p u.objects arguments k.kinds) (member-method fit.is is) fit.typed
+      of_method : ArgumentsFit p u.objects o m arguments → ReadAs p u.objects arguments method.types
+      of_method fit = subst (λ (k : MetaMethod). ReadAs p u.objects arguments k.types) (member-method fit.is is) fit.typed
 
-      of_emission : EmissionFits p u.objects o m arguments → ReadAs p u.objects arguments method.kinds
+      of_emission : EmissionFits p u.objects o m arguments → ReadAs p u.objects arguments method.types
       of_emission (of_living fit) = of_method fit
       of_emission (of_dead gone signal typed) = absurd (lives-not-dead is.lives gone)
 
-      by_work : (w : Work) → (n < length (begun u below o x m method arguments w).stack → TopFits p (begun u below o x m method arguments w).objects (begun u below o x m method arguments w).stack) → ReadAs p u.objects arguments method.kinds
+      by_work : (w : Work) → (n < length (begun u below o x m method arguments w).stack → TopFits p (begun u below o x m method arguments w).objects (begun u below o x m method arguments w).stack) → ReadAs p u.objects arguments method.types
       by_work Signal top = of_emission (top higher)
       by_work (Slot statements) top = of_method (top higher)
       by_work (Native effects) top = of_method (top higher)
@@ -71,7 +71,7 @@ module _ {p : Loaded} {certificate : SettlingCertificate} (sound : IsSound p) (v
   -- what begins stands over what is below it
   pub begun-held : (u t : State) (below : List Activation) (o : ℕ) (x : Object) (m : ℕ) (method : MetaMethod) (arguments : List Value) (work : Work) (levels : List (Level certificate)) {y : Node} {line : SettlingLine}
       → Covered u → (is : IsMember p u.objects o m x method) → method.work ≡ work → y ≡ node (is.life).class (Method (named m)) → IsLineOf p certificate y line → Begins p cost classes u.objects levels y line arguments
-      → ReadAs p u.objects arguments method.kinds → Stacked p cost classes u.objects below levels → HaveWritten u.objects levels → t ≡ begun u below o x m method arguments work → Held t
+      → ReadAs p u.objects arguments method.types → Stacked p cost classes u.objects below levels → HaveWritten u.objects levels → t ≡ begun u below o x m method arguments work → Held t
   begun-held u t below o x m method arguments work levels {y} {line} covered is work_is at line_is b typed st written e =
       let Family : State → Type 0 = λ v. Held v in
       subst Family (sym e) (by_work work work_is)

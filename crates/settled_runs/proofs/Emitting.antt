@@ -50,7 +50,7 @@ module _ {p : Loaded} {certificate : SettlingCertificate} (sound : IsSound p) (v
       stack = Emit o g arguments c.number last ∷ below
 
       passed : List Value
-      passed = take (length (u.method).kinds) arguments
+      passed = take (length (u.method).types) arguments
 
       stands : Stacked p cost classes s.objects (Emit o g arguments c.number last ∷ below) (level ∷ levels)
       stands = (emits, well, falls, st)
@@ -75,7 +75,7 @@ module _ {p : Loaded} {certificate : SettlingCertificate} (sound : IsSound p) (v
           }))
 
       handed : (carried : Carried) → level.within ≡ Some carried → CarriesFirst s.objects carried passed
-      handed carried within = λ a first. emits.carries carried within a (first-taken (length (u.method).kinds) arguments a first)
+      handed carried within = λ a first. emits.carries carried within a (first-taken (length (u.method).types) arguments a first)
 
       by_way : (b : Bool) → reaches_at_once c.kind u.home (running s.turn) ≡ b → Arrives after_it stack u.home c.receiver u.receiver c.method u.method passed t b → Held sound valid cost classes t
       by_way false later x =
@@ -113,7 +113,7 @@ module _ {p : Loaded} {certificate : SettlingCertificate} (sound : IsSound p) (v
           known = (covered.known).lives place.object class (class-of-lives s.objects place.object (n.is).lives)
 
           passed : List Value
-          passed = take (length (n.method).kinds) (n.present ∷ [])
+          passed = take (length (n.method).types) (n.present ∷ [])
 
           source : Node
           source = node class (Property place.property)
@@ -152,7 +152,7 @@ module _ {p : Loaded} {certificate : SettlingCertificate} (sound : IsSound p) (v
               let member = subst (λ (z : Node). IsIn p certificate carried.set z) one (there.there).is in
               begins-over sound valid cost costs classes s.objects level levels passed leads from line.1 (λ h. absurd (cc h.is)) (bound member within)
               (λ c within_c target_in hands. λ a first.
-              ap (seen s.objects) (sym (same_Some n.present a (first-taken (length (n.method).kinds) (n.present ∷ []) a first))) ∙ present c within_c (is ∙ ap Some (sym same)))
+              ap (seen s.objects) (sym (same_Some n.present a (first-taken (length (n.method).types) (n.present ∷ []) a first))) ∙ present c within_c (is ∙ ap Some (sym same)))
 
           by_standing : UpdateStands p cost classes (place ∷ places) level → Begins p cost classes s.objects (level ∷ levels) target line.0 passed
           by_standing (outside alone all) = following all.0

@@ -19,12 +19,12 @@ use Rattle.settling.specs.code.Bodies.{DoesTo, MayDo, BodyHands}
 pub no : {A : Type 0} → ¬ A → IsTrue false ↔ A
 no none = (λ h. absurd (true≢false (sym h)), λ h. absurd (none h))
 
-module _ (p : Loaded) (c : ℕ) (kinds : List ValueType) (y : Node) where
+module _ (p : Loaded) (c : ℕ) (types : List ValueType) (y : Node) where
   abbrev Hands : Bool → List Statement → Type 0
-  Hands g body = BodyHands p c kinds g body y
+  Hands g body = BodyHands p c types g body y
 
   abbrev Does : Statement → Type 0
-  Does t = DoesTo p c kinds t y
+  Does t = DoesTo p c types t y
 
   -- ---- one statement after another
 
@@ -80,10 +80,10 @@ module _ (p : Loaded) (c : ℕ) (kinds : List ValueType) (y : Node) where
 
   -- by its parts an `if` and a group do nothing by themselves
   parts_if : (t : Statement) (x : Expr MetaPath) (block other : List Statement) → out-Statement t ≡ layer.If x block other → ¬ Does t
-  parts_if t x block other is d = none-some _ (sym (ap (effect_of kinds) is) ∙ d.is)
+  parts_if t x block other is d = none-some _ (sym (ap (effect_of types) is) ∙ d.is)
 
   parts_group : (t : Statement) (sets : List Statement) → out-Statement t ≡ layer.Group sets → ¬ Does t
-  parts_group t sets is d = none-some _ (sym (ap (effect_of kinds) is) ∙ d.is)
+  parts_group t sets is d = none-some _ (sym (ap (effect_of types) is) ∙ d.is)
 
   module _ (t : Statement) (x : Expr MetaPath) (block other left right : List Statement) (is : t ≡ whole.If x block other) (l : left ≡ block) (r : right ≡ other) where
     open_if : out-Statement t ≡ layer.If x block other

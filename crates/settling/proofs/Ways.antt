@@ -23,25 +23,25 @@ found_in (y ∷ ys) (suc k) x e = inr (found_in ys k x e)
 
 -- ---- works
 
-module _ (p : Loaded) (c : ℕ) (y : Node) (kinds : List ValueType) (body : List Statement) where
-  body_works : (work : Work) → work ≡ Slot body → BodyHands p c kinds false body y → (effect : Effect) (has : WorkHas kinds work effect) → Reaches p c effect y → WorkHands kinds work effect has
+module _ (p : Loaded) (c : ℕ) (y : Node) (types : List ValueType) (body : List Statement) where
+  body_works : (work : Work) → work ≡ Slot body → BodyHands p c types false body y → (effect : Effect) (has : WorkHas types work effect) → Reaches p c effect y → WorkHands types work effect has
   body_works Signal e hands effect has to = absurd has
   body_works (Slot other) e hands effect has to =
       let same : other ≡ body = cc e in
-      subst (λ (b : List Statement). BodyHands p c kinds false b y) (sym same) hands has.statement has.occurs (record { effect = effect; is = has.is; to = to })
+      subst (λ (b : List Statement). BodyHands p c types false b y) (sym same) hands has.statement has.occurs (record { effect = effect; is = has.is; to = to })
   body_works (Native effects) e hands effect has to = absurd (cc e)
 
-  works_body : (work : Work) → work ≡ Slot body → ((effect : Effect) (has : WorkHas kinds work effect) → Reaches p c effect y → WorkHands kinds work effect has) → BodyHands p c kinds false body y
+  works_body : (work : Work) → work ≡ Slot body → ((effect : Effect) (has : WorkHas types work effect) → Reaches p c effect y → WorkHands types work effect has) → BodyHands p c types false body y
   works_body Signal e all = absurd (cc e)
   works_body (Slot other) e all =
       let same : other ≡ body = cc e in
-      subst (λ (b : List Statement). BodyHands p c kinds false b y) same (λ t o d. all d.effect (record { statement = t; occurs = o; is = d.is }) d.to)
+      subst (λ (b : List Statement). BodyHands p c types false b y) same (λ t o d. all d.effect (record { statement = t; occurs = o; is = d.is }) d.to)
   works_body (Native effects) e all = absurd (cc e)
 
-not_native : (kinds : List ValueType) (effects : MetaEffects) (work : Work) (effect : Effect) (has : WorkHas kinds work effect) → work ≡ Native effects → WorkHands kinds work effect has → ⊥
-not_native kinds effects Signal effect has e hands = hands
-not_native kinds effects (Slot body) effect has e hands = absurd (cc e)
-not_native kinds effects (Native others) effect has e hands = hands
+not_native : (types : List ValueType) (effects : MetaEffects) (work : Work) (effect : Effect) (has : WorkHas types work effect) → work ≡ Native effects → WorkHands types work effect has → ⊥
+not_native types effects Signal effect has e hands = hands
+not_native types effects (Slot body) effect has e hands = absurd (cc e)
+not_native types effects (Native others) effect has e hands = hands
 
 pub no_works : (p : Loaded) (x y : Node) → ¬ ByWork p x y → WorksHand p x y
 no_works p x y none w = absurd (none w)
@@ -58,22 +58,22 @@ module _ (p : Loaded) (x y : Node) (m : ℕ) (from : x.member ≡ Method m) wher
     same_method w = one_method p x.class m w.method method (at_number w) is
 
     pub native_works : (effects : MetaEffects) → method.work ≡ Native effects → ByWork p x y → ¬ WorksHand p x y
-    native_works effects native w all = not_native w.method.kinds effects w.method.work w.effect w.has (ap (λ (k : MetaMethod). k.work) (same_method w) ∙ native) (all w)
+    native_works effects native w all = not_native w.method.types effects w.method.work w.effect w.has (ap (λ (k : MetaMethod). k.work) (same_method w) ∙ native) (all w)
 
-    module _ (body given : List Statement) (kinds : List ValueType) (slot : method.work ≡ Slot body) (at : given ≡ body) (typed : kinds ≡ method.kinds) where
-      pub slot_works : BodyHands p x.class kinds false given y → WorksHand p x y
+    module _ (body given : List Statement) (types : List ValueType) (slot : method.work ≡ Slot body) (at : given ≡ body) (typed : types ≡ method.types) where
+      pub slot_works : BodyHands p x.class types false given y → WorksHand p x y
       slot_works hands w =
-          let in_body : BodyHands p x.class method.kinds false body y =
-          subst (λ (ks : List ValueType). BodyHands p x.class ks false body y) typed (subst (λ (b : List Statement). BodyHands p x.class kinds false b y) at hands) in
-          body_works p x.class y w.method.kinds body w.method.work (ap (λ (k : MetaMethod). k.work) (same_method w) ∙ slot)
-          (subst (λ (k : MetaMethod). BodyHands p x.class k.kinds false body y) (sym (same_method w)) in_body) w.effect w.has w.to
+          let in_body : BodyHands p x.class method.types false body y =
+          subst (λ (ks : List ValueType). BodyHands p x.class ks false body y) typed (subst (λ (b : List Statement). BodyHands p x.class types false b y) at hands) in
+          body_works p x.class y w.method.types body w.method.work (ap (λ (k : MetaMethod). k.work) (same_method w) ∙ slot)
+          (subst (λ (k : MetaMethod). BodyHands p x.class k.types false body y) (sym (same_method w)) in_body) w.effect w.has w.to
 
-      pub works_slot : WorksHand p x y → BodyHands p x.class kinds false given y
+      pub works_slot : WorksHand p x y → BodyHands p x.class types false given y
       works_slot all =
-          let in_body : BodyHands p x.class method.kinds false body y =
-          works_body p x.class y method.kinds body method.work slot
+          let in_body : BodyHands p x.class method.types false body y =
+          works_body p x.class y method.types body method.work slot
           (λ effect has to. all (record { number = m; method = method; is = is; from = from; effect = effect; has = has; to = to })) in
-          subst (λ (b : List Statement). BodyHands p x.class kinds false b y) (sym at) (subst (λ (ks : List ValueType). BodyHands p x.class ks false body y) (sym typed) in_body)
+          subst (λ (b : List Statement). BodyHands p x.class types false b y) (sym at) (subst (λ (ks : List ValueType). BodyHands p x.class ks false body y) (sym typed) in_body)
 
 -- ---- all ways
 

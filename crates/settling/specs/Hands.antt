@@ -55,15 +55,15 @@ StandsAlone (grouped is inner) = ⊥
 -- ---- ways
 
 -- what a method does is done by a statement that hands its value on; a native may do it with any value
-abbrev pub WorkHands : (kinds : List ValueType) (work : Work) (effect : Effect) → WorkHas kinds work effect → Type 0
-WorkHands kinds Signal effect has = ⊥
-WorkHands kinds (Slot body) effect has = HandsValue (out-Statement has.statement) × StandsAlone has.occurs
-WorkHands kinds (Native effects) effect has = ⊥
+abbrev pub WorkHands : (types : List ValueType) (work : Work) (effect : Effect) → WorkHas types work effect → Type 0
+WorkHands types Signal effect has = ⊥
+WorkHands types (Slot body) effect has = HandsValue (out-Statement has.statement) × StandsAlone has.occurs
+WorkHands types (Native effects) effect has = ⊥
 
 -- The way hands on the value that it begins with, where both ends have one: a wire the signal's argument, a property its
 -- value. The value of a binding is another one, and a deletion has none.
 abbrev pub HandsOn : {p : Loaded} {x y : Node} → MayLead p x y → Type 0
-HandsOn (by_work w) = WorkHands w.method.kinds w.method.work w.effect w.has
+HandsOn (by_work w) = WorkHands w.method.types w.method.work w.effect w.has
 HandsOn (by_wire w) = Unit {0}
 HandsOn (by_notify w) = Unit {0}
 HandsOn (by_site w) = ⊥

@@ -15,7 +15,7 @@ use Rattle.settling.specs.Hands.{HandOn}
 pub record TakesOne (p : Loaded) (c m : ℕ) : Type 0 where
   pub method : MetaMethod
   pub is : IsMethod p c m method
-  pub one : length method.kinds ≡ 1
+  pub one : length method.types ≡ 1
   pub declared : (effects : MetaEffects) → method.work ≢ Native effects
 
 abbrev pub CarriesAs : Loaded → ℕ → Member → Type 0

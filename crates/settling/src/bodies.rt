@@ -16,7 +16,7 @@ pub struct BodySearch<'m> {
     /// The class of the body.
     pub class: usize,
     /// The types of its parameters.
-    pub kinds: &'m [ValueType],
+    pub types: &'m [ValueType],
     /// The node that its statements may do something to.
     pub to: Node,
 }
@@ -27,7 +27,7 @@ impl<'m> BodySearch<'m> {
     #[cycle(bodies)]
     pub fn all_hand_on(&self, body: &[Statement], grouped: bool) -> bool
         ensures { IsTrue result ↔
-            BodyHands self.now.meta.now self.now.class self.now.kinds.now grouped body.now self.now.to }
+            BodyHands self.now.meta.now self.now.class self.now.types.now grouped body.now self.now.to }
     {
         for statement in body {
             if !self.hands_on(statement, grouped) {
@@ -41,7 +41,7 @@ impl<'m> BodySearch<'m> {
     #[cycle(bodies)]
     fn hands_on(&self, statement: &Statement, grouped: bool) -> bool
         ensures { IsTrue result ↔
-            BodyHands self.now.meta.now self.now.class self.now.kinds.now grouped (statement.now ∷ []) self.now.to }
+            BodyHands self.now.meta.now self.now.class self.now.types.now grouped (statement.now ∷ []) self.now.to }
     {
         match statement {
             Statement::If(_, chosen, other) => {
@@ -64,9 +64,9 @@ impl<'m> BodySearch<'m> {
     /// Whether the statement does something to the node by itself.
     fn is_done_by(&self, statement: &Statement) -> bool
         ensures { IsTrue result ↔
-            DoesTo self.now.meta.now self.now.class self.now.kinds.now statement.now self.now.to }
+            DoesTo self.now.meta.now self.now.class self.now.types.now statement.now self.now.to }
     {
-        match effect_of(self.kinds, statement) {
+        match effect_of(self.types, statement) {
             Some(effect) => self.reaches(effect),
             None => false,
         }

@@ -44,7 +44,7 @@ fn works_hand_on(meta: &Meta, from: Node, to: Node) -> bool
             let search = BodySearch {
                 meta,
                 class: from.class,
-                kinds: found.kinds.as_slice(),
+                types: found.types.as_slice(),
                 to,
             };
             search.all_hand_on(body.as_slice(), false)

@@ -25,7 +25,7 @@ fn takes_one(meta: &Meta, class: usize, method: usize) -> bool
         return false;
     };
     match &found.work {
-        Work::Signal | Work::Slot(_) => found.kinds.len() == 1,
+        Work::Signal | Work::Slot(_) => found.types.len() == 1,
         Work::Native(_) => false,
     }
 }

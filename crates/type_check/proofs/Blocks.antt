@@ -14,30 +14,30 @@ use Rattle.effect_scan.specs.Effects.{Occurs, here, after, chosen, otherwise, gr
 use Rattle.effect_scan.proofs.Occurring.{occurs_at, occurs_either, IsPlain, no_blocks}
 use Rattle.type_check.specs.Bodies.{IsTypedStatement, IsTypedBody}
 
-module _ (p : Loaded) (me : ℕ) (kinds : List ValueType) where
+module _ (p : Loaded) (me : ℕ) (types : List ValueType) where
   -- one statement more
-  pub body_more : (body : List Statement) (i : ℕ) (t : Statement) → i < length body → t ≡ get_or body i t → IsTypedBody p me kinds (take i body) → IsTypedBody p me kinds (t ∷ [])
-      → IsTypedBody p me kinds (take (i + 1) body)
+  pub body_more : (body : List Statement) (i : ℕ) (t : Statement) → i < length body → t ≡ get_or body i t → IsTypedBody p me types (take i body) → IsTypedBody p me types (t ∷ [])
+      → IsTypedBody p me types (take (i + 1) body)
   body_more body i t inside is before one s o =
       let more : take (i + 1) body ≡ take i body ++ t ∷ [] = take_more body i t inside ∙ ap (λ (y : Statement). take i body ++ y ∷ []) (sym is) in
       elim (occurs_either s (take i body) (t ∷ []) (subst (λ (l : List Statement). Occurs s l) more o)) [ inl l ↦ before s l | inr r ↦ one s r ]
 
-  pub body_all : (body : List Statement) (i : ℕ) → length body ≤ i → IsTypedBody p me kinds (take i body) → IsTypedBody p me kinds body
-  body_all body i past typed = subst (λ (l : List Statement). IsTypedBody p me kinds l) (take_all i body past) typed
+  pub body_all : (body : List Statement) (i : ℕ) → length body ≤ i → IsTypedBody p me types (take i body) → IsTypedBody p me types body
+  body_all body i past typed = subst (λ (l : List Statement). IsTypedBody p me types l) (take_all i body past) typed
 
   -- each statement of a typed body is typed
-  pub body_at : (body : List Statement) (i : ℕ) (t : Statement) → i < length body → t ≡ get_or body i t → IsTypedBody p me kinds body → IsTypedBody p me kinds (t ∷ [])
+  pub body_at : (body : List Statement) (i : ℕ) (t : Statement) → i < length body → t ≡ get_or body i t → IsTypedBody p me types body → IsTypedBody p me types (t ∷ [])
   body_at body i t inside is typed s o = typed s (occurs_at body i t s (slice_get_read body (length body) i t refl inside is) o)
 
   -- ---- one statement
   abbrev Whole : Statement → Type 0
-  Whole t = IsTypedStatement p me kinds (out-Statement t)
+  Whole t = IsTypedStatement p me types (out-Statement t)
 
-  pub whole_of : (t : Statement) → IsTypedBody p me kinds (t ∷ []) → IsTypedStatement p me kinds (out-Statement t)
+  pub whole_of : (t : Statement) → IsTypedBody p me types (t ∷ []) → IsTypedStatement p me types (out-Statement t)
   whole_of t typed = typed t here
 
   -- in which none is
-  pub plain : (t : Statement) → IsPlain t → IsTypedStatement p me kinds (out-Statement t) → IsTypedBody p me kinds (t ∷ [])
+  pub plain : (t : Statement) → IsPlain t → IsTypedStatement p me types (out-Statement t) → IsTypedBody p me types (t ∷ [])
   plain t bare typed s here = typed
   plain t bare typed s (after o) = elim o [ ]
   plain t bare typed s (chosen {e = x} {block = block} {other = other} at o) = absurd ((no_blocks t bare).0 x block other at)
@@ -49,13 +49,13 @@ module _ (p : Loaded) (me : ℕ) (kinds : List ValueType) where
     open_if : out-Statement t ≡ layer.If x block other
     open_if = ap out-Statement is ∙ whole.outs-If x block other
 
-    pub first_block : IsTypedBody p me kinds (t ∷ []) → IsTypedBody p me kinds block
+    pub first_block : IsTypedBody p me types (t ∷ []) → IsTypedBody p me types block
     first_block typed s o = typed s (chosen open_if o)
 
-    pub second_block : IsTypedBody p me kinds (t ∷ []) → IsTypedBody p me kinds other
+    pub second_block : IsTypedBody p me types (t ∷ []) → IsTypedBody p me types other
     second_block typed s o = typed s (otherwise open_if o)
 
-    pub both_blocks : IsTypedStatement p me kinds (out-Statement t) → IsTypedBody p me kinds block → IsTypedBody p me kinds other → IsTypedBody p me kinds (t ∷ [])
+    pub both_blocks : IsTypedStatement p me types (out-Statement t) → IsTypedBody p me types block → IsTypedBody p me types other → IsTypedBody p me types (t ∷ [])
     both_blocks typed first second s here = typed
     both_blocks typed first second s (after o) = elim o [ ]
     both_blocks typed first second s (chosen {e = y} {block = b} {other = c} at o) = first s (subst (λ (l : List Statement). Occurs s l) (sym (same_first y b c (sym open_if ∙ at))) o)
@@ -76,10 +76,10 @@ module _ (p : Loaded) (me : ℕ) (kinds : List ValueType) where
     open_group : out-Statement t ≡ layer.Group sets
     open_group = ap out-Statement is ∙ whole.outs-Group sets
 
-    pub its_sets : IsTypedBody p me kinds (t ∷ []) → IsTypedBody p me kinds sets
+    pub its_sets : IsTypedBody p me types (t ∷ []) → IsTypedBody p me types sets
     its_sets typed s o = typed s (grouped open_group o)
 
-    pub in_group : IsTypedStatement p me kinds (out-Statement t) → IsTypedBody p me kinds sets → IsTypedBody p me kinds (t ∷ [])
+    pub in_group : IsTypedStatement p me types (out-Statement t) → IsTypedBody p me types sets → IsTypedBody p me types (t ∷ [])
     in_group typed inside s here = typed
     in_group typed inside s (after o) = elim o [ ]
     in_group typed inside s (chosen {e = y} {block = b} {other = c} at o) = absurd (no_if y b c (sym open_group ∙ at))

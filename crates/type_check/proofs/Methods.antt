@@ -65,13 +65,13 @@ module _ (p : Loaded) (sound : IsSound p) where
       same_Some _ _ (sym h.is ∙ ap (λ (x : MetaObject). slice_get x.methods m) class ∙ k.is)
 
   -- a method that the class doesn't inherit is judged by its own body
-  pub method_here : (c m : ℕ) (method : MetaMethod) → IsMethod p c m method → method_offset p c ≤ m → IsTypedWork p c method.kinds method.work ↔ IsTypedMemberHere p c (Method m)
+  pub method_here : (c m : ℕ) (method : MetaMethod) → IsMethod p c m method → method_offset p c ≤ m → IsTypedWork p c method.types method.work ↔ IsTypedMemberHere p c (Method m)
   method_here c m method is after = (
     λ typed. λ declares d other below declared at.
         let once : d ≡ c = declared_once c d m after below declared in
         let here : IsMethod p c m other = subst (λ (k : ℕ). IsMethod p k m other) once at in
-        subst (λ (k : ℕ). IsTypedWork p k other.kinds other.work) (sym once)
-        (subst (λ (x : MetaMethod). IsTypedWork p c x.kinds x.work) (same_method c m method other is here) typed),
+        subst (λ (k : ℕ). IsTypedWork p k other.types other.work) (sym once)
+        (subst (λ (x : MetaMethod). IsTypedWork p c x.types x.work) (same_method c m method other is here) typed),
     λ h.
         let within : m < method_count p c = subst (λ (n : ℕ). m < n) (sym (ap methods_in is.is_class.is)) (slice_get_within is.class.methods m method is.is) in
         let declares : Declares p c m = record { after = after; within = within } in
@@ -84,22 +84,22 @@ module _ (p : Loaded) (sound : IsSound p) where
       let once : d ≡ c = declared_once c d m after below declared in
       absurd (none other (subst (λ (k : ℕ). IsMethod p k m other) once at))
 
-  module _ (c m : ℕ) (method : MetaMethod) (body given : List Statement) (kinds : List ValueType) (is : IsMethod p c m method) (after : method_offset p c ≤ m) (slots : method.work ≡ Slot body) (at : given ≡ body) (same_kinds : kinds ≡ method.kinds) where
-    pub body_typed : IsTypedBody p c kinds given → IsTypedMemberHere p c (Method m)
+  module _ (c m : ℕ) (method : MetaMethod) (body given : List Statement) (types : List ValueType) (is : IsMethod p c m method) (after : method_offset p c ≤ m) (slots : method.work ≡ Slot body) (at : given ≡ body) (same_value_types : types ≡ method.types) where
+    pub body_typed : IsTypedBody p c types given → IsTypedMemberHere p c (Method m)
     body_typed typed =
         (method_here c m method is after).0
-        (subst (λ (w : Work). IsTypedWork p c method.kinds w) (sym slots)
-        (subst (λ (ks : List ValueType). IsTypedBody p c ks body) same_kinds (subst (λ (b : List Statement). IsTypedBody p c kinds b) at typed)))
+        (subst (λ (w : Work). IsTypedWork p c method.types w) (sym slots)
+        (subst (λ (ks : List ValueType). IsTypedBody p c ks body) same_value_types (subst (λ (b : List Statement). IsTypedBody p c types b) at typed)))
 
-    pub typed_body : IsTypedMemberHere p c (Method m) → IsTypedBody p c kinds given
+    pub typed_body : IsTypedMemberHere p c (Method m) → IsTypedBody p c types given
     typed_body h =
-        subst (λ (b : List Statement). IsTypedBody p c kinds b) (sym at)
-        (subst (λ (ks : List ValueType). IsTypedBody p c ks body) (sym same_kinds) (subst (λ (w : Work). IsTypedWork p c method.kinds w) slots ((method_here c m method is after).1 h)))
+        subst (λ (b : List Statement). IsTypedBody p c types b) (sym at)
+        (subst (λ (ks : List ValueType). IsTypedBody p c ks body) (sym same_value_types) (subst (λ (w : Work). IsTypedWork p c method.types w) slots ((method_here c m method is after).1 h)))
 
 -- what isn't a slot with a body is typed
-pub no_body : (p : Loaded) (c : ℕ) (kinds : List ValueType) (work : Work) → ((body : List Statement) → ¬ (work ≡ Slot body)) → IsTypedWork p c kinds work
-no_body p c kinds (Slot body) not = absurd (not body refl)
-no_body p c kinds work not = tt
+pub no_body : (p : Loaded) (c : ℕ) (types : List ValueType) (work : Work) → ((body : List Statement) → ¬ (work ≡ Slot body)) → IsTypedWork p c types work
+no_body p c types (Slot body) not = absurd (not body refl)
+no_body p c types work not = tt
 
 -- a typed node is typed by itself
 pub member_here : (p : Loaded) (c : ℕ) (x : Member) → IsTypedMember p c x → IsTypedMemberHere p c x

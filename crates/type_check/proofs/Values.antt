@@ -9,7 +9,7 @@ use Rattle.expressions.specs.declared.sort.Sort.TheVariants as sort
 use Rattle.expressions.{specs.declared.typing.ExprType.{ExprType}, specs.declared.typing.ExprType.TheVariants.{Of}, specs.Evaluation.{value as value_of, values}, specs.Typing.{value_sort, declared_sort, declared_types, type_of, HasValueOf as NamedValueOf}, proofs.Evaluating.{value-Literal, value-Path, value-Unary, value-Binary}, proofs.Typed.{type_of-Literal, type_of-Path, type_of-Unary, type_of-Binary, literal_typed, path_typed, unary_typed, binary_typed, typed_has_value, accepted_has}}
 use Rattle.meta_model.{specs.declared.object.ValueType.{ValueType}, specs.declared.object.MetaRoot.{MetaRoot}, specs.declared.object.Step.{Step}, specs.declared.object.MetaPath.{MetaPath}, specs.declared.object.MetaObject.{MetaObject}, specs.declared.object.MetaProperty.{MetaProperty}, specs.declared.site.SourceProperty.{SourceProperty}, specs.declared.site.MetaSite.{MetaSite}, specs.Loaded.{Loaded}, specs.Members.{IsClassNamed, IsProperty, Below, same, under}, specs.Sound.{IsSound, HasRoot, this_has, parameter_has, Leads, here, on, LeadsTo, IsSoundExpr, literal_sound, path_sound, unary_sound, binary_sound, AreSoundExprs}, specs.Values.{Has, HaveTypes}, proofs.OneAnswer.{one_class}}
 use Rattle.meta_model.specs.declared.object.ValueType.TheVariants as type
-use Rattle.type_check.{specs.Naming.{IsTheClass, BelowNamed, spelled}, specs.Along.{along}, specs.Accepting.{Takes, spelled_kinds}, specs.Bodies.{kind_of_root, kind_after, kind_of_path, IsGivenIn}, specs.Typed.{kind_of_source, IsTypedSite}, specs.Laws.{HasValueOf, PathsAreTyped, SourcesAreTyped}, proofs.Methods.{based}, proofs.Properties.{same_property}}
+use Rattle.type_check.{specs.Naming.{IsTheClass, BelowNamed, spelled}, specs.Along.{along}, specs.Accepting.{Takes, spelled_types}, specs.Bodies.{kind_of_root, kind_after, kind_of_path, IsGivenIn}, specs.Typed.{kind_of_source, IsTypedSite}, specs.Laws.{HasValueOf, PathsAreTyped, SourcesAreTyped}, proofs.Methods.{based}, proofs.Properties.{same_property}}
 
 rolled : {P : Type 0} (x : Expr P) (l : expr.Expr-F P (Expr P)) → out-Expr P x ≡ l → x ≡ roll-Expr P l
 rolled {P} x l is = sym (roll-out-Expr P x) ∙ ap (λ y. roll-Expr P y) is
@@ -133,15 +133,15 @@ module _ (p : Loaded) (sound : IsSound p) (classes : ℕ → Option ℕ) where
   pub site_has : (site : MetaSite) (read : SourceProperty → Option Value) → SourcesAreTyped p classes site.formals read → IsTypedSite p site
       → (property : MetaProperty) → IsProperty p site.class site.property property → HasValueOf p classes property.kind (value_of read site.formula)
   site_has site read sources typed property is =
-      let kinds = kind_of_source p site.formals in
+      let types = kind_of_source p site.formals in
       let one : typed.property ≡ property = same_property p site.class site.property is.class property typed.property is.is_class.is is.is typed.is in
-      let h = given_has typed.property.kind (type_of (spelled_kinds p kinds) site.formula) (value_of read site.formula) typed.given
-      (typed_has_value names (BelowNamed p) read (spelled_kinds p kinds) (λ s t e. path_has (kinds s) (read s) t e (sources s)) site.formula) in
+      let h = given_has typed.property.kind (type_of (spelled_types p types) site.formula) (value_of read site.formula) typed.given
+      (typed_has_value names (BelowNamed p) read (spelled_types p types) (λ s t e. path_has (types s) (read s) t e (sources s)) site.formula) in
       subst (λ (x : MetaProperty). HasValueOf p classes x.kind (value_of read site.formula)) one h
 
   -- ---- bodies
-  module _ (me : ℕ) (kinds : List ValueType) where
-    root_kind : (root : MetaRoot) (T : ValueType) → HasRoot me kinds root T → kind_of_root me kinds root ≡ Some T
+  module _ (me : ℕ) (types : List ValueType) where
+    root_kind : (root : MetaRoot) (T : ValueType) → HasRoot me types root T → kind_of_root me types root ≡ Some T
     root_kind root T this_has = refl
     root_kind root T (parameter_has at) = at
 
@@ -149,26 +149,26 @@ module _ (p : Loaded) (sound : IsSound p) (classes : ℕ → Option ℕ) where
     last_kind s [] (on is e here) = (s, refl, refl)
     last_kind s (t ∷ ts) (on is e rest) = last_kind t ts rest
 
-    steps_kind : (root : MetaRoot) (steps : List Step) (T U : ValueType) → HasRoot me kinds root T → Leads p T steps U → kind_after me kinds root (slice_get steps (length steps - 1)) ≡ Some U
+    steps_kind : (root : MetaRoot) (steps : List Step) (T U : ValueType) → HasRoot me types root T → Leads p T steps U → kind_after me types root (slice_get steps (length steps - 1)) ≡ Some U
     steps_kind root [] T U has here = root_kind root T has
     steps_kind root (s ∷ steps) T U has leads =
         let last = last_kind s steps leads in
         let at : slice_get (s ∷ steps) (suc (length steps) - 1) ≡ Some last.0 = ap (slice_get (s ∷ steps)) (omega arith) ∙ last.1 in
-        ap (kind_after me kinds root) at ∙ ap (λ (w : ValueType). Some w) last.2
+        ap (kind_after me types root) at ∙ ap (λ (w : ValueType). Some w) last.2
 
-    leads_kind : (path : MetaPath) (T : ValueType) → LeadsTo p me kinds path T → kind_of_path me kinds path ≡ Some T
+    leads_kind : (path : MetaPath) (T : ValueType) → LeadsTo p me types path T → kind_of_path me types path ≡ Some T
     leads_kind path T leads = steps_kind path.root path.steps leads.root_type T leads.root leads.steps
 
-    module _ (read : MetaPath → Option Value) (paths : PathsAreTyped p classes me kinds read) where
+    module _ (read : MetaPath → Option Value) (paths : PathsAreTyped p classes me types read) where
       abbrev declared : MetaPath → Option QType
-      declared = spelled_kinds p (kind_of_path me kinds)
+      declared = spelled_types p (kind_of_path me types)
 
-      sound_path : (path : MetaPath) (T : ValueType) → LeadsTo p me kinds path T → (t : QType) → declared path ≡ Some t → Valued (Of t) (read path)
+      sound_path : (path : MetaPath) (T : ValueType) → LeadsTo p me types path T → (t : QType) → declared path ≡ Some t → Valued (Of t) (read path)
       sound_path path T leads t e =
-          path_has (kind_of_path me kinds path) (read path) t e
+          path_has (kind_of_path me types path) (read path) t e
           (λ U is. subst (λ (w : ValueType). HasValueOf p classes w (read path)) (same_Some _ _ (sym (leads_kind path T leads) ∙ is)) (paths path T leads))
 
-      sound_has : (x : Expr MetaPath) → IsSoundExpr p me kinds x → (t : ExprType) → type_of declared x ≡ Some t → Valued t (value_of read x)
+      sound_has : (x : Expr MetaPath) → IsSoundExpr p me types x → (t : ExprType) → type_of declared x ≡ Some t → Valued t (value_of read x)
       sound_has x (literal_sound {v = v} at none) t is =
           let w = rolled x (expr.Literal v) at ∙ whole.rolls-Literal v in
           (v, ap (value_of read) w ∙ value-Literal read v, literal_typed names (BelowNamed p) v t (sym (ap (type_of declared) w ∙ type_of-Literal declared v) ∙ is))
@@ -185,10 +185,10 @@ module _ (p : Loaded) (sound : IsSound p) (classes : ℕ → Option ℕ) where
           subst (λ (found : Option Value). Valued t found) (sym (ap (value_of read) w ∙ value-Binary read op a b))
           (binary_typed names (BelowNamed p) op (value_of read a) (value_of read b) (type_of declared a) (type_of declared b) t (sound_has a left) (sound_has b right) (sym (ap (type_of declared) w ∙ type_of-Binary declared op a b) ∙ is))
 
-      pub body_has : (T : ValueType) (x : Expr MetaPath) → IsSoundExpr p me kinds x → IsGivenIn p me kinds T x → HasValueOf p classes T (value_of read x)
+      pub body_has : (T : ValueType) (x : Expr MetaPath) → IsSoundExpr p me types x → IsGivenIn p me types T x → HasValueOf p classes T (value_of read x)
       body_has T x is given = given_has T (type_of declared x) (value_of read x) given (sound_has x is)
 
-      pub arguments_have : (Ts : List ValueType) (xs : List (Expr MetaPath)) → AreSoundExprs p me kinds xs → AllZip (IsGivenIn p me kinds) Ts xs
+      pub arguments_have : (Ts : List ValueType) (xs : List (Expr MetaPath)) → AreSoundExprs p me types xs → AllZip (IsGivenIn p me types) Ts xs
           → (vs : List Value) × (values read xs ≡ Some vs) × HaveTypes p classes vs Ts
       arguments_have [] [] are given = ([], refl, tt)
       arguments_have [] (x ∷ xs) are given = absurd given

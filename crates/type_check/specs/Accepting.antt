@@ -17,10 +17,10 @@ pub record Takes (p : Loaded) (T : ValueType) (found : Option ExprType) : Type 0
   pub named : spelled p T ≡ Some declared
   pub accepts : Accepts (BelowNamed p) declared given
 
--- the declared types of paths by name, where `kinds` gives them by number
-abbrev pub spelled_kinds : {P : Type 0} → Loaded → (P → Option ValueType) → P → Option QType
-spelled_kinds p kinds path = option_and_then (spelled p) (kinds path)
+-- the declared types of paths by name, where `types` gives them by number
+abbrev pub spelled_types : {P : Type 0} → Loaded → (P → Option ValueType) → P → Option QType
+spelled_types p types path = option_and_then (spelled p) (types path)
 
--- the expression has a type that the type T accepts, where `kinds` gives the declared types of its paths
+-- the expression has a type that the type T accepts, where `types` gives the declared types of its paths
 abbrev pub IsGiven : {P : Type 0} → Loaded → (P → Option ValueType) → ValueType → Expr P → Type 0
-IsGiven p kinds T e = Takes p T (type_of (spelled_kinds p kinds) e)
+IsGiven p types T e = Takes p T (type_of (spelled_types p types) e)

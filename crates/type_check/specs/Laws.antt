@@ -22,20 +22,20 @@ HasValueOf p classes T found = (v : Value) × (found ≡ Some v) × Has p classe
 
 -- every path whose names are there leads to a value of its declared type
 abbrev pub PathsAreTyped : Loaded → (ℕ → Option ℕ) → ℕ → List ValueType → (MetaPath → Option Value) → Type 0
-PathsAreTyped p classes me kinds read = (path : MetaPath) (T : ValueType) → LeadsTo p me kinds path T → HasValueOf p classes T (read path)
+PathsAreTyped p classes me types read = (path : MetaPath) (T : ValueType) → LeadsTo p me types path T → HasValueOf p classes T (read path)
 
 -- In every state where that is so, an expression of a body whose names are there has a value, of the type of what may be
 -- given it.
 abbrev pub GivenHaveValues : Loaded → Type 0
 GivenHaveValues p =
-    (classes : ℕ → Option ℕ) (me : ℕ) (kinds : List ValueType) (read : MetaPath → Option Value) → PathsAreTyped p classes me kinds read
-    → (T : ValueType) (e : Expr MetaPath) → IsSoundExpr p me kinds e → IsGivenIn p me kinds T e → HasValueOf p classes T (value read e)
+    (classes : ℕ → Option ℕ) (me : ℕ) (types : List ValueType) (read : MetaPath → Option Value) → PathsAreTyped p classes me types read
+    → (T : ValueType) (e : Expr MetaPath) → IsSoundExpr p me types e → IsGivenIn p me types T e → HasValueOf p classes T (value read e)
 
 -- In such a state the arguments of a call have values, each of its parameter's type.
 abbrev pub ArgumentsHaveValues : Loaded → Type 0
 ArgumentsHaveValues p =
-    (classes : ℕ → Option ℕ) (me : ℕ) (kinds : List ValueType) (read : MetaPath → Option Value) → PathsAreTyped p classes me kinds read
-    → (Ts : List ValueType) (es : List (Expr MetaPath)) → AreSoundExprs p me kinds es → AllZip (IsGivenIn p me kinds) Ts es
+    (classes : ℕ → Option ℕ) (me : ℕ) (types : List ValueType) (read : MetaPath → Option Value) → PathsAreTyped p classes me types read
+    → (Ts : List ValueType) (es : List (Expr MetaPath)) → AreSoundExprs p me types es → AllZip (IsGivenIn p me types) Ts es
     → (vs : List Value) × (values read es ≡ Some vs) × HaveTypes p classes vs Ts
 
 -- every property of a formal source that is there has a value of its declared type

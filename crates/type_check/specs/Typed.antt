@@ -10,13 +10,13 @@ use Rattle.type_check.specs.declared.spot.Spot.TheVariants as spot
 -- ---- members
 -- a slot's body is typed, where class d declares the slot; nothing else of a method needs a type
 abbrev pub IsTypedWork : Loaded → ℕ → List ValueType → Work → Type 0
-IsTypedWork p d kinds (Slot body) = IsTypedBody p d kinds body
-IsTypedWork p d kinds work = Unit {0}
+IsTypedWork p d types (Slot body) = IsTypedBody p d types body
+IsTypedWork p d types work = Unit {0}
 
 -- method m of class c, in the class that declares it
 abbrev pub IsTypedMethod : Loaded → ℕ → ℕ → Type 0
 IsTypedMethod p c m =
-    (d : ℕ) (method : MetaMethod) → Below p c d → Declares p d m → IsMethod p d m method → IsTypedWork p d method.kinds method.work
+    (d : ℕ) (method : MetaMethod) → Below p c d → Declares p d m → IsMethod p d m method → IsTypedWork p d method.types method.work
 
 -- property q of class c: its value at first is of its type, whatever objects there are
 abbrev pub IsTypedProperty : Loaded → ℕ → ℕ → Type 0
@@ -99,7 +99,7 @@ pub record IsUntypedStatement (p : Loaded) (c m : ℕ) (told : Option ℕ) : Typ
   pub body : List Statement
   pub slot : method.work ≡ Slot body
   pub place : ℕ
-  pub first : StandsFirst (IsUntyped p c method.kinds) (in_order body) place
+  pub first : StandsFirst (IsUntyped p c method.types) (in_order body) place
   pub counted : told ≡ Some (capped place)
 
 -- of what isn't a method, none

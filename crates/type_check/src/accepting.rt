@@ -20,7 +20,7 @@ pub fn is_given<P: Drop, N: Names<P>>(
     names: &N,
 ) -> Result<bool, AllocError>
     ensures { IfOk result (λ answer.
-        IsTrue answer ↔ Takes meta.now declared (type_of (N.kinds names.now) expression.now)) }
+        IsTrue answer ↔ Takes meta.now declared (type_of (N.types names.now) expression.now)) }
 {
     let Some(declared) = spelled(alloc, meta, declared)? else {
         return Ok(false);

@@ -17,7 +17,7 @@ pub fn body_flaw(
     body: &[Statement],
     start: usize,
 ) -> Result<ControlFlow<TypeFlaw, usize>, AllocError>
-    ensures { IfOk result (Judges scope.now.meta.now scope.now.class scope.now.kinds.now body.now start) }
+    ensures { IfOk result (Judges scope.now.meta.now scope.now.class scope.now.types.now body.now start) }
 {
     let mut next = start;
     for statement in body {
@@ -36,7 +36,7 @@ fn whole_flaw(
     statement: &Statement,
     start: usize,
 ) -> Result<ControlFlow<TypeFlaw, usize>, AllocError>
-    ensures { IfOk result (Judges scope.now.meta.now scope.now.class scope.now.kinds.now (statement.now ∷ []) start) }
+    ensures { IfOk result (Judges scope.now.meta.now scope.now.class scope.now.types.now (statement.now ∷ []) start) }
 {
     if !scope.is_typed(statement)? {
         let fault = scope.fault(statement)?;

@@ -37,7 +37,7 @@ fn method_flaw(
         alloc,
         meta,
         class,
-        kinds: method.kinds.as_slice(),
+        types: method.types.as_slice(),
     };
     match body_flaw(&scope, body.as_slice(), 0)? {
         ControlFlow::Break(flaw) => Ok(Some(flaw)),

@@ -21,14 +21,14 @@ pub struct BodyScope<'m> {
     pub alloc: Global,
     pub meta: &'m Meta,
     pub class: usize,
-    pub kinds: &'m [ValueType],
+    pub types: &'m [ValueType],
 }
 
 impl<'m> Names<MetaPath> for BodyScope<'m> {
-    ghost use Rattle.type_check.specs.Accepting.{spelled_kinds};
+    ghost use Rattle.type_check.specs.Accepting.{spelled_types};
     ghost use Rattle.type_check.specs.Bodies.{kind_of_path};
 
-    ghost kinds = { λ scope path. spelled_kinds scope.meta.now (kind_of_path scope.class scope.kinds.now) path };
+    ghost types = { λ scope path. spelled_types scope.meta.now (kind_of_path scope.class scope.types.now) path };
 
     fn kind(&self, path: &MetaPath) -> Result<Option<QType>, AllocError> {
         match self.kind_of(path) {
@@ -42,7 +42,7 @@ impl<'m> BodyScope<'m> {
     /// Whether the statement is typed; of an `if`, whether its condition is. What is in it is looked at on its own.
     pub fn is_typed(&self, statement: &Statement) -> Result<bool, AllocError>
         ensures { IfOk result (λ answer. IsTrue answer
-            ↔ IsTypedStatement self.now.meta.now self.now.class self.now.kinds.now (out-Statement statement.now)) }
+            ↔ IsTypedStatement self.now.meta.now self.now.class self.now.types.now (out-Statement statement.now)) }
     {
         match statement {
             Statement::Set(path, property, value) => self.may_set(path, *property, value),
@@ -93,7 +93,7 @@ impl<'m> BodyScope<'m> {
             return Ok(TypeFault::Unknown(0));
         };
         for (place, expression) in given.iter().enumerate() {
-            if let Some(kind) = method.kinds.get(place) {
+            if let Some(kind) = method.types.get(place) {
                 if !self.is_given(*kind, expression)? {
                     return self.fault_in(place, *kind, expression);
                 }
@@ -120,7 +120,7 @@ impl<'m> BodyScope<'m> {
         value: &Expr<MetaPath>,
     ) -> Result<bool, AllocError>
         ensures { IfOk result (λ answer. IsTrue answer
-            ↔ IsTypedSet self.now.meta.now self.now.class self.now.kinds.now path.now property value.now) }
+            ↔ IsTypedSet self.now.meta.now self.now.class self.now.types.now path.now property value.now) }
     {
         let Some(class) = self.mutable(path) else {
             return Ok(false);
@@ -142,7 +142,7 @@ impl<'m> BodyScope<'m> {
         given: &[Expr<MetaPath>],
     ) -> Result<bool, AllocError>
         ensures { IfOk result (λ answer. IsTrue answer
-            ↔ IsTypedCall self.now.meta.now self.now.class self.now.kinds.now path.now method given.now) }
+            ↔ IsTypedCall self.now.meta.now self.now.class self.now.types.now path.now method given.now) }
     {
         match self.mutable(path) {
             Some(class) => self.accepts(class, method, given),
@@ -158,10 +158,10 @@ impl<'m> BodyScope<'m> {
         given: &[Expr<MetaPath>],
     ) -> Result<bool, AllocError>
         ensures { IfOk result (λ answer. IsTrue answer
-            ↔ AcceptsArguments self.now.meta.now self.now.class self.now.kinds.now class method given.now) }
+            ↔ AcceptsArguments self.now.meta.now self.now.class self.now.types.now class method given.now) }
     {
         match self.meta.method_at(class, method) {
-            Some(method) => self.are_given(method.kinds.as_slice(), given),
+            Some(method) => self.are_given(method.types.as_slice(), given),
             None => Ok(false),
         }
     }
@@ -173,7 +173,7 @@ impl<'m> BodyScope<'m> {
         given: &[Expr<MetaPath>],
     ) -> Result<bool, AllocError>
         ensures { IfOk result (λ answer. IsTrue answer
-            ↔ AllZip (IsGivenIn self.now.meta.now self.now.class self.now.kinds.now) declared.now given.now) }
+            ↔ AllZip (IsGivenIn self.now.meta.now self.now.class self.now.types.now) declared.now given.now) }
     {
         if declared.len() != given.len() {
             return Ok(false);
@@ -189,14 +189,14 @@ impl<'m> BodyScope<'m> {
     /// Whether something of this type may be given the expression.
     fn is_given(&self, declared: ValueType, expression: &Expr<MetaPath>) -> Result<bool, AllocError>
         ensures { IfOk result (λ answer. IsTrue answer
-            ↔ IsGivenIn self.now.meta.now self.now.class self.now.kinds.now declared expression.now) }
+            ↔ IsGivenIn self.now.meta.now self.now.class self.now.types.now declared expression.now) }
     {
         is_given(self.alloc, self.meta, declared, expression, self)
     }
 
     /// Whether the path leads to objects and isn't const.
     fn is_mutable(&self, path: &MetaPath) -> bool
-        ensures { IsTrue result ↔ IsTypedDeletion self.now.class self.now.kinds.now path.now }
+        ensures { IsTrue result ↔ IsTypedDeletion self.now.class self.now.types.now path.now }
     {
         match self.mutable(path) {
             Some(_) => true,
@@ -206,8 +206,8 @@ impl<'m> BodyScope<'m> {
 
     /// The class that the path leads to, where it leads to objects and isn't const.
     fn mutable(&self, path: &MetaPath) -> Option<usize>
-        ensures value { LooksUp (LeadsToMutable self.now.class self.now.kinds.now path.now) result }
-        ensures only { FindsOnly (LeadsToMutable self.now.class self.now.kinds.now path.now) result }
+        ensures value { LooksUp (LeadsToMutable self.now.class self.now.types.now path.now) result }
+        ensures only { FindsOnly (LeadsToMutable self.now.class self.now.types.now path.now) result }
     {
         match self.kind_of(path) {
             Some(ValueType::Reference(class, false)) => Some(class),
@@ -217,7 +217,7 @@ impl<'m> BodyScope<'m> {
 
     /// The declared type of what the path leads to.
     fn kind_of(&self, path: &MetaPath) -> Option<ValueType>
-        ensures { result ≡ kind_of_path self.now.class self.now.kinds.now path.now }
+        ensures { result ≡ kind_of_path self.now.class self.now.types.now path.now }
     {
         match path.steps.as_slice().last() {
             Some(step) => Some(step.kind),
@@ -227,11 +227,11 @@ impl<'m> BodyScope<'m> {
 
     /// The declared type of what a path begins with.
     fn kind_of_root(&self, root: MetaRoot) -> Option<ValueType>
-        ensures { result ≡ kind_of_root self.now.class self.now.kinds.now root }
+        ensures { result ≡ kind_of_root self.now.class self.now.types.now root }
     {
         match root {
             MetaRoot::This => Some(ValueType::Reference(self.class, false)),
-            MetaRoot::Parameter(place) => self.kinds.get(place).copied(),
+            MetaRoot::Parameter(place) => self.types.get(place).copied(),
         }
     }
 }

@@ -21,10 +21,10 @@ struct Formals<'m> {
 }
 
 impl<'m> Names<SourceProperty> for Formals<'m> {
-    ghost use Rattle.type_check.specs.Accepting.{spelled_kinds};
+    ghost use Rattle.type_check.specs.Accepting.{spelled_types};
     ghost use Rattle.type_check.specs.Typed.{kind_of_source};
 
-    ghost kinds = { λ formals. spelled_kinds formals.meta.now (kind_of_source formals.meta.now formals.classes.now) };
+    ghost types = { λ formals. spelled_types formals.meta.now (kind_of_source formals.meta.now formals.classes.now) };
 
     fn kind(&self, path: &SourceProperty) -> Result<Option<QType>, AllocError> {
         let Some(class) = self.classes.get(path.source) else {

@@ -12,7 +12,7 @@ use Rattle.edge_reasons.specs.Reasons.{BodyLeads, DoesTo}
 
 -- the number of the first statement that does something to the node, or where none does the number behind them all
 abbrev pub Seeks : Loaded → ℕ → List ValueType → List Statement → Node → ℕ → ControlFlow ℕ ℕ → Type 0
-Seeks p c kinds body y start (Break number) =
-    BodyLeads p c kinds body y × FirstFrom (λ t. DoesTo p c kinds t y) (in_order body) start number
-Seeks p c kinds body y start (Continue next) =
-    (¬ BodyLeads p c kinds body y) × NoneFrom (λ t. DoesTo p c kinds t y) (in_order body) start next
+Seeks p c types body y start (Break number) =
+    BodyLeads p c types body y × FirstFrom (λ t. DoesTo p c types t y) (in_order body) start number
+Seeks p c types body y start (Continue next) =
+    (¬ BodyLeads p c types body y) × NoneFrom (λ t. DoesTo p c types t y) (in_order body) start next

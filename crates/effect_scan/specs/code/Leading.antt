@@ -26,13 +26,13 @@ pub record WireLeads (places : NodePlaces) (wire : MetaWire) (a b : ℕ) : Type 
 pub record MethodLeads (places : NodePlaces) (c m : ℕ) (method : MetaMethod) (a b : ℕ) : Type 0 where
   pub from : IsAt places.numbering (node c (Method m)) a
   pub effect : Effect
-  pub has : WorkHas method.kinds method.work effect
+  pub has : WorkHas method.types method.work effect
   pub to : IsReached places c effect b
 
 -- what the method's work does something to, for an object of class c
 pub record WorkReaches (places : NodePlaces) (c : ℕ) (method : MetaMethod) (b : ℕ) : Type 0 where
   pub effect : Effect
-  pub has : WorkHas method.kinds method.work effect
+  pub has : WorkHas method.types method.work effect
   pub to : IsReached places c effect b
 
 abbrev pub MethodsLead : NodePlaces → ℕ → MetaObject → ℕ → ℕ → Type 0

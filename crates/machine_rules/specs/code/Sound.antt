@@ -10,37 +10,37 @@ use Rattle.object_tree.specs.{declared.life.Life.{Life}, declared.object.Object.
 use Rattle.binding_graph.specs.declared.binding.Binding.{Binding}
 use Rattle.prop_bindings.specs.Fits.{Agree}
 use Rattle.basic_types.specs.declared.value.Value.{Value}
-use Rattle.machine_rules.specs.{There.{IsMember, IsDead}, Good.{destroyed_kinds}}
+use Rattle.machine_rules.specs.{There.{IsMember, IsDead}, Good.{destroyed_types}}
 
 -- ---- methods of objects that may be dead by now
 
 -- a method of a class that declares these types
-pub record IsDeclared (p : Loaded) (class m : ℕ) (kinds : List ValueType) : Type 0 where
+pub record IsDeclared (p : Loaded) (class m : ℕ) (types : List ValueType) : Type 0 where
   pub method : MetaMethod
   pub is : IsMethod p class m method
-  pub takes : method.kinds ≡ kinds
+  pub takes : method.types ≡ types
 
 -- an object has this number, and as long as it lives, its method m declares these types
-pub record Receives (p : Loaded) (objects : List Object) (o m : ℕ) (kinds : List ValueType) : Type 0 where
+pub record Receives (p : Loaded) (objects : List Object) (o m : ℕ) (types : List ValueType) : Type 0 where
   pub created : o < length objects
-  pub living : (x : Object) (life : Life) → Lives objects o x life → IsDeclared p life.class m kinds
+  pub living : (x : Object) (life : Life) → Lives objects o x life → IsDeclared p life.class m types
 
 -- an object has this number, and its signal g declares these types; those of `destroyed(QObject*)` also when it is dead
-pub record Sends (p : Loaded) (objects : List Object) (o g : ℕ) (kinds : List ValueType) : Type 0 where
-  pub takes : Receives p objects o g kinds
-  pub last : g ≡ DESTROYED → kinds ≡ destroyed_kinds
+pub record Sends (p : Loaded) (objects : List Object) (o g : ℕ) (types : List ValueType) : Type 0 where
+  pub takes : Receives p objects o g types
+  pub last : g ≡ DESTROYED → types ≡ destroyed_types
 
 -- a method of an object takes these arguments, as they read
 pub record ReceivesThese (p : Loaded) (objects : List Object) (o m : ℕ) (arguments : List Value) : Type 0 where
-  pub kinds : List ValueType
-  pub takes : Receives p objects o m kinds
-  pub typed : ReadAs p objects arguments kinds
+  pub types : List ValueType
+  pub takes : Receives p objects o m types
+  pub typed : ReadAs p objects arguments types
 
 -- a signal of an object is emitted with these arguments, as they read
 pub record SendsThese (p : Loaded) (objects : List Object) (o g : ℕ) (arguments : List Value) : Type 0 where
-  pub kinds : List ValueType
-  pub sends : Sends p objects o g kinds
-  pub typed : ReadAs p objects arguments kinds
+  pub types : List ValueType
+  pub sends : Sends p objects o g types
+  pub typed : ReadAs p objects arguments types
 
 -- ---- emissions of objects that may be dead by now
 
@@ -60,17 +60,17 @@ MayBeHeardIn w o g = MayBeHeard w.store.tree w.store.connections.connections o g
 
 -- a connection joins a signal to a method that takes the first of its arguments
 pub record Joined (p : Loaded) (objects : List Object) (c : Connection) : Type 0 where
-  pub kinds : List ValueType
+  pub types : List ValueType
   pub rest : List ValueType
-  pub sends : Sends p objects c.sender c.signal (kinds ++ rest)
-  pub receives : Receives p objects c.receiver c.method kinds
+  pub sends : Sends p objects c.sender c.signal (types ++ rest)
+  pub receives : Receives p objects c.receiver c.method types
 
 -- the connection's receiver lives, and its method takes the first of these arguments
 pub record IsDelivered (p : Loaded) (objects : List Object) (c : Connection) (arguments : List Value) : Type 0 where
   pub receiver : Object
   pub method : MetaMethod
   pub is : IsMember p objects c.receiver c.method receiver method
-  pub typed : ReadAs p objects (take (length method.kinds) arguments) method.kinds
+  pub typed : ReadAs p objects (take (length method.types) arguments) method.types
 
 -- ---- the world
 

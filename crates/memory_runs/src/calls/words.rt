@@ -82,7 +82,7 @@ struct Everywhere {
 impl Names<Path> for Everywhere {
     ghost use Rattle.std.specs.Prelude.{Some};
 
-    ghost kinds = { λ paths path. Some paths.kind };
+    ghost types = { λ paths path. Some paths.kind };
 
     fn kind(&self, _path: &Path) -> Result<Option<QType>, AllocError> {
         let kind = self.kind.copy()?;

@@ -6,11 +6,11 @@ use Rattle.syntax_trees.specs.declared.program.Class.{Class}
 use Rattle.class_outlines.specs.declared.outline.Outline.{Outline}
 use Rattle.class_outlines.specs.Conditions.{LacksPropertyType}
 use Rattle.class_outlines.specs.DeclaredKinds.{LacksType}
-use Rattle.class_outlines.specs.Outlines.{kinds_of}
+use Rattle.class_outlines.specs.Outlines.{types_of}
 
 -- the type of one of its own properties, or of a parameter of one of its own methods, isn't there
 abbrev pub DeclaresUnknown : List Outline → Class → Type 0
 DeclaresUnknown outlines class =
     Any (LacksPropertyType outlines) class.properties
-    ⊎ Any (λ (signal : Signal). Any (LacksType outlines) (kinds_of signal.parameters)) class.signals
-    ⊎ Any (λ (slot : Slot). Any (LacksType outlines) (kinds_of slot.parameters)) class.slots
+    ⊎ Any (λ (signal : Signal). Any (LacksType outlines) (types_of signal.parameters)) class.signals
+    ⊎ Any (λ (slot : Slot). Any (LacksType outlines) (types_of slot.parameters)) class.slots

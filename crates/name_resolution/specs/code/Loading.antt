@@ -28,7 +28,7 @@ work_of works (sort.Slot i j) = found_work (work_at works i j)
 
 pub record IsMethodOf (outlines : List Outline) (works : List (List ResolvedWork)) (h : Heading) (method : MetaMethod) : Type 0 where
   pub signed : method.sig ≡ h.sig
-  pub kinds : AllZip (IsReadAs outlines) h.sig.types method.kinds
+  pub types : AllZip (IsReadAs outlines) h.sig.types method.types
   pub work : method.work ≡ work_of works h.sort
 
 abbrev pub AreMethodsOf : List Outline → List (List ResolvedWork) → List Heading → List MetaMethod → Type 0

@@ -10,7 +10,7 @@ ghost use Rattle.name_resolution.specs.code.Resolving.{FindsClass, FindsMember};
 use crate::body_resolution::scope::Scope;
 use crate::missing::undeclared;
 use basic_types::{Name, QType};
-use class_outlines::{IndexedOutline, Missing, PartFault, find, read_kind, reference_to};
+use class_outlines::{IndexedOutline, Missing, PartFault, find, read_type, reference_to};
 use meta_model::{MetaPath, MetaRoot, Step};
 use sqlite_items::Items;
 use syntax_trees::{Path, Property, Root};
@@ -109,7 +109,7 @@ impl<'a> Scope<'a> {
             let Some((property, found)) = self.find_member(&kind, name) else {
                 return Err(self.no_member(*met, kind));
             };
-            let read = read_kind(self.outlines, &found.kind);
+            let read = read_type(self.outlines, &found.kind);
             steps.push(Step {
                 property,
                 kind: read,

@@ -123,7 +123,7 @@ module _ {p : Loaded} {certificate : Certificate} (valid : IsValid p certificate
       by_way (reaches_at_once c.kind u.home (running s.turn)) u.arrives
     where
       given : List Value
-      given = take (length (u.method).kinds) arguments
+      given = take (length (u.method).types) arguments
 
       fit : ArgumentsFit p s.objects c.receiver c.method given
       fit = delivered-fits (next-delivered s.connected.connections o g used last c (up.sound).joined sends may is) u.is refl refl
@@ -157,7 +157,7 @@ module _ {p : Loaded} {certificate : Certificate} (valid : IsValid p certificate
             };
           } in
           let member : IsMember p s.objects place.object x.signal x.object x.method = record { life = life; lives = (x.is).lives; is_method = x.is_method } in
-          pushes-begun s (Update places ∷ below) place.object x.object x.signal x.method (take (length (x.method).kinds) (x.present ∷ [])) Signal (announced-fits announces agree.typed member x.is_present refl refl) (tt, all) x.gives
+          pushes-begun s (Update places ∷ below) place.object x.object x.signal x.method (take (length (x.method).types) (x.present ∷ [])) Signal (announced-fits announces agree.typed member x.is_present refl refl) (tt, all) x.gives
 
   -- ---- turns
 
@@ -212,7 +212,7 @@ module _ (p : Loaded) (s : State) (idle : IsIdle s) (classes : ℕ → Option �
   pushes-invoked t a name called inputs (goes_on o lives (goes_on m (finds asked) (goes_on vs given (goes_on _ (so fit) (becomes b))))) =
       let it = living-object o (living-is lives) in
       let same : (m.it) ≡ b.method = method-unique asked.is (member-at it.1 b.is) in
-      pushes-begins b (fit-of b.is (subst (λ (k : MetaMethod). ReadAs p s.objects vs k.kinds) same fit)) none-promised
+      pushes-begins b (fit-of b.is (subst (λ (k : MetaMethod). ReadAs p s.objects vs k.types) same fit)) none-promised
 
   pushes-judged : (t : State) (e : Event) → judged p s e (Ok t) → Pushes p classes (length s.stack) t
   pushes-judged t (Loop name) (goes_on _ free given) = quiet (given-is given) refl

@@ -47,7 +47,7 @@ all-plain-read p objects (v ∷ vs) (T ∷ Ts) h =
 -- what is written fits its properties, and what a method begins with is of its parameters' types
 abbrev pub GivesTyped : Loaded → List Object → Operation → Type 0
 GivesTyped p objects (Write what) = AllFit p objects (writes_of what)
-GivesTyped p objects (Begin y n given) = (z : Object) (method : MetaMethod) → IsMember p objects y n z method → ReadAs p objects given method.kinds
+GivesTyped p objects (Begin y n given) = (z : Object) (method : MetaMethod) → IsMember p objects y n z method → ReadAs p objects given method.types
 GivesTyped p objects (Choose block) = Unit {0}
 GivesTyped p objects (Connect ends how) = Unit {0}
 GivesTyped p objects (Disconnect ends) = Unit {0}
@@ -61,9 +61,9 @@ module _ {p : Loaded} {objects : List Object} (sound : IsSound p) where
   one-method y n z k c declared lives beneath is x method member =
       member-method (record { life = k; lives = lives; is_method = method-below sound beneath is }) member
 
-  begun-typed : (y n : ℕ) (z : Object) (k : Life) (c : ℕ) (declared : MetaMethod) (given : List Value) → Lives objects y z k → Below p k.class c → IsMethod p c n declared → ReadAs p objects given declared.kinds → GivesTyped p objects (Begin y n given)
+  begun-typed : (y n : ℕ) (z : Object) (k : Life) (c : ℕ) (declared : MetaMethod) (given : List Value) → Lives objects y z k → Below p k.class c → IsMethod p c n declared → ReadAs p objects given declared.types → GivesTyped p objects (Begin y n given)
   begun-typed y n z k c declared given lives beneath is read = λ x method member.
-      subst (λ (w : MetaMethod). ReadAs p objects given w.kinds) (one-method y n z k c declared lives beneath is x method member) read
+      subst (λ (w : MetaMethod). ReadAs p objects given w.types) (one-method y n z k c declared lives beneath is x method member) read
 
 -- what is done where a value is found
 map-typed : (p : Loaded) (objects : List Object) {X : Type 0} (act : X → Operation) (found : Option X) (v : X) → found ≡ Some v → GivesTyped p objects (act v) → IfSome (option_map act found) (GivesTyped p objects)
@@ -87,36 +87,36 @@ of-set : (p : Loaded) (objects : List Object) (done : Option Assignment) → IfW
 of-set p objects None fits = tt
 of-set p objects (Some a) fits = (fits, tt)
 
-module _ {p : Loaded} {objects : List Object} (sound : IsSound p) (typed : AreTyped p objects) (o me : ℕ) (x : Object) (l : Life) (arguments : List Value) (kinds : List ValueType) (lives : Lives objects o x l) (below : Below p l.class me) (fit : ReadAs p objects arguments kinds) where
-  pub statement-gives : (f : layer.Statement-F Statement) → IsSoundStatement p me kinds f → IsTypedStatement p me kinds f → SetsAreTyped sound typed o me x l arguments kinds lives below fit f → IfSome (operation objects o arguments f) (GivesTyped p objects)
+module _ {p : Loaded} {objects : List Object} (sound : IsSound p) (typed : AreTyped p objects) (o me : ℕ) (x : Object) (l : Life) (arguments : List Value) (types : List ValueType) (lives : Lives objects o x l) (below : Below p l.class me) (fit : ReadAs p objects arguments types) where
+  pub statement-gives : (f : layer.Statement-F Statement) → IsSoundStatement p me types f → IsTypedStatement p me types f → SetsAreTyped sound typed o me x l arguments types lives below fit f → IfSome (operation objects o arguments f) (GivesTyped p objects)
   statement-gives f (set_sound {path = path} {q = q} {e = e} is) t inner =
-      let done = typed-set sound typed o me x l arguments kinds lives below fit (within-first sound objects o me x l arguments kinds lives below fit typed) path q e is t in
+      let done = typed-set sound typed o me x l arguments types lives below fit (within-first sound objects o me x l arguments types lives below fit typed) path q e is t in
       map-typed p objects operation_of_set (set_at objects o arguments path q e) done.0 done.1 (of-set p objects done.0 done.2)
   statement-gives f (group_sound {sets = sets} all only) t inner =
-      let done = sets-done sound typed o me x l arguments kinds lives below fit sets all (recursion_from_All IsSet sets only.1) (inner sets refl) (within-first sound objects o me x l arguments kinds lives below fit typed) in
+      let done = sets-done sound typed o me x l arguments types lives below fit sets all (recursion_from_All IsSet sets only.1) (inner sets refl) (within-first sound objects o me x l arguments types lives below fit typed) in
       map-typed p objects (λ (found : List (Option Assignment)). Write (Grouped found)) (sets_in objects o arguments sets) done.0 done.1 done.2
   statement-gives f (emit_sound {m = g} {es = es} is) t inner =
-      let vs = arguments_have p sound (class_of objects) me kinds (path_value objects o arguments) (paths-typed sound typed o me x l arguments kinds lives below fit) (t.method).kinds es is.values t.given in
+      let vs = arguments_have p sound (class_of objects) me types (path_value objects o arguments) (paths-typed sound typed o me x l arguments types lives below fit) (t.method).types es is.values t.given in
       map-typed p objects (λ (given : List Value). Begin o g given) (values_of objects o arguments es) vs.0 vs.1
-      (begun-typed sound o g x l me t.method vs.0 lives below t.is (all-reads p objects vs.0 (t.method).kinds vs.2))
+      (begun-typed sound o g x l me t.method vs.0 lives below t.is (all-reads p objects vs.0 (t.method).types vs.2))
   statement-gives f (call_sound {path = path} {m = n} {es = es} is) t inner =
-      let at = same-class me kinds path is.class t.class is.leads t.leads in
+      let at = same-class me types path is.class t.class is.leads t.leads in
       let to = t.accepts in
-      let vs = arguments_have p sound (class_of objects) me kinds (path_value objects o arguments) (paths-typed sound typed o me x l arguments kinds lives below fit) (to.method).kinds es is.values to.given in
-      on-typed p objects (λ y. option_map (λ (given : List Value). Begin y n given) (values_of objects o arguments es)) (path_value objects o arguments path) (reached sound typed o me x l arguments kinds lives below fit path is.leads)
+      let vs = arguments_have p sound (class_of objects) me types (path_value objects o arguments) (paths-typed sound typed o me x l arguments types lives below fit) (to.method).types es is.values to.given in
+      on-typed p objects (λ y. option_map (λ (given : List Value). Begin y n given) (values_of objects o arguments es)) (path_value objects o arguments path) (reached sound typed o me x l arguments types lives below fit path is.leads)
       (λ y z k alive beneath. map-typed p objects (λ (given : List Value). Begin y n given) (values_of objects o arguments es) vs.0 vs.1
-      (begun-typed sound y n z k t.class to.method vs.0 alive (subst (λ (c : ℕ). Below p k.class c) at beneath) to.is (all-reads p objects vs.0 (to.method).kinds vs.2)))
+      (begun-typed sound y n z k t.class to.method vs.0 alive (subst (λ (c : ℕ). Below p k.class c) at beneath) to.is (all-reads p objects vs.0 (to.method).types vs.2)))
   statement-gives f (if_sound {e = e} {chosen = block} {other = other} is one two) t inner = chosen-typed p objects block other (value_of objects o arguments e)
   statement-gives f (connect_sound {ends = ends} is) t inner =
-      on-typed p objects _ (path_value objects o arguments ends.sender) (reached sound typed o me x l arguments kinds lives below fit ends.sender is.sender) (λ y z k alive beneath.
-      on-typed p objects _ (path_value objects o arguments ends.receiver) (reached sound typed o me x l arguments kinds lives below fit ends.receiver is.receiver) (λ u v w also under. tt))
+      on-typed p objects _ (path_value objects o arguments ends.sender) (reached sound typed o me x l arguments types lives below fit ends.sender is.sender) (λ y z k alive beneath.
+      on-typed p objects _ (path_value objects o arguments ends.receiver) (reached sound typed o me x l arguments types lives below fit ends.receiver is.receiver) (λ u v w also under. tt))
   statement-gives f (disconnect_sound {ends = ends} is) t inner =
-      on-typed p objects _ (path_value objects o arguments ends.sender) (reached sound typed o me x l arguments kinds lives below fit ends.sender is.sender) (λ y z k alive beneath.
-      on-typed p objects _ (path_value objects o arguments ends.receiver) (reached sound typed o me x l arguments kinds lives below fit ends.receiver is.receiver) (λ u v w also under. tt))
+      on-typed p objects _ (path_value objects o arguments ends.sender) (reached sound typed o me x l arguments types lives below fit ends.sender is.sender) (λ y z k alive beneath.
+      on-typed p objects _ (path_value objects o arguments ends.receiver) (reached sound typed o me x l arguments types lives below fit ends.receiver is.receiver) (λ u v w also under. tt))
   statement-gives f (delete_sound {path = path} leads) t inner =
-      on-typed p objects (λ y. Some (Delete y)) (path_value objects o arguments path) (reached sound typed o me x l arguments kinds lives below fit path leads) (λ y z k alive beneath. tt)
+      on-typed p objects (λ y. Some (Delete y)) (path_value objects o arguments path) (reached sound typed o me x l arguments types lives below fit path leads) (λ y z k alive beneath. tt)
   statement-gives f (later_sound {path = path} leads) t inner =
-      on-typed p objects (λ y. Some (Schedule y)) (path_value objects o arguments path) (reached sound typed o me x l arguments kinds lives below fit path leads) (λ y z k alive beneath. tt)
+      on-typed p objects (λ y. Some (Schedule y)) (path_value objects o arguments path) (reached sound typed o me x l arguments types lives below fit path leads) (λ y z k alive beneath. tt)
 
 -- ---- bodies
 
@@ -141,17 +141,17 @@ module _ {p : Loaded} {certificate : Certificate} (valid : IsValid p certificate
       let class_is : (own.1).class ≡ kept.class = own.3 ∙ own-class kept.class kept.is in
       let is : IsMethod p (own.1).class w.number w.signal = subst (λ (c : ℕ). IsMethod p c w.number w.signal) (sym class_is) w.is in
       map-typed p objects (λ (g : ℕ). Begin o g given) (slice_get effects.emits place) w.number w.at
-      (λ z method member. subst (λ (k : MetaMethod). ReadAs p objects given k.kinds)
-      (member-method (record { life = own.1; lives = own.2; is_method = is }) member) (all-plain-read p objects given (w.signal).kinds w.typed))
+      (λ z method member. subst (λ (k : MetaMethod). ReadAs p objects given k.types)
+      (member-method (record { life = own.1; lives = own.2; is_method = is }) member) (all-plain-read p objects given (w.signal).types w.typed))
 
   slot-gives : (s : Statement) → IsStepOf (b.method).work (Run s) → IfSome (operation objects o arguments (out-Statement s)) (GivesTyped p objects)
   slot-gives s (runs {body = body} slot occurs) =
-      let kinds = (b.method).kinds in
-      let work = subst (λ (w : Work). IsSoundWork p b.class m kinds w) slot ((sound.classes b.class (b.is).class (b.is).is_class).methods m b.method (b.is).is).work in
+      let types = (b.method).types in
+      let work = subst (λ (w : Work). IsSoundWork p b.class m types w) slot ((sound.classes b.class (b.is).class (b.is).is_class).methods m b.method (b.is).is).work in
       let whole = body-typed b.class m work.declaring b.method valid sound b.is work.below work.declares (body-named sound b.class m b.method b.is b.bodied) in
-      let all = subst (λ (w : Work). IsTypedWork p work.declaring kinds w) slot whole in
-      statement-gives sound typed o work.declaring own.0 own.1 arguments kinds own.2 (subst (λ (k : ℕ). Below p k work.declaring) (sym own.3) work.below) b.typed (out-Statement s)
-      (occurs-sound sound work.declaring kinds s body work.sound occurs) (all s occurs) (λ sets at u i. all u (occurs-in s sets body occurs at u i))
+      let all = subst (λ (w : Work). IsTypedWork p work.declaring types w) slot whole in
+      statement-gives sound typed o work.declaring own.0 own.1 arguments types own.2 (subst (λ (k : ℕ). Below p k work.declaring) (sym own.3) work.below) b.typed (out-Statement s)
+      (occurs-sound sound work.declaring types s body work.sound occurs) (all s occurs) (λ sets at u i. all u (occurs-in s sets body occurs at u i))
 
   step-gives : (y : Step) → IsStepOf (b.method).work y → StepIsPromised p classes o y → IfSome (operation_of_step objects o arguments y) (GivesTyped p objects)
   step-gives (Run s) of kept = slot-gives s of
@@ -179,11 +179,11 @@ module _ {p : Loaded} (sound : IsSound p) (effects : MetaEffects) (number : ℕ)
         typed = declared;
       }
 
-  emit-within : (place : ℕ) (vs : List Value) (at : Option ℕ) → slice_get effects.emits place ≡ at → IsTrue (option_map_or (λ (signal : MetaMethod). are_of vs signal.kinds) (option_and_then (λ g. slice_get class.methods g) at) false) → EmitsWithin p c effects place vs
+  emit-within : (place : ℕ) (vs : List Value) (at : Option ℕ) → slice_get effects.emits place ≡ at → IsTrue (option_map_or (λ (signal : MetaMethod). are_of vs signal.types) (option_and_then (λ g. slice_get class.methods g) at) false) → EmitsWithin p c effects place vs
   emit-within place vs None e declared = absurd (cc declared)
   emit-within place vs (Some g) e declared = by_method (slice_get class.methods g) refl declared
     where
-      by_method : (found : Option MetaMethod) → slice_get class.methods g ≡ found → IsTrue (option_map_or (λ (signal : MetaMethod). are_of vs signal.kinds) found false) → EmitsWithin p c effects place vs
+      by_method : (found : Option MetaMethod) → slice_get class.methods g ≡ found → IsTrue (option_map_or (λ (signal : MetaMethod). are_of vs signal.types) found false) → EmitsWithin p c effects place vs
       by_method None is declared = absurd (cc declared)
       by_method (Some signal) is declared = record {
         number = g;

@@ -62,7 +62,7 @@ pub record BodyStands (p : Loaded) (objects : List Object) (o m : ℕ) (argument
   pub method : MetaMethod
   pub is : IsMethod p class m method
   pub bodied : method.work ≢ Signal
-  pub typed : ReadAs p objects arguments method.kinds
+  pub typed : ReadAs p objects arguments method.types
   pub steps : AllByRecursion (IsStepOf method.work) left
 
 -- an emission, at the signal that its spelling names; the object may have died

@@ -42,13 +42,13 @@ start-holds p certificate steps = record {
 -- a body that stands has the values that its next statement needs
 body-does : {p : Loaded} {certificate : Certificate} {objects : List Object} {o m : ℕ} {arguments : List Value} {statement : Statement} {rest : List Step} {x : Node} → IsValid p certificate → IsSound p → AreTyped p objects → (b : BodyStands p objects o m arguments (Run statement ∷ rest) x) → IsStepOf (b.method).work (Run statement) → operation objects o arguments (out-Statement statement) ≡ None → ⊥
 body-does {p} {objects = objects} {o = o} {m = m} {arguments = arguments} {statement = statement} valid sound typed b (runs {body = body} slot occurs) none =
-    let kinds = (b.method).kinds in
-    let work = subst (λ (w : Work). IsSoundWork p b.class m kinds w) slot ((sound.classes b.class (b.is).class (b.is).is_class).methods m b.method (b.is).is).work in
+    let types = (b.method).types in
+    let work = subst (λ (w : Work). IsSoundWork p b.class m types w) slot ((sound.classes b.class (b.is).class (b.is).is_class).methods m b.method (b.is).is).work in
     let whole = body-typed b.class m work.declaring b.method valid sound b.is work.below work.declares (body-named sound b.class m b.method b.is b.bodied) in
-    let all = subst (λ (w : Work). IsTypedWork p work.declaring kinds w) slot whole in
+    let all = subst (λ (w : Work). IsTypedWork p work.declaring types w) slot whole in
     let own = lives-of-class objects o b.class b.lives in
-    typed-does sound typed o work.declaring own.0 own.1 arguments kinds own.2 (subst (λ (k : ℕ). Below p k work.declaring) (sym own.3) work.below) b.typed (out-Statement statement)
-    (occurs-sound sound work.declaring kinds statement body work.sound occurs) (all statement occurs) (λ sets at u i. all u (occurs-in statement sets body occurs at u i)) none
+    typed-does sound typed o work.declaring own.0 own.1 arguments types own.2 (subst (λ (k : ℕ). Below p k work.declaring) (sym own.3) work.below) b.typed (out-Statement statement)
+    (occurs-sound sound work.declaring types statement body work.sound occurs) (all statement occurs) (λ sets at u i. all u (occurs-in statement sets body occurs at u i)) none
 
 -- ---- runs
 

@@ -35,31 +35,31 @@ none-chosen block other found v is (truth_has {b = false}) none = let no = sym (
 read-back : (p : Loaded) (objects now : List Object) → DifferInValues objects now → (v : Value) (T : ValueType) → ReadsAs p now v T → ReadsAs p objects v T
 read-back p objects now differ = let stay = differ-stay now objects (sym differ) in reads-still p now objects (record { stays = stay.living; rests = stay.dead })
 
-module _ {p : Loaded} {objects : List Object} (sound : IsSound p) (typed : AreTyped p objects) (o me : ℕ) (x : Object) (l : Life) (arguments : List Value) (kinds : List ValueType) (lives : Lives objects o x l) (below : Below p l.class me) (fit : ReadAs p objects arguments kinds) where
-  pub paths-typed : PathsAreTyped p (class_of objects) me kinds (path_value objects o arguments)
-  paths-typed path T leads = let y = path-has sound typed o me x l arguments kinds lives below fit path leads in (y.given, y.is, y.has)
+module _ {p : Loaded} {objects : List Object} (sound : IsSound p) (typed : AreTyped p objects) (o me : ℕ) (x : Object) (l : Life) (arguments : List Value) (types : List ValueType) (lives : Lives objects o x l) (below : Below p l.class me) (fit : ReadAs p objects arguments types) where
+  pub paths-typed : PathsAreTyped p (class_of objects) me types (path_value objects o arguments)
+  paths-typed path T leads = let y = path-has sound typed o me x l arguments types lives below fit path leads in (y.given, y.is, y.has)
 
-  pub reached : (path : MetaPath) {c : ℕ} → LeadsToClass p me kinds path c → Reaches p objects c (path_value objects o arguments path)
-  reached path leads = path-reaches objects o me x l arguments kinds path sound typed lives below fit leads
+  pub reached : (path : MetaPath) {c : ℕ} → LeadsToClass p me types path c → Reaches p objects c (path_value objects o arguments path)
+  reached path leads = path-reaches objects o me x l arguments types path sound typed lives below fit leads
 
-  given-none : (T : ValueType) (e : Expr MetaPath) → IsSoundExpr p me kinds e → IsGivenIn p me kinds T e → {Y : Type 0} (f : Value → Y) → option_map f (value_of objects o arguments e) ≡ None → ⊥
-  given-none T e is given f none = let v = body_has p sound (class_of objects) me kinds (path_value objects o arguments) paths-typed T e is given in none-map f (value_of objects o arguments e) v.0 v.1 none
+  given-none : (T : ValueType) (e : Expr MetaPath) → IsSoundExpr p me types e → IsGivenIn p me types T e → {Y : Type 0} (f : Value → Y) → option_map f (value_of objects o arguments e) ≡ None → ⊥
+  given-none T e is given f none = let v = body_has p sound (class_of objects) me types (path_value objects o arguments) paths-typed T e is given in none-map f (value_of objects o arguments e) v.0 v.1 none
 
-  arguments-none : (Ts : List ValueType) (es : List (Expr MetaPath)) → AreSoundExprs p me kinds es → AllZip (IsGivenIn p me kinds) Ts es → (f : List Value → Operation) → option_map f (values_of objects o arguments es) ≡ None → ⊥
-  arguments-none Ts es are given f none = let vs = arguments_have p sound (class_of objects) me kinds (path_value objects o arguments) paths-typed Ts es are given in none-map f (values_of objects o arguments es) vs.0 vs.1 none
+  arguments-none : (Ts : List ValueType) (es : List (Expr MetaPath)) → AreSoundExprs p me types es → AllZip (IsGivenIn p me types) Ts es → (f : List Value → Operation) → option_map f (values_of objects o arguments es) ≡ None → ⊥
+  arguments-none Ts es are given f none = let vs = arguments_have p sound (class_of objects) me types (path_value objects o arguments) paths-typed Ts es are given in none-map f (values_of objects o arguments es) vs.0 vs.1 none
 
   -- ---- sets
 
   -- objects as a set of a group reads them, which may be the objects themselves
   abbrev pub Read : List Object → Type 0
-  Read now = Within sound objects o me x l arguments kinds lives below fit now
+  Read now = Within sound objects o me x l arguments types lives below fit now
 
   -- a typed set writes a value of the property's type, or nothing
   abbrev pub Done : List Object → layer.Statement-F Statement → Type 0
   Done now f = (done : Option Assignment) × (set_in now o arguments f ≡ Some done) × IfWrites (λ a. FitsAt p objects a.place a.value) done
 
-  pub typed-set : {now : List Object} → Read now → (path : MetaPath) (q : ℕ) (e : Expr MetaPath) → IsSoundSet p me kinds path q e → IsTypedSet p me kinds path q e → Done now (layer.Set path q e)
-  typed-set {now} w path q e is t = by_target (path_value now o arguments path) refl (reaches-within sound objects o me x l arguments kinds lives below fit w path is.leads)
+  pub typed-set : {now : List Object} → Read now → (path : MetaPath) (q : ℕ) (e : Expr MetaPath) → IsSoundSet p me types path q e → IsTypedSet p me types path q e → Done now (layer.Set path q e)
+  typed-set {now} w path q e is t = by_target (path_value now o arguments path) refl (reaches-within sound objects o me x l arguments types lives below fit w path is.leads)
     where
       on-now : LivesOn now o l
       on-now = lives-on objects now w.differ o l (life-of-lives lives)
@@ -67,18 +67,18 @@ module _ {p : Loaded} {objects : List Object} (sound : IsSound p) (typed : AreTy
       value : (v : Value) × (value_of now o arguments e ≡ Some v) × Has p (class_of now) v (t.property).kind
       value =
           let below-now : Below p (on-now.life).class me = subst (λ (k : ℕ). Below p k me) (sym on-now.same) below in
-          let fit-now : ReadAs p now arguments kinds = values-still p objects now w.differ arguments kinds fit in
-          body_has p sound (class_of now) me kinds (path_value now o arguments)
-          (λ target T leads. let y = path-has sound w.typed o me on-now.object on-now.life arguments kinds on-now.lives below-now fit-now target leads in (y.given, y.is, y.has))
+          let fit-now : ReadAs p now arguments types = values-still p objects now w.differ arguments types fit in
+          body_has p sound (class_of now) me types (path_value now o arguments)
+          (λ target T leads. let y = path-has sound w.typed o me on-now.object on-now.life arguments types on-now.lives below-now fit-now target leads in (y.given, y.is, y.has))
           (t.property).kind e is.value t.given
 
       act : ℕ → Option (Option Assignment)
-      act = set-act sound objects o me x l arguments kinds lives below fit now q e
+      act = set-act sound objects o me x l arguments types lives below fit now q e
 
       by_target : (found : Option Value) → path_value now o arguments path ≡ found → Reaches p objects is.class found → Done now (layer.Set path q e)
       by_target found at to_null = (None, ap (led_to None act) at, tt)
       by_target found at (to_object {o = y} {x = z} {l = k} alive beneath) =
-          let at_class = same-class me kinds path is.class t.class is.leads t.leads in
+          let at_class = same-class me types path is.class t.class is.leads t.leads in
           let own = property-below sound (subst (λ (c : ℕ). Below p k.class c) at_class beneath) t.is in
           let reads = has-reads p now value.0 (t.property).kind value.2 in (
             Some (record { place = property_of y q; value = value.0 }),
@@ -87,20 +87,20 @@ module _ {p : Loaded} {objects : List Object} (sound : IsSound p) (typed : AreTy
           )
 
   -- the parts of a set
-  sound-parts : (f : layer.Statement-F Statement) (path : MetaPath) (q : ℕ) (e : Expr MetaPath) → IsSoundStatement p me kinds f → f ≡ layer.Set path q e → IsSoundSet p me kinds path q e
-  sound-parts f path q e all at = of_set (subst (IsSoundStatement p me kinds) at all)
+  sound-parts : (f : layer.Statement-F Statement) (path : MetaPath) (q : ℕ) (e : Expr MetaPath) → IsSoundStatement p me types f → f ≡ layer.Set path q e → IsSoundSet p me types path q e
+  sound-parts f path q e all at = of_set (subst (IsSoundStatement p me types) at all)
     where
-      of_set : IsSoundStatement p me kinds (layer.Set path q e) → IsSoundSet p me kinds path q e
+      of_set : IsSoundStatement p me types (layer.Set path q e) → IsSoundSet p me types path q e
       of_set (set_sound is) = is
 
-  statement-done : {now : List Object} → Read now → (s : Statement) → IsSet s → IsSoundStatement p me kinds (out-Statement s) → IsTypedStatement p me kinds (out-Statement s) → Done now (out-Statement s)
+  statement-done : {now : List Object} → Read now → (s : Statement) → IsSet s → IsSoundStatement p me types (out-Statement s) → IsTypedStatement p me types (out-Statement s) → Done now (out-Statement s)
   statement-done {now} w s set all t =
       let is = sound-parts (out-Statement s) set.path set.property set.value all set.is in
-      let typed_it : IsTypedSet p me kinds set.path set.property set.value = subst (IsTypedStatement p me kinds) set.is t in
+      let typed_it : IsTypedSet p me types set.path set.property set.value = subst (IsTypedStatement p me types) set.is t in
       subst (Done now) (sym set.is) (typed-set w set.path set.property set.value is typed_it)
 
   -- typed sets of a group all write values of their properties' types, or nothing
-  pub sets-done : (sets : List Statement) → AreSound p me kinds sets → AllByRecursion IsSet sets → ((u : Statement) → Occurs u sets → IsTypedStatement p me kinds (out-Statement u)) → {now : List Object} → Read now →
+  pub sets-done : (sets : List Statement) → AreSound p me types sets → AllByRecursion IsSet sets → ((u : Statement) → Occurs u sets → IsTypedStatement p me types (out-Statement u)) → {now : List Object} → Read now →
       (found : List (Option Assignment)) × (sets_in now o arguments sets ≡ Some found) × AllFit p objects (writes_of (Grouped found))
   sets-done [] all only t w = ([], refl, tt)
   sets-done (s ∷ sets) (next_sound one rest) only t {now} w =
@@ -117,29 +117,29 @@ module _ {p : Loaded} {objects : List Object} (sound : IsSound p) (typed : AreTy
           let more = again now w in
           (None ∷ more.0, joined None is more.0 more.1, more.2)
       by_first (Some a) is fits again =
-          let more = again (after_set (Some a) now) (within-next sound objects o me x l arguments kinds lives below fit w a fits) in
+          let more = again (after_set (Some a) now) (within-next sound objects o me x l arguments types lives below fit w a fits) in
           (Some a ∷ more.0, joined (Some a) is more.0 more.1, (fits, more.2))
 
   -- ---- what a typed statement does
 
   -- the sets of the statement, if it is a group, are typed
   abbrev pub SetsAreTyped : layer.Statement-F Statement → Type 0
-  SetsAreTyped f = (sets : List Statement) → f ≡ layer.Group sets → (u : Statement) → Occurs u sets → IsTypedStatement p me kinds (out-Statement u)
+  SetsAreTyped f = (sets : List Statement) → f ≡ layer.Group sets → (u : Statement) → Occurs u sets → IsTypedStatement p me types (out-Statement u)
 
   -- a typed statement does something
-  pub typed-does : (f : layer.Statement-F Statement) → IsSoundStatement p me kinds f → IsTypedStatement p me kinds f → SetsAreTyped f → operation objects o arguments f ≡ None → ⊥
+  pub typed-does : (f : layer.Statement-F Statement) → IsSoundStatement p me types f → IsTypedStatement p me types f → SetsAreTyped f → operation objects o arguments f ≡ None → ⊥
   typed-does f (set_sound {path = path} {q = q} {e = e} is) t inner none =
-      let done = typed-set (within-first sound objects o me x l arguments kinds lives below fit typed) path q e is t in
+      let done = typed-set (within-first sound objects o me x l arguments types lives below fit typed) path q e is t in
       none-map operation_of_set (set_at objects o arguments path q e) done.0 done.1 none
   typed-does f (group_sound {sets = sets} all only) t inner none =
-      let done = sets-done sets all (recursion_from_All IsSet sets only.1) (inner sets refl) (within-first sound objects o me x l arguments kinds lives below fit typed) in
+      let done = sets-done sets all (recursion_from_All IsSet sets only.1) (inner sets refl) (within-first sound objects o me x l arguments types lives below fit typed) in
       none-map (λ (found : List (Option Assignment)). Write (Grouped found)) (sets_in objects o arguments sets) done.0 done.1 none
-  typed-does f (emit_sound {m = g} {es = es} is) t inner none = arguments-none (t.method).kinds es is.values t.given (λ (given : List Value). Begin o g given) none
+  typed-does f (emit_sound {m = g} {es = es} is) t inner none = arguments-none (t.method).types es is.values t.given (λ (given : List Value). Begin o g given) none
   typed-does f (call_sound {path = path} {m = n} {es = es} is) t inner none =
       none-on (λ y. option_map (λ (given : List Value). Begin y n given) (values_of objects o arguments es)) (path_value objects o arguments path) (reached path is.leads)
-      (λ y. arguments-none ((t.accepts).method).kinds es is.values (t.accepts).given (λ (given : List Value). Begin y n given)) none
+      (λ y. arguments-none ((t.accepts).method).types es is.values (t.accepts).given (λ (given : List Value). Begin y n given)) none
   typed-does f (if_sound {e = e} {chosen = block} {other = other} is one two) t inner none =
-      let v = body_has p sound (class_of objects) me kinds (path_value objects o arguments) paths-typed type.Bool e is t in
+      let v = body_has p sound (class_of objects) me types (path_value objects o arguments) paths-typed type.Bool e is t in
       none-chosen block other (value_of objects o arguments e) v.0 v.1 v.2 none
   typed-does f (connect_sound {ends = ends} is) t inner none =
       none-on _ (path_value objects o arguments ends.sender) (reached ends.sender is.sender) (λ y. none-on _ (path_value objects o arguments ends.receiver) (reached ends.receiver is.receiver) (λ z no. absurd (cc no))) none
@@ -151,13 +151,13 @@ module _ {p : Loaded} {objects : List Object} (sound : IsSound p) (typed : AreTy
 -- ---- bodies
 
 -- the body of a method is typed, where it is declared
-pub body-typed : {p : Loaded} {certificate : Certificate} (c m d : ℕ) (method : MetaMethod) → IsValid p certificate → IsSound p → IsMethod p c m method → Below p c d → Declares p d m → named m ≡ m → IsTypedWork p d method.kinds method.work
+pub body-typed : {p : Loaded} {certificate : Certificate} (c m d : ℕ) (method : MetaMethod) → IsValid p certificate → IsSound p → IsMethod p c m method → Below p c d → Declares p d m → named m ≡ m → IsTypedWork p d method.types method.work
 body-typed {p} c m d method valid sound is below declares same =
     let place = named-node sound c m method is in
     let here = subst (λ (n : ℕ). IsNode p (node c (Method n))) same place in
     let there = declared-method p d m declares.within in
     let equal = method-unique (method-below sound below there.1) is in
-    subst (λ (k : MetaMethod). IsTypedWork p d k.kinds k.work) equal ((valid.typed).nodes here.0 (node c (Method m)) here.1 d there.0 below declares there.1)
+    subst (λ (k : MetaMethod). IsTypedWork p d k.types k.work) equal ((valid.typed).nodes here.0 (node c (Method m)) here.1 d there.0 below declares there.1)
   where
     found-method : (p : Loaded) (d m : ℕ) (found : Option MetaObject) → slice_get p.classes d ≡ found → m < methods_in found → (k : MetaMethod) × IsMethod p d m k
     found-method p d m None at low = absurd (omega (arith, low))

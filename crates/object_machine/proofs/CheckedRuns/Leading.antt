@@ -39,54 +39,54 @@ seen-number objects o y e = by_object (slice_get objects o) e
     by_object (Some x) h = by_life x.life h
 
 -- a path leads to the object itself, or to one of the class of its declared type
-reach-of-steps : {p : Loaded} (me : ℕ) (kinds : List ValueType) (root : MetaRoot) (steps : List PathStep) (T U : ValueType) (c : ℕ) (constant : Bool) → HasRoot me kinds root T → Leads p T steps U → U ≡ type.Reference c constant
-    → ((root ≡ This) × (steps ≡ [])) ⊎ (reach_after kinds root (slice_get steps (length steps - 1)) ≡ Some (reach.Below c))
-reach-of-steps me kinds root (s ∷ steps) T U c constant has leads e =
+reach-of-steps : {p : Loaded} (me : ℕ) (types : List ValueType) (root : MetaRoot) (steps : List PathStep) (T U : ValueType) (c : ℕ) (constant : Bool) → HasRoot me types root T → Leads p T steps U → U ≡ type.Reference c constant
+    → ((root ≡ This) × (steps ≡ [])) ⊎ (reach_after types root (slice_get steps (length steps - 1)) ≡ Some (reach.Below c))
+reach-of-steps me types root (s ∷ steps) T U c constant has leads e =
     let last = last-kind s steps leads in
     let at : slice_get (s ∷ steps) (suc (length steps) - 1) ≡ Some last.0 = ap (slice_get (s ∷ steps)) (omega arith) ∙ last.1 in
-    inr (ap (reach_after kinds root) at ∙ ap reach_of_type (last.2 ∙ e))
-reach-of-steps me kinds This [] T U c constant this_has here e = inl (refl, refl)
-reach-of-steps me kinds (Parameter k) [] T U c constant (parameter_has at) here e = inr (ap (option_and_then reach_of_type) at ∙ ap reach_of_type e)
+    inr (ap (reach_after types root) at ∙ ap reach_of_type (last.2 ∙ e))
+reach-of-steps me types This [] T U c constant this_has here e = inl (refl, refl)
+reach-of-steps me types (Parameter k) [] T U c constant (parameter_has at) here e = inr (ap (option_and_then reach_of_type) at ∙ ap reach_of_type e)
 
 module _ {p : Loaded} (sound : IsSound p) where
   -- ---- the parts of a sound body
 
-  tail-of : {me : ℕ} {kinds : List ValueType} {t : Statement} {rest : List Statement} → AreSound p me kinds (t ∷ rest) → AreSound p me kinds rest
+  tail-of : {me : ℕ} {types : List ValueType} {t : Statement} {rest : List Statement} → AreSound p me types (t ∷ rest) → AreSound p me types rest
   tail-of (next_sound one rest) = rest
 
-  one-of : {me : ℕ} {kinds : List ValueType} {t : Statement} {rest : List Statement} → AreSound p me kinds (t ∷ rest) → IsSoundStatement p me kinds (out-Statement t)
+  one-of : {me : ℕ} {types : List ValueType} {t : Statement} {rest : List Statement} → AreSound p me types (t ∷ rest) → IsSoundStatement p me types (out-Statement t)
   one-of (next_sound one rest) = one
 
-  blocks-of : (me : ℕ) (kinds : List ValueType) (z : layer.Statement-F Statement) (e : Expr MetaPath) (block other : List Statement) → IsSoundStatement p me kinds z → z ≡ layer.If e block other → AreSound p me kinds block × AreSound p me kinds other
-  blocks-of me kinds z e block other s at = given (subst (IsSoundStatement p me kinds) at s)
+  blocks-of : (me : ℕ) (types : List ValueType) (z : layer.Statement-F Statement) (e : Expr MetaPath) (block other : List Statement) → IsSoundStatement p me types z → z ≡ layer.If e block other → AreSound p me types block × AreSound p me types other
+  blocks-of me types z e block other s at = given (subst (IsSoundStatement p me types) at s)
     where
-      given : IsSoundStatement p me kinds (layer.If e block other) → AreSound p me kinds block × AreSound p me kinds other
+      given : IsSoundStatement p me types (layer.If e block other) → AreSound p me types block × AreSound p me types other
       given (if_sound test one two) = (one, two)
 
-  sets-of : (me : ℕ) (kinds : List ValueType) (f : layer.Statement-F Statement) (sets : List Statement) → IsSoundStatement p me kinds f → f ≡ layer.Group sets → AreSound p me kinds sets
-  sets-of me kinds f sets all at = of_group (subst (IsSoundStatement p me kinds) at all)
+  sets-of : (me : ℕ) (types : List ValueType) (f : layer.Statement-F Statement) (sets : List Statement) → IsSoundStatement p me types f → f ≡ layer.Group sets → AreSound p me types sets
+  sets-of me types f sets all at = of_group (subst (IsSoundStatement p me types) at all)
     where
-      of_group : IsSoundStatement p me kinds (layer.Group sets) → AreSound p me kinds sets
+      of_group : IsSoundStatement p me types (layer.Group sets) → AreSound p me types sets
       of_group (group_sound is only) = is
 
-  pub occurs-sound : (me : ℕ) (kinds : List ValueType) (s : Statement) (body : List Statement) → AreSound p me kinds body → Occurs s body → IsSoundStatement p me kinds (out-Statement s)
-  occurs-sound me kinds s body all first = one-of all
-  occurs-sound me kinds s body all (after {rest = rest} o) = occurs-sound me kinds s rest (tail-of all) o
-  occurs-sound me kinds s body all (chosen {t = t} {e = e} {block = block} {other = other} at o) = occurs-sound me kinds s block (blocks-of me kinds (out-Statement t) e block other (one-of all) at).0 o
-  occurs-sound me kinds s body all (otherwise {t = t} {e = e} {block = block} {other = other} at o) = occurs-sound me kinds s other (blocks-of me kinds (out-Statement t) e block other (one-of all) at).1 o
-  occurs-sound me kinds s body all (grouped {t = t} {sets = sets} at o) = occurs-sound me kinds s sets (sets-of me kinds (out-Statement t) sets (one-of all) at) o
+  pub occurs-sound : (me : ℕ) (types : List ValueType) (s : Statement) (body : List Statement) → AreSound p me types body → Occurs s body → IsSoundStatement p me types (out-Statement s)
+  occurs-sound me types s body all first = one-of all
+  occurs-sound me types s body all (after {rest = rest} o) = occurs-sound me types s rest (tail-of all) o
+  occurs-sound me types s body all (chosen {t = t} {e = e} {block = block} {other = other} at o) = occurs-sound me types s block (blocks-of me types (out-Statement t) e block other (one-of all) at).0 o
+  occurs-sound me types s body all (otherwise {t = t} {e = e} {block = block} {other = other} at o) = occurs-sound me types s other (blocks-of me types (out-Statement t) e block other (one-of all) at).1 o
+  occurs-sound me types s body all (grouped {t = t} {sets = sets} at o) = occurs-sound me types s sets (sets-of me types (out-Statement t) sets (one-of all) at) o
 
 -- the parts of a sound set, and of a sound group
-sound-parts-of : {p : Loaded} {me : ℕ} {kinds : List ValueType} (f : layer.Statement-F Statement) (path : MetaPath) (q : ℕ) (e : Expr MetaPath) → IsSoundStatement p me kinds f → f ≡ layer.Set path q e → IsSoundSet p me kinds path q e
-sound-parts-of {p} {me} {kinds} f path q e all at = of_set (subst (IsSoundStatement p me kinds) at all)
+sound-parts-of : {p : Loaded} {me : ℕ} {types : List ValueType} (f : layer.Statement-F Statement) (path : MetaPath) (q : ℕ) (e : Expr MetaPath) → IsSoundStatement p me types f → f ≡ layer.Set path q e → IsSoundSet p me types path q e
+sound-parts-of {p} {me} {types} f path q e all at = of_set (subst (IsSoundStatement p me types) at all)
   where
-    of_set : IsSoundStatement p me kinds (layer.Set path q e) → IsSoundSet p me kinds path q e
+    of_set : IsSoundStatement p me types (layer.Set path q e) → IsSoundSet p me types path q e
     of_set (set_sound is) = is
 
-group-parts : {p : Loaded} {me : ℕ} {kinds : List ValueType} (f : layer.Statement-F Statement) (sets : List Statement) → IsSoundStatement p me kinds f → f ≡ layer.Group sets → AreSound p me kinds sets × AreSets sets
-group-parts {p} {me} {kinds} f sets all at = of_group (subst (IsSoundStatement p me kinds) at all)
+group-parts : {p : Loaded} {me : ℕ} {types : List ValueType} (f : layer.Statement-F Statement) (sets : List Statement) → IsSoundStatement p me types f → f ≡ layer.Group sets → AreSound p me types sets × AreSets sets
+group-parts {p} {me} {types} f sets all at = of_group (subst (IsSoundStatement p me types) at all)
   where
-    of_group : IsSoundStatement p me kinds (layer.Group sets) → AreSound p me kinds sets × AreSets sets
+    of_group : IsSoundStatement p me types (layer.Group sets) → AreSound p me types sets × AreSets sets
     of_group (group_sound is only) = (is, only)
 
 -- what is in a group is in the body
@@ -118,7 +118,7 @@ module _ {p : Loaded} (sound : IsSound p) {objects : List Object} (typed : AreTy
   IsLed (TakeAnswer effects) = (b.method).work ≡ Native effects
   IsLed Nothing = Unit {0}
 
-  by-effect : (effect : Effect) (y : Node) → WorkHas (b.method).kinds (b.method).work effect → ReachedAs p b.class effect.member effect.reach y → MayLead p x y
+  by-effect : (effect : Effect) (y : Node) → WorkHas (b.method).types (b.method).work effect → ReachedAs p b.class effect.member effect.reach y → MayLead p x y
   by-effect effect y has to =
       subst (λ (z : Node). MayLead p z y) (sym b.at) (by_work (record { number = m; method = b.method; is = b.is; from = refl; effect = effect; has = has; to = to }))
 
@@ -130,14 +130,14 @@ module _ {p : Loaded} (sound : IsSound p) {objects : List Object} (typed : AreTy
   own-reached member z k lives = ap (λ (c : ℕ). node c member) (ap (λ (l : Life). l.class) (life-unique lives own.2) ∙ own.3)
 
   module _ (me : ℕ) (under : Below p b.class me) where
-    reaches : (path : MetaPath) {c : ℕ} → LeadsToClass p me (b.method).kinds path c → Reaches p objects c (path_value objects o arguments path)
-    reaches path leads = path-reaches objects o me own.0 own.1 arguments (b.method).kinds path sound typed own.2 (subst (λ (k : ℕ). Below p k me) (sym own.3) under) b.typed leads
+    reaches : (path : MetaPath) {c : ℕ} → LeadsToClass p me (b.method).types path c → Reaches p objects c (path_value objects o arguments path)
+    reaches path leads = path-reaches objects o me own.0 own.1 arguments (b.method).types path sound typed own.2 (subst (λ (k : ℕ). Below p k me) (sym own.3) under) b.typed leads
 
     -- a path that leads to an object reaches its members
-    path-led : (path : MetaPath) {c : ℕ} → LeadsToClass p me (b.method).kinds path c → (y : ℕ) (z : Object) (k : Life) → path_value objects o arguments path ≡ Some (value.Ref (Some y)) → Lives objects y z k → Below p k.class c
-        → (r : Reach) × (reach_of (b.method).kinds path ≡ Some r) × ((member : Member) → ReachedAs p b.class member r (node k.class member))
+    path-led : (path : MetaPath) {c : ℕ} → LeadsToClass p me (b.method).types path c → (y : ℕ) (z : Object) (k : Life) → path_value objects o arguments path ≡ Some (value.Ref (Some y)) → Lives objects y z k → Below p k.class c
+        → (r : Reach) × (reach_of (b.method).types path ≡ Some r) × ((member : Member) → ReachedAs p b.class member r (node k.class member))
     path-led path {c} leads y z k is lives beneath =
-        elim (reach-of-steps me (b.method).kinds path.root path.steps leads.leads.root_type (type.Reference c leads.constant) c leads.constant leads.leads.root leads.leads.steps refl) [
+        elim (reach-of-steps me (b.method).types path.root path.steps leads.leads.root_type (type.Reference c leads.constant) c leads.constant leads.leads.root leads.leads.steps refl) [
           | inl itself ↦
               let reads : steps_value objects [] (option_map (seen objects) (root_value o arguments This)) ≡ Some (value.Ref (Some y)) =
               ap (λ (steps : List PathStep). steps_value objects steps (option_map (seen objects) (root_value o arguments This))) (sym itself.1)
@@ -145,14 +145,14 @@ module _ {p : Loaded} (sound : IsSound p) {objects : List Object} (typed : AreTy
               let reference : value.Ref (seen_reference objects (Some o)) ≡ value.Ref (Some y) = same_Some _ _ reads in
               let number : seen_reference objects (Some o) ≡ Some y = cc reference in
               let same : o ≡ y = seen-number objects o y number in
-              let reached : reach_of (b.method).kinds path ≡ Some reach.Own =
-              ap (λ (steps : List PathStep). reach_after (b.method).kinds path.root (slice_get steps (length steps - 1))) itself.1 ∙ ap (reach_of_root (b.method).kinds) itself.0 in
+              let reached : reach_of (b.method).types path ≡ Some reach.Own =
+              ap (λ (steps : List PathStep). reach_after (b.method).types path.root (slice_get steps (length steps - 1))) itself.1 ∙ ap (reach_of_root (b.method).types) itself.0 in
               (reach.Own, reached, λ member. own-reached member z k (subst (λ (n : ℕ). Lives objects n z k) (sym same) lives))
           | inr at ↦ (reach.Below c, at, λ member. record { below = beneath; is = refl })
         ]
 
     -- what is done on the object that a path leads to
-    on-path : (path : MetaPath) {c : ℕ} → LeadsToClass p me (b.method).kinds path c → (act : ℕ → Option Operation) → ((y : ℕ) (z : Object) (k : Life) → path_value objects o arguments path ≡ Some (value.Ref (Some y)) → Lives objects y z k → Below p k.class c → IfSome (act y) IsLed)
+    on-path : (path : MetaPath) {c : ℕ} → LeadsToClass p me (b.method).types path c → (act : ℕ → Option Operation) → ((y : ℕ) (z : Object) (k : Life) → path_value objects o arguments path ≡ Some (value.Ref (Some y)) → Lives objects y z k → Below p k.class c → IfSome (act y) IsLed)
         → IfSome (on_object act (path_value objects o arguments path)) IsLed
     on-path path {c} leads act all = given (path_value objects o arguments path) refl (reaches path leads)
       where
@@ -161,7 +161,7 @@ module _ {p : Loaded} (sound : IsSound p) {objects : List Object} (typed : AreTy
         given found is (to_object {o = y} {x = z} {l = k} lives beneath) = all y z k is lives beneath
 
     -- anything done there that is not looked at
-    idle-path : (path : MetaPath) {c : ℕ} → LeadsToClass p me (b.method).kinds path c → (act : ℕ → Option Operation) → ((y : ℕ) → IfSome (act y) IsLed) → IfSome (on_object act (path_value objects o arguments path)) IsLed
+    idle-path : (path : MetaPath) {c : ℕ} → LeadsToClass p me (b.method).types path c → (act : ℕ → Option Operation) → ((y : ℕ) → IfSome (act y) IsLed) → IfSome (on_object act (path_value objects o arguments path)) IsLed
     idle-path path leads act all = on-path path leads act (λ y z k is lives beneath. all y)
 
   map-led : {X : Type 0} (act : X → Operation) (found : Option X) → ((v : X) → IsLed (act v)) → IfSome (option_map act found) IsLed
@@ -183,11 +183,11 @@ module _ {p : Loaded} (sound : IsSound p) {objects : List Object} (typed : AreTy
 
   module _ (body : List Statement) (slot : (b.method).work ≡ Slot body) (s : Statement) (occurs : Occurs s body) (me : ℕ) (under : Below p b.class me) where
     -- what a statement does
-    statement-effect : (effect : Effect) (y : Node) → effect_of (b.method).kinds (out-Statement s) ≡ Some effect → ReachedAs p b.class effect.member effect.reach y → MayLead p x y
+    statement-effect : (effect : Effect) (y : Node) → effect_of (b.method).types (out-Statement s) ≡ Some effect → ReachedAs p b.class effect.member effect.reach y → MayLead p x y
     statement-effect effect y is to =
-        by-effect effect y (subst (λ (w : Work). WorkHas (b.method).kinds w effect) (sym slot) (record { statement = s; occurs = occurs; is = is })) to
+        by-effect effect y (subst (λ (w : Work). WorkHas (b.method).types w effect) (sym slot) (record { statement = s; occurs = occurs; is = is })) to
 
-    path-member : (path : MetaPath) (member : Member) {c : ℕ} → LeadsToClass p me (b.method).kinds path c → ((r : Reach) → reach_of (b.method).kinds path ≡ Some r → effect_of (b.method).kinds (out-Statement s) ≡ Some (record { reach = r; member = member }))
+    path-member : (path : MetaPath) (member : Member) {c : ℕ} → LeadsToClass p me (b.method).types path c → ((r : Reach) → reach_of (b.method).types path ≡ Some r → effect_of (b.method).types (out-Statement s) ≡ Some (record { reach = r; member = member }))
         → (y : ℕ) (z : Object) (k : Life) → path_value objects o arguments path ≡ Some (value.Ref (Some y)) → Lives objects y z k → Below p k.class c → LeadsToMember y member
     path-member path member leads effect y z k is lives beneath = λ z' k' lives'.
         let led = path-led me under path leads y z k is lives beneath in
@@ -201,39 +201,39 @@ module _ {p : Loaded} (sound : IsSound p) {objects : List Object} (typed : AreTy
     within t e block other whole (grouped is i) at = let r = within t e block other _ i at in (λ u j. grouped is (r.0 u j), λ u j. grouped is (r.1 u j))
 
     -- a set draws an edge to a property, whatever its path leads to
-    set-node : (path : MetaPath) (q : ℕ) (e : Expr MetaPath) → out-Statement s ≡ layer.Set path q e → IsSoundSet p me (b.method).kinds path q e → (y : Node) × MayLead p x y
+    set-node : (path : MetaPath) (q : ℕ) (e : Expr MetaPath) → out-Statement s ≡ layer.Set path q e → IsSoundSet p me (b.method).types path q e → (y : Node) × MayLead p x y
     set-node path q e at is =
-        let of : (r : Reach) → reach_of (b.method).kinds path ≡ Some r → effect_of (b.method).kinds (out-Statement s) ≡ Some (record { reach = r; member = Property q }) =
-        λ r e'. ap (effect_of (b.method).kinds) at ∙ ap (option_map (λ (r' : Reach). record { reach = r'; member = Property q })) e' in
+        let of : (r : Reach) → reach_of (b.method).types path ≡ Some r → effect_of (b.method).types (out-Statement s) ≡ Some (record { reach = r; member = Property q }) =
+        λ r e'. ap (effect_of (b.method).types) at ∙ ap (option_map (λ (r' : Reach). record { reach = r'; member = Property q })) e' in
         let leads = is.leads in
-        elim (reach-of-steps me (b.method).kinds path.root path.steps leads.leads.root_type (type.Reference is.class leads.constant) is.class leads.constant leads.leads.root leads.leads.steps refl) [
+        elim (reach-of-steps me (b.method).types path.root path.steps leads.leads.root_type (type.Reference is.class leads.constant) is.class leads.constant leads.leads.root leads.leads.steps refl) [
           | inl itself ↦
-              let reached : reach_of (b.method).kinds path ≡ Some reach.Own =
-              ap (λ (steps : List PathStep). reach_after (b.method).kinds path.root (slice_get steps (length steps - 1))) itself.1 ∙ ap (reach_of_root (b.method).kinds) itself.0 in
+              let reached : reach_of (b.method).types path ≡ Some reach.Own =
+              ap (λ (steps : List PathStep). reach_after (b.method).types path.root (slice_get steps (length steps - 1))) itself.1 ∙ ap (reach_of_root (b.method).types) itself.0 in
               (node b.class (Property q), statement-effect (record { reach = reach.Own; member = Property q }) (node b.class (Property q)) (of reach.Own reached) refl)
           | inr below ↦
               (node is.class (Property q), statement-effect (record { reach = reach.Below is.class; member = Property q }) (node is.class (Property q)) (of (reach.Below is.class) below) (record { below = below-itself (is.is).is_class; is = refl }))
         ]
 
     -- what it writes, the method may lead to
-    set-led : (path : MetaPath) (q : ℕ) (e : Expr MetaPath) → out-Statement s ≡ layer.Set path q e → IsSoundSet p me (b.method).kinds path q e → IfSome (set_at objects o arguments path q e) (IfWrites Writable)
+    set-led : (path : MetaPath) (q : ℕ) (e : Expr MetaPath) → out-Statement s ≡ layer.Set path q e → IsSoundSet p me (b.method).types path q e → IfSome (set_at objects o arguments path q e) (IfWrites Writable)
     set-led path q e at is = by_target (path_value objects o arguments path) refl (reaches me under path is.leads)
       where
         by_target : (found : Option Value) → path_value objects o arguments path ≡ found → Reaches p objects is.class found → IfSome (led_to None (λ y. option_map (λ (new : Value). Some (record { place = property_of y q; value = new })) (value_of objects o arguments e)) found) (IfWrites Writable)
         by_target found there to_null = tt
         by_target found there (to_object {o = y} {x = z} {l = k} lives beneath) =
             mapped-so (IfWrites Writable) (λ (new : Value). Some (record { place = property_of y q; value = new })) (value_of objects o arguments e)
-            (λ new. path-member path (Property q) is.leads (λ r e'. ap (effect_of (b.method).kinds) at ∙ ap (option_map (λ (r' : Reach). record { reach = r'; member = Property q })) e') y z k there lives beneath)
+            (λ new. path-member path (Property q) is.leads (λ r e'. ap (effect_of (b.method).types) at ∙ ap (option_map (λ (r' : Reach). record { reach = r'; member = Property q })) e') y z k there lives beneath)
 
-    statement-led : (f : layer.Statement-F Statement) → out-Statement s ≡ f → IsSoundStatement p me (b.method).kinds f → ((sets : List Statement) → f ≡ layer.Group sets → IfSome (option_map (λ (found : List (Option Assignment)). Write (Grouped found)) (sets_in objects o arguments sets)) IsLed) → IfSome (operation objects o arguments f) IsLed
+    statement-led : (f : layer.Statement-F Statement) → out-Statement s ≡ f → IsSoundStatement p me (b.method).types f → ((sets : List Statement) → f ≡ layer.Group sets → IfSome (option_map (λ (found : List (Option Assignment)). Write (Grouped found)) (sets_in objects o arguments sets)) IsLed) → IfSome (operation objects o arguments f) IsLed
     statement-led f at (set_sound {path = path} {q = q} {e = e} is) in_group = alone-led (set-node path q e at is) (set_at objects o arguments path q e) (set-led path q e at is)
     statement-led f at (emit_sound {m = g} {es = es} is) in_group =
         map-led (λ (given : List Value). Begin o g given) (values_of objects o arguments es) (λ given.
-        (λ z k lives. statement-effect (record { reach = reach.Own; member = Method g }) (node k.class (Method g)) (ap (effect_of (b.method).kinds) at) (own-reached (Method g) z k lives), late-named g is.emitted))
+        (λ z k lives. statement-effect (record { reach = reach.Own; member = Method g }) (node k.class (Method g)) (ap (effect_of (b.method).types) at) (own-reached (Method g) z k lives), late-named g is.emitted))
     statement-led f at (call_sound {path = path} {m = n} {es = es} is) in_group =
         on-path me under path is.leads (λ y. option_map (λ (given : List Value). Begin y n given) (values_of objects o arguments es)) (λ y z k there lives beneath.
         map-led (λ (given : List Value). Begin y n given) (values_of objects o arguments es) (λ given.
-        (path-member path (Method n) is.leads (λ r e'. ap (effect_of (b.method).kinds) at ∙ ap (option_map (λ (r' : Reach). record { reach = r'; member = Method n })) e') y z k there lives beneath, body-named sound is.class n is.slot is.is is.callable)))
+        (path-member path (Method n) is.leads (λ r e'. ap (effect_of (b.method).types) at ∙ ap (option_map (λ (r' : Reach). record { reach = r'; member = Method n })) e') y z k there lives beneath, body-named sound is.class n is.slot is.is is.callable)))
     statement-led f at (if_sound {e = e} {chosen = block} {other = other} is one two) in_group =
         let parts = within s e block other body occurs at in
         chosen-led block other (value_of objects o arguments e) (body, slot, parts.0) (body, slot, parts.1)
@@ -243,7 +243,7 @@ module _ {p : Loaded} (sound : IsSound p) {objects : List Object} (typed : AreTy
         idle-path me under ends.sender is.sender _ (λ y. idle-path me under ends.receiver is.receiver _ (λ z. tt))
     statement-led f at (delete_sound {path = path} leads) in_group =
         on-path me under path leads (λ y. Some (Delete y)) (λ y z k there lives beneath.
-        ((z, k, lives), path-member path Destruction leads (λ r e'. ap (effect_of (b.method).kinds) at ∙ ap (option_map (λ (r' : Reach). record { reach = r'; member = Destruction })) e') y z k there lives beneath))
+        ((z, k, lives), path-member path Destruction leads (λ r e'. ap (effect_of (b.method).types) at ∙ ap (option_map (λ (r' : Reach). record { reach = r'; member = Destruction })) e') y z k there lives beneath))
     statement-led f at (later_sound {path = path} leads) in_group = idle-path me under path leads (λ y. Some (Schedule y)) (λ y. tt)
     statement-led f at (group_sound {sets = sets} all only) in_group = in_group sets refl
 
@@ -254,8 +254,8 @@ module _ {p : Loaded} (sound : IsSound p) {objects : List Object} (typed : AreTy
       given : (found : Option ℕ) → slice_get effects.sets k ≡ found → IfSome (option_map (λ (q : ℕ). Write (Alone (property_of o q) v)) found) IsLed
       given None is = tt
       given (Some q) is =
-          let has : WorkHas (b.method).kinds (b.method).work (record { reach = reach.Own; member = Property q }) =
-          subst (λ (w : Work). WorkHas (b.method).kinds w (record { reach = reach.Own; member = Property q })) (sym native) (inr (record { number = q; among = element_at effects.sets k q is; is = refl })) in (
+          let has : WorkHas (b.method).types (b.method).work (record { reach = reach.Own; member = Property q }) =
+          subst (λ (w : Work). WorkHas (b.method).types w (record { reach = reach.Own; member = Property q })) (sym native) (inr (record { number = q; among = element_at effects.sets k q is; is = refl })) in (
             (node b.class (Property q), by-effect (record { reach = reach.Own; member = Property q }) (node b.class (Property q)) has refl),
             (λ z l lives. by-effect (record { reach = reach.Own; member = Property q }) (node l.class (Property q)) has (own-reached (Property q) z l lives), tt),
           )
@@ -263,7 +263,7 @@ module _ {p : Loaded} (sound : IsSound p) {objects : List Object} (typed : AreTy
     where
       late : (g : ℕ) → slice_get effects.emits k ≡ Some g → named g ≡ g
       late g is =
-          let work = subst (λ (w : Work). IsSoundWork p b.class m (b.method).kinds w) native ((sound.classes b.class (b.is).class (b.is).is_class).methods m b.method (b.is).is).work in
+          let work = subst (λ (w : Work). IsSoundWork p b.class m (b.method).types w) native ((sound.classes b.class (b.is).class (b.is).is_class).methods m b.method (b.is).is).work in
           let signal = All-contains (IsPlainSignal p work.declaring) effects.emits g (work.sound).emits (element_at effects.emits k g is) in
           late-named g signal.emitted
 
@@ -271,7 +271,7 @@ module _ {p : Loaded} (sound : IsSound p) {objects : List Object} (typed : AreTy
       by_signal None is = tt
       by_signal (Some g) is = (
         λ z l lives. by-effect (record { reach = reach.Own; member = Method g }) (node l.class (Method g))
-            (subst (λ (w : Work). WorkHas (b.method).kinds w (record { reach = reach.Own; member = Method g })) (sym native) (inl (record { number = g; among = element_at effects.emits k g is; is = refl })))
+            (subst (λ (w : Work). WorkHas (b.method).types w (record { reach = reach.Own; member = Method g })) (sym native) (inl (record { number = g; among = element_at effects.emits k g is; is = refl })))
             (own-reached (Method g) z l lives),
         late g is,
       )
@@ -288,7 +288,7 @@ module _ {p : Loaded} (sound : IsSound p) {objects : List Object} {o m : ℕ} {a
     method = b.method;
     is = b.is;
     bodied = b.bodied;
-    typed = values-still p objects now differ arguments (b.method).kinds b.typed;
+    typed = values-still p objects now differ arguments (b.method).types b.typed;
     steps = b.steps;
   }
 
@@ -298,7 +298,7 @@ module _ {p : Loaded} (sound : IsSound p) {objects : List Object} {o m : ℕ} {a
 
     -- objects as a set of the group reads them
     abbrev Read : List Object → Type 0
-    Read now = Within sound objects o me itself-lives.0 itself-lives.1 arguments (b.method).kinds itself-lives.2 (subst (λ (k : ℕ). Below p k me) (sym itself-lives.3) under) b.typed now
+    Read now = Within sound objects o me itself-lives.0 itself-lives.1 arguments (b.method).types itself-lives.2 (subst (λ (k : ℕ). Below p k me) (sym itself-lives.3) under) b.typed now
 
     -- what leads to a property there leads to it here
     led-back : {now : List Object} (w : Read now) (a : Assignment) → Writable sound w.typed (body-now w.differ) a → Writable sound typed b a
@@ -306,7 +306,7 @@ module _ {p : Loaded} (sound : IsSound p) {objects : List Object} {o m : ℕ} {a
         let on = lives-on objects now w.differ a.place.object k (life-of-lives lives) in
         subst (λ (c : ℕ). MayLead p x (node c (Property a.place.property))) on.same (led on.object on.life on.lives)
 
-    set-led-now : {now : List Object} (w : Read now) (s : Statement) → Occurs s body → IsSet s → IsSoundStatement p me (b.method).kinds (out-Statement s) → (done : Option Assignment) → set_in now o arguments (out-Statement s) ≡ Some done → IfWrites (Writable sound typed b) done
+    set-led-now : {now : List Object} (w : Read now) (s : Statement) → Occurs s body → IsSet s → IsSoundStatement p me (b.method).types (out-Statement s) → (done : Option Assignment) → set_in now o arguments (out-Statement s) ≡ Some done → IfWrites (Writable sound typed b) done
     set-led-now w s occurs set is None at = tt
     set-led-now {now} w s occurs set is (Some a) at =
         let set_is = sound-parts-of (out-Statement s) set.path set.property set.value is set.is in
@@ -318,7 +318,7 @@ module _ {p : Loaded} (sound : IsSound p) {objects : List Object} {o m : ℕ} {a
     abbrev ArePlacesLed : List Statement → List Object → Type 0
     ArePlacesLed sets now = (found : List (Option Assignment)) → sets_in now o arguments sets ≡ Some found → AllFit p objects (writes_of (Grouped found)) → AllByRecursion (Writable sound typed b) (writes_of (Grouped found))
 
-    sets-led : (sets : List Statement) → ((u : Statement) → Occurs u sets → Occurs u body) → AreSound p me (b.method).kinds sets → AllByRecursion IsSet sets → {now : List Object} → Read now → ArePlacesLed sets now
+    sets-led : (sets : List Statement) → ((u : Statement) → Occurs u sets → Occurs u body) → AreSound p me (b.method).types sets → AllByRecursion IsSet sets → {now : List Object} → Read now → ArePlacesLed sets now
     sets-led [] inside all only w [] is fit = tt
     sets-led [] inside all only w (d ∷ found) is fit = absurd (cc is)
     sets-led (s ∷ sets) inside (next_sound one rest) only {now} w found is fit =
@@ -333,7 +333,7 @@ module _ {p : Loaded} (sound : IsSound p) {objects : List Object} {o m : ℕ} {a
         by_more again (Some a) at (Some more) others e =
             let found_is : Some a ∷ more ≡ found = cc e in
             let fits : AllFit p objects (writes_of (Grouped (Some a ∷ more))) = subst (λ (l : List (Option Assignment)). AllFit p objects (writes_of (Grouped l))) (sym found_is) fit in
-            let next = within-next sound objects o me itself-lives.0 itself-lives.1 arguments (b.method).kinds itself-lives.2 (subst (λ (k : ℕ). Below p k me) (sym itself-lives.3) under) b.typed w a fits.0 in
+            let next = within-next sound objects o me itself-lives.0 itself-lives.1 arguments (b.method).types itself-lives.2 (subst (λ (k : ℕ). Below p k me) (sym itself-lives.3) under) b.typed w a fits.0 in
             subst (λ (l : List (Option Assignment)). AllByRecursion (Writable sound typed b) (writes_of (Grouped l))) found_is
             (set-led-now w s (inside s first) only.0 one (Some a) at, again (after_set (Some a) now) next more others fits.1)
 
@@ -342,16 +342,16 @@ module _ {p : Loaded} (sound : IsSound p) {objects : List Object} {o m : ℕ} {a
         by_first again (Some d) at e = by_more again d at (sets_in (after_set d now) o arguments sets) refl e
 
     -- a group is led by its first set
-    group-led : (sets : List Statement) → ((u : Statement) → Occurs u sets → Occurs u body) → AreSound p me (b.method).kinds sets → AreSets sets → ((u : Statement) → Occurs u sets → IsTypedStatement p me (b.method).kinds (out-Statement u)) → IfSome (option_map (λ (found : List (Option Assignment)). Write (Grouped found)) (sets_in objects o arguments sets)) (IsLed sound typed b)
+    group-led : (sets : List Statement) → ((u : Statement) → Occurs u sets → Occurs u body) → AreSound p me (b.method).types sets → AreSets sets → ((u : Statement) → Occurs u sets → IsTypedStatement p me (b.method).types (out-Statement u)) → IfSome (option_map (λ (found : List (Option Assignment)). Write (Grouped found)) (sets_in objects o arguments sets)) (IsLed sound typed b)
     group-led sets within all only t =
         let below = subst (λ (k : ℕ). Below p k me) (sym itself-lives.3) under in
-        let first_read : Read objects = within-first sound objects o me itself-lives.0 itself-lives.1 arguments (b.method).kinds itself-lives.2 below b.typed typed in
+        let first_read : Read objects = within-first sound objects o me itself-lives.0 itself-lives.1 arguments (b.method).types itself-lives.2 below b.typed typed in
         let each = recursion_from_All IsSet sets only.1 in
-        let done = sets-done sound typed o me itself-lives.0 itself-lives.1 arguments (b.method).kinds itself-lives.2 below b.typed sets all each t first_read in
+        let done = sets-done sound typed o me itself-lives.0 itself-lives.1 arguments (b.method).types itself-lives.2 below b.typed sets all each t first_read in
         let led : IsLed sound typed b (Write (Grouped done.0)) = (first-led sets only.0 within all each, sets-led sets within all each first_read done.0 done.1 done.2) in
         subst (λ (found : Option (List (Option Assignment))). IfSome (option_map (λ (l : List (Option Assignment)). Write (Grouped l)) found) (IsLed sound typed b)) (sym done.1) led
       where
-        first-led : (sets : List Statement) → sets ≢ [] → ((u : Statement) → Occurs u sets → Occurs u body) → AreSound p me (b.method).kinds sets → AllByRecursion IsSet sets → (y : Node) × MayLead p x y
+        first-led : (sets : List Statement) → sets ≢ [] → ((u : Statement) → Occurs u sets → Occurs u body) → AreSound p me (b.method).types sets → AllByRecursion IsSet sets → (y : Node) × MayLead p x y
         first-led [] some within all each = absurd (some refl)
         first-led (s ∷ rest) some within (next_sound one more) each =
             let set = each.0 in
@@ -362,11 +362,11 @@ module _ {p : Loaded} (sound : IsSound p) {objects : List Object} {o m : ℕ} {a
 module _ {p : Loaded} {certificate : Certificate} (valid : IsValid p certificate) (sound : IsSound p) {objects : List Object} (typed : AreTyped p objects) {o m : ℕ} {arguments : List Value} {left : List Step} {x : Node} (b : BodyStands p objects o m arguments left x) where
   step-led : (y : Step) → IsStepOf (b.method).work y → IfSome (operation_of_step objects o arguments y) (IsLed sound typed b)
   step-led (Run s) (runs {body = body} slot occurs) =
-      let kinds = (b.method).kinds in
-      let work = subst (λ (w : Work). IsSoundWork p b.class m kinds w) slot ((sound.classes b.class (b.is).class (b.is).is_class).methods m b.method (b.is).is).work in
+      let types = (b.method).types in
+      let work = subst (λ (w : Work). IsSoundWork p b.class m types w) slot ((sound.classes b.class (b.is).class (b.is).is_class).methods m b.method (b.is).is).work in
       let whole = body-typed b.class m work.declaring b.method valid sound b.is work.below work.declares (body-named sound b.class m b.method b.is b.bodied) in
-      let all = subst (λ (w : Work). IsTypedWork p work.declaring kinds w) slot whole in
-      let here_sound = occurs-sound sound work.declaring kinds s body work.sound occurs in
+      let all = subst (λ (w : Work). IsTypedWork p work.declaring types w) slot whole in
+      let here_sound = occurs-sound sound work.declaring types s body work.sound occurs in
       statement-led sound typed b body slot s occurs work.declaring work.below (out-Statement s) refl here_sound
       (λ sets at.
       let parts = group-parts (out-Statement s) sets here_sound at in

@@ -27,7 +27,7 @@ pub record EmitsWithin (p : Loaded) (class : ℕ) (effects : MetaEffects) (place
   pub at : slice_get effects.emits place ≡ Some number
   pub signal : MetaMethod
   pub is : IsMethod p class number signal
-  pub typed : IsTrue (are_of arguments signal.kinds)
+  pub typed : IsTrue (are_of arguments signal.types)
 
 abbrev pub IsWithin : Loaded → ℕ → MetaEffects → Action → Type 0
 IsWithin p class effects (action.Set place value) = SetsWithin p class effects place value

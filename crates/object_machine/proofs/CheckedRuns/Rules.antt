@@ -68,7 +68,7 @@ module _ {p : Loaded} {certificate : Certificate} (valid : IsValid p certificate
           method = method;
           is = is.is_method;
           bodied = bodied;
-          typed = subst (λ (k : MetaMethod). ReadAs p u.objects arguments k.kinds) same fit.typed;
+          typed = subst (λ (k : MetaMethod). ReadAs p u.objects arguments k.types) same fit.typed;
           steps = steps;
         }),
         falls,
@@ -273,7 +273,7 @@ module _ {p : Loaded} {certificate : Certificate} (valid : IsValid p certificate
       stands : Stacked p classes s.objects (Emit o g arguments c.number last ∷ below) (level-of valid r ∷ levels)
       stands = (at-node valid r emits, falls, st)
 
-      by_way : (b : Bool) → reaches_at_once c.kind u.home (running s.turn) ≡ b → Arrives after_it (Emit o g arguments c.number last ∷ below) u.home c.receiver u.receiver c.method u.method (take (length (u.method).kinds) arguments) t b → Held t
+      by_way : (b : Bool) → reaches_at_once c.kind u.home (running s.turn) ≡ b → Arrives after_it (Emit o g arguments c.number last ∷ below) u.home c.receiver u.receiver c.method u.method (take (length (u.method).types) arguments) t b → Held t
       by_way false late x =
           let Family : State → Type 0 = λ v. Held v in
           subst Family (sym x.gives) (record { covered = covered_used; levels = level-of valid r ∷ levels; stacked = stands })
@@ -292,7 +292,7 @@ module _ {p : Loaded} {certificate : Certificate} (valid : IsValid p certificate
             to = record { below = subst (λ (k : ℕ). Below p k (wired.wire).receiver) receiver wired.above_receiver; is = ap Method (late ∙ wired.method) };
           }) in
           let next = falls-to valid sound (node life.class (Method (named c.method))) line_is leads in
-          begun-held after_it t (length s.stack) (Emit o g arguments c.number last ∷ below) c.receiver u.receiver c.method u.method (take (length (u.method).kinds) arguments) (u.method).work (level-of valid r ∷ levels) next.0 covered_used u.is refl next.1 next.2 stands (omega (arith, high)) well.arguments x
+          begun-held after_it t (length s.stack) (Emit o g arguments c.number last ∷ below) c.receiver u.receiver c.method u.method (take (length (u.method).types) arguments) (u.method).work (level-of valid r ∷ levels) next.0 covered_used u.is refl next.1 next.2 stands (omega (arith, high)) well.arguments x
 
   -- ---- connections
 
@@ -533,8 +533,8 @@ module _ {p : Loaded} {certificate : Certificate} (valid : IsValid p certificate
   emission-objects s t o g arguments last below None e = ap (λ (v : State). v.objects) e
   emission-objects s t o g arguments last below (Some c) u = by_way (reaches_at_once c.kind u.home (running s.turn)) u.arrives
     where
-      by_way : (b : Bool) → Arrives (with_used s c) (Emit o g arguments c.number last ∷ below) u.home c.receiver u.receiver c.method u.method (take (length (u.method).kinds) arguments) t b → t.objects ≡ s.objects
-      by_way true e = begun-objects (with_used s c) t (Emit o g arguments c.number last ∷ below) c.receiver u.receiver c.method u.method (take (length (u.method).kinds) arguments) (u.method).work e
+      by_way : (b : Bool) → Arrives (with_used s c) (Emit o g arguments c.number last ∷ below) u.home c.receiver u.receiver c.method u.method (take (length (u.method).types) arguments) t b → t.objects ≡ s.objects
+      by_way true e = begun-objects (with_used s c) t (Emit o g arguments c.number last ∷ below) c.receiver u.receiver c.method u.method (take (length (u.method).types) arguments) (u.method).work e
       by_way false x = ap (λ (v : State). v.objects) x.gives
 
   rule-at : (natives : NativeAnswers) (s t : State) (stack : List Activation) (levels : List (Level certificate)) → s.stack ≡ stack → Covered s → Agree p s.objects s.bindings → AllWait p s.objects s.queues.loops → IsWell p s t → Stacked p classes s.objects stack levels → RuleAt p natives s t stack → Held t × SparedIn stack s.objects t.objects

@@ -121,7 +121,7 @@ body-still {p} {old} {new} {o} {m} {arguments} stay spared b = record {
   method = b.method;
   is = b.is;
   bodied = b.bodied;
-  typed = values-stay p stay arguments (b.method).kinds b.typed;
+  typed = values-stay p stay arguments (b.method).types b.typed;
   steps = b.steps;
 }
 

@@ -34,8 +34,8 @@ module _ (p : Loaded) (w : World) (a : Invocation) (name called : List ℕ) (inp
     no-values x = then-on o (living-ok o lives) (then-on m (found has) (then-ends x))
 
     module _ (vs : List Value) (are : values w.store.tree inputs (Ok vs)) where
-      pub bad-values : (¬ ReadAs p w.store.tree vs m.it.kinds) → invoke p (at w []) a name called inputs (Err BadArgs)
+      pub bad-values : (¬ ReadAs p w.store.tree vs m.it.types) → invoke p (at w []) a name called inputs (Err BadArgs)
       bad-values ill = goes_on o (living-ok o lives) (goes_on m (found has) (goes_on vs are (ends (fails ill))))
 
-      pub asks-for : ReadAs p w.store.tree vs m.it.kinds → AsksFor p w o.number m.number vs (invoking a name called inputs)
+      pub asks-for : ReadAs p w.store.tree vs m.it.types → AsksFor p w o.number m.number vs (invoking a name called inputs)
       asks-for fit = record { effect = λ t begins. judged-invoking p (at w []) a name called inputs (goes_on o (living-ok o lives) (goes_on m (found has) (goes_on vs are (goes_on tt (holds fit) (becomes begins))))) }

@@ -10,7 +10,7 @@ pub struct OwnSlot<'m> {
     /// The slot, by its number in the class.
     pub method: usize,
     /// The types of its parameters.
-    kinds: &'m [ValueType],
+    types: &'m [ValueType],
     /// Its statements.
     pub body: &'m [Statement],
 }
@@ -26,7 +26,7 @@ impl<'m> OwnSlot<'m> {
             Work::Slot(body) => Some(OwnSlot {
                 class,
                 method,
-                kinds: found.kinds.as_slice(),
+                types: found.types.as_slice(),
                 body: body.as_slice(),
             }),
             Work::Signal | Work::Native(_) => None,
@@ -39,7 +39,7 @@ impl<'m> OwnSlot<'m> {
             Some(step) => class_of(step.kind),
             None => match path.root {
                 MetaRoot::This => Some(self.class),
-                MetaRoot::Parameter(parameter) => class_of(*self.kinds.get(parameter)?),
+                MetaRoot::Parameter(parameter) => class_of(*self.types.get(parameter)?),
             },
         }
     }

@@ -138,7 +138,7 @@ fn push_warnings(
     }
 }
 
-/// What in a program that has a certificate is worth a warning, in the order of the kinds and of the text: with what is known
+/// What in a program that has a certificate is worth a warning, in the order of the types and of the text: with what is known
 /// of its ranks also which signals may lose their sender. Takes time linear in the declarations and bodies, and for each wire
 /// and each `connect` in the wires.
 pub fn warnings(

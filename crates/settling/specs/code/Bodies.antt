@@ -11,9 +11,9 @@ use Rattle.effect_scan.specs.Edges.{Reaches, ByWork}
 use Rattle.settling.specs.Hands.{HandsValue, StandsAlone, WorkHands}
 
 -- the statement of a body of class c does something to the node by itself
-pub record DoesTo (p : Loaded) (c : ℕ) (kinds : List ValueType) (t : Statement) (y : Node) : Type 0 where
+pub record DoesTo (p : Loaded) (c : ℕ) (types : List ValueType) (t : Statement) (y : Node) : Type 0 where
   pub effect : Effect
-  pub is : effect_of kinds (out-Statement t) ≡ Some effect
+  pub is : effect_of types (out-Statement t) ≡ Some effect
   pub to : Reaches p c effect y
 
 -- a statement of the part may do something to the node: in a group none may
@@ -23,8 +23,8 @@ MayDo false {t} occurs = HandsValue (out-Statement t) × StandsAlone occurs
 
 -- each statement of the part, or in one of it, that does something to the node hands its value on
 abbrev pub BodyHands : Loaded → ℕ → List ValueType → Bool → List Statement → Node → Type 0
-BodyHands p c kinds grouped body y = (t : Statement) (occurs : Occurs t body) → DoesTo p c kinds t y → MayDo grouped occurs
+BodyHands p c types grouped body y = (t : Statement) (occurs : Occurs t body) → DoesTo p c types t y → MayDo grouped occurs
 
 -- each way from the one node to the other by what its method does hands its value on
 abbrev pub WorksHand : Loaded → Node → Node → Type 0
-WorksHand p x y = (w : ByWork p x y) → WorkHands w.method.kinds w.method.work w.effect w.has
+WorksHand p x y = (w : ByWork p x y) → WorkHands w.method.types w.method.work w.effect w.has

@@ -11,12 +11,12 @@ use Rattle.type_check.specs.declared.flaws.TypeFlaw.{TypeFlaw}
 use Rattle.type_check.specs.Bodies.{IsUntyped, IsTypedBody}
 
 -- the flaw is in the first statement that isn't typed
-pub record IsFirstFlaw (p : Loaded) (me : ℕ) (kinds : List ValueType) (body : List Statement) (start : ℕ) (told : Option ℕ) : Type 0 where
+pub record IsFirstFlaw (p : Loaded) (me : ℕ) (types : List ValueType) (body : List Statement) (start : ℕ) (told : Option ℕ) : Type 0 where
   pub number : ℕ
   pub is : told ≡ Some number
-  pub first : FirstFrom (IsUntyped p me kinds) (in_order body) start number
+  pub first : FirstFrom (IsUntyped p me types) (in_order body) start number
 
 -- the flaw of the first statement that isn't typed, or where all are typed the number behind them all
 abbrev pub Judges : Loaded → ℕ → List ValueType → List Statement → ℕ → ControlFlow TypeFlaw ℕ → Type 0
-Judges p me kinds body start (Break flaw) = (¬ IsTypedBody p me kinds body) × IsFirstFlaw p me kinds body start flaw.statement
-Judges p me kinds body start (Continue next) = IsTypedBody p me kinds body × NoneFrom (IsUntyped p me kinds) (in_order body) start next
+Judges p me types body start (Break flaw) = (¬ IsTypedBody p me types body) × IsFirstFlaw p me types body start flaw.statement
+Judges p me types body start (Continue next) = IsTypedBody p me types body × NoneFrom (IsUntyped p me types) (in_order body) start next

@@ -3,7 +3,7 @@ use Rattle.syntax_trees.specs.declared.program.Signal.{Signal}
 use Rattle.syntax_trees.specs.declared.program.Slot.{Slot}
 use Rattle.class_outlines.specs.Conditions.{LacksPropertyType}
 use Rattle.class_outlines.specs.DeclaredKinds.{LacksType}
-use Rattle.class_outlines.specs.Outlines.{kinds_of}
+use Rattle.class_outlines.specs.Outlines.{types_of}
 use Rattle.std.proofs.Common.{inl, inr}
 use Rattle.class_outlines.specs.declared.fault.MetaFault.TheVariants as fault
 use Rattle.class_outlines.proofs.Offending.{or_offence_in}
@@ -17,7 +17,7 @@ returns-in-Some-unknown_in_signals c = (inr (inl c.in-Some-unknown_in_signals.en
 
 pub returns-in-None : goal.returns-in-None
 returns-in-None c =
-    let signals = Any (λ (s : Signal). Any (LacksType c.args.outlines.now) (kinds_of s.parameters)) c.args.class.now.signals in
-    let slots = Any (λ (s : Slot). Any (LacksType c.args.outlines.now) (kinds_of s.parameters)) c.args.class.now.slots in
+    let signals = Any (λ (s : Signal). Any (LacksType c.args.outlines.now) (types_of s.parameters)) c.args.class.now.signals in
+    let slots = Any (λ (s : Slot). Any (LacksType c.args.outlines.now) (types_of s.parameters)) c.args.class.now.slots in
     or_offence_in (Any (LacksPropertyType c.args.outlines.now) c.args.class.now.properties) (signals ⊎ slots) c.in_default.ensures c.args.number c.args.class.now fault.NoType c.unknown_in_slots.result
     (or_offence_in signals slots c.in-None.ensures c.args.number c.args.class.now fault.NoType c.unknown_in_slots.result c.unknown_in_slots.ensures)

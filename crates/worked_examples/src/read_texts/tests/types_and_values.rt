@@ -15,7 +15,7 @@ struct Sevens {
 impl Names<Path> for Sevens {
     ghost use Rattle.std.specs.Prelude.{Some};
 
-    ghost kinds = { λ sevens path. Some sevens.kind };
+    ghost types = { λ sevens path. Some sevens.kind };
 
     fn kind(&self, _path: &Path) -> Result<Option<QType>, AllocError> {
         let kind = self.kind.copy()?;

@@ -5,4 +5,4 @@ use Rattle.object_tree.proofs.tree.Tree.have_types.Goals as goal
 
 pub returns : goal.returns
 returns c =
-    subst (λ (xs : List Object). IsTrue c.have_types.result ↔ ReadAs c.args.meta.now xs c.args.values.now c.args.kinds.now) c.self.view_is c.have_types.ensures
+    subst (λ (xs : List Object). IsTrue c.have_types.result ↔ ReadAs c.args.meta.now xs c.args.values.now c.args.types.now) c.self.view_is c.have_types.ensures

@@ -13,7 +13,7 @@ returns-then-not-branch c =
       λ t. absurd (cc),
       λ h.
           absurd
-          (unrelated (IsGivenIn c.args.self.now.meta.now c.args.self.now.class c.args.self.now.kinds.now) c.args.declared.now c.args.given.now _ _ _
+          (unrelated (IsGivenIn c.args.self.now.meta.now c.args.self.now.class c.args.self.now.types.now) c.args.declared.now c.args.given.now _ _ _
           (slice_get-get_or _ _ _ c.loop-place-test.true) (slice_get_read _ _ _ _ refl inside c.index-given-place.is)
           (λ r. let t = c.in_ok-is_given.ensures.1 r in cc) h),
     )
@@ -21,12 +21,12 @@ returns-then-not-branch c =
 pub loop-place-preserved : goal.loop-place-preserved
 loop-place-preserved c =
     let inside : c.loop-place.place < length c.args.given.now = omega (arith, c.loop-place-test.true, c.if-declared-given.false) in
-    relate_more (IsGivenIn c.args.self.now.meta.now c.args.self.now.class c.args.self.now.kinds.now) c.args.declared.now c.args.given.now _ _ _ c.loop-place.invariant
+    relate_more (IsGivenIn c.args.self.now.meta.now c.args.self.now.class c.args.self.now.types.now) c.args.declared.now c.args.given.now _ _ _ c.loop-place.invariant
     (slice_get-get_or _ _ _ c.loop-place-test.true) (slice_get_read _ _ _ _ refl inside c.index-given-place.is) (c.in_ok-is_given.ensures.0 (cc))
 
 pub returns : goal.returns
 returns c = (
   λ t.
-      relate_all (IsGivenIn c.args.self.now.meta.now c.args.self.now.class c.args.self.now.kinds.now) c.args.declared.now c.args.given.now _ c.if-declared-given.false c.loop-place.invariant c.loop-place-test.false,
+      relate_all (IsGivenIn c.args.self.now.meta.now c.args.self.now.class c.args.self.now.types.now) c.args.declared.now c.args.given.now _ c.if-declared-given.false c.loop-place.invariant c.loop-place-test.false,
   λ h. refl,
 )

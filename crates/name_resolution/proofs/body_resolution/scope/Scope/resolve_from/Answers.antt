@@ -7,7 +7,7 @@ pub loop-name-preserved : goal.loop-name-preserved
 loop-name-preserved c =
     let at = slice_get_read _ _ _ _ refl c.loop-name-test.true c.name-item.is in
     record {
-      left = step_left _ _ _ _ _ _ _ _ _ _ _ _ at c.in-Some.ensures c.read_kind-read.ensures c.in_ok-next.ensures c.in_ok-push.ensures.ok c.loop-name.invariant.left;
+      left = step_left _ _ _ _ _ _ _ _ _ _ _ _ at c.in-Some.ensures c.read_type-read.ensures c.in_ok-next.ensures c.in_ok-push.ensures.ok c.loop-name.invariant.left;
       only = step_only _ _ _ _ _ _ _ _ _ at c.in-Some.ensures c.in_ok-next.ensures c.loop-name.invariant.only;
     }
 

@@ -1,5 +1,5 @@
 use Rattle.command_lines.proofs.Sending.{none_so_far, sent, more_so_far}
-use Rattle.command_lines.proofs.meta_line.Output+W.other_kinds.Goals as goal
+use Rattle.command_lines.proofs.meta_line.Output+W.other_types.Goals as goal
 
 pub loop-kind-preserved : goal.loop-kind-preserved
 loop-kind-preserved g c =

@@ -41,7 +41,7 @@ fn is_value_type(declared: &QType, name: &[u8]) -> bool
 }
 
 /// What the type is read as: what it stands for, and `int` where there is no such type.
-pub fn read_kind(outlines: &ClassTable, declared: &QType) -> ValueType
+pub fn read_type(outlines: &ClassTable, declared: &QType) -> ValueType
     ensures { IsReadAs outlines.now declared.now result }
 {
     match kind_of(outlines, declared) {
@@ -51,17 +51,17 @@ pub fn read_kind(outlines: &ClassTable, declared: &QType) -> ValueType
 }
 
 /// What the types are read as, in their order.
-pub fn read_kinds(
+pub fn read_types(
     alloc: Global,
     outlines: &ClassTable,
     declared: &[QType],
 ) -> Result<Items<ValueType>, AllocError>
-    ensures { IfOk result (λ kinds. AllZip (IsReadAs outlines.now) declared.now kinds) }
+    ensures { IfOk result (λ types. AllZip (IsReadAs outlines.now) declared.now types) }
 {
-    let mut kinds = Items::from_vec(Vec::with_capacity(alloc, declared.len())?);
+    let mut types = Items::from_vec(Vec::with_capacity(alloc, declared.len())?);
     for one in declared {
-        let kind = read_kind(outlines, one);
-        kinds.push(kind)?;
+        let kind = read_type(outlines, one);
+        types.push(kind)?;
     }
-    Ok(kinds)
+    Ok(types)
 }

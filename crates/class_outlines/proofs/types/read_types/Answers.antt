@@ -1,6 +1,6 @@
 use Rattle.std.proofs.Common.{rules}
 use Rattle.name_indexes.proofs.Zips.{zip_push}
-use Rattle.class_outlines.proofs.kinds.read_kinds.Goals as goal
+use Rattle.class_outlines.proofs.types.read_types.Goals as goal
 
 pub loop-one-preserved : goal.loop-one-preserved
 loop-one-preserved c =
