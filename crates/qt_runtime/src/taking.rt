@@ -1,9 +1,7 @@
 //! The taking of events.
 
 ghost use Rattle.std.specs.Prelude.{◌<◌, ◌≡◌, None};
-ghost use Rattle.machine_rules.specs.Natives.{KeepPromises};
-ghost use Rattle.qt_runtime.specs.code.Quiet.{WorldInvariant};
-ghost use Rattle.qt_runtime.specs.code.Taking.{TookBy};
+ghost use Rattle.qt_runtime.specs.code.Taking.{MayTake, TookBy};
 
 use crate::events::assign::assign;
 use crate::events::bind::bind;
@@ -25,11 +23,7 @@ pub fn take_event<N: Answering>(
     world: &mut World,
     event: &Event,
 ) -> Result<Answer, Fault>
-    requires depth { 0 < interpreter.now.context.depth }
-    requires promises { KeepPromises N.takes N.gives
-        interpreter.now.context.meta interpreter.now.natives }
-    requires idle { world.old.turn ≡ None }
-    requires keeps { WorldInvariant interpreter.now.context.meta world.old }
+    requires may { MayTake N.takes N.gives interpreter.now world.old }
     ensures { TookBy N.gives interpreter.now event.now world.old world.new result }
 {
     let result = run_event(interpreter, world, event);
@@ -43,11 +37,7 @@ fn run_event<N: Answering>(
     world: &mut World,
     event: &Event,
 ) -> Result<Answer, Fault>
-    requires depth { 0 < interpreter.now.context.depth }
-    requires promises { KeepPromises N.takes N.gives
-        interpreter.now.context.meta interpreter.now.natives }
-    requires idle { world.old.turn ≡ None }
-    requires keeps { WorldInvariant interpreter.now.context.meta world.old }
+    requires may { MayTake N.takes N.gives interpreter.now world.old }
     ensures { TookBy N.gives interpreter.now event.now world.old world.new result }
 {
     if world.left == 0 {

@@ -1,8 +1,9 @@
 -- What the machine's code does with an event (docs/machine.md, "Events").
-use Rattle.std.specs.Prelude.{ℕ, [], ◌∷◌, Result, Ok, Err}
+use Rattle.std.specs.Prelude.{◌≡◌, ℕ, ◌<◌, None, [], ◌∷◌, Result, Ok, Err}
 use Rattle.meta_model.specs.Loaded.{Loaded}
 use Rattle.prop_bindings.specs.declared.plans.fault.BindFault.{BindFault}
 use Rattle.prop_bindings.specs.declared.plans.fault.BindFault.TheVariants as bind
+use Rattle.native_slots.specs.Promises.{Takes}
 use Rattle.script_lang.specs.declared.event.Event.{Event}
 use Rattle.trace_entries.specs.declared.fault.Answer.{Answer}
 use Rattle.trace_entries.specs.declared.fault.Answer.TheVariants as answer
@@ -12,9 +13,17 @@ use Rattle.trace_entries.specs.declared.refusal.Refusal.{Refusal}
 use Rattle.trace_entries.specs.declared.refusal.Refusal.TheVariants.{OtherLoop, BadSource}
 use Rattle.machine_state.specs.declared.world.World.{World}
 use Rattle.rule_interpreter.specs.declared.interpreter.Interpreter.{Interpreter}
-use Rattle.machine_rules.specs.Natives.{NativeAnswers}
+use Rattle.machine_rules.specs.Natives.{NativeAnswers, KeepPromises}
 use Rattle.object_machine.specs.Causes.{Completes, Halts}
 use Rattle.object_machine.specs.Takes.{IsRefusedAs}
+use Rattle.qt_runtime.specs.code.Quiet.{WorldInvariant}
+
+-- a machine may take an event: its depth isn't 0, its natives keep what is declared of them, and nothing goes on in its world
+pub record MayTake {N : Type 0} (takes : N → Takes) (gives : N → NativeAnswers) (interpreter : Interpreter N) (w : World) : Type 0 where
+  pub depth : 0 < interpreter.context.depth
+  pub promises : KeepPromises takes gives interpreter.context.meta interpreter.natives
+  pub idle : w.turn ≡ None
+  pub keeps : WorldInvariant interpreter.context.meta w
 
 -- the event is refused for the reason of the answer's number, and only its line is written
 abbrev pub SaysWhy : Loaded → World → Event → World → Answer → Type 0

@@ -3,10 +3,8 @@
 ghost use Rattle.std.specs.Prelude.{◌≡◌, ◌<◌, None};
 ghost use Rattle.script_lang.specs.declared.event.Event.TheVariants.{Set};
 ghost use Rattle.prop_bindings.specs.Fits.{FitsAt};
-ghost use Rattle.machine_rules.specs.Natives.{KeepPromises};
 ghost use Rattle.object_machine.specs.code.Accepted.{WritesTo};
-ghost use Rattle.qt_runtime.specs.code.Quiet.{WorldInvariant};
-ghost use Rattle.qt_runtime.specs.code.Taking.{TookBy};
+ghost use Rattle.qt_runtime.specs.code.Taking.{MayTake, TookBy};
 ghost use Rattle.script_lang.specs.declared.event.Event.{Event as AnEvent};
 
 use crate::quiet::{accept_write, refuse};
@@ -27,12 +25,8 @@ pub fn assign<N: Answering>(
     property: &Name,
     input: &Input,
 ) -> Result<Answer, Fault>
-    requires depth { 0 < interpreter.now.context.depth }
-    requires promises { KeepPromises N.takes N.gives
-        interpreter.now.context.meta interpreter.now.natives }
+    requires may { MayTake N.takes N.gives interpreter.now world.old }
     requires left { 0 < world.old.left }
-    requires idle { world.old.turn ≡ None }
-    requires keeps { WorldInvariant interpreter.now.context.meta world.old }
     ensures { TookBy N.gives interpreter.now (Set name.now property.now input.now)
         world.old world.new result }
 {
@@ -49,12 +43,8 @@ fn write<N: Answering>(
     place: &Place,
     value: Value,
 ) -> Result<Answer, Fault>
-    requires depth { 0 < interpreter.now.context.depth }
-    requires promises { KeepPromises N.takes N.gives
-        interpreter.now.context.meta interpreter.now.natives }
+    requires may { MayTake N.takes N.gives interpreter.now world.old }
     requires left { 0 < world.old.left }
-    requires idle { world.old.turn ≡ None }
-    requires keeps { WorldInvariant interpreter.now.context.meta world.old }
     requires fits { FitsAt interpreter.now.context.meta world.old.store.tree place.now value }
     ensures { (e : AnEvent) →
         WritesTo interpreter.now.context.meta world.old place.now value e →

@@ -2,10 +2,8 @@
 
 ghost use Rattle.std.specs.Prelude.{◌≡◌, ℕ, ◌<◌, List, None};
 ghost use Rattle.script_lang.specs.declared.event.Event.TheVariants.{Bind};
-ghost use Rattle.machine_rules.specs.Natives.{KeepPromises};
 ghost use Rattle.object_machine.specs.code.Accepted.{AsksToBind};
-ghost use Rattle.qt_runtime.specs.code.Quiet.{WorldInvariant};
-ghost use Rattle.qt_runtime.specs.code.Taking.{TookBy, binding_reason};
+ghost use Rattle.qt_runtime.specs.code.Taking.{MayTake, TookBy, binding_reason};
 
 use crate::quiet::{accept_bind, refuse, reject};
 use basic_types::Name;
@@ -24,12 +22,8 @@ pub fn bind<N: Answering>(
     target: &Name,
     sources: &[Name],
 ) -> Result<Answer, Fault>
-    requires depth { 0 < interpreter.now.context.depth }
-    requires promises { KeepPromises N.takes N.gives
-        interpreter.now.context.meta interpreter.now.natives }
+    requires may { MayTake N.takes N.gives interpreter.now world.old }
     requires left { 0 < world.old.left }
-    requires idle { world.old.turn ≡ None }
-    requires keeps { WorldInvariant interpreter.now.context.meta world.old }
     ensures { TookBy N.gives interpreter.now (Bind site.now target.now sources.now)
         world.old world.new result }
 {
@@ -45,12 +39,8 @@ fn install<N: Answering>(
     world: &mut World,
     asked: &Asked,
 ) -> Result<Answer, Fault>
-    requires depth { 0 < interpreter.now.context.depth }
-    requires promises { KeepPromises N.takes N.gives
-        interpreter.now.context.meta interpreter.now.natives }
+    requires may { MayTake N.takes N.gives interpreter.now world.old }
     requires left { 0 < world.old.left }
-    requires idle { world.old.turn ≡ None }
-    requires keeps { WorldInvariant interpreter.now.context.meta world.old }
     ensures { (site target : List ℕ) (sources : List (List ℕ)) →
         AsksToBind interpreter.now.context.meta world.old site target sources
         asked.now.site asked.now.target asked.now.sources →

@@ -2,9 +2,7 @@
 
 ghost use Rattle.std.specs.Prelude.{◌<◌, ◌≡◌, None};
 ghost use Rattle.script_lang.specs.declared.event.Event.TheVariants.{Delete};
-ghost use Rattle.machine_rules.specs.Natives.{KeepPromises};
-ghost use Rattle.qt_runtime.specs.code.Quiet.{WorldInvariant};
-ghost use Rattle.qt_runtime.specs.code.Taking.{TookBy};
+ghost use Rattle.qt_runtime.specs.code.Taking.{MayTake, TookBy};
 
 use crate::quiet::{accept, refuse};
 use basic_types::{Name, ObjectId};
@@ -20,12 +18,8 @@ pub fn delete<N: Answering>(
     world: &mut World,
     name: &Name,
 ) -> Result<Answer, Fault>
-    requires depth { 0 < interpreter.now.context.depth }
-    requires promises { KeepPromises N.takes N.gives
-        interpreter.now.context.meta interpreter.now.natives }
+    requires may { MayTake N.takes N.gives interpreter.now world.old }
     requires left { 0 < world.old.left }
-    requires idle { world.old.turn ≡ None }
-    requires keeps { WorldInvariant interpreter.now.context.meta world.old }
     ensures { TookBy N.gives interpreter.now (Delete name.now) world.old world.new result }
 {
     let object = match find_living(world, name) {

@@ -2,10 +2,8 @@
 
 ghost use Rattle.std.specs.Prelude.{◌≡◌, ◌<◌, None};
 ghost use Rattle.run_context.specs.code.Activating.{CallFits};
-ghost use Rattle.machine_rules.specs.Natives.{KeepPromises};
 ghost use Rattle.object_machine.specs.code.Accepted.{AsksFor, invoking};
-ghost use Rattle.qt_runtime.specs.code.Quiet.{WorldInvariant};
-ghost use Rattle.qt_runtime.specs.code.Taking.{TookBy};
+ghost use Rattle.qt_runtime.specs.code.Taking.{MayTake, TookBy};
 ghost use Rattle.script_lang.specs.declared.event.Event.{Event as AnEvent};
 
 use crate::quiet::{accept_with, refuse};
@@ -27,12 +25,8 @@ pub fn invoke<N: Answering>(
     called: &Name,
     inputs: &[Input],
 ) -> Result<Answer, Fault>
-    requires depth { 0 < interpreter.now.context.depth }
-    requires promises { KeepPromises N.takes N.gives
-        interpreter.now.context.meta interpreter.now.natives }
+    requires may { MayTake N.takes N.gives interpreter.now world.old }
     requires left { 0 < world.old.left }
-    requires idle { world.old.turn ≡ None }
-    requires keeps { WorldInvariant interpreter.now.context.meta world.old }
     ensures { TookBy N.gives interpreter.now (invoking invocation name.now called.now inputs.now)
         world.old world.new result }
 {
@@ -68,12 +62,8 @@ fn begin<N: Answering>(
     world: &mut World,
     call: &MethodCall<'_>,
 ) -> Result<Answer, Fault>
-    requires depth { 0 < interpreter.now.context.depth }
-    requires promises { KeepPromises N.takes N.gives
-        interpreter.now.context.meta interpreter.now.natives }
+    requires may { MayTake N.takes N.gives interpreter.now world.old }
     requires left { 0 < world.old.left }
-    requires idle { world.old.turn ≡ None }
-    requires keeps { WorldInvariant interpreter.now.context.meta world.old }
     requires fit { CallFits interpreter.now.context.meta world.old.store.tree call.now }
     ensures { (e : AnEvent) →
         AsksFor interpreter.now.context.meta world.old

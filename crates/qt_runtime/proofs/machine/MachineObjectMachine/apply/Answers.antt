@@ -11,10 +11,17 @@ pub invariant_of-self : goal.invariant_of-self
 invariant_of-self g c = record { room = c.self.invariant.room; keeps = λ goes. keeps-took c.take_event-result.result c.classes.ensures.sound (c.self.invariant.keeps c.if-self.false) c.take_event-result.ensures (sym c.is_err-self-inside.ensures.value ∙ goes); idle = λ goes. idle-took c.take_event-result.result c.take_event-result.ensures (sym c.is_err-self-inside.ensures.value ∙ goes) }
 
 -- the natives of the machine are the interpreter's
-pub take_event-result-requires-clause-promises : goal.take_event-result-requires-clause-promises
-take_event-result-requires-clause-promises g c =
+pub take_event-result-requires : goal.take_event-result-requires
+take_event-result-requires g c =
     let Kept : Seen _ → Type 0 = λ m. AreKept g.N.Answering.takes g.N.Answering.gives m in
-    subst Kept (sym c.self.view_is) c.requires
+    record {
+      may = record {
+        depth = c.self.invariant.room;
+        promises = subst Kept (sym c.self.view_is) c.requires;
+        idle = c.self.invariant.idle c.if-self.false;
+        keeps = c.self.invariant.keeps c.if-self.false;
+      };
+    }
 
 pub returns-clause-kept : goal.returns-clause-kept
 returns-clause-kept g c =
