@@ -33,7 +33,8 @@ ESCAPES = rb"(?:<stdin>:[0-9]+:[0-9]+: warning: a text has no escapes.*\n" + EXC
 BESIDE_YES = re.compile(ESCAPES + rb"(?:" + WARNED + rb")?(?:" + DEPTH + rb")?")
 # What is told of refused events, unasked, in front of all else.
 REFUSED_EVENT = rb"<stdin>:[0-9]+:[0-9]+: warning: event [0-9]+ refused [0-9]+: .*\n" + EXCERPT + rb"(?:help: .*\n)?"
-REFUSED_EVENTS = re.compile(rb"(?:(?:" + REFUSED_EVENT + rb")+(?:and [0-9]+ more events? w(?:as|ere) refused: .*\n)?)?")
+MORE_REFUSED = re.compile(rb"and [0-9]+ more events? w(?:as|ere) refused: .*\n")
+REFUSED_EVENTS = re.compile(rb"(?:(?:" + REFUSED_EVENT + rb")+(?:" + MORE_REFUSED.pattern + rb")?)?")
 # So many failures are told in full.
 TOLD = 20
 
@@ -79,6 +80,11 @@ class Answer:
 def behind_refused(errors):
     """What is told behind the refused events."""
     return errors[REFUSED_EVENTS.match(errors).end() :]
+
+
+def refusals(errors):
+    """What is told of refused events, but for how many more there are."""
+    return MORE_REFUSED.sub(b"", REFUSED_EVENTS.match(errors)[0])
 
 
 def shown(text):

@@ -79,7 +79,7 @@ class Refusals:
     def __init__(self, library, more):
         self.library, self.more = library, more
         self.bench, self.program, self.row, self.fronts, self.requests = None, None, None, set(), 0
-        self.behind = set()
+        self.behind, self.refusals = set(), b""
 
     def __call__(self, item, count):
         self.program, self.row = item
@@ -87,7 +87,7 @@ class Refusals:
         self.fronts = self.row.fronts()
         answer, self.requests, _ = self.refused("0")
         is_ample = self.requests is not None and answer == self.row.ample
-        self.behind = {b"", built.behind_refused(answer.errors)}
+        self.behind, self.refusals = {b"", built.behind_refused(answer.errors)}, built.refusals(answer.errors)
         if not count.check(is_ample, lambda: f"{self.row.name}, nothing refused, by {self.program}: {answer}"):
             return
         last = self.last_that_matters(count)
@@ -131,9 +131,12 @@ class Refusals:
         return kind if holds else None
 
     def is_told_whole(self, answer):
-        """Whether beside success, where reasons of refused events aren't asked for, each of those that are told is told whole,
-        and of what stands behind them all is told or nothing. An event's refusal is left out where there was no memory to note it."""
-        return answer.status != 0 or bool(self.row.environment) or built.behind_refused(answer.errors) in self.behind
+        """Whether beside success, where reasons of refused events aren't asked for, the first of them are told, each whole, up to
+        one that there was no memory to note; and of what stands behind them all is told or nothing."""
+        if answer.status != 0 or self.row.environment:
+            return True
+        told = built.refusals(answer.errors)
+        return built.behind_refused(answer.errors) in self.behind and self.refusals.startswith(told)
 
     def refused(self, number):
         """A run in which this request is refused, and how many requests were made and refused (None: it isn't told, as the

@@ -42,7 +42,7 @@ pub struct Carried<M: Drop> {
     pub outcome: Outcome<M>,
     /// What a run wrote down for the last whole event; empty where there was none.
     pub last: Trace,
-    /// The lines of a run's refused events, in their order, as far as there was memory for them.
+    /// The lines of a run's refused events, in their order, up to the first for which there was no memory.
     pub refused: Trace,
     /// The exit status, or why the output couldn't be written.
     pub written: Result<u8, WriteFault>,
@@ -175,6 +175,7 @@ fn stream_events<M: ObjectMachine, W: Write>(
 {
     let mut last = Trace::new(alloc);
     let mut refused = Trace::new(alloc);
+    let mut notes_all = true;
     if machine.is_stopped() {
         return Streamed {
             ended: Err(Fault::Stopped),
@@ -188,7 +189,7 @@ fn stream_events<M: ObjectMachine, W: Write>(
                 last.keep_first(0);
                 last = machine.hand_over(last);
                 output.entries(last.as_slice());
-                note_refusal(&mut refused, last.as_slice());
+                notes_all = notes_all && note_refusal(&mut refused, last.as_slice());
             }
             Err(fault) => {
                 return Streamed {
@@ -206,10 +207,13 @@ fn stream_events<M: ObjectMachine, W: Write>(
     }
 }
 
-/// Adds the line of an event, of which these are the entries, to those of refused events, if it was refused and there is
+/// Adds the line of an event, of which these are the entries, to those of refused events, if it was refused. Whether there was
 /// memory for it.
-fn note_refusal(refused: &mut Trace, entries: &[Entry]) {
-    if let Some(Entry::Refused(event, reason)) = entries.first() {
-        refused.append([Entry::Refused(*event, *reason)]).ok();
+fn note_refusal(refused: &mut Trace, entries: &[Entry]) -> bool {
+    match entries.first() {
+        Some(Entry::Refused(event, reason)) => {
+            refused.append([Entry::Refused(*event, *reason)]).is_ok()
+        }
+        _ => true,
     }
 }
