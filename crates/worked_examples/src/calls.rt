@@ -1,11 +1,13 @@
 //! What only direct calls show: a native of one's own, a machine event by event, readers and writers that fail, what binds
-//! and writes evaluate, inputs that are too large for a file, and the stores beside plain lists of what they hold. What has
-//! to be written was worked out by hand from the documents.
+//! and writes evaluate, inputs that are too large for a file, what texts stand for, what leads to what, and the stores beside plain
+//! lists of what they hold. What has to be written was worked out by hand from the documents.
 
+mod checking;
 mod command_line;
 mod following;
 mod loading;
 mod machines;
+mod reading;
 mod runs;
 mod scheduling;
 mod sizes;
@@ -15,8 +17,10 @@ mod thermostat;
 
 use crate::stores::tell_stores;
 use anyhow::Result;
+use checking::tell_checking;
 use following::tell_following;
 use machines::tell_machines;
+use reading::tell_reading;
 use runs::tell_runs;
 use scheduling::tell_scheduling;
 use sizes::tell_sizes;
@@ -30,6 +34,8 @@ pub fn tell_calls<R: Print + AllocGlobal>(rt: &R) -> Result<()> {
     tell_scheduling(rt)?;
     tell_streams(rt)?;
     tell_sizes(rt)?;
+    tell_reading(rt)?;
+    tell_checking(rt)?;
     tell_stores(rt)?;
     Ok(())
 }

@@ -1,9 +1,7 @@
-//! What only direct calls show, and worked examples of texts and of checks.
+//! What only direct calls show.
 #![tactic(auto)]
 
 mod calls;
-mod checked;
-mod read_texts;
 mod stores;
 
 pub use calls::tell_calls;
