@@ -1,5 +1,5 @@
 -- What the components of a program ask, from what the nodes of their sets have in common.
-use Rattle.std.{proofs.Common.{◌≡◌, ◌⊎◌, inl, inr, ℕ, ◌+◌, ◌*◌, ◌<◌, ◌≤◌, List, [], ◌∷◌, ◌++◌, length, get_or, slice_get, unwrap_or, Option, Some, None, refl, sym, ap, ◌∙◌, subst, arith}, specs.List.{Contains}, proofs.lemmas.List.{length_push}, proofs.lemmas.Option.{slice_get_within, get_or_from_slice_get, unwrap_or-slice_get, none-some, same_Some}}
+use Rattle.std.{proofs.Common.{◌≡◌, inl, inr, ℕ, ◌+◌, ◌*◌, ◌<◌, List, [], ◌∷◌, ◌++◌, length, get_or, slice_get, unwrap_or, Option, Some, None, sym, ap, ◌∙◌, subst, arith}, proofs.lemmas.List.{length_push}, proofs.lemmas.Option.{slice_get_within, get_or_from_slice_get, unwrap_or-slice_get, none-some, same_Some}}
 use Rattle.meta_model.specs.{Loaded.{Loaded}, Sound.{IsSound}}
 use Rattle.effect_scan.specs.{declared.node.Node.{Node}, declared.node.Member.TheVariants.{Property}, Nodes.{node, nodes_of, IsAt}, Scans.{Scanned, IsScan}}
 use Rattle.rank_check.{specs.Entries.{place_at}, proofs.Elements.{some_inside}}

@@ -1,12 +1,12 @@
 -- What is known before ranks are made, from the sets that are made.
-use Rattle.std.{proofs.Common.{◌≡◌, inl, inr, ℕ, suc, ◌+◌, ◌<◌, ◌≤◌, List, [], ◌∷◌, length, slice_get, Option, Some, None, refl, sym, ap, ◌∙◌, subst, arith}, specs.List.{Contains}, proofs.lemmas.Bool.{cases_eq, cases_lt}, proofs.lemmas.List.{get_or_past}, proofs.lemmas.Option.{slice_get_within, get_or_from_slice_get}}
+use Rattle.std.{proofs.Common.{◌≡◌, inl, inr, ℕ, suc, ◌<◌, ◌≤◌, List, [], ◌∷◌, length, Option, Some, None, refl, sym, ap, ◌∙◌, subst, arith}, proofs.lemmas.Bool.{cases_eq, cases_lt}, proofs.lemmas.List.{get_or_past}, proofs.lemmas.Option.{get_or_from_slice_get}}
 use Rattle.meta_model.specs.Loaded.{Loaded}
 use Rattle.effect_scan.specs.{declared.node.Node.{Node}, Nodes.{nodes_of, IsAt}, Rows.{row, Edge}, Laws.{EdgesJoinNodes}, Scans.{Scanned, IsScan}}
 use Rattle.rank_graph.{specs.Walks.{LeadsBy}, proofs.Driving.{edge_inside}}
 use Rattle.rank_check.{specs.Entries.{place_at}, specs.Valid.{most_bound}, proofs.Conditions.{edges_inside}, proofs.Elements.{some_inside}}
 use Rattle.rank_make.{specs.Solved.{AreLow}, proofs.Placed.{one_number}}
-use Rattle.settling.specs.{declared.certificate.SettlingSet.{SettlingSet}, Settles.{IsProperty}}
-use Rattle.settling_make.{specs.declared.components.Components.{Components}, specs.declared.margin.Margin.{Margin}, specs.declared.sets.Sets.{Sets}, specs.Circles.{IsSilentEdge, AreHeights}, specs.Collected.{LeadsOut, AreCollected}, specs.Components.{number_of, AreComponents}, specs.Fits.{no_margin, margin_of, SilentEdge}, specs.Inside.{IsSilentEnd}, specs.Makes.{IsLong}, specs.Margins.{Asks, AreMarginsOf}, specs.Ranking.{AreHeightsInside, AreMargins, AreGiven}, specs.Sets.{HasInside, AreSetsOf}, proofs.Circling.{one_at, edge_from, goes_round, round_inside}}
+use Rattle.settling.specs.Settles.{IsProperty}
+use Rattle.settling_make.{specs.declared.components.Components.{Components}, specs.declared.margin.Margin.{Margin}, specs.declared.sets.Sets.{Sets}, specs.Circles.{IsSilentEdge, AreHeights}, specs.Collected.{LeadsOut, AreCollected}, specs.Components.{number_of, AreComponents}, specs.Fits.{no_margin, margin_of, SilentEdge}, specs.Makes.{IsLong}, specs.Margins.{Asks, AreMarginsOf}, specs.Ranking.{AreHeightsInside, AreGiven}, specs.Sets.{HasInside, AreSetsOf}, proofs.Circling.{one_at, edge_from, goes_round, round_inside}}
 
 -- a height that isn't low
 pub long_told : (p : Loaded) (height : ℕ → ℕ) → AreHeights p height → (n : ℕ) (x : Node) → IsAt (nodes_of p) x n → most_bound ≤ height n → IsLong p x

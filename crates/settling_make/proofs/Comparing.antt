@@ -6,7 +6,7 @@ use Rattle.rank_graph.{specs.Walks.{LeadsBy}, proofs.Driving.{edge_inside}}
 use Rattle.rank_check.{specs.Entries.{place_at}, proofs.Conditions.{edges_inside}, proofs.Elements.{some_inside, element_at}}
 use Rattle.rank_make.proofs.Placed.{one_number, one_at}
 use Rattle.settling.specs.{declared.certificate.SettlingLine.{SettlingLine}, declared.certificate.SettlingSet.{SettlingSet}, declared.certificate.SettlingCertificate.{SettlingCertificate}, Sets.{IsMember, IsIn, AreTogether}, Valid.{IsLineOf, IsRound, IsValid}}
-use Rattle.settling_make.{specs.declared.components.Components.{Components}, specs.declared.margin.Margin.{Margin}, specs.declared.sets.Sets.{Sets}, specs.Collected.{LeadsOut, AreCollected}, specs.Components.{number_of}, specs.Fits.{no_margin, margin_of, at_place, FitRanks, FitSteps, AreLeastSteps, SilentEdge}, specs.Least.{LeadsOn, HasCircles}, specs.Makes.{AreParts}, specs.Margins.{Asks, IsMarginOf}, proofs.Barred.{one_line}, proofs.Chaining.{heights_inside, asked}, proofs.Circling.{edge_from, walk_between, walk_numbers, number_falls}, proofs.Validating.{stands, each_node, in_set}, proofs.Placing.{node_low, set_at, place_is, set_of, leads_inside}}
+use Rattle.settling_make.{specs.declared.components.Components.{Components}, specs.declared.margin.Margin.{Margin}, specs.declared.sets.Sets.{Sets}, specs.Collected.{LeadsOut, AreCollected}, specs.Components.{number_of}, specs.Fits.{no_margin, margin_of, at_place, FitRanks, FitSteps, AreLeastSteps, SilentEdge}, specs.Least.{LeadsOn, HasCircles}, specs.Makes.{AreParts}, specs.Margins.{Asks, IsMarginOf}, proofs.Barred.{one_line}, proofs.Chaining.{heights_inside, asked}, proofs.Circling.{edge_from, walk_between, walk_numbers, number_falls}, proofs.Validating.{stands, in_set}, proofs.Placing.{node_low, set_at, place_is, set_of, leads_inside}}
 
 right_some : (a b : ℕ) → 0 < a * b → 0 < b
 right_some zero b pos = absurd (omega (arith, pos))

@@ -1,15 +1,15 @@
 -- What one node needs, the floor of a component, and what is raised to it.
-use Rattle.std.proofs.Common.{◌≡◌, ◌⊎◌, inl, inr, ℕ, ◌+◌, ◌-◌, ◌<◌, ◌≤◌, List, [], ◌∷◌, ◌++◌, length, take, get_or, set, refl, sym, ap, ◌∙◌, subst, arith}
+use Rattle.std.proofs.Common.{◌≡◌, ◌⊎◌, inl, inr, ℕ, ◌+◌, ◌-◌, ◌<◌, ◌≤◌, List, length, take, get_or, set, refl, sym, ap, ◌∙◌, subst, arith}
 use Rattle.std.specs.List.{Contains}
 use Rattle.std.proofs.lemmas.Bool.{cases_eq}
 use Rattle.std.proofs.lemmas.List.{length-set, get_or-set_same, get_or-set_other}
 use Rattle.effect_scan.specs.declared.node.Node.{Node}
-use Rattle.effect_scan.specs.Rows.{row, Edge}
+use Rattle.effect_scan.specs.Rows.{row}
 use Rattle.rank_check.specs.Valid.{most_bound}
 use Rattle.settling_make.specs.declared.margin.Margin.{Margin}
 use Rattle.settling_make.specs.Fits.{at_place, Falls}
 use Rattle.settling_make.specs.Ranking.{IsHighest, IsNeed, IsFloor, AreRaised}
-use Rattle.settling_make.proofs.Taking.{one_of, before_too, one_more, none_taken, all_taken, taken_in}
+use Rattle.settling_make.proofs.Taking.{one_of, one_more, none_taken, all_taken, taken_in}
 
 -- ---- what one node needs
 -- the first of the targets were looked at

@@ -1,5 +1,5 @@
 -- The lines of a certificate that is made, one after another.
-use Rattle.std.proofs.{Common.{◌≡◌, ℕ, ◌+◌, Bool, List, [], ◌∷◌, ◌++◌, length, slice_get, Some, sym, ap, ◌∙◌, subst, arith}, lemmas.List.{length_push}, lemmas.Option.{none-some, same_Some}}
+use Rattle.std.proofs.{Common.{◌≡◌, ℕ, ◌+◌, Bool, List, [], ◌∷◌, ◌++◌, length, slice_get, sym, ap, ◌∙◌, subst, arith}, lemmas.List.{length_push}, lemmas.Option.{none-some, same_Some}}
 use Rattle.meta_model.specs.Loaded.{Loaded}
 use Rattle.effect_scan.specs.{declared.node.Node.{Node}, Nodes.{nodes_of, IsAt}}
 use Rattle.settling.{specs.declared.certificate.SettlingLine.{SettlingLine}, proofs.Passing.{pushed_each}}

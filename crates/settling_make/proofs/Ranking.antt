@@ -1,7 +1,6 @@
 -- The least ranks of nodes, one component after another.
-use Rattle.std.proofs.Common.{◌≡◌, ◌≢◌, ◌⊎◌, inl, inr, ℕ, ◌+◌, ◌<◌, ◌≤◌, Bool, true, false, MatchBool, List, [], ◌∷◌, ◌++◌, length, take, get_or, set, refl, sym, ap, ◌∙◌, subst, arith}
+use Rattle.std.proofs.Common.{◌≡◌, inl, inr, ℕ, ◌+◌, ◌<◌, ◌≤◌, Bool, true, false, MatchBool, List, [], ◌∷◌, length, take, get_or, set, refl, sym, ap, ◌∙◌, subst, arith}
 use Rattle.std.specs.List.{Contains}
-use Rattle.std.specs.List.Sorted.{IsNonDecreasingBy}
 use Rattle.std.proofs.lemmas.Bool.{cases_eq, cases_lt}
 use Rattle.std.proofs.lemmas.List.{take_all, length-set, get_or-take, get_or-set_same, get_or-set_other, get_or_default}
 use Rattle.effect_scan.specs.declared.node.Node.{Node}
@@ -11,8 +10,7 @@ use Rattle.rank_graph.proofs.Driving.{edge_inside}
 use Rattle.rank_graph.specs.Walks.{LeadsBy}
 use Rattle.settling_make.specs.declared.components.Components.{Components}
 use Rattle.settling_make.specs.declared.margin.Margin.{Margin}
-use Rattle.settling_make.specs.Components.{number_of, AreComponents}
-use Rattle.settling_make.specs.Inside.{IsSilentEnd}
+use Rattle.settling_make.specs.Components.{number_of}
 use Rattle.settling_make.specs.Fits.{no_margin, margin_of, at_place, Falls, FitRanks, SilentEdge, AreLeastRanks, RanksAreHigh}
 use Rattle.settling_make.specs.Ranking.{AreGiven, AreByHeight, RankedTo, IsNeed, AreNeeds, IsFloor, AreRaised}
 use Rattle.settling_make.proofs.Taking.{one_of, one_more, none_taken, length_taken, taken_in, taken_at}

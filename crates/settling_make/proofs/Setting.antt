@@ -10,7 +10,6 @@ use Rattle.effect_scan.proofs.Numbered.{get_either}
 use Rattle.rank_check.specs.Entries.{place_at}
 use Rattle.settling.specs.declared.certificate.SettlingSet.{SettlingSet}
 use Rattle.settling_make.specs.declared.components.Components.{Components}
-use Rattle.settling_make.specs.declared.sets.Sets.{Sets}
 use Rattle.settling_make.specs.Sets.{HasInside, IsRound, IsSetOf, AreSetsTo, AreSetsOf}
 use Rattle.settling_make.proofs.Taking.{one_of, one_more, none_taken, all_taken, taken_in}
 

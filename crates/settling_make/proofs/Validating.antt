@@ -1,14 +1,13 @@
 -- Why the certificate that is made is valid.
-use Rattle.std.{proofs.Common.{◌≡◌, ◌≢◌, ◌⊎◌, inl, inr, ◌↔◌, ℕ, ◌+◌, ◌*◌, ◌<◌, ◌≤◌, Bool, true, List, [], ◌∷◌, length, slice_get, Option, Some, None, Result, Ok, Err, refl, sym, ap, ◌∙◌, subst, arith}, specs.List.{Contains}, proofs.Math.Nat.{mul-pos}, proofs.lemmas.Bool.{cases_eq}, proofs.lemmas.Option.{slice_get_within, same_Some}}
+use Rattle.std.{proofs.Common.{◌≡◌, ◌≢◌, inl, inr, ◌↔◌, ℕ, ◌+◌, ◌<◌, ◌≤◌, Bool, true, List, [], ◌∷◌, length, slice_get, Option, Some, Result, Ok, Err, refl, sym, ap, ◌∙◌, subst, arith}, proofs.Math.Nat.{mul-pos}, proofs.lemmas.Bool.{cases_eq}, proofs.lemmas.Option.{slice_get_within, same_Some}}
 use Rattle.meta_model.specs.{Loaded.{Loaded}, Sound.{IsSound}}
 use Rattle.name_indexes.proofs.Zips.{zip_right}
-use Rattle.effect_scan.specs.{declared.node.Node.{Node}, declared.node.Member.TheVariants.{Destruction}, Nodes.{nodes_of, IsAt}, Rows.{row, Edge}, Edges.{MayLead}, Destroying.{Closure}, Laws.{EdgesJoinNodes}, Scans.{Scanned}}
-use Rattle.certificate_lang.specs.declared.certificate.NodeName.{NodeName}
+use Rattle.effect_scan.specs.{declared.node.Node.{Node}, Nodes.{nodes_of, IsAt}, Rows.{row, Edge}, Edges.{MayLead}, Destroying.{Closure}, Laws.{EdgesJoinNodes}, Scans.{Scanned}}
 use Rattle.rank_graph.proofs.Driving.{edge_inside}
-use Rattle.rank_check.{specs.Names.{IsNodeNamed}, specs.Entries.{IsReady, place_at}, specs.Valid.{most_bound}, proofs.Elements.{some_inside, place_of, element_at}, proofs.Listing.{closure_low}}
+use Rattle.rank_check.{specs.Entries.{IsReady, place_at}, proofs.Elements.{some_inside, place_of, element_at}, proofs.Listing.{closure_low}}
 use Rattle.rank_make.proofs.{Listed.{closure_then, listed_is, listed_there}, Placed.{one_number, one_at, one_name}}
-use Rattle.settling.specs.{declared.certificate.SettlingLine.{SettlingLine}, declared.certificate.SettlingSet.{SettlingSet}, declared.certificate.SettlingCertificate.{SettlingCertificate}, Hands.{HandOn}, Settles.{Carries, IsProperty}, Sets.{IsMember, IsIn, AreTogether}, Valid.{IsLineOf, Destroys, HasEachNode, HasNothingElse, EdgesFall, IsRound, SetsHold, IsBounded, IsValid}}
-use Rattle.settling_make.{specs.declared.components.Components.{Components}, specs.declared.margin.Margin.{Margin}, specs.declared.sets.Sets.{Sets}, specs.Circles.{EdgesSettle, NoneEnds, MayDestroy}, specs.Components.{number_of}, specs.Fits.{margin_of, at_place}, specs.Inside.{IsSilentEnd}, specs.Lines.{IsLineFor}, specs.declared.why.Why.{Why}, specs.Makes.{IsMadeOf, IsMade, MadeOrReason, Makes}, specs.Margins.{Asks, IsMarginOf}, specs.Sets.{IsNameOf}, proofs.Chaining.{asked}, proofs.Circling.{edge_from, goes_round}, proofs.Placing.{node_low, set_at, place_is, member_is, set_of, leads_inside}}
+use Rattle.settling.specs.{declared.certificate.SettlingLine.{SettlingLine}, declared.certificate.SettlingSet.{SettlingSet}, declared.certificate.SettlingCertificate.{SettlingCertificate}, Settles.{IsProperty}, Sets.{IsMember, IsIn, AreTogether}, Valid.{IsLineOf, Destroys, HasEachNode, HasNothingElse, EdgesFall, IsRound, SetsHold, IsBounded, IsValid}}
+use Rattle.settling_make.{specs.declared.components.Components.{Components}, specs.declared.margin.Margin.{Margin}, specs.declared.sets.Sets.{Sets}, specs.Circles.{EdgesSettle, NoneEnds, MayDestroy}, specs.Components.{number_of}, specs.Fits.{margin_of, at_place}, specs.Lines.{IsLineFor}, specs.declared.why.Why.{Why}, specs.Makes.{IsMadeOf, IsMade, MadeOrReason, Makes}, specs.Margins.{Asks, IsMarginOf}, specs.Sets.{IsNameOf}, proofs.Chaining.{asked}, proofs.Circling.{edge_from, goes_round}, proofs.Placing.{node_low, set_at, place_is, member_is, set_of, leads_inside}}
 
 module _ (p : Loaded) (sound : IsSound p) (join : EdgesJoinNodes p) (certificate : SettlingCertificate) (scan : Scanned) (found : Components) (height : ℕ → ℕ) (made : Sets) (margins : List Margin) (leads : ℕ → ℕ → Bool) (m : IsMadeOf p scan found height made margins leads certificate) where
   abbrev number : ℕ → ℕ

@@ -3,7 +3,7 @@ use Rattle.std.specs.Prelude.{◌≡◌, ◌⊎◌, ◌<◌, ◌≤◌, ◌+◌,
 use Rattle.std.specs.List.{Contains}
 use Rattle.std.specs.List.Sorted.{IsNonDecreasingBy}
 use Rattle.effect_scan.specs.declared.node.Node.{Node}
-use Rattle.effect_scan.specs.Rows.{row, Edge}
+use Rattle.effect_scan.specs.Rows.{Edge}
 use Rattle.rank_check.specs.Valid.{most_bound}
 use Rattle.rank_graph.specs.Walks.{LeadsBy}
 use Rattle.settling_make.specs.declared.components.Components.{Components}

@@ -1,4 +1,4 @@
-use Rattle.std.proofs.Common.{◌<◌, ℕ, length, get_or, refl, arith}
+use Rattle.std.proofs.Common.{◌<◌, length, get_or, refl, arith}
 use Rattle.std.proofs.lemmas.List.Elements.{Contains-get_or}
 use Rattle.settling_make.proofs.Stepping.{highest_none, highest_up, highest_kept, highest_all}
 use Rattle.settling_make.proofs.highest.highest_of.Goals as goal

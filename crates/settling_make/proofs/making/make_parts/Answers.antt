@@ -1,4 +1,4 @@
-use Rattle.std.proofs.Common.{◌<◌, ℕ, List, length, refl, ap, arith}
+use Rattle.std.proofs.Common.{ℕ, List, length, refl, ap, arith}
 use Rattle.effect_scan.specs.declared.node.Node.{Node}
 use Rattle.rank_graph.specs.Solutions.{rank_of}
 use Rattle.rank_graph.proofs.Driving.{edge_inside}

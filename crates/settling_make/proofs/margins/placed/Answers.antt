@@ -1,4 +1,4 @@
-use Rattle.std.proofs.Common.{◌≡◌, List, length, refl, sym, ap, ◌∙◌, arith}
+use Rattle.std.proofs.Common.{List, length, ap, ◌∙◌, arith}
 use Rattle.effect_scan.specs.declared.node.Node.{Node}
 use Rattle.rank_check.specs.Entries.{place_at}
 use Rattle.settling.proofs.Passing.{read_same}

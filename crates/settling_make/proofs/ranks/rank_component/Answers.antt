@@ -1,4 +1,4 @@
-use Rattle.std.proofs.Common.{◌≡◌, ◌<◌, ◌≤◌, ℕ, List, length, ap, arith}
+use Rattle.std.proofs.Common.{ℕ, List, length, ap, arith}
 use Rattle.rank_graph.specs.Solutions.{rank_of}
 use Rattle.settling_make.specs.Ranking.{IsHighest}
 use Rattle.settling_make.proofs.Ranking.{member_of, height_low, round_some, least_low, raised_told}

@@ -1,8 +1,7 @@
-use Rattle.std.proofs.Common.{◌≡◌, ℕ, List, get_or, inl, inr, subst, sym, arith}
+use Rattle.std.proofs.Common.{ℕ, get_or, inl, inr, subst, sym}
 use Rattle.std.specs.List.{Contains}
 use Rattle.std.proofs.lemmas.List.Elements.{Contains-get_or}
 use Rattle.effect_scan.specs.Rows.{Edge}
-use Rattle.settling_make.specs.Components.{number_of}
 use Rattle.settling_make.proofs.Taking.{one_of, none_taken, all_taken}
 use Rattle.settling_make.proofs.sets.has_inside.Goals as goal
 

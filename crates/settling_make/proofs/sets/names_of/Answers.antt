@@ -1,9 +1,8 @@
-use Rattle.std.proofs.Common.{◌≡◌, ◌<◌, ◌∙◌, ℕ, List, length, get_or, ap, subst, arith}
+use Rattle.std.proofs.Common.{◌<◌, ◌∙◌, ℕ, List, length, get_or, ap, subst, arith}
 use Rattle.std.specs.List.{AllZip}
 use Rattle.std.proofs.lemmas.List.{take_all}
 use Rattle.std.proofs.lemmas.List.Elements.{Contains-get_or}
 use Rattle.effect_scan.specs.declared.node.Node.{Node}
-use Rattle.certificate_lang.specs.declared.certificate.NodeName.{NodeName}
 use Rattle.name_indexes.proofs.Zips.{zip_push}
 use Rattle.name_indexes.proofs.Searches.{read_at}
 use Rattle.settling_make.specs.Sets.{IsNameOf}

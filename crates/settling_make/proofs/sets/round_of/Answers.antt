@@ -1,4 +1,4 @@
-use Rattle.std.proofs.Common.{◌≡◌, ◌<◌, ◌≤◌, ℕ, get_or, sym, ap, ◌∙◌, arith}
+use Rattle.std.proofs.Common.{get_or, arith}
 use Rattle.std.proofs.lemmas.List.Elements.{Contains-get_or}
 use Rattle.rank_graph.specs.Solutions.{rank_of}
 use Rattle.settling_make.proofs.Setting.{round_none, round_more, round_all}

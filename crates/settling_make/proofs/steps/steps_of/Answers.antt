@@ -1,4 +1,4 @@
-use Rattle.std.proofs.Common.{◌≡◌, ◌<◌, ◌+◌, List, ℕ, length, get_or, refl, ap, ◌∙◌, subst, arith}
+use Rattle.std.proofs.Common.{◌≡◌, List, ℕ, length, ap, subst, arith}
 use Rattle.std.specs.List.{Contains}
 use Rattle.effect_scan.specs.Rows.{row, Edge}
 use Rattle.settling_make.specs.Ranking.{IsHighest}
