@@ -1,7 +1,7 @@
 //! The bodies of slots.
 
-use crate::classes::{Import, Placed};
-use crate::effects::{GivenBodies, GivenStatement, GivenValue};
+use crate::classes::{Import, Placed, push_parts};
+use crate::effects::{EffectVerb, GivenBodies, GivenStatement, GivenValue};
 use std::alloc::AllocError;
 
 /// Adds the body of a slot, whose parameters have these names: what effects say, the write of its property, or none that is
@@ -22,8 +22,10 @@ pub fn push_body(
     }
     match (import.written(slot.class, slot.method), names.first()) {
         (Some(property), Some(name)) => {
-            let name = name.as_str();
-            write!(text, " {{ set this.{property} = {name}; }}")
+            push_parts(
+                text,
+                &[" { set this.", property, " = ", name.as_str(), "; }"],
+            )
         }
         _ => text.push_str(" { } // body unknown"),
     }
@@ -35,25 +37,20 @@ fn push_statement(
     statement: &GivenStatement<'_>,
     names: &[String],
 ) -> Result<(), AllocError> {
-    match statement {
-        GivenStatement::Emit { signal, values } => {
-            write!(text, " emit {signal}(")?;
-            push_values(text, values.as_slice(), names)?;
-            text.push_str(");")
-        }
-        GivenStatement::Set { path, value } => {
-            write!(text, " set this.{path} = ")?;
-            push_value(text, *value, names)?;
-            text.push_str(";")
-        }
-        GivenStatement::Call { path, values } => {
-            write!(text, " call this.{path}(")?;
-            push_values(text, values.as_slice(), names)?;
-            text.push_str(");")
-        }
-        GivenStatement::Delete { path } if *path == "this" => text.push_str(" delete this;"),
-        GivenStatement::Delete { path } => write!(text, " delete this.{path};"),
-    }
+    let (before, behind) = match statement.verb {
+        EffectVerb::Emits => (" emit ", "("),
+        EffectVerb::Sets => (" set this.", " = "),
+        EffectVerb::Calls => (" call this.", "("),
+        EffectVerb::Deletes if statement.path == "this" => (" delete ", ""),
+        EffectVerb::Deletes => (" delete this.", ""),
+    };
+    push_parts(text, &[before, statement.path, behind])?;
+    push_values(text, statement.values.as_slice(), names)?;
+    text.push_str(if statement.verb.names_method() {
+        ");"
+    } else {
+        ";"
+    })
 }
 
 /// Adds values, with commas between them.
@@ -62,22 +59,21 @@ fn push_values(
     values: &[GivenValue],
     names: &[String],
 ) -> Result<(), AllocError> {
-    for (place, value) in values.iter().enumerate() {
-        if place > 0 {
-            text.push_str(", ")?;
-        }
-        push_value(text, *value, names)?;
+    let mut comma = "";
+    for value in values {
+        push_parts(text, &[comma, word(*value, names)])?;
+        comma = ", ";
     }
     Ok(())
 }
 
-/// Adds a value.
-fn push_value(text: &mut String, value: GivenValue, names: &[String]) -> Result<(), AllocError> {
+/// A value as it is written, where the slot's parameters have these names.
+fn word(value: GivenValue, names: &[String]) -> &str {
     match value {
-        GivenValue::Literal(literal) => text.push_str(literal),
+        GivenValue::Literal(literal) => literal,
         GivenValue::Parameter(place) => match names.get(place) {
-            Some(name) => text.push_str(name.as_str()),
-            None => Ok(()),
+            Some(name) => name.as_str(),
+            None => "",
         },
     }
 }

@@ -9,6 +9,7 @@ mod listing;
 mod members;
 mod moc;
 mod plain;
+mod read_classes;
 mod reading;
 mod scopes;
 
@@ -21,6 +22,6 @@ pub use members::{
     parameters_of,
 };
 pub use moc::{MocArgument, MocFile, MocMethod};
-pub use plain::push_plain;
+pub use plain::{push_parts, push_plain};
 pub use reading::{BORDER, files};
 pub use scopes::full_name;

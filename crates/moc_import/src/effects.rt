@@ -8,17 +8,18 @@ mod methods;
 mod near;
 mod reading;
 mod scanner;
+mod signatures;
 mod slots;
 mod statements;
 
-use crate::classes::{Import, push_plain};
+use crate::classes::{Import, Placed, push_plain};
 use crate::effects::fault::EffectFault;
 use crate::effects::line::EffectLine;
 use crate::effects::lookup::Lookup;
 use crate::effects::slots::slot_of;
 use crate::effects::statements::statement;
 pub use body::{GivenStatement, GivenValue};
-pub use line::NumberedLine;
+pub use line::{EffectVerb, NumberedLine};
 pub use reading::lines;
 pub use slots::{added_slots, named_properties};
 use std::alloc::{AllocError, Global};
@@ -72,7 +73,7 @@ impl<'e> GivenBodies<'e> {
             }
             match &line.read {
                 Ok(read) => effects.push_line(alloc, lookup, line.number, read)?,
-                Err(fault) => effects.note(alloc, line.number, fault)?,
+                Err(fault) => effects.note(alloc, line.number, EffectFault::Unread(*fault))?,
             }
         }
         Ok(effects)
@@ -97,7 +98,12 @@ impl<'e> GivenBodies<'e> {
     }
 
     fn body(&self, class: usize, place: usize) -> Option<&GivenBody<'e>> {
-        self.bodies.iter().find(|it: &&GivenBody<'_>| it.class == class && it.place == place)
+        for body in self.bodies.as_slice() {
+            if body.class == class && body.place == place {
+                return Some(body);
+            }
+        }
+        None
     }
 
     /// Adds the body that a line gives.
@@ -114,22 +120,13 @@ impl<'e> GivenBodies<'e> {
         let slot = match slot_of(alloc, lookup, line) {
             Ok(Some(slot)) => slot,
             Ok(None) => return Ok(()),
-            Err(fault) => return self.note(alloc, number, &fault),
+            Err(fault) => return self.note(alloc, number, fault),
         };
         if let Some(first) = self.body(slot.class, slot.place) {
             let fault = EffectFault::Twice(first.line);
-            return self.note(alloc, number, &fault);
+            return self.note(alloc, number, fault);
         }
-        let mut statements = Vec::new(alloc);
-        for effect in line.effects.as_slice() {
-            if self.mistakes.len() >= MOST_TOLD {
-                break;
-            }
-            match statement(alloc, lookup, slot, effect) {
-                Ok(statement) => statements.push(statement)?,
-                Err(fault) => self.note(alloc, number, &fault)?,
-            }
-        }
+        let statements = self.statements_of(alloc, lookup, slot, number, line)?;
         self.bodies.push(GivenBody {
             line: number,
             class: slot.class,
@@ -139,20 +136,51 @@ impl<'e> GivenBodies<'e> {
         Ok(())
     }
 
+    /// The statements that a line gives its slot.
+    fn statements_of<'i>(
+        &mut self,
+        alloc: Global,
+        lookup: Lookup<'i, '_>,
+        slot: Placed<'_, '_>,
+        number: usize,
+        line: &'e EffectLine<'_>,
+    ) -> Result<Vec<GivenStatement<'e>>, AllocError>
+    where
+        'e: 'i,
+    {
+        let mut statements = Vec::new(alloc);
+        for effect in line.effects.as_slice() {
+            if self.mistakes.len() >= MOST_TOLD {
+                break;
+            }
+            match statement(alloc, lookup, slot, effect) {
+                Ok(statement) => statements.push(statement)?,
+                Err(fault) => self.note(alloc, number, fault)?,
+            }
+        }
+        Ok(statements)
+    }
+
     /// Notes what is wrong with a line.
     fn note(
         &mut self,
         alloc: Global,
         line: usize,
-        fault: &EffectFault<'_>,
+        fault: EffectFault<'_, '_>,
     ) -> Result<(), AllocError> {
-        if let EffectFault::Memory(fault) = fault {
-            return Err(*fault);
+        if matches!(fault, EffectFault::Memory) {
+            return Err(AllocError);
         }
-        let told = format!(in alloc; "{fault}")?;
-        let mut text = String::new(alloc);
-        push_plain(&mut text, told.as_str())?;
+        let text = told(alloc, fault)?;
         self.mistakes.push(LineMistake { line, text })?;
         Ok(())
     }
+}
+
+/// What is said of a fault.
+fn told(alloc: Global, fault: EffectFault<'_, '_>) -> Result<String, AllocError> {
+    let told = format!(in alloc; "{fault}")?;
+    let mut text = String::new(alloc);
+    push_plain(&mut text, told.as_str())?;
+    Ok(text)
 }

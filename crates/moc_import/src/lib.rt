@@ -11,7 +11,7 @@ pub use crate::classes::ImportFault;
 use crate::classes::{BORDER, Catalogue, Choice, Import, MocFile, files};
 pub use crate::effects::LineMistake;
 use crate::effects::{GivenBodies, NumberedLine, added_slots, lines, named_properties};
-use std::alloc::Global;
+use std::alloc::{AllocError, Global};
 pub use summary::Summary;
 
 /// A text of effects has at most so many bytes, as many as a program.
@@ -81,22 +81,51 @@ fn declarations<'f>(
     wanted: ImportOptions<'_>,
 ) -> Result<ImportOutcome, ImportFault> {
     let catalogue = Catalogue::of(alloc, files, wanted.only)?;
-    for name in wanted.only {
+    if !has_all(&catalogue, wanted.only) {
+        return Err(ImportFault::NoClass);
+    }
+    let choice = choice_of(alloc, &catalogue, lines, wanted.is_lean)?;
+    let import = Import::of(alloc, catalogue, &choice)?;
+    outcome(alloc, &import, lines)
+}
+
+/// Whether the classes of all these names are there.
+fn has_all(catalogue: &Catalogue<'_>, only: &[&str]) -> bool {
+    for name in only {
         if catalogue.number(name).is_none() {
-            return Err(ImportFault::NoClass);
+            return false;
         }
     }
-    let choice = Choice {
-        is_lean: wanted.is_lean,
-        kept: named_properties(alloc, lines)?,
-        added: added_slots(alloc, &catalogue, lines)?,
-    };
-    let import = Import::of(alloc, catalogue, &choice)?;
-    let effects = GivenBodies::of(alloc, &import, lines)?;
+    true
+}
+
+/// Which members are wanted.
+fn choice_of<'f>(
+    alloc: Global,
+    catalogue: &Catalogue<'_>,
+    lines: &'f [NumberedLine<'_>],
+    is_lean: bool,
+) -> Result<Choice<'f>, AllocError> {
+    let kept = named_properties(alloc, lines)?;
+    let added = added_slots(alloc, catalogue, lines)?;
+    Ok(Choice {
+        is_lean,
+        kept,
+        added,
+    })
+}
+
+/// What comes of what is imported.
+fn outcome(
+    alloc: Global,
+    import: &Import<'_>,
+    lines: &[NumberedLine<'_>],
+) -> Result<ImportOutcome, ImportFault> {
+    let effects = GivenBodies::of(alloc, import, lines)?;
     if !effects.is_whole() {
         return Ok(ImportOutcome::Mistaken(effects.into_mistakes()));
     }
-    let program = writing::program(alloc, &import, &effects)?;
-    let summary = Summary::of(&import, &effects);
+    let program = writing::program(alloc, import, &effects)?;
+    let summary = Summary::of(import, &effects);
     Ok(ImportOutcome::Imported(Imported { program, summary }))
 }

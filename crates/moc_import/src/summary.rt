@@ -29,7 +29,7 @@ impl Summary {
     /// The counts.
     pub(crate) fn of(import: &Import<'_>, effects: &GivenBodies<'_>) -> Summary {
         let mut summary = Summary {
-            others: import.catalogue.left_out.len(),
+            others: import.catalogue.left_out().len(),
             ..Summary::default()
         };
         for (class, members) in import.members.iter().enumerate() {

@@ -5,8 +5,8 @@ use crate::classes::kinds::QSTRING;
 use crate::classes::listing::Listing;
 use crate::classes::members::is_free;
 use crate::classes::moc::{MocClass, MocFile};
-use crate::classes::scopes::{full_name, is_called, is_in_scope, nearness};
-use indexmap::IndexMap;
+use crate::classes::read_classes::ReadClasses;
+use crate::classes::scopes::{full_name, nearer, nearness};
 use std::alloc::{AllocError, Global};
 
 /// The class of which all others are.
@@ -32,20 +32,11 @@ pub enum NoClass {
 /// The classes that are imported, and those whose enums are known.
 #[derive(Drop)]
 pub struct Catalogue<'f> {
-    pub classes: Vec<Listed<'f>>,
-    /// The names that the classes have here, by number.
-    names: Vec<String>,
-    /// The numbers of the classes by these names.
-    named: IndexMap<String, usize>,
-    /// Classes of objects that are left out.
-    pub left_out: Vec<(&'f MocClass, NoClass)>,
-    /// All classes that are read, which needn't be imported.
-    all: Vec<&'f MocClass>,
-    /// The places of these by their names, and the numbers of those that are imported.
-    read: MocClassNames<'f>,
+    /// The classes that are imported, with the names that they have here.
+    listing: Listing<'f>,
+    /// The numbers of these by their names in C++.
     imported: MocClassNames<'f>,
-    /// The places of the classes that have an enum, by the names of enums.
-    with_enum: IndexMap<&'f [u8], Vec<usize>>,
+    read: ReadClasses<'f>,
 }
 
 impl<'f> Catalogue<'f> {
@@ -55,52 +46,45 @@ impl<'f> Catalogue<'f> {
         files: &'f [MocFile],
         only: &[&str],
     ) -> Result<Catalogue<'f>, AllocError> {
-        let mut all: Vec<&'f MocClass> = Vec::new(alloc);
-        let mut read = MocClassNames::new(alloc);
-        for file in files {
-            for class in file.classes.as_slice() {
-                read.add(alloc, class, all.len())?;
-                all.push(class)?;
-            }
-        }
-        let listing = Listing::of(alloc, all.as_slice(), &read, only)?;
-        let mut imported = MocClassNames::new(alloc);
-        for (number, listed) in listing.classes.iter().enumerate() {
-            imported.add(alloc, listed.class, number)?;
-        }
-        let with_enum = enums(alloc, all.as_slice())?;
+        let read = ReadClasses::of(alloc, files)?;
+        let listing = Listing::of(alloc, &read, only)?;
+        let imported = listing.cpp_names(alloc)?;
         Ok(Catalogue {
-            classes: listing.classes,
-            names: listing.names,
-            named: listing.named,
-            left_out: listing.left_out,
-            all,
-            read,
+            listing,
             imported,
-            with_enum,
+            read,
         })
+    }
+
+    /// The classes.
+    pub fn classes(&self) -> &[Listed<'f>] {
+        self.listing.classes.as_slice()
+    }
+
+    /// Classes of objects that are left out.
+    pub fn left_out(&self) -> &[(&'f MocClass, NoClass)] {
+        self.listing.left_out.as_slice()
     }
 
     /// The name that a class has here; that of `QObject` for `None`.
     pub fn name(&self, class: Option<usize>) -> &str {
-        match class.and_then(|number: usize| self.names.get(number)) {
+        let Some(number) = class else {
+            return QOBJECT;
+        };
+        match self.listing.names.get(number) {
             Some(name) => name.as_str(),
             None => QOBJECT,
         }
     }
 
     /// The names that the classes have here.
-    pub fn class_names(&self, alloc: Global) -> Result<Vec<&str>, AllocError> {
-        let mut names = Vec::new(alloc);
-        for name in self.names.as_slice() {
-            names.push(name.as_str())?;
-        }
-        Ok(names)
+    pub fn class_names(&self) -> &[String] {
+        self.listing.names.as_slice()
     }
 
     /// The number of the class that has this name here, or else of the first one that C++ calls so, with its scope or without.
     pub fn number(&self, name: &str) -> Option<usize> {
-        match self.named.get(name) {
+        match self.listing.named.get(name) {
             Some(number) => Some(*number),
             None => self.number_from("", name),
         }
@@ -108,26 +92,21 @@ impl<'f> Catalogue<'f> {
 
     /// Whether a class of objects of this name is read, which needn't be imported.
     pub fn is_read(&self, name: &str) -> bool {
-        self.read.near(name).iter().any(|place: &usize| match self.all.get(*place) {
-            Some(it) => it.object && is_called(it, name),
-            None => false,
-        })
+        self.read.has_object(name)
     }
 
     /// The number of the class that the name leads to where it is in the class of the full name `from`.
     fn number_from(&self, from: &str, name: &str) -> Option<usize> {
-        let mut nearest: Option<(usize, usize)> = None;
+        let mut nearest = None;
         for number in self.imported.near(name) {
-            let Some(it) = self.classes.get(*number) else {
-                continue;
-            };
-            if let Some(near) = nearness(it.class, name, from) {
-                if nearest.is_none_or(|(_, most): (usize, usize)| near > most) {
-                    nearest = Some((*number, near));
+            if let Some(it) = self.classes().get(*number) {
+                if let Some(near) = nearness(it.class, name, from) {
+                    nearest = nearer(nearest, *number, near);
                 }
             }
         }
-        nearest.map(|(number, _): (usize, usize)| number)
+        let (number, _) = nearest?;
+        Some(number)
     }
 
     /// The class that a pointer to this name leads to where it is in a class: `Some(None)` for `QObject`, `None` where
@@ -136,7 +115,7 @@ impl<'f> Catalogue<'f> {
         if name == QOBJECT {
             return Some(None);
         }
-        let from = full_name(self.classes.get(class)?.class);
+        let from = full_name(self.classes().get(class)?.class);
         match self.number_from(from, name) {
             Some(number) => Some(Some(number)),
             // A class that has another name here.
@@ -144,29 +123,15 @@ impl<'f> Catalogue<'f> {
         }
     }
 
-    /// The numbers of a class and of its bases, from the class up; none for `QObject`.
-    pub fn lineage(&self, alloc: Global, class: Option<usize>) -> Result<Vec<usize>, AllocError> {
-        let mut lineage = Vec::new(alloc);
-        let mut at = class;
-        for _ in 0..self.classes.len() {
-            let Some(number) = at else {
-                break;
-            };
-            lineage.push(number)?;
-            at = self.base(number);
-        }
-        Ok(lineage)
-    }
-
     /// The base of a class.
-    fn base(&self, class: usize) -> Option<usize> {
-        self.classes.get(class)?.base
+    pub fn base(&self, class: usize) -> Option<usize> {
+        self.classes().get(class)?.base
     }
 
     /// Whether each object of the one class is one of the other.
     pub fn is_below(&self, class: Option<usize>, above: Option<usize>) -> bool {
         let mut at = class;
-        for _ in 0..self.classes.len() {
+        for _ in 0..self.classes().len() {
             let Some(number) = at else {
                 break;
             };
@@ -182,62 +147,26 @@ impl<'f> Catalogue<'f> {
     /// scopes are.
     pub fn has_enum(&self, class: usize, name: &str) -> bool {
         if let Some((scope, own)) = name.rsplit_once("::") {
-            return self.any_with_enum(own, |it: &MocClass| is_called(it, scope));
+            return self.read.has_enum_of(scope, own);
         }
-        if self.places_with_enum(name).is_empty() {
+        if !self.read.has_enum(name) {
             return false;
         }
         let mut at = Some(class);
-        for _ in 0..self.classes.len() {
-            let Some(listed) = at.and_then(|number: usize| self.classes.get(number)) else {
-                return false;
+        for _ in 0..self.classes().len() {
+            let Some(number) = at else {
+                break;
             };
-            if self.any_with_enum(name, |it: &MocClass| is_in_scope(it, listed.class)) {
+            let Some(listed) = self.classes().get(number) else {
+                break;
+            };
+            if self.read.has_enum_around(listed.class, name) {
                 return true;
             }
             at = listed.base;
         }
         false
     }
-
-    /// Whether a class that has the enum passes the test.
-    fn any_with_enum<F: Fn(&MocClass) -> bool>(&self, name: &str, test: F) -> bool
-        requires { F.IsAlwaysCallable test }
-    {
-        for place in self.places_with_enum(name) {
-            if let Some(it) = self.all.get(*place) {
-                if test(it) {
-                    return true;
-                }
-            }
-        }
-        false
-    }
-
-    /// The places of the classes that have the enum.
-    fn places_with_enum(&self, name: &str) -> &[usize] {
-        match self.with_enum.get(name.as_bytes()) {
-            Some(places) => places.as_slice(),
-            None => &[],
-        }
-    }
-}
-
-/// The places of the classes that have an enum, by the names of enums and flags.
-fn enums<'f>(
-    alloc: Global,
-    all: &[&'f MocClass],
-) -> Result<IndexMap<&'f [u8], Vec<usize>>, AllocError> {
-    let mut places: IndexMap<&'f [u8], Vec<usize>> = IndexMap::new(alloc);
-    for (place, class) in all.iter().enumerate() {
-        let class: &'f MocClass = *class;
-        for it in class.enums.as_slice() {
-            for name in [it.name.as_bytes(), it.alias.as_bytes()] {
-                places.entry(name)?.or_insert(Vec::new(alloc)).push(place)?;
-            }
-        }
-    }
-    Ok(places)
 }
 
 /// Whether a program may declare a class of this name.

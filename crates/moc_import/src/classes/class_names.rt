@@ -5,17 +5,50 @@ use crate::classes::scopes::{full_name, last_part, own_name};
 use indexmap::IndexMap;
 use std::alloc::{AllocError, Global};
 
+/// Places in a list, by names.
+#[derive(Drop)]
+pub struct NamedPlaces<'f> {
+    places: IndexMap<&'f [u8], Vec<usize>>,
+}
+
+impl<'f> NamedPlaces<'f> {
+    /// Nothing has a place yet.
+    pub fn new(alloc: Global) -> NamedPlaces<'f> {
+        NamedPlaces {
+            places: IndexMap::new(alloc),
+        }
+    }
+
+    /// The places that have the name, in the order in which they were added.
+    pub fn of(&self, name: &str) -> &[usize] {
+        match self.places.get(name.as_bytes()) {
+            Some(places) => places.as_slice(),
+            None => &[],
+        }
+    }
+
+    /// Gives a place the name.
+    pub fn add(&mut self, alloc: Global, name: &'f str, place: usize) -> Result<(), AllocError> {
+        let places = self
+            .places
+            .entry(name.as_bytes())?
+            .or_insert(Vec::new(alloc));
+        places.push(place)?;
+        Ok(())
+    }
+}
+
 /// The places of classes in a list, by the last parts of their names: of those with their scope, and of those without.
 #[derive(Drop)]
 pub struct MocClassNames<'f> {
-    places: IndexMap<&'f [u8], Vec<usize>>,
+    parts: NamedPlaces<'f>,
 }
 
 impl<'f> MocClassNames<'f> {
     /// No class has a place yet.
     pub fn new(alloc: Global) -> MocClassNames<'f> {
         MocClassNames {
-            places: IndexMap::new(alloc),
+            parts: NamedPlaces::new(alloc),
         }
     }
 
@@ -26,26 +59,17 @@ impl<'f> MocClassNames<'f> {
         class: &'f MocClass,
         place: usize,
     ) -> Result<(), AllocError> {
-        let full = last_part(full_name(class)).as_bytes();
-        let own = own_name(class).as_bytes();
-        self.push(alloc, full, place)?;
+        let full = last_part(full_name(class));
+        let own = own_name(class);
+        self.parts.add(alloc, full, place)?;
         if own != full {
-            self.push(alloc, own, place)?;
+            self.parts.add(alloc, own, place)?;
         }
         Ok(())
     }
 
     /// The places of all classes that may be called so, in their order; others may be among them.
     pub fn near(&self, name: &str) -> &[usize] {
-        match self.places.get(last_part(name).as_bytes()) {
-            Some(places) => places.as_slice(),
-            None => &[],
-        }
-    }
-
-    fn push(&mut self, alloc: Global, part: &'f [u8], place: usize) -> Result<(), AllocError> {
-        let places = self.places.entry(part)?.or_insert(Vec::new(alloc));
-        places.push(place)?;
-        Ok(())
+        self.parts.of(last_part(name))
     }
 }

@@ -56,25 +56,31 @@ impl<'f> Import<'f> {
             members: Vec::new(alloc),
             missing: Vec::new(alloc),
         };
-        for number in 0..import.catalogue.classes.len() {
-            import.members.push(Members {
-                properties: Vec::new(alloc),
-                methods: Vec::new(alloc),
-            })?;
-            if let Some(class) = import.class(number) {
-                import.push_methods(alloc, number, class.signals.as_slice(), MethodSort::Signal)?;
-                import.push_methods(alloc, number, class.slots.as_slice(), MethodSort::Slot)?;
-                import.push_methods(alloc, number, class.methods.as_slice(), MethodSort::Slot)?;
-                import.push_added(alloc, number, choice.added.as_slice())?;
-                import.push_properties(number, class, choice)?;
-            }
-        }
+        import.push_all(alloc, choice)?;
         Ok(import)
     }
 
+    /// Adds the members of all classes.
+    fn push_all(&mut self, alloc: Global, choice: &Choice<'f>) -> Result<(), AllocError> {
+        for number in 0..self.catalogue.classes().len() {
+            self.members.push(Members {
+                properties: Vec::new(alloc),
+                methods: Vec::new(alloc),
+            })?;
+            if let Some(class) = self.class(number) {
+                self.push_methods(alloc, number, class.signals.as_slice(), MethodSort::Signal)?;
+                self.push_methods(alloc, number, class.slots.as_slice(), MethodSort::Slot)?;
+                self.push_methods(alloc, number, class.methods.as_slice(), MethodSort::Slot)?;
+                self.push_added(alloc, number, choice.added.as_slice())?;
+                self.push_properties(number, class, choice)?;
+            }
+        }
+        Ok(())
+    }
+
     /// The class of this number, as moc has it.
-    pub fn class(&self, number: usize) -> Option<&'f MocClass> {
-        let listed: &Listed<'f> = self.catalogue.classes.get(number)?;
+    fn class(&self, number: usize) -> Option<&'f MocClass> {
+        let listed: &Listed<'f> = self.catalogue.classes().get(number)?;
         Some(listed.class)
     }
 
@@ -165,16 +171,12 @@ impl<'f> Import<'f> {
         choice: &Choice<'f>,
     ) -> Result<(), AllocError> {
         for moc in class.properties.as_slice() {
-            match property_of(&self.catalogue, number, moc) {
-                Ok(_) if self.has_property(number, moc.name.as_str()) => {
-                    self.missing
-                        .push((number, MissingMember::Property(moc, LeftOut::Inherited)))?;
-                }
-                Ok(found)
-                    if choice.is_lean && !self.is_used(number, &found, choice.kept.as_slice()) => {}
+            match self.property(number, moc) {
                 Ok(found) => {
-                    if let Some(members) = self.members.get_mut(number) {
-                        members.properties.push(found)?;
+                    let is_wanted = !choice.is_lean
+                        || self.is_used(number, &found, choice.kept.as_slice());
+                    if is_wanted {
+                        self.push_property(number, found)?;
                     }
                 }
                 Err(why) => self
@@ -185,16 +187,50 @@ impl<'f> Import<'f> {
         Ok(())
     }
 
+    /// The property, or why it is left out.
+    fn property(
+        &self,
+        class: usize,
+        moc: &'f MocProperty,
+    ) -> Result<ImportedProperty<'f>, LeftOut<'f>> {
+        let found = property_of(&self.catalogue, class, moc)?;
+        if self.has_property(class, moc.name.as_str()) {
+            return Err(LeftOut::Inherited);
+        }
+        Ok(found)
+    }
+
+    /// Adds the property.
+    fn push_property(
+        &mut self,
+        class: usize,
+        property: ImportedProperty<'f>,
+    ) -> Result<(), AllocError> {
+        if let Some(members) = self.members.get_mut(class) {
+            members.properties.push(property)?;
+        }
+        Ok(())
+    }
+
     /// Whether the property notifies, a slot of one parameter writes it, or it is kept by its name.
     fn is_used(&self, class: usize, property: &ImportedProperty<'f>, kept: &[&str]) -> bool {
         let notify = property.moc.notify.as_str();
         kept.contains(&property.moc.name.as_str())
             || self.notifies(class, notify, property.mapped.kind).is_some()
-            || self.members.get(class).is_some_and(|own: &Members<'_>| {
-                own.methods
-                    .iter()
-                    .any(|it: &ImportedMethod<'_>| writes(it, property))
-            })
+            || self.is_written(class, property)
+    }
+
+    /// Whether a slot of the class itself writes the property.
+    fn is_written(&self, class: usize, property: &ImportedProperty<'f>) -> bool {
+        let Some(own) = self.members.get(class) else {
+            return false;
+        };
+        for method in own.methods.as_slice() {
+            if writes(method, property) {
+                return true;
+            }
+        }
+        false
     }
 
     /// Whether the class or a base of it has the property.
@@ -221,25 +257,24 @@ impl<'f> Import<'f> {
         let mut at = Some(class);
         for _ in 0..self.members.len() {
             let number = at?;
-            let own = self.members.get(number)?;
-            for property in own.properties.as_slice() {
+            for property in self.members.get(number)?.properties.as_slice() {
                 if writes(slot, property) {
                     return Some(property.moc.name.as_str());
                 }
             }
-            at = self.catalogue.classes.get(number)?.base;
+            at = self.catalogue.base(number);
         }
         None
     }
 
     /// The method of a class or the nearest of its bases with this name and so many parameters.
     pub fn find_method(&self, class: usize, name: &str, count: usize) -> Option<Placed<'_, 'f>> {
-        let holder = self.holder(class, WantedMember::Method(name, count))?;
-        let members = self.members.get(holder)?;
-        for (place, method) in members.methods.as_slice().iter().enumerate() {
+        let class = self.holder(class, WantedMember::Method(name, count))?;
+        let own = self.members.get(class)?;
+        for (place, method) in own.methods.as_slice().iter().enumerate() {
             if method.is_called(name, count) {
                 return Some(Placed {
-                    class: holder,
+                    class,
                     place,
                     method,
                 });
@@ -256,14 +291,14 @@ impl<'f> Import<'f> {
             if sought.is_in(self.members.get(number)?) {
                 return Some(number);
             }
-            at = self.catalogue.classes.get(number)?.base;
+            at = self.catalogue.base(number);
         }
         None
     }
 }
 
 /// A member that is looked for.
-#[derive(Clone, Copy, PartialEq, Eq)]
+#[derive(Clone, Copy)]
 enum WantedMember<'n> {
     /// The property of this name.
     Property(&'n str),
@@ -279,14 +314,23 @@ impl WantedMember<'_> {
     /// Whether it is one of these members.
     fn is_in(self, members: &Members<'_>) -> bool {
         for property in members.properties.as_slice() {
-            if self == WantedMember::Property(property.moc.name.as_str()) {
+            if self.is_property(property) {
                 return true;
             }
         }
-        members
-            .methods
-            .iter()
-            .any(|it: &ImportedMethod<'_>| self.is_method(it))
+        for method in members.methods.as_slice() {
+            if self.is_method(method) {
+                return true;
+            }
+        }
+        false
+    }
+
+    fn is_property(self, property: &ImportedProperty<'_>) -> bool {
+        match self {
+            WantedMember::Property(name) => property.moc.name.as_str() == name,
+            _ => false,
+        }
     }
 
     fn is_method(self, method: &ImportedMethod<'_>) -> bool {

@@ -1,7 +1,6 @@
 //! Types of C++ and what they are in the language.
 
 use crate::classes::catalogue::Catalogue;
-use std::alloc::AllocError;
 
 /// The type of texts.
 pub const QSTRING: &str = "QString";
@@ -34,29 +33,16 @@ impl LanguageType {
         }
     }
 
-    /// Adds the type as it is declared.
-    pub fn push_to(self, text: &mut String, catalogue: &Catalogue<'_>) -> Result<(), AllocError> {
+    /// The parts of the type as it is declared.
+    pub fn parts<'i>(self, catalogue: &'i Catalogue<'_>) -> [&'i str; 3] {
         match self {
-            LanguageType::Int => text.push_str("int"),
-            LanguageType::Bool => text.push_str("bool"),
-            LanguageType::Text => text.push_str(QSTRING),
-            LanguageType::Object(class) => push_pointer(text, catalogue, class),
-            LanguageType::ConstObject(class) => {
-                text.push_str("const ")?;
-                push_pointer(text, catalogue, class)
-            }
+            LanguageType::Int => ["int", "", ""],
+            LanguageType::Bool => ["bool", "", ""],
+            LanguageType::Text => [QSTRING, "", ""],
+            LanguageType::Object(class) => [catalogue.name(class), "*", ""],
+            LanguageType::ConstObject(class) => ["const ", catalogue.name(class), "*"],
         }
     }
-}
-
-/// Adds a pointer to a class.
-fn push_pointer(
-    text: &mut String,
-    catalogue: &Catalogue<'_>,
-    class: Option<usize>,
-) -> Result<(), AllocError> {
-    text.push_str(catalogue.name(class))?;
-    text.push_str("*")
 }
 
 /// What a type of C++ becomes.

@@ -1,9 +1,10 @@
 //! Which classes are imported, in which order, and under which names.
 
 use crate::classes::catalogue::{Listed, NoClass, QOBJECT, may_be_class};
-use crate::classes::class_names::MocClassNames;
+use crate::classes::class_names::{MocClassNames, NamedPlaces};
 use crate::classes::moc::MocClass;
-use crate::classes::scopes::{full_name, is_called, nearness, own_name};
+use crate::classes::read_classes::ReadClasses;
+use crate::classes::scopes::{full_name, is_called, nearer, nearness, own_name};
 use indexmap::IndexMap;
 use std::alloc::{AllocError, Global};
 
@@ -16,7 +17,7 @@ pub struct Listing<'f> {
     pub named: IndexMap<String, usize>,
     pub left_out: Vec<(&'f MocClass, NoClass)>,
     /// The numbers of the classes by their names in C++ with their scopes.
-    by_full_name: IndexMap<&'f [u8], usize>,
+    by_full_name: NamedPlaces<'f>,
 }
 
 /// A class that is read, and what is known of it.
@@ -34,31 +35,40 @@ impl<'f> Listing<'f> {
     /// Lists the objects' classes; where some are named, these and their bases alone.
     pub fn of(
         alloc: Global,
-        all: &[&'f MocClass],
-        read: &MocClassNames<'f>,
+        read: &ReadClasses<'f>,
         only: &[&str],
     ) -> Result<Listing<'f>, AllocError> {
-        let mut listing = Listing {
-            classes: Vec::new(alloc),
-            names: Vec::new(alloc),
-            named: IndexMap::new(alloc),
-            left_out: Vec::new(alloc),
-            by_full_name: IndexMap::new(alloc),
-        };
-        let mut candidates = candidates(alloc, all, read, only)?;
+        let mut candidates = candidates(alloc, read, only)?;
         want_bases(&mut candidates);
+        listing_of(alloc, &mut candidates)
+    }
+
+    /// The numbers of the classes by their names in C++.
+    pub fn cpp_names(&self, alloc: Global) -> Result<MocClassNames<'f>, AllocError> {
+        let mut names = MocClassNames::new(alloc);
+        for (number, listed) in self.classes.iter().enumerate() {
+            names.add(alloc, listed.class, number)?;
+        }
+        Ok(names)
+    }
+
+    /// Lists the classes that are wanted, the bases first.
+    fn list(
+        &mut self,
+        alloc: Global,
+        candidates: &mut Vec<Candidate<'f>>,
+    ) -> Result<(), AllocError> {
         // Each round lists one at least, as long as bases lead to no circle.
-        for _ in 0..all.len() {
-            let before = listing.classes.len();
-            for place in 0..all.len() {
-                listing.list_one(alloc, &mut candidates, place)?;
+        for _ in 0..candidates.len() {
+            let before = self.classes.len();
+            for place in 0..candidates.len() {
+                self.list_one(alloc, candidates, place)?;
             }
-            if listing.classes.len() == before {
+            if self.classes.len() == before {
                 break;
             }
         }
-        listing.leave_out(candidates.as_slice())?;
-        Ok(listing)
+        Ok(())
     }
 
     /// Lists the class of this place, if it is wanted, isn't listed yet, and its base needn't be waited for.
@@ -74,57 +84,48 @@ impl<'f> Listing<'f> {
         if !candidate.is_wanted || candidate.number.is_some() {
             return Ok(());
         }
-        let mut number = self.twin(candidate.class);
-        if number.is_none() {
-            let base = candidate
-                .base
-                .and_then(|base: usize| candidates.get(base))
-                .copied();
-            let base = match base {
-                Some(Candidate { number: None, .. }) => return Ok(()),
-                Some(Candidate { number, .. }) => number,
-                None => None,
-            };
-            number = Some(self.classes.len());
-            let listed = Listed {
-                class: candidate.class,
-                base,
-            };
-            self.push(alloc, listed)?;
-        }
+        let number = match self.twin(candidate.class) {
+            Some(number) => number,
+            None => {
+                let Some(base) = base_number(candidates.as_slice(), candidate) else {
+                    return Ok(());
+                };
+                let class = candidate.class;
+                self.push(alloc, Listed { class, base })?
+            }
+        };
         if let Some(listed) = candidates.get_mut(place) {
-            listed.number = number;
+            listed.number = Some(number);
         }
         Ok(())
     }
 
-    /// Adds a class, with its name.
-    fn push(&mut self, alloc: Global, listed: Listed<'f>) -> Result<(), AllocError> {
+    /// Adds a class, with its name, and answers its number.
+    fn push(&mut self, alloc: Global, listed: Listed<'f>) -> Result<usize, AllocError> {
         let number = self.classes.len();
-        let name = self.free_name(alloc, listed.class)?;
-        self.named.insert(name.clone()?, number)?;
         self.by_full_name
-            .insert(full_name(listed.class).as_bytes(), number)?;
-        self.names.push(name)?;
+            .add(alloc, full_name(listed.class), number)?;
         self.classes.push(listed)?;
+        let name = self.free_name(alloc, listed.class)?;
+        self.push_name(name, number)?;
+        Ok(number)
+    }
+
+    /// Adds the name of the class of this number.
+    fn push_name(&mut self, name: String, number: usize) -> Result<(), AllocError> {
+        self.named.insert(name.clone()?, number)?;
+        self.names.push(name)?;
         Ok(())
     }
 
     /// The number of the class of the same name and scope, which another text may have too.
     fn twin(&self, class: &MocClass) -> Option<usize> {
-        self.by_full_name.get(full_name(class).as_bytes()).copied()
+        self.by_full_name.of(full_name(class)).first().copied()
     }
 
     /// The name that the class gets: its own, or where another class has that, its name with its scope in front.
     fn free_name(&self, alloc: Global, class: &MocClass) -> Result<String, AllocError> {
-        let own = own_name(class);
-        let mut name = String::from_str(alloc, own)?;
-        if self.is_taken(own) {
-            let scoped = scoped_name(alloc, class)?;
-            if may_be_class(scoped.as_str()) {
-                name = scoped;
-            }
-        }
+        let mut name = self.first_name(alloc, class)?;
         // Each `_` steps past a name at least.
         for _ in 0..self.names.len() {
             if !self.is_taken(name.as_str()) {
@@ -133,6 +134,18 @@ impl<'f> Listing<'f> {
             name.push_str("_")?;
         }
         Ok(name)
+    }
+
+    /// The name that the class gets where no other one has it.
+    fn first_name(&self, alloc: Global, class: &MocClass) -> Result<String, AllocError> {
+        let own = own_name(class);
+        if self.is_taken(own) {
+            let scoped = scoped_name(alloc, class)?;
+            if may_be_class(scoped.as_str()) {
+                return Ok(scoped);
+            }
+        }
+        String::from_str(alloc, own)
     }
 
     fn is_taken(&self, name: &str) -> bool {
@@ -153,44 +166,88 @@ impl<'f> Listing<'f> {
     }
 }
 
+/// The listing of those that are wanted.
+fn listing_of<'f>(
+    alloc: Global,
+    candidates: &mut Vec<Candidate<'f>>,
+) -> Result<Listing<'f>, AllocError> {
+    let mut listing = Listing {
+        classes: Vec::new(alloc),
+        names: Vec::new(alloc),
+        named: IndexMap::new(alloc),
+        left_out: Vec::new(alloc),
+        by_full_name: NamedPlaces::new(alloc),
+    };
+    listing.list(alloc, candidates)?;
+    listing.leave_out(candidates.as_slice())?;
+    Ok(listing)
+}
+
 /// The classes with their bases; those that are named are wanted, and all where none is.
 fn candidates<'f>(
     alloc: Global,
-    all: &[&'f MocClass],
-    read: &MocClassNames<'f>,
+    read: &ReadClasses<'f>,
     only: &[&str],
 ) -> Result<Vec<Candidate<'f>>, AllocError> {
     let mut candidates = Vec::new(alloc);
-    for class in all {
-        let is_named = only.is_empty() || only.iter().any(|name: &&str| is_called(class, name));
+    for class in read.all.as_slice() {
         candidates.push(Candidate {
             class: *class,
-            base: base_of(all, read, class),
-            is_wanted: is_named && is_object(class),
+            base: base_of(read, class),
+            is_wanted: is_object(class) && is_named(class, only),
             number: None,
         })?;
     }
     Ok(candidates)
 }
 
-/// The place of the class's first base.
-fn base_of(all: &[&MocClass], read: &MocClassNames<'_>, class: &MocClass) -> Option<usize> {
-    let name = class.super_classes.first()?.name.as_str();
-    let mut nearest: Option<(usize, usize)> = None;
-    for place in read.near(name) {
-        let Some(it) = all.get(*place) else {
-            continue;
-        };
-        if !is_object(it) {
-            continue;
-        }
-        if let Some(near) = nearness(it, name, full_name(class)) {
-            if nearest.is_none_or(|(_, most): (usize, usize)| near > most) {
-                nearest = Some((*place, near));
-            }
+/// Whether the class is among those that are named, or none is named.
+fn is_named(class: &MocClass, only: &[&str]) -> bool {
+    for name in only {
+        if is_called(class, name) {
+            return true;
         }
     }
-    nearest.map(|(place, _): (usize, usize)| place)
+    only.is_empty()
+}
+
+/// The place of the class's first base.
+fn base_of(read: &ReadClasses<'_>, class: &MocClass) -> Option<usize> {
+    let name = class.super_classes.first()?.name.as_str();
+    let mut nearest = None;
+    for place in read.names.near(name) {
+        if let Some(near) = nearness_as_base(read, *place, name, class) {
+            nearest = nearer(nearest, *place, near);
+        }
+    }
+    let (place, _) = nearest?;
+    Some(place)
+}
+
+/// How near to the class the one of this place is, which may be its base of this name.
+fn nearness_as_base(
+    read: &ReadClasses<'_>,
+    place: usize,
+    name: &str,
+    class: &MocClass,
+) -> Option<usize> {
+    let it = read.all.get(place)?;
+    if is_object(it) {
+        nearness(it, name, full_name(class))
+    } else {
+        None
+    }
+}
+
+/// The number of the candidate's base, where that needn't be waited for: `Some(None)` where no base of it is read.
+fn base_number(candidates: &[Candidate<'_>], candidate: Candidate<'_>) -> Option<Option<usize>> {
+    let Some(place) = candidate.base else {
+        return Some(None);
+    };
+    match candidates.get(place) {
+        Some(base) => Some(Some(base.number?)),
+        None => Some(None),
+    }
 }
 
 /// Wants the bases of what is wanted.
@@ -217,10 +274,10 @@ fn want_base(candidates: &mut Vec<Candidate<'_>>, place: usize) -> bool {
     if !candidate.is_wanted {
         return false;
     }
-    match candidate
-        .base
-        .and_then(|base: usize| candidates.get_mut(base))
-    {
+    let Some(base) = candidate.base else {
+        return false;
+    };
+    match candidates.get_mut(base) {
         Some(base) => {
             let is_new = !base.is_wanted;
             base.is_wanted = true;

@@ -84,23 +84,6 @@ impl<'f> ImportedMethod<'f> {
     pub fn is_signal(&self) -> bool {
         self.sort == MethodSort::Signal
     }
-
-    /// Adds its signature, with its parameters' types as they are declared.
-    pub fn push_signature(
-        &self,
-        text: &mut String,
-        catalogue: &Catalogue<'_>,
-    ) -> Result<(), AllocError> {
-        text.push_str(self.moc.name.as_str())?;
-        text.push_str("(")?;
-        for (place, parameter) in self.parameters.as_slice().iter().enumerate() {
-            if place > 0 {
-                text.push_str(", ")?;
-            }
-            parameter.mapped.kind.push_to(text, catalogue)?;
-        }
-        text.push_str(")")
-    }
 }
 
 /// Whether the text may be a member's or a parameter's name.
@@ -134,16 +117,14 @@ pub fn parameters_of<'f>(
         return Ok(Err(LeftOut::Name));
     }
     let mut parameters = Vec::new(alloc);
-    for argument in moc.arguments.as_slice() {
-        if argument.kind.as_str() == "QPrivateSignal" {
+    for moc in moc.arguments.as_slice() {
+        let kind = moc.kind.as_str();
+        if kind == "QPrivateSignal" {
             continue;
         }
-        match mapped_type(catalogue, class, argument.kind.as_str()) {
-            Some(mapped) => parameters.push(ImportedParameter {
-                moc: argument,
-                mapped,
-            })?,
-            None => return Ok(Err(LeftOut::Type(argument.kind.as_str()))),
+        match mapped_type(catalogue, class, kind) {
+            Some(mapped) => parameters.push(ImportedParameter { moc, mapped })?,
+            None => return Ok(Err(LeftOut::Type(kind))),
         }
     }
     Ok(if parameters.len() > MOST_PARAMETERS {

@@ -7,3 +7,11 @@ use std::alloc::AllocError;
 pub fn push_plain(text: &mut String, part: &str) -> Result<(), AllocError> {
     push_printed(text, part.as_bytes())
 }
+
+/// Adds the parts, one after another.
+pub fn push_parts(text: &mut String, parts: &[&str]) -> Result<(), AllocError> {
+    for part in parts {
+        text.push_str(part)?;
+    }
+    Ok(())
+}

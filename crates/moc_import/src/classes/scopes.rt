@@ -41,6 +41,18 @@ pub fn nearness(class: &MocClass, name: &str, from: &str) -> Option<usize> {
     }
 }
 
+/// The nearest class so far, with how near it is, and behind it the one of this place: of those that are as near the first one.
+pub fn nearer(
+    nearest: Option<(usize, usize)>,
+    place: usize,
+    near: usize,
+) -> Option<(usize, usize)> {
+    match nearest {
+        Some((_, most)) if near <= most => nearest,
+        _ => Some((place, near)),
+    }
+}
+
 /// Whether the class is in the scope that the other one is: that class itself, or one inside it.
 pub fn is_in_scope(scope: &MocClass, class: &MocClass) -> bool {
     match full_name(class).strip_prefix(full_name(scope)) {

@@ -1,54 +1,57 @@
 //! Bodies, as effects give them.
 
 use crate::classes::{Catalogue, ImportedParameter, LanguageType};
+use crate::effects::line::EffectVerb;
 use std::alloc::{AllocError, Global};
 
-/// A statement of a body. Paths begin at the slot's object.
+/// A statement of a body.
 #[derive(Drop)]
-pub enum GivenStatement<'e> {
-    Emit {
-        signal: &'e str,
-        values: Vec<GivenValue>,
-    },
-    Set {
-        path: &'e str,
-        value: GivenValue,
-    },
-    Call {
-        path: &'e str,
-        values: Vec<GivenValue>,
-    },
-    /// `this`, or the path to what is deleted.
-    Delete {
-        path: &'e str,
-    },
+pub struct GivenStatement<'e> {
+    pub verb: EffectVerb,
+    /// What is emitted, set, called or deleted: `this`, or a path from the slot's object.
+    pub path: &'e str,
+    /// The values that are passed, or the one that is set.
+    pub values: Vec<GivenValue>,
 }
 
 /// A value in a statement.
-#[derive(Clone, Copy, Debug, PartialEq, Eq)]
+#[derive(Clone, Copy, PartialEq, Eq)]
 pub enum GivenValue {
     /// The slot's parameter of this place.
     Parameter(usize),
     Literal(&'static str),
 }
 
-/// Values of these types: each one the slot's next parameter that the type takes, and a literal where there is none left.
+/// Values for the parameters of a method: each one the slot's next parameter that the type takes, and a literal where there is
+/// none left.
 pub fn values(
     alloc: Global,
     catalogue: &Catalogue<'_>,
-    kinds: &[LanguageType],
+    wanted: &[ImportedParameter<'_>],
     parameters: &[ImportedParameter<'_>],
 ) -> Result<Vec<GivenValue>, AllocError> {
     let mut values = Vec::new(alloc);
-    for kind in kinds {
-        let next = next_value(catalogue, *kind, parameters, values.as_slice());
+    for it in wanted {
+        let next = next_value(catalogue, it.mapped.kind, parameters, values.as_slice());
         values.push(next)?;
     }
     Ok(values)
 }
 
+/// A value of this type alone.
+pub fn only_value(
+    alloc: Global,
+    catalogue: &Catalogue<'_>,
+    kind: LanguageType,
+    parameters: &[ImportedParameter<'_>],
+) -> Result<Vec<GivenValue>, AllocError> {
+    let mut values = Vec::new(alloc);
+    values.push(next_value(catalogue, kind, parameters, &[]))?;
+    Ok(values)
+}
+
 /// A value of this type: the first parameter that it takes and that isn't among the values so far, or a literal.
-pub fn next_value(
+fn next_value(
     catalogue: &Catalogue<'_>,
     kind: LanguageType,
     parameters: &[ImportedParameter<'_>],

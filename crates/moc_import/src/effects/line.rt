@@ -1,7 +1,7 @@
 //! The lines of a text of effects.
 
 use crate::classes::MocMethod;
-use crate::effects::fault::EffectFault;
+use crate::effects::fault::LineFault;
 
 /// A line that isn't empty.
 #[derive(Drop)]
@@ -9,7 +9,7 @@ pub struct NumberedLine<'e> {
     /// Its number, from 1 on.
     pub number: usize,
     /// What it says, or what is wrong with it.
-    pub(crate) read: Result<EffectLine<'e>, EffectFault<'e>>,
+    pub(crate) read: Result<EffectLine<'e>, LineFault<'e>>,
 }
 
 /// A slot, and what it does.
@@ -33,7 +33,7 @@ pub struct SlotEffect<'e> {
 }
 
 /// What a slot does to what is named.
-#[derive(Clone, Copy, Debug, PartialEq, Eq)]
+#[derive(Clone, Copy)]
 pub enum EffectVerb {
     Emits,
     Sets,

@@ -1,8 +1,10 @@
 //! What paths of effects lead to.
 
-use crate::classes::{Catalogue, Import, LanguageType, MissingMember};
-use crate::effects::fault::EffectFault;
-use crate::effects::near::NearName;
+use crate::classes::{
+    Catalogue, Import, ImportedMethod, LanguageType, LeftOut, Members, MissingMember,
+};
+use crate::effects::fault::{EffectFault, MemberFault, NoMember};
+use crate::effects::near::{NearName, NearestName};
 use std::alloc::{AllocError, Global};
 
 /// The property that every object has.
@@ -23,7 +25,7 @@ pub struct SoughtMember<'i> {
 }
 
 /// What a member is.
-#[derive(Clone, Copy, Debug, PartialEq, Eq)]
+#[derive(Clone, Copy, PartialEq, Eq)]
 pub enum SoughtSort {
     Property,
     Signal,
@@ -39,6 +41,18 @@ impl SoughtSort {
             SoughtSort::Slot => "slot",
         }
     }
+
+    /// Whether the method is a signal, or a slot, as this is.
+    pub fn is_of(self, method: &ImportedMethod<'_>) -> bool {
+        method.is_signal() == (self == SoughtSort::Signal)
+    }
+}
+
+impl SoughtMember<'_> {
+    /// Whether the method is a signal, or a slot, of this name.
+    pub fn is_called_as(self, method: &ImportedMethod<'_>) -> bool {
+        self.sort.is_of(method) && method.moc.name.as_str() == self.name
+    }
 }
 
 impl<'i, 'f> Lookup<'i, 'f> {
@@ -53,7 +67,7 @@ impl<'i, 'f> Lookup<'i, 'f> {
         alloc: Global,
         class: usize,
         path: &'i str,
-    ) -> Result<LanguageType, EffectFault<'i>> {
+    ) -> Result<LanguageType, EffectFault<'i, 'f>> {
         let mut kind = LanguageType::Object(Some(class));
         if path == "this" {
             return Ok(kind);
@@ -73,7 +87,7 @@ impl<'i, 'f> Lookup<'i, 'f> {
         alloc: Global,
         class: usize,
         path: &'i str,
-    ) -> Result<Option<usize>, EffectFault<'i>> {
+    ) -> Result<Option<usize>, EffectFault<'i, 'f>> {
         match self.kind_of(alloc, class, path)? {
             LanguageType::Object(found) => Ok(found),
             LanguageType::ConstObject(_) => Err(EffectFault::ConstPointer(path)),
@@ -89,62 +103,120 @@ impl<'i, 'f> Lookup<'i, 'f> {
         alloc: Global,
         class: Option<usize>,
         name: &'i str,
-    ) -> Result<LanguageType, EffectFault<'i>> {
+    ) -> Result<LanguageType, EffectFault<'i, 'f>> {
         if name == OBJECT_NAME {
             return Ok(LanguageType::Text);
         }
-        let mut names = Vec::new(alloc);
-        names.push(OBJECT_NAME)?;
-        for number in self.catalogue().lineage(alloc, class)?.as_slice() {
-            let Some(members) = self.import.members.get(*number) else {
-                continue;
+        let mut at = class;
+        for _ in 0..self.catalogue().classes().len() {
+            let Some(number) = at else {
+                break;
             };
-            for property in members.properties.as_slice() {
-                if property.moc.name.as_str() == name {
-                    return Ok(property.mapped.kind);
-                }
-                names.push(property.moc.name.as_str())?;
+            if let Some(kind) = self.own_property(number, name) {
+                return Ok(kind);
             }
+            at = self.catalogue().base(number);
         }
-        let sought = SoughtMember {
-            class,
-            sort: SoughtSort::Property,
-            name,
-        };
-        Err(self.no_member(alloc, sought, names.as_slice())?)
+        let sort = SoughtSort::Property;
+        Err(self.no_member(alloc, SoughtMember { class, sort, name })?)
     }
 
-    /// Why there is no such member among those of these names.
+    /// The type of a property that the class itself has.
+    fn own_property(self, class: usize, name: &str) -> Option<LanguageType> {
+        for property in self.import.members.get(class)?.properties.as_slice() {
+            if property.moc.name.as_str() == name {
+                return Some(property.mapped.kind);
+            }
+        }
+        None
+    }
+
+    /// Why there is no such member.
     pub fn no_member(
         self,
         alloc: Global,
         sought: SoughtMember<'i>,
-        names: &[&'i str],
-    ) -> Result<EffectFault<'i>, AllocError> {
-        let class = self.catalogue().name(sought.class);
-        let what = sought.sort.word();
-        let name = sought.name;
-        let lineage = self.catalogue().lineage(alloc, sought.class)?;
+    ) -> Result<EffectFault<'i, 'f>, AllocError> {
+        let why = match self.why_left_out(sought) {
+            Some(why) => NoMember::LeftOut(why),
+            None => NoMember::Unknown(self.near(alloc, sought)?),
+        };
+        Ok(self.member_fault(sought, why))
+    }
+
+    /// That the member isn't found, for this reason.
+    pub fn member_fault(self, sought: SoughtMember<'i>, why: NoMember<'i>) -> EffectFault<'i, 'f> {
+        EffectFault::Member(MemberFault {
+            lookup: self,
+            sought,
+            why,
+        })
+    }
+
+    /// Why the member is left out, if it is.
+    fn why_left_out(self, sought: SoughtMember<'_>) -> Option<LeftOut<'f>> {
         for (number, missing) in self.import.missing.as_slice() {
             let (called, why, is_property) = match *missing {
                 MissingMember::Property(moc, why) => (moc.name.as_str(), why, true),
                 MissingMember::Method(moc, why) => (moc.name.as_str(), why, false),
             };
             let is_sort = is_property == (sought.sort == SoughtSort::Property);
-            if is_sort && called == name && lineage.contains(number) {
-                return Ok(EffectFault::LeftOutMember {
-                    class,
-                    what,
-                    name,
-                    why,
-                });
+            let is_there = is_sort && called == sought.name;
+            if is_there && self.catalogue().is_below(sought.class, Some(*number)) {
+                return Some(why);
             }
         }
-        Ok(EffectFault::NoMember {
-            class,
-            what,
-            name,
-            near: NearName::to(alloc, name, names)?,
-        })
+        None
     }
+
+    /// Which member of the class and its bases may have been meant.
+    fn near(self, alloc: Global, sought: SoughtMember<'i>) -> Result<NearName<'i>, AllocError> {
+        let mut nearest = NearestName::to(sought.name);
+        if sought.sort == SoughtSort::Property {
+            nearest.look_at(alloc, OBJECT_NAME)?;
+        }
+        let mut at = sought.class;
+        for _ in 0..self.catalogue().classes().len() {
+            let Some(number) = at else {
+                break;
+            };
+            let Some(own) = self.import.members.get(number) else {
+                break;
+            };
+            if sought.sort == SoughtSort::Property {
+                look_at_properties(alloc, own, &mut nearest)?;
+            } else {
+                look_at_methods(alloc, own, sought.sort, &mut nearest)?;
+            }
+            at = self.catalogue().base(number);
+        }
+        Ok(nearest.name())
+    }
+}
+
+/// Looks at the names of the properties of a class.
+fn look_at_properties<'i>(
+    alloc: Global,
+    own: &'i Members<'_>,
+    nearest: &mut NearestName<'i>,
+) -> Result<(), AllocError> {
+    for property in own.properties.as_slice() {
+        nearest.look_at(alloc, property.moc.name.as_str())?;
+    }
+    Ok(())
+}
+
+/// Looks at the names of the signals, or the slots, of a class.
+fn look_at_methods<'i>(
+    alloc: Global,
+    own: &'i Members<'_>,
+    sort: SoughtSort,
+    nearest: &mut NearestName<'i>,
+) -> Result<(), AllocError> {
+    for method in own.methods.as_slice() {
+        if sort.is_of(method) {
+            nearest.look_at(alloc, method.moc.name.as_str())?;
+        }
+    }
+    Ok(())
 }

@@ -1,7 +1,7 @@
 //! Which signals and slots effects name.
 
-use crate::classes::{ImportedMethod, LanguageType, Mapped, mapped_type};
-use crate::effects::fault::EffectFault;
+use crate::classes::{ImportedMethod, mapped_type};
+use crate::effects::fault::{EffectFault, NoMember};
 use crate::effects::lookup::{Lookup, SoughtMember, SoughtSort};
 use std::alloc::{AllocError, Global};
 
@@ -9,61 +9,52 @@ use std::alloc::{AllocError, Global};
 const DELETE_LATER: &str = "deleteLater";
 
 impl<'i, 'f> Lookup<'i, 'f> {
-    /// The types of the parameters of the signal or slot that is sought: where types are given the one with these, else the
-    /// only one of the name.
+    /// The signal or slot that is sought: where types are given the one with these, else the only one of the name. It is `None`
+    /// for the slot that every object has.
     pub fn method(
         self,
         alloc: Global,
         sought: SoughtMember<'i>,
         types: Option<&[&str]>,
-    ) -> Result<Vec<LanguageType>, EffectFault<'i>> {
+    ) -> Result<Option<&'i ImportedMethod<'f>>, EffectFault<'i, 'f>> {
         if is_delete_later(sought, types) {
-            return Ok(Vec::new(alloc));
+            return Ok(None);
         }
-        let methods = self.methods(alloc, sought)?;
-        let mut found: Option<&'i ImportedMethod<'f>> = None;
-        let mut count = 0usize;
-        for (owner, method) in methods.as_slice() {
-            if method.moc.name.as_str() == sought.name && self.takes(*owner, method, types) {
-                found = Some(*method);
-                count = count.saturating_add(1);
-            }
-        }
-        let Some(method) = found else {
-            return Err(self.no_method(alloc, sought, methods.as_slice())?);
-        };
+        let (found, count) = self.found(sought, types);
         if count > 1 {
-            return Err(EffectFault::Several {
-                class: self.catalogue().name(sought.class),
-                name: sought.name,
-                there: self.signatures(alloc, sought.name, methods.as_slice())?,
-            });
+            return Err(self.member_fault(sought, NoMember::Several));
         }
-        let mut kinds = Vec::new(alloc);
-        for parameter in method.parameters.as_slice() {
-            kinds.push(parameter.mapped.kind)?;
+        match found {
+            Some(method) => Ok(Some(method)),
+            None => Err(self.no_method(alloc, sought)?),
         }
-        Ok(kinds)
     }
 
-    /// All signals, or all slots, of the class and its bases, each with the class that has it.
-    fn methods(
+    /// The last one of the signals or slots that may be the one that is sought, and how many they are.
+    fn found(
         self,
-        alloc: Global,
         sought: SoughtMember<'_>,
-    ) -> Result<Vec<(usize, &'i ImportedMethod<'f>)>, AllocError> {
-        let mut methods = Vec::new(alloc);
-        for number in self.catalogue().lineage(alloc, sought.class)?.as_slice() {
-            let Some(members) = self.import.members.get(*number) else {
-                continue;
+        types: Option<&[&str]>,
+    ) -> (Option<&'i ImportedMethod<'f>>, usize) {
+        let mut found = None;
+        let mut count = 0usize;
+        let mut at = sought.class;
+        for _ in 0..self.catalogue().classes().len() {
+            let Some(class) = at else {
+                break;
             };
-            for method in members.methods.as_slice() {
-                if method.is_signal() == (sought.sort == SoughtSort::Signal) {
-                    methods.push((*number, method))?;
+            let Some(own) = self.import.members.get(class) else {
+                break;
+            };
+            for method in own.methods.as_slice() {
+                if sought.is_called_as(method) && self.takes(class, method, types) {
+                    found = Some(method);
+                    count = count.saturating_add(1);
                 }
             }
+            at = self.catalogue().base(class);
         }
-        Ok(methods)
+        (found, count)
     }
 
     /// Whether the method of this class has parameters of these types, if some are given.
@@ -76,85 +67,49 @@ impl<'i, 'f> Lookup<'i, 'f> {
             let [kind, rest @ ..] = left else {
                 return false;
             };
-            let mapped = mapped_type(self.catalogue(), class, kind);
-            if mapped.is_none_or(|it: Mapped| it.kind != parameter.mapped.kind) {
-                return false;
+            match mapped_type(self.catalogue(), class, kind) {
+                Some(mapped) if mapped.kind == parameter.mapped.kind => left = rest,
+                _ => return false,
             }
-            left = rest;
         }
         left.is_empty()
     }
 
-    /// Why none of these methods is the one that is sought.
+    /// Why none of the signals or slots is the one that is sought.
     fn no_method(
         self,
         alloc: Global,
         sought: SoughtMember<'i>,
-        methods: &[(usize, &'i ImportedMethod<'f>)],
-    ) -> Result<EffectFault<'i>, AllocError> {
+    ) -> Result<EffectFault<'i, 'f>, AllocError> {
         let name = sought.name;
-        let there = self.signatures(alloc, name, methods)?;
-        if !there.is_empty() {
-            return Ok(EffectFault::OtherTypes {
-                class: self.catalogue().name(sought.class),
-                what: sought.sort.word(),
-                name,
-                there,
-            });
+        if self.is_there(sought) {
+            return Ok(self.member_fault(sought, NoMember::OtherTypes));
         }
-        match sought.sort {
-            SoughtSort::Signal if matches!(name, "destroyed" | "objectNameChanged") => {
+        if sought.sort == SoughtSort::Signal {
+            if matches!(name, "destroyed" | "objectNameChanged") {
                 return Ok(EffectFault::RuntimeSignal(name));
             }
-            SoughtSort::Slot if self.has_signal(alloc, sought)? => {
-                return Ok(EffectFault::CallsSignal(name));
-            }
-            _ => {}
+        } else if self.is_there(SoughtMember {
+            sort: SoughtSort::Signal,
+            ..sought
+        }) {
+            return Ok(EffectFault::CallsSignal(name));
         }
-        let mut names = Vec::new(alloc);
-        for (_, method) in methods {
-            names.push(method.moc.name.as_str())?;
-        }
-        self.no_member(alloc, sought, names.as_slice())
+        self.no_member(alloc, sought)
     }
 
-    /// Whether the class or a base of it has a signal of this name.
-    fn has_signal(self, alloc: Global, sought: SoughtMember<'_>) -> Result<bool, AllocError> {
-        let signals = self.methods(
-            alloc,
-            SoughtMember {
-                sort: SoughtSort::Signal,
-                ..sought
-            },
-        )?;
-        Ok(
-            signals.iter().any(|(_, it): &(usize, &ImportedMethod<'_>)| it.moc.name.as_str()
-                == sought.name),
-        )
-    }
-
-    /// The signatures of those of the methods that have this name.
-    fn signatures(
-        self,
-        alloc: Global,
-        name: &str,
-        methods: &[(usize, &ImportedMethod<'_>)],
-    ) -> Result<String, AllocError> {
-        let mut text = String::new(alloc);
-        for (_, method) in methods {
-            if method.moc.name.as_str() == name {
-                text.push_str(if text.is_empty() { "`" } else { ", `" })?;
-                method.push_signature(&mut text, self.catalogue())?;
-                text.push_str("`")?;
-            }
-        }
-        Ok(text)
+    /// Whether the class or a base of it has a signal, or a slot, of the name.
+    fn is_there(self, sought: SoughtMember<'_>) -> bool {
+        let (_, count) = self.found(sought, None);
+        count > 0
     }
 }
 
 /// Whether this is the slot of `QObject`.
 fn is_delete_later(sought: SoughtMember<'_>, types: Option<&[&str]>) -> bool {
-    sought.sort == SoughtSort::Slot
-        && sought.name == DELETE_LATER
-        && types.is_none_or(|it: &[&str]| it.is_empty())
+    let has_types = match types {
+        Some(types) => !types.is_empty(),
+        None => false,
+    };
+    sought.sort == SoughtSort::Slot && sought.name == DELETE_LATER && !has_types
 }

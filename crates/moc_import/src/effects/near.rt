@@ -8,27 +8,50 @@ use strsim::levenshtein;
 const LONGEST: usize = 64;
 
 /// The name that may have been meant, if there is one.
-#[derive(Clone, Copy, Debug, PartialEq, Eq)]
+#[derive(Clone, Copy)]
 pub struct NearName<'n>(pub Option<&'n str>);
 
-impl<'n> NearName<'n> {
-    /// The nearest of the names, if a few letters make it of the one that is written: one, or a third of them.
-    pub fn to(alloc: Global, written: &str, names: &[&'n str]) -> Result<NearName<'n>, AllocError> {
-        let mut nearest: Option<(&'n str, usize)> = None;
+/// The nearest so far of the names that are looked at, if a few letters make it of the one that is written: one, or a third of
+/// them.
+#[derive(Clone, Copy)]
+pub struct NearestName<'n> {
+    written: &'n str,
+    nearest: Option<(&'n str, usize)>,
+}
+
+impl<'n> NearestName<'n> {
+    /// No name is looked at yet.
+    pub fn to(written: &'n str) -> NearestName<'n> {
+        NearestName {
+            written,
+            nearest: None,
+        }
+    }
+
+    /// Looks at a name.
+    pub fn look_at(&mut self, alloc: Global, name: &'n str) -> Result<(), AllocError> {
+        let written = self.written;
         let most = (written.len() / 3).max(1);
-        if written.len() > LONGEST {
-            return Ok(NearName(None));
+        if written.len() > LONGEST || name.len().abs_diff(written.len()) > most {
+            return Ok(());
         }
-        for name in names {
-            if name.len().abs_diff(written.len()) > most {
-                continue;
-            }
-            let edits = levenshtein(alloc, written, name)?;
-            if edits <= most && nearest.is_none_or(|(_, least): (&str, usize)| edits < least) {
-                nearest = Some((*name, edits));
-            }
+        let edits = levenshtein(alloc, written, name)?;
+        let is_nearer = match self.nearest {
+            Some((_, least)) => edits < least,
+            None => edits <= most,
+        };
+        if is_nearer {
+            self.nearest = Some((name, edits));
         }
-        Ok(NearName(nearest.map(|(name, _): (&str, usize)| name)))
+        Ok(())
+    }
+
+    /// The nearest one of the names.
+    pub fn name(self) -> NearName<'n> {
+        match self.nearest {
+            Some((name, _)) => NearName(Some(name)),
+            None => NearName(None),
+        }
     }
 }
 

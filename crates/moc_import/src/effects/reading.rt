@@ -9,7 +9,7 @@
 //! ```
 
 use crate::classes::{MocArgument, MocMethod};
-use crate::effects::fault::EffectFault;
+use crate::effects::fault::LineFault;
 use crate::effects::line::{EffectLine, EffectVerb, NumberedLine, SlotEffect};
 use crate::effects::scanner::{LineScanner, first_word};
 use basic_types::is_name;
@@ -27,7 +27,7 @@ pub fn lines<'e>(alloc: Global, text: &'e str) -> Result<Vec<NumberedLine<'e>>, 
             continue;
         }
         let read = match line_of(alloc, &mut scanner) {
-            Err(EffectFault::Memory(fault)) => return Err(fault),
+            Err(LineFault::Memory(fault)) => return Err(fault),
             read => read,
         };
         lines.push(NumberedLine {
@@ -42,14 +42,36 @@ pub fn lines<'e>(alloc: Global, text: &'e str) -> Result<Vec<NumberedLine<'e>>, 
 fn line_of<'e>(
     alloc: Global,
     scanner: &mut LineScanner<'e>,
-) -> Result<EffectLine<'e>, EffectFault<'e>> {
+) -> Result<EffectLine<'e>, LineFault<'e>> {
     let Some((class, name)) = scanner.word().rsplit_once('.') else {
-        return Err(EffectFault::NoSlot);
+        return Err(LineFault::NoSlot);
     };
-    let Some(types) = types(alloc, scanner)? else {
-        return Err(EffectFault::NoSlot);
-    };
-    let slot = moc_method(alloc, name, types.as_slice())?;
+    let slot = slot(alloc, scanner, name)?;
+    let effects = effects(alloc, scanner)?;
+    Ok(EffectLine {
+        class,
+        slot,
+        effects,
+    })
+}
+
+/// Takes the types of the slot of this name, as moc would write it.
+fn slot<'e>(
+    alloc: Global,
+    scanner: &mut LineScanner<'e>,
+    name: &str,
+) -> Result<MocMethod, LineFault<'e>> {
+    match types(alloc, scanner)? {
+        Some(types) => Ok(moc_method(alloc, name, types.as_slice())?),
+        None => Err(LineFault::NoSlot),
+    }
+}
+
+/// Takes what the slot does.
+fn effects<'e>(
+    alloc: Global,
+    scanner: &mut LineScanner<'e>,
+) -> Result<Vec<SlotEffect<'e>>, LineFault<'e>> {
     let mut effects = Vec::new(alloc);
     // Each round takes a letter at least.
     for _ in 0..scanner.len() {
@@ -58,11 +80,7 @@ fn line_of<'e>(
         }
         push_effects(alloc, scanner, &mut effects)?;
     }
-    Ok(EffectLine {
-        class,
-        slot,
-        effects,
-    })
+    Ok(effects)
 }
 
 /// Takes a verb, and adds what follows it.
@@ -70,22 +88,16 @@ fn push_effects<'e>(
     alloc: Global,
     scanner: &mut LineScanner<'e>,
     effects: &mut Vec<SlotEffect<'e>>,
-) -> Result<(), EffectFault<'e>> {
+) -> Result<(), LineFault<'e>> {
     let rest = scanner.rest();
     let Some(verb) = EffectVerb::of(scanner.word()) else {
-        return Err(EffectFault::NoVerb(first_word(rest)));
+        return Err(LineFault::NoVerb(first_word(rest)));
     };
     for _ in 0..scanner.len().saturating_add(1) {
         if effects.len() >= MOST_EFFECTS {
-            return Err(EffectFault::TooMuch);
+            return Err(LineFault::TooMuch);
         }
-        let path = path(scanner)?;
-        let types = if verb.names_method() {
-            types(alloc, scanner)?
-        } else {
-            None
-        };
-        effects.push(SlotEffect { verb, path, types })?;
+        effects.push(effect(alloc, scanner, verb)?)?;
         if !scanner.eat(',') {
             break;
         }
@@ -93,31 +105,56 @@ fn push_effects<'e>(
     Ok(())
 }
 
+/// Takes what is named behind a verb.
+fn effect<'e>(
+    alloc: Global,
+    scanner: &mut LineScanner<'e>,
+    verb: EffectVerb,
+) -> Result<SlotEffect<'e>, LineFault<'e>> {
+    let path = path(scanner)?;
+    let types = if verb.names_method() {
+        types(alloc, scanner)?
+    } else {
+        None
+    };
+    Ok(SlotEffect { verb, path, types })
+}
+
 /// Takes a path; a `this.` in front is left out of it.
-fn path<'e>(scanner: &mut LineScanner<'e>) -> Result<&'e str, EffectFault<'e>> {
+fn path<'e>(scanner: &mut LineScanner<'e>) -> Result<&'e str, LineFault<'e>> {
     if scanner.is_done() {
-        return Err(EffectFault::NoName);
+        return Err(LineFault::NoName);
     }
     let rest = scanner.rest();
     let word = scanner.word();
     let path = word.strip_prefix("this.").unwrap_or(word);
-    if path.split('.').all(|name: &str| is_name(name.as_bytes())) {
+    if is_path(path) {
         Ok(path)
     } else {
-        Err(EffectFault::NoPath(first_word(rest)))
+        Err(LineFault::NoPath(first_word(rest)))
     }
+}
+
+/// Whether the text is names with a `.` between them.
+fn is_path(text: &str) -> bool {
+    for name in text.split('.') {
+        if !is_name(name.as_bytes()) {
+            return false;
+        }
+    }
+    true
 }
 
 /// Takes the types in brackets, if brackets stand next.
 fn types<'e>(
     alloc: Global,
     scanner: &mut LineScanner<'e>,
-) -> Result<Option<Vec<&'e str>>, EffectFault<'e>> {
+) -> Result<Option<Vec<&'e str>>, LineFault<'e>> {
     if !scanner.eat('(') {
         return Ok(None);
     }
     let Some(inside) = scanner.until(')') else {
-        return Err(EffectFault::Unclosed);
+        return Err(LineFault::Unclosed);
     };
     let mut types = Vec::new(alloc);
     if inside.trim().is_empty() {
@@ -126,7 +163,7 @@ fn types<'e>(
     for part in inside.split(',') {
         let kind = part.trim();
         if kind.is_empty() {
-            return Err(EffectFault::NoType);
+            return Err(LineFault::NoType);
         }
         types.push(kind)?;
     }
@@ -137,13 +174,17 @@ fn types<'e>(
 fn moc_method(alloc: Global, name: &str, types: &[&str]) -> Result<MocMethod, AllocError> {
     let mut arguments = Vec::new(alloc);
     for kind in types {
-        arguments.push(MocArgument {
-            name: String::new(alloc),
-            kind: String::from_str(alloc, kind)?,
-        })?;
+        arguments.push(argument(alloc, kind)?)?;
     }
     Ok(MocMethod {
         name: String::from_str(alloc, name)?,
         arguments,
     })
+}
+
+/// A parameter without a name.
+fn argument(alloc: Global, kind: &str) -> Result<MocArgument, AllocError> {
+    let kind = String::from_str(alloc, kind)?;
+    let name = String::new(alloc);
+    Ok(MocArgument { name, kind })
 }

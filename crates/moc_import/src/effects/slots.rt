@@ -6,7 +6,8 @@ use crate::classes::{
 use crate::effects::fault::EffectFault;
 use crate::effects::line::{EffectLine, EffectVerb, NumberedLine, split_path};
 use crate::effects::lookup::Lookup;
-use crate::effects::near::NearName;
+use crate::effects::near::{NearName, NearestName};
+use crate::effects::signatures::Signature;
 use std::alloc::{AllocError, Global};
 
 /// The slots of the lines, each with its class's number, where that is imported.
@@ -56,46 +57,73 @@ pub fn slot_of<'i, 'f, 'e: 'i>(
     alloc: Global,
     lookup: Lookup<'i, 'f>,
     line: &'e EffectLine<'_>,
-) -> Result<Option<Placed<'i, 'f>>, EffectFault<'i>> {
+) -> Result<Option<Placed<'i, 'f>>, EffectFault<'i, 'f>> {
     let catalogue = lookup.catalogue();
     let Some(class) = catalogue.number(line.class) else {
         if catalogue.is_read(line.class) {
             return Ok(None);
         }
-        let names = catalogue.class_names(alloc)?;
-        let near = NearName::to(alloc, line.class, names.as_slice())?;
+        let near = near_class(alloc, catalogue, line.class)?;
         return Err(EffectFault::NoClass(line.class, near));
     };
     let moc: &'i MocMethod = &line.slot;
-    let name = moc.name.as_str();
-    let parameters = match parameters_of(alloc, catalogue, class, moc)? {
-        Ok(parameters) => parameters,
-        Err(why) => return Err(EffectFault::NoSuchSlot(name, why)),
-    };
+    match parameters_of(alloc, catalogue, class, moc)? {
+        Ok(parameters) => {
+            let slot = own_slot(lookup, class, moc.name.as_str(), parameters.as_slice())?;
+            Ok(Some(slot))
+        }
+        Err(why) => Err(EffectFault::NoSuchSlot(moc.name.as_str(), why)),
+    }
+}
+
+/// The class that may have been meant.
+fn near_class<'i>(
+    alloc: Global,
+    catalogue: &'i Catalogue<'_>,
+    written: &'i str,
+) -> Result<NearName<'i>, AllocError> {
+    let mut nearest = NearestName::to(written);
+    for name in catalogue.class_names() {
+        nearest.look_at(alloc, name.as_str())?;
+    }
+    Ok(nearest.name())
+}
+
+/// The slot of this name that the class has itself, with parameters of these types.
+fn own_slot<'i, 'f>(
+    lookup: Lookup<'i, 'f>,
+    class: usize,
+    name: &'i str,
+    parameters: &[ImportedParameter<'_>],
+) -> Result<Placed<'i, 'f>, EffectFault<'i, 'f>> {
+    let catalogue = lookup.catalogue();
     // It was added where nothing was in its way; what `QObject` has are no methods of the classes here.
     let Some(slot) = lookup.import.find_method(class, name, parameters.len()) else {
         return Err(EffectFault::NoSuchSlot(name, LeftOut::Inherited));
     };
-    let mut there = String::new(alloc);
-    slot.method.push_signature(&mut there, catalogue)?;
-    if slot.method.is_signal() {
+    let method = slot.method;
+    let there = Signature { method, catalogue };
+    if method.is_signal() {
         return Err(EffectFault::SlotIsSignal(there));
     }
     let holder = catalogue.name(Some(slot.class));
     if slot.class != class {
         return Err(EffectFault::SlotOfBase(there, holder));
     }
-    if !has_kinds(slot.method, parameters.as_slice()) {
-        let class = holder;
-        return Err(EffectFault::OtherSlot { class, there });
+    if !has_kinds(method, parameters) {
+        return Err(EffectFault::OtherSlot(holder, there));
     }
-    Ok(Some(slot))
+    Ok(slot)
 }
 
 /// Whether the method's parameters have the types of these.
 fn has_kinds(method: &ImportedMethod<'_>, parameters: &[ImportedParameter<'_>]) -> bool {
-    method.parameters.iter().zip(parameters).all(|(own, other): (
-        &ImportedParameter<'_>,
-        &ImportedParameter<'_>,
-    )| own.mapped.kind == other.mapped.kind)
+    let mut left = parameters;
+    for own in method.parameters.as_slice() {
+        match left {
+            [other, rest @ ..] if own.mapped.kind == other.mapped.kind => left = rest,
+            _ => return false,
+        }
+    }
+    left.is_empty()
 }

@@ -1,73 +1,92 @@
 //! Effects as statements.
 
-use crate::classes::{ImportedParameter, Placed};
-use crate::effects::body::{GivenStatement, GivenValue, next_value, values};
+use crate::classes::{ImportedMethod, ImportedParameter, Placed};
+use crate::effects::body::{GivenStatement, GivenValue, only_value, values};
 use crate::effects::fault::EffectFault;
 use crate::effects::line::{EffectVerb, SlotEffect, split_path};
 use crate::effects::lookup::{Lookup, SoughtMember, SoughtSort};
 use std::alloc::Global;
 
 /// The statement that an effect is in the body of this slot.
-pub fn statement<'i, 'e: 'i>(
+pub fn statement<'i, 'f, 'e: 'i>(
     alloc: Global,
-    lookup: Lookup<'i, '_>,
+    lookup: Lookup<'i, 'f>,
     slot: Placed<'_, '_>,
     effect: &'e SlotEffect<'_>,
-) -> Result<GivenStatement<'e>, EffectFault<'i>> {
+) -> Result<GivenStatement<'e>, EffectFault<'i, 'f>> {
     let path: &'e str = effect.path;
     let parameters = slot.method.parameters.as_slice();
-    let (front, name) = split_path(path);
-    match effect.verb {
-        EffectVerb::Emits => {
-            if path != name {
-                return Err(EffectFault::OtherObject(path));
-            }
-            let sought = SoughtMember {
-                class: Some(slot.class),
-                sort: SoughtSort::Signal,
-                name,
-            };
-            Ok(GivenStatement::Emit {
-                signal: path,
-                values: arguments(alloc, lookup, sought, effect, parameters)?,
-            })
+    let values = match effect.verb {
+        EffectVerb::Emits | EffectVerb::Calls => {
+            let method = method(alloc, lookup, slot.class, effect)?;
+            passed(alloc, lookup, method, parameters)?
         }
         EffectVerb::Sets => {
+            let (front, name) = split_path(path);
             let class = lookup.object(alloc, slot.class, front)?;
             let kind = lookup.property(alloc, class, name)?;
-            let value = next_value(lookup.catalogue(), kind, parameters, &[]);
-            Ok(GivenStatement::Set { path, value })
-        }
-        EffectVerb::Calls => {
-            let sought = SoughtMember {
-                class: lookup.object(alloc, slot.class, front)?,
-                sort: SoughtSort::Slot,
-                name,
-            };
-            Ok(GivenStatement::Call {
-                path,
-                values: arguments(alloc, lookup, sought, effect, parameters)?,
-            })
+            only_value(alloc, lookup.catalogue(), kind, parameters)?
         }
         EffectVerb::Deletes => {
             lookup.object(alloc, slot.class, path)?;
-            Ok(GivenStatement::Delete { path })
+            Vec::new(alloc)
         }
-    }
+    };
+    Ok(GivenStatement {
+        verb: effect.verb,
+        path,
+        values,
+    })
 }
 
-/// The values for the signal or slot that an effect names.
-fn arguments<'i>(
+/// The signal or slot that an effect names, from an object of the class; `None` for the slot that every object has.
+fn method<'i, 'f, 'e: 'i>(
     alloc: Global,
-    lookup: Lookup<'i, '_>,
-    sought: SoughtMember<'i>,
-    effect: &SlotEffect<'_>,
-    parameters: &[ImportedParameter<'_>],
-) -> Result<Vec<GivenValue>, EffectFault<'i>> {
+    lookup: Lookup<'i, 'f>,
+    class: usize,
+    effect: &'e SlotEffect<'_>,
+) -> Result<Option<&'i ImportedMethod<'f>>, EffectFault<'i, 'f>> {
+    let path: &'e str = effect.path;
+    let (front, name) = split_path(path);
     let types = match &effect.types {
         Some(types) => Some(types.as_slice()),
         None => None,
     };
-    let kinds = lookup.method(alloc, sought, types)?;
-    Ok(values(alloc, lookup.catalogue(), kinds.as_slice(), parameters)?)
+    let sought = if matches!(effect.verb, EffectVerb::Emits) {
+        if path != name {
+            return Err(EffectFault::OtherObject(path));
+        }
+        SoughtMember {
+            class: Some(class),
+            sort: SoughtSort::Signal,
+            name,
+        }
+    } else {
+        SoughtMember {
+            class: lookup.object(alloc, class, front)?,
+            sort: SoughtSort::Slot,
+            name,
+        }
+    };
+    lookup.method(alloc, sought, types)
+}
+
+/// The values that are passed to the signal or slot.
+fn passed<'i, 'f>(
+    alloc: Global,
+    lookup: Lookup<'i, 'f>,
+    method: Option<&ImportedMethod<'_>>,
+    parameters: &[ImportedParameter<'_>],
+) -> Result<Vec<GivenValue>, EffectFault<'i, 'f>> {
+    match method {
+        Some(method) => {
+            Ok(values(
+                alloc,
+                lookup.catalogue(),
+                method.parameters.as_slice(),
+                parameters,
+            )?)
+        }
+        None => Ok(Vec::new(alloc)),
+    }
 }
