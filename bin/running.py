@@ -141,7 +141,9 @@ def run(front, path: str, own: list[str], given: Given, call: words.Call) -> Non
     end = None
     if given.files or given.places or call.command.program != words.PROGRAM:
         end = named(front, path, own, given, call, closed)
-        if given.places and call.command.program == words.PROGRAM and end in EXPLAINED:
+        # `verdict` reads no settling certificate.
+        is_settled = call.has(words.SETTLING.name) and "certificate" in call.command.texts
+        if given.places and call.command.program == words.PROGRAM and end in EXPLAINED and not is_settled:
             tell_places(front, given, call)
     elif not call.files and has_file:
         end = spawned(path, own, {}, closed)

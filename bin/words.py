@@ -50,6 +50,7 @@ UNCHECKED = Option("--unchecked", "needs no certificate; at most N activations n
 STRICT = Option("--strict", "the exit status is 3 where an event is refused that no comment in its line expects")
 RECORD = Option("--record", "writes what came of each event into the script, as comments", group="form")
 WIDE = Option("--wide", "takes a program as large as one that a tool writes: 8,192 classes, 16,384 wires, 32 MiB", first=True)
+SETTLING = Option("--settling", "with a settling certificate: circles may come to rest")
 PLACES = Option("--places", "tells places by this file, and without it by NAME.places beside NAME.gf", "FILE", text="places")
 CONTEXT = Option("--context", "with N lines of the file around each place", "N", MOST_CONTEXT, group="form", here=True)
 WITNESS = Option("--witness", "writes scripts that show cycles and paths, and tells which are shown", here=True)
@@ -69,7 +70,7 @@ EFFECTS = """Effects are a slot a line:
 COMMANDS = [
     Command("certify", PROGRAM, "the certificate of a program, or why it has none", "certify app.gf > app.gfc", (WIDE, PLACES),
             texts=("program",), statuses=((0, "a certificate is written"), USAGE, REFUSED, (3, "the program has no certificate")), page="docs/commands.md"),
-    Command("check", PROGRAM, "whether a certificate is valid: `yes`, or `no` and a number", "check app.gf app.gfc", (WIDE, PLACES),
+    Command("check", PROGRAM, "whether a certificate is valid: `yes`, or `no` and a number", "check app.gf app.gfc", (WIDE, SETTLING, PLACES),
             texts=("program", "certificate"), statuses=((0, "it is valid"), USAGE, REFUSED, INVALID), page="docs/certificate.md"),
     Command("run", PROGRAM, "checks, then runs a script: the trace of each event", "run app.gf app.gfc session.gfs", (WIDE, STRICT, UNCHECKED, STEPS),
             ("program", "certificate", "script"), statuses=((0, "the run took all events"), USAGE, REFUSED, (3, "the certificate isn't valid, or with `--strict` an event was refused unexpectedly"), (4, "a fault stopped the run")), page="docs/commands.md"),
@@ -135,6 +136,12 @@ class Excluded(Fault):
     status = 2
 
 
+class NotYet(Fault):
+    """An option that a command doesn't take yet, in a sentence."""
+
+    status = 2
+
+
 class Call:
     """A command line that was taken apart: the command, the program's own words, and the files with the texts that they hold."""
 
@@ -160,7 +167,10 @@ def parse(words: list[str]) -> Call:
         raise NoCommand
     call, rest = Call(command), words[1:]
     while rest and rest[0].startswith("-") and rest[0] != "-":
-        option = command.option(rest.pop(0))
+        name = rest.pop(0)
+        option = command.option(name)
+        if not option and name == SETTLING.name and command.word in ("run", "session"):
+            raise NotYet(f"`{command.word}` takes no settling certificate yet: that runs keep to one isn't proved")
         if not option:
             raise NoCommand
         take(call, option, rest)

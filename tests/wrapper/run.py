@@ -129,6 +129,9 @@ class Tests:
             told = f"gammonfig: `{one}` and `{other}` exclude one another: `{word}` takes one of them\n"
             found = self.place.run([word, one, other, "app.gf"])
             self.count.check(found == (2, "", told), lambda: f"{word} {one} {other}: {found}")
+        for word in "run", "session":
+            self.check([word, "--settling", "app.gf", "app.gfc", "session.gfs"], 2, "", f"`{word}` takes no settling certificate yet")
+        self.check(["check", "--settling", "app.gf", "app.gfc"], 2, "refused 77\n", "refused 77: the certificate isn't in its grammar")
         for words in (["--accept", "cycle.gf", "--baseline", "cycle.gf", "app.gf"], ["--context", "1", "--json", "app.gf"]):
             self.check(["verdict", *words], 2, "", f"`{words[0]}` and `{words[2]}` exclude one another")
 

@@ -22,6 +22,8 @@ pub enum Command {
     Certify,
     /// `check`: a program is checked with its certificate.
     Check,
+    /// `check --settling`: a program is checked with its settling certificate.
+    CheckSettling,
     /// `run [--steps M]`: a program runs on a script where its certificate is valid, with this limit of rules.
     Run(u64),
     /// `run --unchecked N [--steps M]`: a program runs on a script.
@@ -43,6 +45,9 @@ impl Command {
         }
         if is_only(words, "check") {
             return Some(Command::Check);
+        }
+        if is_settling(words, "check") {
+            return Some(Command::CheckSettling);
         }
         if let Some(steps) = steps_of_run(words) {
             return Some(Command::Run(steps));
@@ -89,6 +94,16 @@ fn is_only(words: &[&str], word: &str) -> bool
 {
     match after(words, word) {
         Some(rest) => are_over(rest),
+        None => false,
+    }
+}
+
+/// Whether there are this word and `--settling`, and no other.
+fn is_settling(words: &[&str], word: &str) -> bool
+    ensures { IsTrue result ↔ (map (λ w. w.now) words.now ≡ word.now ∷ codes "--settling" ∷ []) }
+{
+    match after(words, word) {
+        Some(rest) => is_only(rest, "--settling"),
         None => false,
     }
 }

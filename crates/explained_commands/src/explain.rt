@@ -4,7 +4,7 @@ use crate::explanations::{push_fault, push_outcome, push_usage};
 use class_lang::Limits;
 use command_lines::CommandLine;
 use std::alloc::{AllocError, Global};
-use trace_tool::{Outcome, limits_of};
+use trace_tool::{Outcome, ProgramOutcome, Refusal, limits_of};
 
 /// Explains what the words come to on this input, or where it isn't known, without a place. `None` where there is nothing to
 /// explain: a command did what it was asked, memory was wanting, or there is no input.
@@ -18,6 +18,7 @@ pub fn explanation<M: Drop>(
     match outcome {
         Outcome::Usage(fault) => push_usage(&mut text, alloc, words, input, *fault)?,
         Outcome::Program(outcome) => {
+            let input = placed_input(words, input, outcome);
             push_outcome(&mut text, alloc, limits_for(words), input, outcome)?;
         }
         Outcome::Ran(ran) => {
@@ -31,6 +32,19 @@ pub fn explanation<M: Drop>(
         Ok(None)
     } else {
         Ok(Some(text))
+    }
+}
+
+/// The input, where its places are told: what is no settling certificate has none.
+fn placed_input<'i>(
+    words: &[&str],
+    input: Option<&'i [u8]>,
+    outcome: &ProgramOutcome,
+) -> Option<&'i [u8]> {
+    let is_settling = words.contains(&"--settling");
+    match outcome {
+        ProgramOutcome::Refused(Refusal::Certificate(_)) if is_settling => None,
+        _ => input,
     }
 }
 

@@ -5,6 +5,7 @@ ghost use Rattle.explained_commands.specs.Judged.{IsUnjudged};
 
 use crate::escapes::push_escapes;
 use diagnostics::PARTING;
+use program_commands::SettlingOutcome;
 use program_flaws::{Ranked, Yes, told_beside};
 use std::alloc::{AllocError, Global};
 use texts::split_at_line;
@@ -54,6 +55,10 @@ pub fn remarks_on<M: ObjectMachine>(
     if let Some(told) = told_beside(alloc, program, yes)? {
         text.push_str(told.as_str())?;
     }
+    if let Outcome::Program(ProgramOutcome::Settling(SettlingOutcome::Valid(checked))) = outcome {
+        let (bound, step) = (checked.bound(), checked.step());
+        writeln!(text, "bound {bound}, step {step}")?;
+    }
     if text.is_empty() {
         Ok(None)
     } else {
@@ -68,6 +73,10 @@ fn yes_of<M: ObjectMachine>(outcome: &Outcome<M>) -> Option<Yes<'_>> {
             Some(Yes::Certified(Ranked::of(certified.meta(), certified.ranks())))
         }
         Outcome::Program(ProgramOutcome::Valid(checked)) => Some(Yes::Valid(checked)),
+        // The ranks of these tell nothing of a program with a circle.
+        Outcome::Program(ProgramOutcome::Settling(SettlingOutcome::Valid(checked))) => {
+            Some(Yes::Ran(checked.meta()))
+        }
         Outcome::Ran(ran) => Some(Yes::Ran(ran.machine.meta())),
         _ => None,
     }

@@ -12,6 +12,7 @@ use Rattle.program_commands.specs.declared.outcome.Outcome.TheVariants.{Refused,
 use Rattle.program_commands.specs.Loading.{LoadsProgram, LoadsValid}
 use Rattle.program_commands.specs.Texts.{with_text}
 use Rattle.program_commands.specs.Outcomes.{outcome_text, outcome_status, IsShort}
+use Rattle.program_commands.specs.Settling.{CheckSettlingComesTo}
 use Rattle.program_commands.specs.Steps.{First, Is}
 
 -- `meta`, from the limits and the program's text
@@ -65,3 +66,9 @@ IsSameOutcome a b = a ≡ b
 abbrev pub OneCertifying : Type 0
 OneCertifying =
     (limits : Limits) (program : List ℕ) (a b : Outcome) → CertifyComesTo limits program a → CertifyComesTo limits program b → IsShort a ⊎ IsShort b ⊎ IsSameOutcome a b
+
+-- unless memory runs out, `check --settling` comes to one thing
+abbrev pub OneSettlingCheck : Type 0
+OneSettlingCheck =
+    (limits : Limits) (program certificate : List ℕ) (a b : Outcome) → CheckSettlingComesTo limits program certificate a →
+    CheckSettlingComesTo limits program certificate b → IsShort a ⊎ IsShort b ⊎ (a ≡ b)

@@ -4,6 +4,7 @@ pub mod Loading
 pub mod Outcomes
 pub mod Reasons
 pub mod Refusals
+pub mod Settling
 pub mod Steps
 pub mod Texts
 pub use Rattle.class_lang.specs.Reads as ClassLangReads
@@ -13,6 +14,8 @@ pub use Rattle.native_slots.specs.Misfits
 pub use Rattle.certificate_lang.specs.Reads as CertificateLangReads
 pub use Rattle.rank_check.specs.Checks
 pub use Rattle.rank_make.specs.Ranked
+pub use Rattle.settling.specs.Checks as SettlingChecks
+pub use Rattle.settling_texts.specs.Reads as SettlingTextsReads
 pub use Rattle.certificate_lang.specs.Texts as CertificateTexts
 pub use Rattle.command_lines.specs.MetaLines
 pub use Rattle.command_lines.specs.Sent

@@ -7,6 +7,8 @@ use Rattle.class_lang.specs.declared.size.Limits.{Limits}
 use Rattle.meta_objects.specs.Builds.{Builds}
 use Rattle.meta_model.specs.Loaded.{Loaded}
 use Rattle.rank_check.specs.Checks.{Checking, Examines}
+use Rattle.settling.specs.declared.certificate.SettlingCertificate.{SettlingCertificate}
+use Rattle.settling_texts.specs.Reads.{ReadsSettling}
 use Rattle.program_commands.specs.declared.refusal.Refusal.{Refusal}
 use Rattle.program_commands.specs.declared.refusal.Refusal.TheVariants.{Text, Loading, Certificate as OfCertificate, Check}
 use Rattle.program_commands.specs.Steps.{First, Gives}
@@ -32,3 +34,9 @@ abbrev pub LoadsValid : Limits → List ℕ → List ℕ → Result Checking Ref
 LoadsValid limits program certificate =
     First (LoadsCertified limits program certificate) Err (λ both.
     First (Examines both.0 both.1) (λ why. Err (Check why)) Gives)
+
+-- the program is loaded, and then its settling certificate is read
+abbrev pub LoadsSettling : Limits → List ℕ → List ℕ → Result (Loaded × SettlingCertificate) Refusal → Type 0
+LoadsSettling limits program certificate =
+    First (LoadsProgram limits program) Err (λ loaded.
+    First (ReadsSettling certificate) (λ fault. Err (OfCertificate fault)) (λ read. Gives (loaded, read)))

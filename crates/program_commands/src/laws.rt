@@ -1,6 +1,6 @@
 //! Laws on the commands.
 
-ghost use Rattle.program_commands.specs.Commands.{CertifiedIsAgreed, OneDescription, OneCertifying, OneCheck};
+ghost use Rattle.program_commands.specs.Commands.{CertifiedIsAgreed, OneDescription, OneCertifying, OneCheck, OneSettlingCheck};
 
 /// What `certify` writes of a program with the exit status 0 is a certificate that `check` says yes to, byte for byte.
 pub fn certified_is_agreed()
@@ -13,4 +13,9 @@ pub fn one_outcome()
     ensures meta { OneDescription }
     ensures certify { OneCertifying }
     ensures check { OneCheck }
+{}
+
+/// Unless memory runs out, what `check --settling` writes is determined by its texts.
+pub fn one_settling_outcome()
+    ensures { OneSettlingCheck }
 {}

@@ -11,6 +11,7 @@ mod loading;
 mod outcome;
 mod reasons;
 mod refusal;
+mod settling_commands;
 
 pub use certificate_laws::{
     loaded_names, made_is_read, one_least, one_making, one_verdict, read_names, valid_is_writable,
@@ -18,9 +19,10 @@ pub use certificate_laws::{
 pub use certified::Certified;
 pub use command_lines::WriteFault;
 pub use commands::{certify, certify_outcome, check, check_outcome, meta, meta_outcome};
-pub use laws::{certified_is_agreed, one_outcome};
+pub use laws::{certified_is_agreed, one_outcome, one_settling_outcome};
 pub use loading::{load_certified, load_program, load_valid};
 pub use outcome::Outcome;
 pub use rank_check::Checked;
 pub use rank_make::{Ranks, Why};
 pub use refusal::Refusal;
+pub use settling_commands::{SettlingOutcome, check_settling, check_settling_outcome};

@@ -7,6 +7,7 @@ ghost use Rattle.program_commands.specs.Outcomes.{outcome_text, outcome_status};
 use crate::certified::Certified;
 use crate::reasons::{put_reason, status_of_reason};
 use crate::refusal::Refusal;
+use crate::settling_commands::SettlingOutcome;
 use command_lines::{Output, WriteFault};
 use meta_model::Meta;
 use rank_check::Checked;
@@ -15,7 +16,7 @@ use std::alloc::Global;
 use std::io::Write;
 
 /// The exit status of a command that did what it was asked.
-const DONE: u8 = 0;
+pub const DONE: u8 = 0;
 
 /// What a command comes to that runs nothing.
 #[derive(Drop)]
@@ -30,6 +31,8 @@ pub enum Outcome {
     Uncertified(Meta, Why),
     /// The certificate is valid for the program.
     Valid(Checked),
+    /// What a command on settling certificates comes to.
+    Settling(SettlingOutcome),
 }
 
 impl Outcome {
@@ -42,6 +45,7 @@ impl Outcome {
             Outcome::Refused(refusal) => refusal.status(),
             Outcome::Uncertified(_, why) => status_of_reason(why),
             Outcome::Classes(_) | Outcome::Certificate(_) | Outcome::Valid(_) => DONE,
+            Outcome::Settling(outcome) => outcome.status(),
         }
     }
 
@@ -55,6 +59,7 @@ impl Outcome {
             Outcome::Certificate(certified) => output.put(certified.text()),
             Outcome::Uncertified(meta, why) => put_reason(output, meta, why),
             Outcome::Valid(_) => output.put(b"yes\n"),
+            Outcome::Settling(outcome) => outcome.put(output),
         }
     }
 

@@ -112,7 +112,7 @@ fn put_script<W: Write>(output: &mut Output<'_, W>, fault: &ScriptFault)
 }
 
 /// This exit status, where there is a number, and else that of running out of memory.
-fn status_or_undone(status: u8, number: Option<u8>) -> u8
+pub fn status_or_undone(status: u8, number: Option<u8>) -> u8
     ensures { result ≡ status_of status number }
 {
     match number {
@@ -122,7 +122,7 @@ fn status_or_undone(status: u8, number: Option<u8>) -> u8
 }
 
 /// Adds a line of these words and a number, or that of running out of memory.
-fn put_line<W: Write>(output: &mut Output<'_, W>, words: &[u8], number: Option<u8>)
+pub fn put_line<W: Write>(output: &mut Output<'_, W>, words: &[u8], number: Option<u8>)
     ensures { Puts W.contents output.old output.new (line_of words.now number) }
 {
     match number {

@@ -10,7 +10,9 @@ use Rattle.program_commands.specs.declared.outcome.Outcome.{Outcome as ProgramOu
 use Rattle.program_commands.specs.declared.outcome.Outcome.TheVariants as told
 use Rattle.program_commands.specs.declared.refusal.Refusal.{Refusal}
 use Rattle.program_commands.specs.declared.refusal.Refusal.TheVariants as refusal
-use Rattle.program_commands.specs.Outcomes.{outcome_text as program_text, outcome_status as program_status}
+use Rattle.program_commands.specs.Outcomes.{outcome_text as program_text, outcome_status as program_status, settling_text, settling_status}
+use Rattle.program_commands.specs.declared.settling_commands.outcome.SettlingOutcome.{SettlingOutcome}
+use Rattle.program_commands.specs.declared.settling_commands.outcome.SettlingOutcome.TheVariants as settling
 use Rattle.program_commands.specs.Reasons.{reason_line, reason_status}
 use Rattle.program_commands.specs.Refusals.{memory_line, refusal_line, refusal_status, line_of, status_of}
 use Rattle.command_lines.specs.declared.input.InputFault.TheVariants as input
@@ -43,12 +45,17 @@ reason_memory p (why.DestroyPath nodes) is = absurd (omega (arith, is))
 reason_memory p (why.TooHigh nodes) is = absurd (omega (arith, is))
 reason_memory p why.Memory is = refl
 
+settling_memory : (o : SettlingOutcome) → settling_status o ≡ 1 → settling_text o ≡ memory_line
+settling_memory (settling.Invalid reason) is = numberless 3 (codes "no ") _ (omega arith) is
+settling_memory (settling.Valid checked) is = absurd (omega (arith, is))
+
 told_memory : (o : ProgramOutcome) → program_status o ≡ 1 → program_text o ≡ memory_line
 told_memory (told.Refused r) is = refusal_memory r is
 told_memory (told.Classes p) is = absurd (omega (arith, is))
 told_memory (told.Certificate certified) is = absurd (omega (arith, is))
 told_memory (told.Uncertified p w) is = reason_memory p w is
 told_memory (told.Valid checked) is = absurd (omega (arith, is))
+told_memory (told.Settling o) is = settling_memory o is
 
 run_goes : (ended : Result (Unit {0}) Fault) → ¬ (run_status ended ≡ 1)
 run_goes (Ok _) is = omega (arith, is)

@@ -33,7 +33,8 @@ fn broken_rule(judged: &Outcome) -> Rule {
             Why::DestroyPath(_) => Rule::DestroyPath,
             Why::TooHigh(_) | Why::Memory => Rule::ChainTooLong,
         },
-        Outcome::Classes(_) | Outcome::Certificate(_) | Outcome::Valid(_) => Rule::Syntax,
+        Outcome::Classes(_) | Outcome::Certificate(_) | Outcome::Valid(_) | Outcome::Settling(_) =>
+            Rule::Syntax,
     }
 }
 

@@ -5,9 +5,9 @@ use diagnostics::{Flaw, Severity, Span, TextKind, meaning, push_flaw, text_spans
 use effect_scan::{Member, Node};
 use findings::{FileNames, FindingSeverity, push_finding};
 use meta_model::Meta;
-use program_commands::{Outcome, Refusal, Why};
+use program_commands::{Outcome, Refusal, SettlingOutcome, Why};
 use program_flaws::{FurtherFlaw, declaration_flaw, further_declaration_flaws, native_flaw};
-use rank_check::Denied;
+use rank_check::{Denied, No};
 use script_lang::ScriptFault;
 use std::alloc::{AllocError, Global};
 use text_flaws::{
@@ -36,6 +36,7 @@ pub fn push_outcome(
     match outcome {
         Outcome::Refused(refusal) => push_refusal(text, alloc, limits, input, refusal),
         Outcome::Uncertified(meta, why) => push_missing(text, alloc, input, meta, why),
+        Outcome::Settling(SettlingOutcome::Invalid(no)) => push_invalid(text, no),
         _ => Ok(()),
     }
 }
@@ -45,6 +46,26 @@ pub fn push_fault(text: &mut String, fault: Fault) -> Result<(), AllocError> {
     let number = fault.number();
     let about = meaning(number).unwrap_or("");
     writeln!(text, "fault {number}: {about}")
+}
+
+/// Adds what the no to a settling certificate means; running out of memory says nothing of it.
+fn push_invalid(text: &mut String, no: &No) -> Result<(), AllocError> {
+    let Some(number) = no.number() else {
+        return Ok(());
+    };
+    let about = match no {
+        No::Extra => {
+            "a line of the certificate is for no node, or a second one for it, names a class that isn't there, or a set has what is no node or another one's"
+        }
+        No::Edge => {
+            "along an edge a rank doesn't fall, a step rises, or within a set a value isn't handed on"
+        }
+        No::Bound => {
+            "a rank isn't below the bound, the bound is over 256, a step is above the certificate's, or a set has no such round"
+        }
+        _ => meaning(number).unwrap_or(""),
+    };
+    writeln!(text, "no {number}: {about}")
 }
 
 /// Adds where the input is at fault, and what the refusal means.

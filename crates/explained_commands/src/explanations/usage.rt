@@ -7,7 +7,7 @@ use texts::{MOST_DEPTH, number, split_line};
 
 /// The commands, as a person writes them.
 const COMMANDS: &str =
-    "commands, and the texts of their input, with a line `%%` between two of them:\n  meta                                a program\n  certify                             a program\n  check                               a program, a certificate\n  run [--steps M]                     a program, a certificate, a script\n  run --unchecked N [--steps M]       a program, a script\nN is from 1 to 256, M from 1 to 9223372036854775807.\n";
+    "commands, and the texts of their input, with a line `%%` between two of them:\n  meta                                a program\n  certify                             a program\n  check                               a program, a certificate\n  check --settling                    a program, a settling certificate\n  run [--steps M]                     a program, a certificate, a script\n  run --unchecked N [--steps M]       a program, a script\nN is from 1 to 256, M from 1 to 9223372036854775807.\n";
 
 /// Adds what is wrong with these words or with this input, and the list of the commands.
 pub fn push_usage(
@@ -67,7 +67,8 @@ fn mistake(words: &[&str]) -> &'static str {
         return "a command is wanted";
     };
     match *command {
-        "meta" | "certify" | "check" => "this command takes no further words",
+        "meta" | "certify" => "this command takes no further words",
+        "check" => "behind `check` stands `--settling`, or nothing",
         "run" => mistake_in_run(options),
         "--help" | "-h" | "help" => "the commands are these",
         _ => "the first word is no command",
@@ -77,6 +78,9 @@ fn mistake(words: &[&str]) -> &'static str {
 /// What is wrong with the words behind `run`.
 fn mistake_in_run(options: &[&str]) -> &'static str {
     match options.split_first() {
+        Some((first, _)) if *first == "--settling" => {
+            "`run` takes no settling certificate yet: that runs keep to one isn't proved"
+        }
         Some((first, others)) if *first == "--unchecked" => match others.split_first() {
             Some((depth, steps)) if is_number(depth, u64::from(MOST_DEPTH)) => mistake_in_steps(
                 steps,

@@ -22,7 +22,9 @@ use command_lines::{
     three_texts, two_texts,
 };
 use object_machine::ObjectMachine;
-use program_commands::{Outcome as ProgramOutcome, certify_outcome, check_outcome, meta_outcome};
+use program_commands::{
+    Outcome as ProgramOutcome, certify_outcome, check_outcome, check_settling_outcome, meta_outcome,
+};
 use std::alloc::Global;
 use std::io::{Read, Write};
 
@@ -153,6 +155,15 @@ fn prepare<N: FittingNatives, M: ObjectMachine<Natives = N>>(
         },
         Command::Check => match two_texts(input) {
             Some((program, certificate)) => of_program(check_outcome(
+                alloc,
+                limits,
+                program,
+                certificate,
+            )),
+            None => Prepared::Done(Outcome::Usage(UsageFault::Texts(2))),
+        },
+        Command::CheckSettling => match two_texts(input) {
+            Some((program, certificate)) => of_program(check_settling_outcome(
                 alloc,
                 limits,
                 program,

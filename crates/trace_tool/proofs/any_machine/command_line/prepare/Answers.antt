@@ -40,6 +40,16 @@ returns-in-Check g c =
     let few : length c.args.input.now ≤ 67108864 = omega (arith, c.if-input-gt-LARGEST_INPUT.false) in
     rw c.in-Check.is (done-now _ _ _ (fails (Texts 2) (few, refl, two_only _ (rw c.in-None-two_texts.is at c.two_texts.ensures.cut))))
 
+pub returns-in-Some-two_texts-2 : goal.returns-in-Some-two_texts-2
+returns-in-Some-two_texts-2 g c =
+    let few : length c.args.input.now ≤ 67108864 = omega (arith, c.if-input-gt-LARGEST_INPUT.false) in
+    rw c.in-CheckSettling.is (done-prepares _ _ _ c.of_program-in-Some-two_texts-2.ensures (goes_on (c.in-Some-two_texts-2.program.now ∷ c.in-Some-two_texts-2.certificate.now ∷ []) _ (few, c.in-Some-two_texts-2.ensures.cut, refl) (record { told = c.check_settling_outcome.result; comes = c.check_settling_outcome.ensures; is = refl })))
+
+pub returns-in-CheckSettling : goal.returns-in-CheckSettling
+returns-in-CheckSettling g c =
+    let few : length c.args.input.now ≤ 67108864 = omega (arith, c.if-input-gt-LARGEST_INPUT.false) in
+    rw c.in-CheckSettling.is (done-now _ _ _ (fails (Texts 2) (few, refl, two_only _ (rw c.in-None-two_texts-2.is at c.two_texts-in-CheckSettling.ensures.cut))))
+
 pub returns-in-Some-three_texts : goal.returns-in-Some-three_texts
 returns-in-Some-three_texts g c =
     let few : length c.args.input.now ≤ 67108864 = omega (arith, c.if-input-gt-LARGEST_INPUT.false) in
@@ -50,12 +60,12 @@ returns-in-Run g c =
     let few : length c.args.input.now ≤ 67108864 = omega (arith, c.if-input-gt-LARGEST_INPUT.false) in
     rw c.in-Run.is (done-now _ _ _ (fails (Texts 3) (few, refl, three_only _ (rw c.in-None-three_texts.is at c.three_texts.ensures.cut))))
 
-pub returns-in-Some-two_texts-2 : goal.returns-in-Some-two_texts-2
-returns-in-Some-two_texts-2 g c =
+pub returns-in-Some-two_texts-3 : goal.returns-in-Some-two_texts-3
+returns-in-Some-two_texts-3 g c =
     let few : length c.args.input.now ≤ 67108864 = omega (arith, c.if-input-gt-LARGEST_INPUT.false) in
-    rw c.in-RunUnchecked.is (prepares-as _ _ (λ end comes. goes_on (c.in-Some-two_texts-2.program.now ∷ c.in-Some-two_texts-2.script.now ∷ []) _ (few, c.in-Some-two_texts-2.ensures.cut, refl) comes) c.prepare_unchecked_run.ensures)
+    rw c.in-RunUnchecked.is (prepares-as _ _ (λ end comes. goes_on (c.in-Some-two_texts-3.program.now ∷ c.in-Some-two_texts-3.script.now ∷ []) _ (few, c.in-Some-two_texts-3.ensures.cut, refl) comes) c.prepare_unchecked_run.ensures)
 
 pub returns : goal.returns
 returns g c =
     let few : length c.args.input.now ≤ 67108864 = omega (arith, c.if-input-gt-LARGEST_INPUT.false) in
-    rw c.in-RunUnchecked.is (done-now _ _ _ (fails (Texts 2) (few, refl, two_only _ (rw c.in-None-two_texts-2.is at c.two_texts-in-RunUnchecked.ensures.cut))))
+    rw c.in-RunUnchecked.is (done-now _ _ _ (fails (Texts 2) (few, refl, two_only _ (rw c.in-None-two_texts-3.is at c.two_texts-in-RunUnchecked.ensures.cut))))

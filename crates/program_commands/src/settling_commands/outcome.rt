@@ -1,0 +1,43 @@
+//! What the commands on settling certificates come to, and how it is written.
+
+ghost use Rattle.std.specs.Prelude.{◌≡◌};
+ghost use Rattle.command_lines.specs.Sent.{Puts};
+ghost use Rattle.program_commands.specs.Outcomes.{settling_text, settling_status};
+
+use crate::outcome::DONE;
+use crate::refusal::{DENIED, put_line, status_or_undone};
+use command_lines::Output;
+use rank_check::No;
+use settling::Checked;
+use std::io::Write;
+
+/// What a command on settling certificates comes to, where it refuses no text.
+#[derive(Drop)]
+pub enum SettlingOutcome {
+    /// The settling certificate isn't valid for the program.
+    Invalid(No),
+    /// The settling certificate is valid for the program.
+    Valid(Checked),
+}
+
+impl SettlingOutcome {
+    /// The exit status: 0 where the certificate is valid, 3 where it isn't, 1 where memory ran out.
+    pub fn status(&self) -> u8
+        ensures { result ≡ settling_status self.now }
+    {
+        match self {
+            SettlingOutcome::Valid(_) => DONE,
+            SettlingOutcome::Invalid(reason) => status_or_undone(DENIED, reason.number()),
+        }
+    }
+
+    /// Adds its lines to an output.
+    pub fn put<W: Write>(&self, output: &mut Output<'_, W>)
+        ensures { Puts W.contents output.old output.new (settling_text self.now) }
+    {
+        match self {
+            SettlingOutcome::Invalid(reason) => put_line(output, b"no ", reason.number()),
+            SettlingOutcome::Valid(_) => output.put(b"yes\n"),
+        }
+    }
+}
