@@ -1,20 +1,15 @@
 -- What begins over a stack stands there (docs/settling-proof.md, "Each rule keeps it").
 use Rattle.std.{proofs.Common.{◌≡◌, ◌≢◌, ℕ, suc, ◌<◌, List, [], ◌∷◌, map, length, Option, Some, refl, sym, ap, ◌∙◌, subst}, specs.List.{AllByRecursion}, proofs.lemmas.Option.{none-some}}
 use Rattle.basic_types.specs.declared.value.Value.{Value}
-use Rattle.meta_model.specs.{declared.object.MetaMethod.{MetaMethod}, declared.object.Statement.{Statement}, declared.object.Work.{Work}, declared.object.Work.TheVariants.{Signal, Slot, Native}, Loaded.{Loaded}, Sound.{IsSound}}
+use Rattle.meta_model.specs.{declared.object.MetaMethod.{MetaMethod}, declared.object.Work.{Work}, declared.object.Work.TheVariants.{Signal, Slot, Native}, Loaded.{Loaded}, Sound.{IsSound}}
 use Rattle.object_tree.specs.{declared.object.Object.{Object}, Typed.{ReadAs}}
-use Rattle.effect_scan.specs.{declared.node.Node.{Node}, declared.node.Member.TheVariants.{Method}, Nodes.{node, named}, Effects.{Occurs, here as first, after}}
+use Rattle.effect_scan.specs.{declared.node.Node.{Node}, declared.node.Member.TheVariants.{Method}, Nodes.{node, named}}
 use Rattle.machine_state.specs.State.{Step, Run, Ask, State, Activation, Body}
 use Rattle.machine_rules.{specs.Good.{ArgumentsFit, EmissionFits, of_living, of_dead, TopFits}, specs.Rules.{begun}, specs.There.{IsMember}, proofs.Dying.{lives-not-dead}, proofs.Fields.{member-method}, proofs.Keeps.{class-of-lives}}
 use Rattle.settling.specs.{declared.certificate.SettlingLine.{SettlingLine}, declared.certificate.SettlingCertificate.{SettlingCertificate}, Valid.{IsLineOf, IsValid}}
-use Rattle.object_machine.proofs.CheckedRuns.{Invariant.{IsStepOf, runs, asks, IsCovered}, Nodes.{body-named}}
+use Rattle.object_machine.proofs.CheckedRuns.{Invariant.{IsStepOf, asks, IsCovered}, Nodes.{body-named}}
+use Rattle.settled_runs.proofs.Staying.{left-runs}
 use Rattle.settled_runs.{specs.Levels.{Level}, specs.Written.{HaveWritten}, proofs.Pushing.{Begins}, proofs.Invariant.{Stacked, Holds}}
-
--- ---- what is left of a body
-
-left-runs : (work : Work) (body rest : List Statement) → work ≡ Slot body → ((s : Statement) → Occurs s rest → Occurs s body) → AllByRecursion (IsStepOf work) (map Run rest)
-left-runs work body [] e within = tt
-left-runs work body (s ∷ rest) e within = (runs e (within s first), left-runs work body rest e (λ t i. within t (after i)))
 
 module _ {p : Loaded} {certificate : SettlingCertificate} (sound : IsSound p) (valid : IsValid p certificate) (cost : ℕ → ℕ) (classes : ℕ → Option ℕ) where
   abbrev pub Covered : State → Type 0

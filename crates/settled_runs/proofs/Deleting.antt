@@ -85,7 +85,7 @@ module _ (p : Loaded) (cost : ℕ → ℕ) (classes : ℕ → Option ℕ) {certi
 abbrev value-at : ℕ → Option Object → Option Value
 value-at q there = option_and_then (λ (l : Life). slice_get l.values q) (option_and_then (λ (y : Object). y.life) there)
 
-may-have-died : (objects : List Object) (x : ℕ) {name : List ℕ} → option_map (λ (y : Object). y.name) (slice_get objects x) ≡ Some name → MayHaveDied objects (without_life x objects)
+pub may-have-died : (objects : List Object) (x : ℕ) {name : List ℕ} → option_map (λ (y : Object). y.name) (slice_get objects x) ≡ Some name → MayHaveDied objects (without_life x objects)
 may-have-died objects x named = record {
   dead = (died-stay objects x named).dead;
   living = λ q. elim (cases_eq q.object x) [
@@ -96,7 +96,7 @@ may-have-died objects x named = record {
   ];
 }
 
-scheduled-only : (objects : List Object) (x : ℕ) → MayHaveDied objects (change_life x scheduled objects)
+pub scheduled-only : (objects : List Object) (x : ℕ) → MayHaveDied objects (change_life x scheduled objects)
 scheduled-only objects x = record {
   dead = (scheduled-stay objects x).dead;
   living = λ q. inr (part-change (value-at q.property) x q.object (with_life scheduled) objects (λ y. life-part (option_and_then (λ (l : Life). slice_get l.values q.property)) scheduled (λ l. refl) y.life));

@@ -24,7 +24,7 @@ number-of o k (Some x) e = by_life x.life e
 
 module _ (old new : List Object) (dead : (o : ℕ) → seen_reference old (Some o) ≡ None → seen_reference new (Some o) ≡ None) where
   -- what a value read as reads as the value does
-  seen-again : (v : Value) → seen new (seen old v) ≡ seen new v
+  pub seen-again : (v : Value) → seen new (seen old v) ≡ seen new v
   seen-again (Int n) = refl
   seen-again (Truth b) = refl
   seen-again (Text t) = refl

@@ -1,6 +1,6 @@
 -- Emissions and updates keep what a run keeps (docs/settling-proof.md, "Each rule keeps it").
-use Rattle.std.{proofs.Common.{◌≡◌, ◌≢◌, inl, inr, ℕ, zero, suc, Bool, true, false, List, [], ◌∷◌, take, length, slice_get, Option, Some, None, refl, sym, ap, ◌∙◌, subst, arith}, specs.Option.{option_map}, proofs.lemmas.Option.{same_Some, none-some}}
-use Rattle.basic_types.specs.{declared.kind.Kind.{Kind}, declared.kind.Kind.TheVariants.{Auto, Direct, Queued}, declared.value.Value.{Value}}
+use Rattle.std.{proofs.Common.{◌≡◌, inl, inr, ℕ, zero, suc, Bool, true, false, List, [], ◌∷◌, take, length, slice_get, Option, Some, None, refl, sym, ap, ◌∙◌, subst, arith}, specs.Option.{option_map}, proofs.lemmas.Option.{same_Some, none-some}}
+use Rattle.basic_types.specs.{declared.value.Value.{Value}}
 use Rattle.meta_model.specs.{Loaded.{Loaded}, Members.{Below}, Sound.{IsSound}}
 use Rattle.connections.specs.declared.connection.Connection.{Connection}
 use Rattle.object_tree.specs.{declared.life.Life.{Life}, Objects.{life_of}, Seen.{seen}}
@@ -10,6 +10,7 @@ use Rattle.machine_state.{specs.Connections.{next_used}, specs.State.{State, Act
 use Rattle.machine_rules.{specs.Good.{IsWell as IsGiven}, specs.Rules.{EmitRule, UpdateRule, NotifiesIf, Arrives, with_used}, proofs.Dying.{lives-not-dead}, proofs.Keeps.{class-of-lives}}
 use Rattle.settling.specs.{declared.certificate.SettlingLine.{SettlingLine}, declared.certificate.SettlingCertificate.{SettlingCertificate}, Sets.{IsIn}, Valid.{IsLineOf, IsValid}}
 use Rattle.object_machine.proofs.CheckedRuns.{Invariant.{EmitStands, IsWired}, Nodes.{late-named, named-again}}
+use Rattle.settled_runs.proofs.Staying.{not-queued}
 use Rattle.settled_runs.{specs.Writes.{IsAtNode}, specs.Levels.{Carried, Level, AreCosts, FallsTo, IsWell}, specs.Written.{HaveWritten}, proofs.Edges.{line-before, line-after, one-node}, proofs.Pushing.{bound, CarriesFirst, Begins, begins-over, begins-apart}, proofs.Invariant.{MethodStands, IsFollower, IsWrittenIn, UpdateStands, outside, wrote, Stacked}, proofs.Begun.{Covered, Held, fits-begun, signal-held, begun-held}}
 
 -- the first of some that are taken is the first
@@ -17,11 +18,6 @@ first-taken : (n : ℕ) (given : List Value) (a : Value) → slice_get (take n g
 first-taken zero given a is = absurd (none-some a is)
 first-taken (suc n) [] a is = absurd (none-some a is)
 first-taken (suc n) (v ∷ given) a is = is
-
-not-queued : (kind : Kind) (home runner : ℕ) → reaches_at_once kind home runner ≡ true → kind ≢ Queued
-not-queued Direct home runner e bad = absurd (cc bad)
-not-queued Auto home runner e bad = absurd (cc bad)
-not-queued Queued home runner e bad = absurd (cc e)
 
 module _ {p : Loaded} {certificate : SettlingCertificate} (sound : IsSound p) (valid : IsValid p certificate) (cost : ℕ → ℕ) (costs : AreCosts p certificate cost) (classes : ℕ → Option ℕ) where
   -- a connection is used at once, or its call is posted; with none left the emission ends

@@ -42,24 +42,22 @@ module _ (p : Loaded) {certificate : SettlingCertificate} (cost : ℕ → ℕ) (
         | inr has ↦ other (has ∙ ap Some (carry-one p cost classes objects costs (top ∷ levels) are j 0 level top own carried at refl within is same))
       ]
 
-  -- ---- what was written is at the line of its node
+  -- ---- a place of a set is at a line of its step
 
   module _ (valid : IsValid p certificate) where
-    record IsWrittenAt (l : Level certificate) (c : Carried) (q : Place) : Type 0 where
-      place : IsPlaceIn p certificate classes c.set q
+    record IsPlacedAt (l : Level certificate) (x : Node) : Type 0 where
       line : SettlingLine
-      is : IsLineOf p certificate place.node line
+      is : IsLineOf p certificate x line
       step : line.step ≡ l.line.step
 
-    place-line : (j : ℕ) (l : Level certificate) (c : Carried) (q : Place) → slice_get (top ∷ levels) j ≡ Some l → l.within ≡ Some c → l.wrote ≡ Some q → IsWrittenAt l c q
-    place-line j l c q at is wrote =
+    place-line : (j : ℕ) (l : Level certificate) (c : Carried) (q : Place) → slice_get (top ∷ levels) j ≡ Some l → l.within ≡ Some c → (place : IsPlaceIn p certificate classes c.set q) → IsPlacedAt l place.node
+    place-line j l c q at is place =
         let of = well-at p cost classes objects costs (top ∷ levels) are j l at c is in
-        let place = of.places q wrote in
         let found = valid.each_node place.node place.is.member.named.node in
         let round = (costs c.set of.member.set of.member.stands).0 in
         let same : place.is.set ≡ of.member.set = same_Some _ _ (sym place.is.stands ∙ of.member.stands) in
         let member = subst (λ (s : SettlingSet). IsMember p s place.node) same place.is.member in
-        record { place = place; line = found.0; is = found.1; step = round.one_step place.node of.node found.0 of.line member of.member.member found.1 of.is ∙ sym of.step }
+        record { line = found.0; is = found.1; step = round.one_step place.node of.node found.0 of.line member of.member.member found.1 of.is ∙ sym of.step }
 
     -- steps don't fall downwards, and are above what leaves the set of the highest level
     not-below : (j : ℕ) (l : Level certificate) → slice_get (top ∷ levels) j ≡ Some l → top.line.step ≤ l.line.step
@@ -80,40 +78,50 @@ module _ (p : Loaded) {certificate : SettlingCertificate} (cost : ℕ → ℕ) (
 module _ {p : Loaded} {certificate : SettlingCertificate} (sound : IsSound p) (valid : IsValid p certificate) (cost : ℕ → ℕ) (costs : AreCosts p certificate cost) (classes : ℕ → Option ℕ)
     {before after : Place → Option Binding} (old new : List Object) (only : AreOnlyWritten old new)
     (top : Level certificate) (levels : List (Level certificate)) (are : AreLevels p cost classes old (top ∷ levels)) (have : HaveWritten old (top ∷ levels)) where
+  -- places of the sets below keep their values, where what is written leaves the highest set
+  pub left-stays : {written : List Place} → AreWritten p classes before after (values_of old) (values_of new) written → (line : SettlingLine)
+      → ((w : Place) (other : SettlingLine) → In w written → IsLineAt p certificate classes w other → IsNoHigher p line other) → Leaves cost top.within top.line line
+      → (j : ℕ) (l : Level certificate) (c : Carried) (q : Place) → slice_get (top ∷ levels) j ≡ Some l → l.within ≡ Some c → IsPlaceIn p certificate classes c.set q → values_of new q ≡ values_of old q
+  left-stays {written} changed line low leaves j l c q at is place =
+      let own = place-line p cost classes old costs top levels are valid j l c q at is place in
+      let above = above-left p cost classes old costs top levels are valid line leaves j l c at is in
+      high-stays sound valid changed (λ (z : SettlingLine). line.step < z.step)
+      (λ x y a b site from to more. let steps = valid.edges.steps x y a b (by_site site) from to in omega (arith, steps, more))
+      (λ w other here at_line more. let most = (low w other here at_line).step in omega (arith, most, more)) q own.line
+      (record { node = place.node; at = place.at; is = own.is }) (omega (arith, above, own.step))
+
+  -- .. and all but the one that is written, where it is of that set
+  pub others-stay : {written : Place} → AreWritten p classes before after (values_of old) (values_of new) (written ∷ []) → (carried : Carried) → top.within ≡ Some carried → IsPlaceIn p certificate classes carried.set written
+      → (j : ℕ) (l : Level certificate) (c : Carried) (q : Place) → slice_get (top ∷ levels) j ≡ Some l → l.within ≡ Some c → IsPlaceIn p certificate classes c.set q → q ≢ written → values_of new q ≡ values_of old q
+  others-stay {written} changed carried is place j l c q at within there differs =
+      let own = place-line p cost classes old costs top levels are valid j l c q at within there in
+      let down = not-below p cost classes old costs top levels are valid j l at in
+      let here = are.0 carried is in
+      let round = costs carried.set place.is.set place.is.stands in
+      let found = valid.each_node place.node place.is.member.named.node in
+      let same : here.member.set ≡ place.is.set = same_Some _ _ (sym here.member.stands ∙ place.is.stands) in
+      let member = subst (λ (s : SettlingSet). IsMember p s here.node) same here.member.member in
+      let step = round.0.one_step place.node here.node found.0 here.line place.is.member member found.1 here.is in
+      let some = round.0.some in
+      stays-high sound valid changed place.is.set round.0 place.at place.is.member (element_at certificate.sets carried.set place.is.set place.is.stands) found.1 q own.line
+      (record { node = there.node; at = there.at; is = own.is }) differs (omega (arith, down, step, here.step, own.step, some))
+
   pub written-stay : {written : List Place} → AreWritten p classes before after (values_of old) (values_of new) written → (line : SettlingLine)
       → ((w : Place) (other : SettlingLine) → In w written → IsLineAt p certificate classes w other → IsNoHigher p line other) → Leaves cost top.within top.line line → HaveWritten new (top ∷ levels)
-  written-stay {written} changed line low leaves = keeps-written old new (top ∷ levels) only kept have
-    where
-      kept : (j : ℕ) (l : Level certificate) (c : Carried) (q : Place) → slice_get (top ∷ levels) j ≡ Some l → l.within ≡ Some c → l.wrote ≡ Some q → values_of new q ≡ values_of old q
-      kept j l c q at is wrote =
-          let own = place-line p cost classes old costs top levels are valid j l c q at is wrote in
-          let above = above-left p cost classes old costs top levels are valid line leaves j l c at is in
-          high-stays sound valid changed (λ (z : SettlingLine). line.step < z.step)
-          (λ x y a b site from to more. let steps = valid.edges.steps x y a b (by_site site) from to in omega (arith, steps, more))
-          (λ w other here at_line more. let most = (low w other here at_line).step in omega (arith, most, more)) q own.line
-          (record { node = own.place.node; at = own.place.at; is = own.is }) (omega (arith, above, own.step))
+  written-stay changed line low leaves =
+      keeps-written old new (top ∷ levels) only (λ j l c q at is wrote. left-stays changed line low leaves j l c q at is ((well-at p cost classes old costs (top ∷ levels) are j l at c is).places q wrote)) have
 
   pub written-stay-within : {written : Place} → AreWritten p classes before after (values_of old) (values_of new) (written ∷ []) → (carried : Carried) → top.within ≡ Some carried
       → IsPlaceIn p certificate classes carried.set written → (¬ IsOver old written) → reads old written ≢ Some (seen old carried.value) → HaveWritten new (top ∷ levels)
   written-stay-within {written} changed carried is place lives other = keeps-written old new (top ∷ levels) only kept have
     where
+      by_set : (c : Carried) (j : ℕ) (l : Level certificate) → slice_get (top ∷ levels) j ≡ Some l → l.within ≡ Some c → l.wrote ≡ Some written → IsPlaceIn p certificate classes c.set written → ⊥
+      by_set c j l at within wrote there =
+          let one = valid.nothing_else.apart c.set carried.set place.node (subst (λ (x : Node). IsIn p certificate c.set x) (one-node there.at place.at) there.is) place.is in
+          written-once p cost classes old costs top levels are have carried written is lives other j l c at within one wrote
+
       kept : (j : ℕ) (l : Level certificate) (c : Carried) (q : Place) → slice_get (top ∷ levels) j ≡ Some l → l.within ≡ Some c → l.wrote ≡ Some q → values_of new q ≡ values_of old q
       kept j l c q at within wrote =
-          let own = place-line p cost classes old costs top levels are valid j l c q at within wrote in
-          let down = not-below p cost classes old costs top levels are valid j l at in
-          let here = are.0 carried is in
-          let round = costs carried.set place.is.set place.is.stands in
-          let found = valid.each_node place.node place.is.member.named.node in
-          let same : here.member.set ≡ place.is.set = same_Some _ _ (sym here.member.stands ∙ place.is.stands) in
-          let member = subst (λ (s : SettlingSet). IsMember p s here.node) same here.member.member in
-          let step = round.0.one_step place.node here.node found.0 here.line place.is.member member found.1 here.is in
-          let some = round.0.some in
-          stays-high sound valid changed place.is.set round.0 place.at place.is.member (element_at certificate.sets carried.set place.is.set place.is.stands) found.1 q own.line
-          (record { node = own.place.node; at = own.place.at; is = own.is })
-          (λ same_place. by_set c j l at within (subst (λ (z : Place). l.wrote ≡ Some z) same_place wrote) (subst (λ (z : Place). IsPlaceIn p certificate classes c.set z) same_place own.place))
-          (omega (arith, down, step, here.step, own.step, some))
-        where
-          by_set : (c : Carried) (j : ℕ) (l : Level certificate) → slice_get (top ∷ levels) j ≡ Some l → l.within ≡ Some c → l.wrote ≡ Some written → IsPlaceIn p certificate classes c.set written → ⊥
-          by_set c j l at within wrote there =
-              let one = valid.nothing_else.apart c.set carried.set place.node (subst (λ (x : Node). IsIn p certificate c.set x) (one-node there.at place.at) there.is) place.is in
-              written-once p cost classes old costs top levels are have carried written is lives other j l c at within one wrote
+          let there = (well-at p cost classes old costs (top ∷ levels) are j l at c within).places q wrote in
+          others-stay changed carried is place j l c q at within there
+          (λ same_place. by_set c j l at within (subst (λ (z : Place). l.wrote ≡ Some z) same_place wrote) (subst (λ (z : Place). IsPlaceIn p certificate classes c.set z) same_place there))

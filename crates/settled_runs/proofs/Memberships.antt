@@ -1,5 +1,5 @@
 -- Whether a node is in a set, and what an edge does to levels (docs/settling-proof.md, "Edges").
-use Rattle.std.{proofs.Common.{◌≡◌, ◌≢◌, ◌⊎◌, inl, inr, ℕ, zero, suc, ◌+◌, ◌*◌, ◌<◌, ◌≤◌, List, [], ◌∷◌, Some, slice_get, refl, sym, ap, ◌∙◌, subst}, specs.List.{Contains}, proofs.lemmas.Bool.{cases_eq}, proofs.lemmas.Option.{same_Some, none-some}}
+use Rattle.std.{proofs.Common.{◌≡◌, ◌≢◌, ◌⊎◌, inl, inr, ℕ, zero, suc, ◌+◌, ◌*◌, ◌<◌, ◌≤◌, List, [], ◌∷◌, Some, slice_get, refl, sym, ap, ◌∙◌, subst, arith}, specs.List.{Contains}, proofs.lemmas.Bool.{cases_eq}, proofs.lemmas.Option.{same_Some, none-some}}
 use Rattle.meta_model.{specs.Loaded.{Loaded}, specs.Sound.{IsSound}, proofs.OneAnswer.{one_class}}
 use Rattle.effect_scan.specs.{declared.node.Node.{Node}, declared.node.Member.{Member}, declared.node.Member.TheVariants.{Method, Property, Destruction}, Edges.{MayLead}, Nodes.{node}}
 use Rattle.certificate_lang.specs.declared.certificate.NodeName.{NodeName}
@@ -161,4 +161,11 @@ module _ {p : Loaded} {certificate : SettlingCertificate} (sound : IsSound p) (v
       | inr out ↦ inr (exits (λ together. out (subst (λ (k : ℕ). IsIn p certificate k y) (valid.nothing_else.apart together.0 here.0 x together.1 here.1) together.2)))
     ]
     | inr none ↦ inr (exits (λ together. none together.0 together.1))
+  ]
+
+  -- what an edge begins at has a rank above 0
+  pub source-above : 0 < a.rank
+  source-above = elim edge-cases [
+    | inl turn ↦ (turn.1).above
+    | inr exit ↦ let fall = exit.falls in omega (arith, fall)
   ]

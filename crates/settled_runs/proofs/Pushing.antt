@@ -107,7 +107,7 @@ module _ {p : Loaded} {certificate : SettlingCertificate} (sound : IsSound p) (v
   -- ---- from one node to another
 
   -- an edge that leaves a set, or is in none, leaves what the level is in
-  left-by : {x y : Node} {a b : SettlingLine} (lower : Level certificate) → StandsIn p x lower → lower.line ≡ a → Exit p certificate x y a b → Leaves cost lower.within lower.line b
+  pub left-by : {x y : Node} {a b : SettlingLine} (lower : Level certificate) → StandsIn p x lower → lower.line ≡ a → Exit p certificate x y a b → Leaves cost lower.within lower.line b
   left-by {x} {a = a} {b = b} lower is_inside line_is exit = by_within is_inside
     where
       by_within : StandsIn p x lower → Leaves cost lower.within lower.line b

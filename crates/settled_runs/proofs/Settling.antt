@@ -25,10 +25,10 @@ map-alike f g same None = refl
 map-alike f g same (Some v) = ap Some (same v)
 
 -- what keeps its value reads as it did
-reads-alike : (old new : List Object) (q : Place) → DifferInValues old new → values_in new q ≡ values_in old q → ReadsAlike old new q
+pub reads-alike : (old new : List Object) (q : Place) → DifferInValues old new → values_in new q ≡ values_in old q → ReadsAlike old new q
 reads-alike old new q differ e = ap (option_map (seen new)) e ∙ map-alike (seen new) (seen old) (seen-same old new differ) (values_in old q)
 
-changed-each : (P : Place → Type 0) {old new : List Object} (qs changed : List Place) → AllByRecursion P qs → AreChanged old new qs changed → AllByRecursion (λ q. P q × (¬ ReadsAlike old new q)) changed
+pub changed-each : (P : Place → Type 0) {old new : List Object} (qs changed : List Place) → AllByRecursion P qs → AreChanged old new qs changed → AllByRecursion (λ q. P q × (¬ ReadsAlike old new q)) changed
 changed-each P qs changed all none_changed = tt
 changed-each P qs changed all (one_changed {ps = ps} {changed = rest} other more) = ((all.0, other), changed-each P ps rest all.1 more)
 changed-each P qs changed all (one_stayed {ps = ps} {changed = rest} alike more) = changed-each P ps rest all.1 more

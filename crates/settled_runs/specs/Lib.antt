@@ -3,3 +3,4 @@ pub mod Levels
 pub mod Written
 pub mod Deaths
 pub mod Handed
+pub mod Claims

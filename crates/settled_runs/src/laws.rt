@@ -1,11 +1,13 @@
 //! What holds where a settling certificate is valid.
 
+ghost use Rattle.settled_runs.specs.Claims.{EachCarriesOne, EachChangesToCarried, EachIsShallow, StopsForFew};
 ghost use Rattle.settled_runs.specs.Deaths.{DeathsKeep};
 ghost use Rattle.settled_runs.specs.Handed.{ValueIsHanded};
 ghost use Rattle.settled_runs.specs.Levels.{LevelsAreShallow, LevelsCarryOne};
 ghost use Rattle.settled_runs.specs.Written.{WrittenOnce, WrittenStay, WrittenStayWithin};
 ghost use Rattle.settled_runs.specs.Writes.{FollowersAreLow, FollowersLeave, NothingFollows};
 
+use native_slots::Answering;
 use settling::stacks_are_shallow;
 
 /// What changes with properties that are written or bound is no higher than these: by its rank, its step and its destroy set.
@@ -54,4 +56,30 @@ pub fn deaths_keep()
 /// A statement that hands its value on does what it does with what the first argument reads as.
 pub fn value_is_handed()
     ensures { ValueIsHanded }
+{}
+
+/// In each run without a bad moment from the beginning, whatever these natives answer, activations nest no deeper than the
+/// bound, and the step for each object that was made.
+pub fn each_is_shallow<N: Answering>(_natives: &N)
+    ensures { EachIsShallow (N.gives _natives.now) }
+{
+    stacks_are_shallow();
+}
+
+/// Such a run stops for a limit, for a value of a wrong type, or because the machine's depth is less than that: no object
+/// dies while a body of it is active, and no chain of bindings closes.
+pub fn stops_for_few<N: Answering>(_natives: &N)
+    ensures { StopsForFew (N.gives _natives.now) }
+{
+    stacks_are_shallow();
+}
+
+/// In such a run, activations of one set carry one value, as it reads.
+pub fn each_carries_one<N: Answering>(_natives: &N)
+    ensures { EachCarriesOne (N.gives _natives.now) }
+{}
+
+/// No place of a set of which something is active comes to read otherwise than what the set carries.
+pub fn each_changes_to_carried<N: Answering>(_natives: &N)
+    ensures { EachChangesToCarried (N.gives _natives.now) }
 {}
