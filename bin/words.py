@@ -68,7 +68,7 @@ EFFECTS = """Effects are a slot a line:
 """
 
 COMMANDS = [
-    Command("certify", PROGRAM, "the certificate of a program, or why it has none", "certify app.gf > app.gfc", (WIDE, PLACES),
+    Command("certify", PROGRAM, "the certificate of a program, or why it has none", "certify app.gf > app.gfc", (WIDE, SETTLING, PLACES),
             texts=("program",), statuses=((0, "a certificate is written"), USAGE, REFUSED, (3, "the program has no certificate")), page="docs/commands.md"),
     Command("check", PROGRAM, "whether a certificate is valid: `yes`, or `no` and a number", "check app.gf app.gfc", (WIDE, SETTLING, PLACES),
             texts=("program", "certificate"), statuses=((0, "it is valid"), USAGE, REFUSED, INVALID), page="docs/certificate.md"),

@@ -2,7 +2,7 @@
 use Rattle.std.proofs.Common.{◌≡◌, ℕ, Bool, true, false, List, [], ◌∷◌, codes, Option, Some, None, MatchOption, subst, sym, ◌∙◌}
 use Rattle.command_lines.specs.Words.{IsLimit, IsRun, IsNoLimit, IsNoRun, IsCommand, IsNoCommand, IsLineOf, IsNoLine, BeginsOtherwise}
 use Rattle.command_lines.specs.declared.words.Command.{Command}
-use Rattle.command_lines.specs.declared.words.Command.TheVariants.{Meta, Certify, Check, CheckSettling, Run, RunUnchecked}
+use Rattle.command_lines.specs.declared.words.Command.TheVariants.{Meta, Certify, Check, CertifySettling, CheckSettling, Run, RunUnchecked}
 
 pub after_first : (words rest others : List (List ℕ)) (word other : List ℕ) → words ≡ word ∷ rest → words ≡ other ∷ others → rest ≡ others
 after_first words rest others word other p q = cc
@@ -21,6 +21,7 @@ pub not_wide : (words rest : List (List ℕ)) (command : Command) → words ≡ 
 not_wide words rest Meta are is = let no : codes "--wide" ∷ rest ≡ codes "meta" ∷ [] = sym are ∙ is in cc no
 not_wide words rest Certify are is = let no : codes "--wide" ∷ rest ≡ codes "certify" ∷ [] = sym are ∙ is in cc no
 not_wide words rest Check are is = let no : codes "--wide" ∷ rest ≡ codes "check" ∷ [] = sym are ∙ is in cc no
+not_wide words rest CertifySettling are is = let no : codes "--wide" ∷ rest ≡ codes "certify" ∷ codes "--settling" ∷ [] = sym are ∙ is in cc no
 not_wide words rest CheckSettling are is = let no : codes "--wide" ∷ rest ≡ codes "check" ∷ codes "--settling" ∷ [] = sym are ∙ is in cc no
 not_wide words rest (Run steps) are is = let no : codes "--wide" ∷ rest ≡ codes "run" ∷ is.options = sym are ∙ is.are in cc no
 not_wide words rest (RunUnchecked options) are is =

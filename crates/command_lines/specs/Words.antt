@@ -3,7 +3,7 @@ use Rattle.std.specs.Prelude.{◌≡◌, ◌≢◌, ℕ, ◌-◌, ◌^◌, ◌<�
 use Rattle.texts.specs.Limits.{most_depth}
 use Rattle.texts.specs.Numerals.{IsNumeral}
 use Rattle.command_lines.specs.declared.words.Command.{Command}
-use Rattle.command_lines.specs.declared.words.Command.TheVariants.{Meta, Certify, Check, CheckSettling, Run, RunUnchecked}
+use Rattle.command_lines.specs.declared.words.Command.TheVariants.{Meta, Certify, Check, CertifySettling, CheckSettling, Run, RunUnchecked}
 use Rattle.command_lines.specs.declared.words.CommandLine.{CommandLine}
 
 -- decimal digits that write a number from 1 to the largest one
@@ -42,6 +42,7 @@ abbrev pub IsCommand : List (List ℕ) → Command → Type 0
 IsCommand words Meta = words ≡ codes "meta" ∷ []
 IsCommand words Certify = words ≡ codes "certify" ∷ []
 IsCommand words Check = words ≡ codes "check" ∷ []
+IsCommand words CertifySettling = words ≡ codes "certify" ∷ codes "--settling" ∷ []
 IsCommand words CheckSettling = words ≡ codes "check" ∷ codes "--settling" ∷ []
 IsCommand words (Run steps) = IsRun words steps
 IsCommand words (RunUnchecked options) = IsUncheckedRun words options.depth options.steps
@@ -69,6 +70,7 @@ abbrev pub IsWithinLimits : Command → Type 0
 IsWithinLimits Meta = Unit {0}
 IsWithinLimits Certify = Unit {0}
 IsWithinLimits Check = Unit {0}
+IsWithinLimits CertifySettling = Unit {0}
 IsWithinLimits CheckSettling = Unit {0}
 IsWithinLimits (Run steps) = AreSteps steps
 IsWithinLimits (RunUnchecked options) = (1 ≤ options.depth) × (options.depth ≤ most_depth) × AreSteps options.steps

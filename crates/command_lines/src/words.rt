@@ -22,6 +22,8 @@ pub enum Command {
     Certify,
     /// `check`: a program is checked with its certificate.
     Check,
+    /// `certify --settling`: a settling certificate is made for a program.
+    CertifySettling,
     /// `check --settling`: a program is checked with its settling certificate.
     CheckSettling,
     /// `run [--steps M]`: a program runs on a script where its certificate is valid, with this limit of rules.
@@ -45,6 +47,9 @@ impl Command {
         }
         if is_only(words, "check") {
             return Some(Command::Check);
+        }
+        if is_settling(words, "certify") {
+            return Some(Command::CertifySettling);
         }
         if is_settling(words, "check") {
             return Some(Command::CheckSettling);

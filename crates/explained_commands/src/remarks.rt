@@ -74,6 +74,9 @@ fn yes_of<M: ObjectMachine>(outcome: &Outcome<M>) -> Option<Yes<'_>> {
         }
         Outcome::Program(ProgramOutcome::Valid(checked)) => Some(Yes::Valid(checked)),
         // The ranks of these tell nothing of a program with a circle.
+        Outcome::Program(ProgramOutcome::Settling(SettlingOutcome::Certificate(meta, _))) => {
+            Some(Yes::Ran(meta))
+        }
         Outcome::Program(ProgramOutcome::Settling(SettlingOutcome::Valid(checked))) => {
             Some(Yes::Ran(checked.meta()))
         }

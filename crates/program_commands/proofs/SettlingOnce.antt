@@ -1,5 +1,5 @@
--- `check --settling` comes to one thing, unless memory runs out.
-use Rattle.std.proofs.Common.{◌≡◌, inl, inr, ℕ, List, Result, Ok, Err, codes, refl, sym, ap, ◌∙◌}
+-- `check --settling` comes to one thing, unless memory runs out, and `certify --settling` to one of a program.
+use Rattle.std.proofs.Common.{◌≡◌, ◌⊎◌, inl, inr, ℕ, List, None, Result, Ok, Err, codes, refl, sym, ap, ◌∙◌, subst}
 use Rattle.certificate_lang.specs.{Reads.{number_of as certificate_number}, declared.fault.CertificateFault.{CertificateFault}}
 use Rattle.certificate_lang.specs.declared.fault.CertificateFault.TheVariants as of_certificate
 use Rattle.class_lang.specs.declared.size.Limits.{Limits}
@@ -9,7 +9,7 @@ use Rattle.rank_check.specs.{Checks.{number_of as no_number}, declared.no.No.{No
 use Rattle.rank_check.specs.declared.no.No.TheVariants.{Wire, BodyType, Missing, Extra, Edge, Destroys, Bound, Memory}
 use Rattle.settling.specs.{Checks.{Checking, Checks, IsNo}, Valid.{HasEachNode, HasNothingElse, EdgesFall, SetsHold, IsBounded, AreRounds, IsValid}, declared.certificate.SettlingCertificate.{SettlingCertificate}}
 use Rattle.settling_texts.{specs.Reads.{ReadsSettling}, proofs.Certificates.{one_settling}}
-use Rattle.program_commands.{specs.Commands.{OneSettlingCheck}, specs.declared.outcome.Outcome.TheVariants.{Settling}, specs.declared.settling_commands.outcome.SettlingOutcome.TheVariants.{Invalid}, specs.Loading.{LoadsSettling}, specs.Outcomes.{IsShort}, specs.Refusals.{line_of, status_of}, proofs.Once.{OneOf, one_first, one_is, loads_once, IsShortResult, same_short, never_short, short_refusal}, proofs.Verdicts.{IsNoOf, none_fails, one_no}}
+use Rattle.program_commands.{specs.Commands.{IsSameOutcome, OneSettlingCertifying, OneSettlingCheck}, specs.declared.outcome.Outcome.{Outcome}, specs.declared.outcome.Outcome.TheVariants.{Refused, Settling}, specs.Settling.{Certifies, made, none}, specs.Steps.{fails, goes_on}, specs.declared.settling_commands.outcome.SettlingOutcome.TheVariants.{Invalid}, specs.Loading.{LoadsSettling}, specs.Outcomes.{IsShort}, specs.Refusals.{line_of, status_of}, proofs.Once.{OneOf, one_first, one_is, both_fail, one_fails, same_found, loads_once, IsShortResult, same_short, never_short, short_refusal}, proofs.Verdicts.{IsNoOf, none_fails, one_no}}
 
 -- ---- the certificate is read
 abbrev IsShortReading : Result SettlingCertificate CertificateFault → Type 0
@@ -76,3 +76,18 @@ pub one_settling_check : OneSettlingCheck
 one_settling_check limits program certificate =
     one_first IsShortResult IsShort (settling_once limits program certificate) short_refusal never_short
     (λ both. one_first IsShortCheck IsShort (check_once both.0 both.1) short_check (λ x e. cc e) (λ checked. one_is IsShort _))
+
+-- ---- a certificate is made
+certified_same : (p : Loaded) (a b : Outcome) → Certifies p a → Certifies p b → IsSameOutcome a b
+certified_same p a b (made c valid flat least) (made d also level best) = refl
+certified_same p a b (made c valid flat least) (none w is short) = refl
+certified_same p a b (none w is short) (made c valid flat least) = refl
+certified_same p a b (none v is short) (none w also brief) = refl
+
+pub one_settling_certifying : OneSettlingCertifying
+one_settling_certifying limits program a b (fails f h) (fails g k) = both_fail IsShortResult IsShort (loads_once limits program) short_refusal never_short f g h k
+one_settling_certifying limits program a b (fails f h) (goes_on y end k more) = inl (one_fails IsShortResult IsShort (loads_once limits program) short_refusal never_short f y h k)
+one_settling_certifying limits program a b (goes_on x end h more) (fails g k) = inr (inl (one_fails IsShortResult IsShort (loads_once limits program) short_refusal never_short g x k h))
+one_settling_certifying limits program a b (goes_on x end h more) (goes_on y other k still) =
+    let same = same_found {fault_of = Refused} IsShortResult IsShort (loads_once limits program) short_refusal never_short x y h k in
+    inr (inr (certified_same y end other (subst (λ (p : Loaded). Certifies p end) same more) still))

@@ -2,17 +2,19 @@
 -- comes only where a growth of memory was refused is not stated here.
 use Rattle.std.specs.Prelude.{◌≡◌, ◌⊎◌, ℕ, List}
 use Rattle.program_commands.specs.Laws.{IsSameReason}
+use Rattle.program_commands.specs.declared.settling_commands.outcome.SettlingOutcome.{SettlingOutcome}
+use Rattle.program_commands.specs.declared.settling_commands.outcome.SettlingOutcome.TheVariants as settling
 use Rattle.certificate_lang.specs.Texts.{certificate_text}
 use Rattle.class_lang.specs.declared.size.Limits.{Limits}
 use Rattle.meta_model.specs.Loaded.{Loaded}
 use Rattle.rank_check.specs.Checks.{Checking}
 use Rattle.rank_make.specs.Makes.{Makes}
 use Rattle.program_commands.specs.declared.outcome.Outcome.{Outcome}
-use Rattle.program_commands.specs.declared.outcome.Outcome.TheVariants.{Refused, Classes, Certificate as Certified, Uncertified, Valid}
+use Rattle.program_commands.specs.declared.outcome.Outcome.TheVariants.{Refused, Classes, Certificate as Certified, Uncertified, Valid, Settling}
 use Rattle.program_commands.specs.Loading.{LoadsProgram, LoadsValid}
 use Rattle.program_commands.specs.Texts.{with_text}
 use Rattle.program_commands.specs.Outcomes.{outcome_text, outcome_status, IsShort}
-use Rattle.program_commands.specs.Settling.{CheckSettlingComesTo}
+use Rattle.program_commands.specs.Settling.{CertifySettlingComesTo, CheckSettlingComesTo}
 use Rattle.program_commands.specs.Steps.{First, Is}
 
 -- `meta`, from the limits and the program's text
@@ -58,9 +60,18 @@ OneCheck =
     CheckComesTo limits program certificate b →
     IsShort a ⊎ IsShort b ⊎ (a ≡ b)
 
+-- outcomes are the same; of what is made for a program only that it is for it
+abbrev pub IsSameSettling : SettlingOutcome → SettlingOutcome → Type 0
+IsSameSettling (settling.Certificate p s) (settling.Certificate q t) = p ≡ q
+IsSameSettling (settling.Certificate p s) (settling.Uncertified q w) = p ≡ q
+IsSameSettling (settling.Uncertified p v) (settling.Certificate q t) = p ≡ q
+IsSameSettling (settling.Uncertified p v) (settling.Uncertified q w) = p ≡ q
+IsSameSettling a b = a ≡ b
+
 -- outcomes are the same; but which cycle, path or chain shows why there is no certificate isn't fixed
 abbrev pub IsSameOutcome : Outcome → Outcome → Type 0
 IsSameOutcome (Uncertified p v) (Uncertified q w) = (p ≡ q) × IsSameReason v w
+IsSameOutcome (Settling a) (Settling b) = IsSameSettling a b
 IsSameOutcome a b = a ≡ b
 
 abbrev pub OneCertifying : Type 0
@@ -72,3 +83,9 @@ abbrev pub OneSettlingCheck : Type 0
 OneSettlingCheck =
     (limits : Limits) (program certificate : List ℕ) (a b : Outcome) → CheckSettlingComesTo limits program certificate a →
     CheckSettlingComesTo limits program certificate b → IsShort a ⊎ IsShort b ⊎ (a ≡ b)
+
+-- unless memory runs out, `certify --settling` comes to one refusal, or to what is made for one program
+abbrev pub OneSettlingCertifying : Type 0
+OneSettlingCertifying =
+    (limits : Limits) (program : List ℕ) (a b : Outcome) → CertifySettlingComesTo limits program a →
+    CertifySettlingComesTo limits program b → IsShort a ⊎ IsShort b ⊎ IsSameOutcome a b

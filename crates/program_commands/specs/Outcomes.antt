@@ -12,11 +12,15 @@ use Rattle.program_commands.specs.Refusals.{yes_line, memory_line, refusal_line,
 
 -- the bytes of what a command on settling certificates comes to
 abbrev pub settling_text : SettlingOutcome → List ℕ
+settling_text (settling.Certificate p text) = text
+settling_text (settling.Uncertified p why) = reason_line p why
 settling_text (settling.Invalid reason) = line_of (codes "no ") (no_number reason)
 settling_text (settling.Valid checked) = yes_line
 
 -- its exit status
 abbrev pub settling_status : SettlingOutcome → ℕ
+settling_status (settling.Certificate p text) = 0
+settling_status (settling.Uncertified p why) = reason_status why
 settling_status (settling.Invalid reason) = status_of 3 (no_number reason)
 settling_status (settling.Valid checked) = 0
 

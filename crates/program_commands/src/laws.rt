@@ -1,6 +1,6 @@
 //! Laws on the commands.
 
-ghost use Rattle.program_commands.specs.Commands.{CertifiedIsAgreed, OneDescription, OneCertifying, OneCheck, OneSettlingCheck};
+ghost use Rattle.program_commands.specs.Commands.{CertifiedIsAgreed, OneDescription, OneCertifying, OneCheck, OneSettlingCertifying, OneSettlingCheck};
 
 /// What `certify` writes of a program with the exit status 0 is a certificate that `check` says yes to, byte for byte.
 pub fn certified_is_agreed()
@@ -15,7 +15,8 @@ pub fn one_outcome()
     ensures check { OneCheck }
 {}
 
-/// Unless memory runs out, what `check --settling` writes is determined by its texts.
+/// Unless memory runs out, what `check --settling` writes is determined by its texts, and `certify --settling` refuses the same texts.
 pub fn one_settling_outcome()
-    ensures { OneSettlingCheck }
+    ensures certify { OneSettlingCertifying }
+    ensures check { OneSettlingCheck }
 {}

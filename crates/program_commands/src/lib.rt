@@ -8,10 +8,12 @@ mod certifying;
 mod commands;
 mod laws;
 mod loading;
+mod node_ways;
 mod outcome;
 mod reasons;
 mod refusal;
 mod settling_commands;
+mod ways;
 
 pub use certificate_laws::{
     loaded_names, made_is_read, one_least, one_making, one_verdict, read_names, valid_is_writable,
@@ -25,4 +27,7 @@ pub use outcome::Outcome;
 pub use rank_check::Checked;
 pub use rank_make::{Ranks, Why};
 pub use refusal::Refusal;
-pub use settling_commands::{SettlingOutcome, check_settling, check_settling_outcome};
+pub use settling_commands::{
+    SettlingOutcome, certify_settling, certify_settling_outcome, check_settling,
+    check_settling_outcome,
+};

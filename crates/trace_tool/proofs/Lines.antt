@@ -46,6 +46,8 @@ reason_memory p (why.TooHigh nodes) is = absurd (omega (arith, is))
 reason_memory p why.Memory is = refl
 
 settling_memory : (o : SettlingOutcome) → settling_status o ≡ 1 → settling_text o ≡ memory_line
+settling_memory (settling.Certificate p text) is = absurd (omega (arith, is))
+settling_memory (settling.Uncertified p w) is = reason_memory p w is
 settling_memory (settling.Invalid reason) is = numberless 3 (codes "no ") _ (omega arith) is
 settling_memory (settling.Valid checked) is = absurd (omega (arith, is))
 

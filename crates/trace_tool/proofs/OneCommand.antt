@@ -3,11 +3,11 @@ use Rattle.std.proofs.Common.{◌≡◌, ◌⊎◌, inl, inr, ℕ, Bool, true, f
 use Rattle.native_slots.specs.declared.head.NativeHead.{NativeHead}
 use Rattle.machine_rules.specs.Natives.{NativeAnswers, AnswersOnce}
 use Rattle.rank_make.specs.declared.why.Why.TheVariants as why
-use Rattle.program_commands.{specs.Commands.{IsSameOutcome as IsSameOfProgram}, specs.Outcomes.{IsShort as IsShortOfProgram}, specs.declared.outcome.Outcome.{Outcome as ProgramOutcome}, specs.Steps.{Is}, proofs.Once.{OneOf, one_description, one_certifying, one_check}, proofs.SettlingOnce.{one_settling_check}}
+use Rattle.program_commands.{specs.Commands.{IsSameOutcome as IsSameOfProgram}, specs.Outcomes.{IsShort as IsShortOfProgram}, specs.declared.outcome.Outcome.{Outcome as ProgramOutcome}, specs.Steps.{Is}, proofs.Once.{OneOf, one_description, one_certifying, one_check}, proofs.SettlingOnce.{one_settling_certifying, one_settling_check}}
 use Rattle.program_commands.specs.declared.outcome.Outcome.TheVariants as of_program
 use Rattle.program_commands.specs.declared.settling_commands.outcome.SettlingOutcome.TheVariants as settling
 use Rattle.class_lang.specs.declared.size.Limits.{Limits}
-use Rattle.command_lines.{specs.Words.{IsNumber, IsLimit, IsCommand, IsLineOf}, specs.declared.input.InputFault.{InputFault}, specs.declared.usage.UsageFault.TheVariants.{Words, TooLarge, Texts}, specs.declared.words.Command.{Command}, specs.declared.words.Command.TheVariants.{Meta, Certify, Check, CheckSettling, Run, RunUnchecked}, specs.declared.words.CommandLine.{CommandLine}, proofs.Saying.{after_first, not_wide}, proofs.Partings.{texts_once}}
+use Rattle.command_lines.{specs.Words.{IsNumber, IsLimit, IsCommand, IsLineOf}, specs.declared.input.InputFault.{InputFault}, specs.declared.usage.UsageFault.TheVariants.{Words, TooLarge, Texts}, specs.declared.words.Command.{Command}, specs.declared.words.Command.TheVariants.{Meta, Certify, Check, CertifySettling, CheckSettling, Run, RunUnchecked}, specs.declared.words.CommandLine.{CommandLine}, proofs.Saying.{after_first, not_wide}, proofs.Partings.{texts_once}}
 use Rattle.trace_tool.{specs.Outcomes.{IsShort}, specs.declared.any_machine.outcome.Outcome.{Outcome}, specs.declared.any_machine.outcome.Outcome.TheVariants.{Program}, specs.Commands.{Says, Cuts, Does, IsOfProgram, limits_of}, specs.Laws.{IsSameOutcome, OneCommandOutcome}, proofs.OneRun.{OneAs, same_first, one_run_outcome, one_unchecked_outcome}}
 use Rattle.texts.specs.Numerals.{value_of}
 use Rattle.object_machine.specs.Seen.{Seen}
@@ -41,30 +41,42 @@ command-once : (words : List (List ℕ)) (c d : Command) → IsCommand words c �
 command-once words Meta Meta x y = refl
 command-once words Meta Certify x y = let no : codes "meta" ∷ [] ≡ codes "certify" ∷ [] = sym x ∙ y in absurd (cc no)
 command-once words Meta Check x y = let no : codes "meta" ∷ [] ≡ codes "check" ∷ [] = sym x ∙ y in absurd (cc no)
+command-once words Meta CertifySettling x y = let no : codes "meta" ∷ [] ≡ codes "certify" ∷ codes "--settling" ∷ [] = sym x ∙ y in absurd (cc no)
 command-once words Meta CheckSettling x y = let no : codes "meta" ∷ [] ≡ codes "check" ∷ codes "--settling" ∷ [] = sym x ∙ y in absurd (cc no)
 command-once words Meta (Run steps) x y = let no : codes "meta" ∷ [] ≡ codes "run" ∷ y.options = sym x ∙ y.are in absurd (cc no)
 command-once words Meta (RunUnchecked options) x y = let no : codes "meta" ∷ [] ≡ codes "run" ∷ codes "--unchecked" ∷ y.word ∷ y.options = sym x ∙ y.are in absurd (cc no)
 command-once words Certify Meta x y = let no : codes "certify" ∷ [] ≡ codes "meta" ∷ [] = sym x ∙ y in absurd (cc no)
 command-once words Certify Certify x y = refl
 command-once words Certify Check x y = let no : codes "certify" ∷ [] ≡ codes "check" ∷ [] = sym x ∙ y in absurd (cc no)
+command-once words Certify CertifySettling x y = let no : codes "certify" ∷ [] ≡ codes "certify" ∷ codes "--settling" ∷ [] = sym x ∙ y in absurd (cc no)
 command-once words Certify CheckSettling x y = let no : codes "certify" ∷ [] ≡ codes "check" ∷ codes "--settling" ∷ [] = sym x ∙ y in absurd (cc no)
 command-once words Certify (Run steps) x y = let no : codes "certify" ∷ [] ≡ codes "run" ∷ y.options = sym x ∙ y.are in absurd (cc no)
 command-once words Certify (RunUnchecked options) x y = let no : codes "certify" ∷ [] ≡ codes "run" ∷ codes "--unchecked" ∷ y.word ∷ y.options = sym x ∙ y.are in absurd (cc no)
 command-once words Check Meta x y = let no : codes "check" ∷ [] ≡ codes "meta" ∷ [] = sym x ∙ y in absurd (cc no)
 command-once words Check Certify x y = let no : codes "check" ∷ [] ≡ codes "certify" ∷ [] = sym x ∙ y in absurd (cc no)
 command-once words Check Check x y = refl
+command-once words Check CertifySettling x y = let no : codes "check" ∷ [] ≡ codes "certify" ∷ codes "--settling" ∷ [] = sym x ∙ y in absurd (cc no)
 command-once words Check CheckSettling x y = let no : codes "check" ∷ [] ≡ codes "check" ∷ codes "--settling" ∷ [] = sym x ∙ y in absurd (cc no)
 command-once words Check (Run steps) x y = let no : codes "check" ∷ [] ≡ codes "run" ∷ y.options = sym x ∙ y.are in absurd (cc no)
 command-once words Check (RunUnchecked options) x y = let no : codes "check" ∷ [] ≡ codes "run" ∷ codes "--unchecked" ∷ y.word ∷ y.options = sym x ∙ y.are in absurd (cc no)
+command-once words CertifySettling Meta x y = let no : codes "certify" ∷ codes "--settling" ∷ [] ≡ codes "meta" ∷ [] = sym x ∙ y in absurd (cc no)
+command-once words CertifySettling Certify x y = let no : codes "certify" ∷ codes "--settling" ∷ [] ≡ codes "certify" ∷ [] = sym x ∙ y in absurd (cc no)
+command-once words CertifySettling Check x y = let no : codes "certify" ∷ codes "--settling" ∷ [] ≡ codes "check" ∷ [] = sym x ∙ y in absurd (cc no)
+command-once words CertifySettling CertifySettling x y = refl
+command-once words CertifySettling CheckSettling x y = let no : codes "certify" ∷ codes "--settling" ∷ [] ≡ codes "check" ∷ codes "--settling" ∷ [] = sym x ∙ y in absurd (cc no)
+command-once words CertifySettling (Run steps) x y = let no : codes "certify" ∷ codes "--settling" ∷ [] ≡ codes "run" ∷ y.options = sym x ∙ y.are in absurd (cc no)
+command-once words CertifySettling (RunUnchecked options) x y = let no : codes "certify" ∷ codes "--settling" ∷ [] ≡ codes "run" ∷ codes "--unchecked" ∷ y.word ∷ y.options = sym x ∙ y.are in absurd (cc no)
 command-once words CheckSettling Meta x y = let no : codes "check" ∷ codes "--settling" ∷ [] ≡ codes "meta" ∷ [] = sym x ∙ y in absurd (cc no)
 command-once words CheckSettling Certify x y = let no : codes "check" ∷ codes "--settling" ∷ [] ≡ codes "certify" ∷ [] = sym x ∙ y in absurd (cc no)
 command-once words CheckSettling Check x y = let no : codes "check" ∷ codes "--settling" ∷ [] ≡ codes "check" ∷ [] = sym x ∙ y in absurd (cc no)
+command-once words CheckSettling CertifySettling x y = let no : codes "check" ∷ codes "--settling" ∷ [] ≡ codes "certify" ∷ codes "--settling" ∷ [] = sym x ∙ y in absurd (cc no)
 command-once words CheckSettling CheckSettling x y = refl
 command-once words CheckSettling (Run steps) x y = let no : codes "check" ∷ codes "--settling" ∷ [] ≡ codes "run" ∷ y.options = sym x ∙ y.are in absurd (cc no)
 command-once words CheckSettling (RunUnchecked options) x y = let no : codes "check" ∷ codes "--settling" ∷ [] ≡ codes "run" ∷ codes "--unchecked" ∷ y.word ∷ y.options = sym x ∙ y.are in absurd (cc no)
 command-once words (Run steps) Meta x y = let no : codes "run" ∷ x.options ≡ codes "meta" ∷ [] = sym x.are ∙ y in absurd (cc no)
 command-once words (Run steps) Certify x y = let no : codes "run" ∷ x.options ≡ codes "certify" ∷ [] = sym x.are ∙ y in absurd (cc no)
 command-once words (Run steps) Check x y = let no : codes "run" ∷ x.options ≡ codes "check" ∷ [] = sym x.are ∙ y in absurd (cc no)
+command-once words (Run steps) CertifySettling x y = let no : codes "run" ∷ x.options ≡ codes "certify" ∷ codes "--settling" ∷ [] = sym x.are ∙ y in absurd (cc no)
 command-once words (Run steps) CheckSettling x y = let no : codes "run" ∷ x.options ≡ codes "check" ∷ codes "--settling" ∷ [] = sym x.are ∙ y in absurd (cc no)
 command-once words (Run m) (Run n) x y =
     let both : codes "run" ∷ x.options ≡ codes "run" ∷ y.options = sym x.are ∙ y.are in
@@ -77,6 +89,7 @@ command-once words (Run m) (RunUnchecked options) x y =
 command-once words (RunUnchecked options) Meta x y = let no : codes "run" ∷ codes "--unchecked" ∷ x.word ∷ x.options ≡ codes "meta" ∷ [] = sym x.are ∙ y in absurd (cc no)
 command-once words (RunUnchecked options) Certify x y = let no : codes "run" ∷ codes "--unchecked" ∷ x.word ∷ x.options ≡ codes "certify" ∷ [] = sym x.are ∙ y in absurd (cc no)
 command-once words (RunUnchecked options) Check x y = let no : codes "run" ∷ codes "--unchecked" ∷ x.word ∷ x.options ≡ codes "check" ∷ [] = sym x.are ∙ y in absurd (cc no)
+command-once words (RunUnchecked options) CertifySettling x y = let no : codes "run" ∷ codes "--unchecked" ∷ x.word ∷ x.options ≡ codes "certify" ∷ codes "--settling" ∷ [] = sym x.are ∙ y in absurd (cc no)
 command-once words (RunUnchecked options) CheckSettling x y = let no : codes "run" ∷ codes "--unchecked" ∷ x.word ∷ x.options ≡ codes "check" ∷ codes "--settling" ∷ [] = sym x.are ∙ y in absurd (cc no)
 command-once words (RunUnchecked options) (Run n) x y =
     let both : codes "run" ∷ y.options ≡ codes "run" ∷ codes "--unchecked" ∷ x.word ∷ x.options = sym y.are ∙ x.are in
@@ -144,6 +157,8 @@ same-or-short (of_program.Uncertified p (why.DestroyPath nodes)) = inr (refl, tt
 same-or-short (of_program.Uncertified p (why.TooHigh nodes)) = inr (refl, tt)
 same-or-short (of_program.Uncertified p why.Memory) = inl (record { line = refl; status_is = refl })
 same-or-short (of_program.Valid checked) = inr refl
+same-or-short (of_program.Settling (settling.Certificate p text)) = inr refl
+same-or-short (of_program.Settling (settling.Uncertified p w)) = inr refl
 same-or-short (of_program.Settling (settling.Invalid reason)) = inr refl
 same-or-short (of_program.Settling (settling.Valid checked)) = inr refl
 
@@ -178,6 +193,7 @@ does-once : {N : Type 0} (limits : Limits) (gives : N → NativeAnswers) (heads 
 does-once limits gives heads natives once Meta (program ∷ []) = of-program (by-equal (one_description limits program))
 does-once limits gives heads natives once Certify (program ∷ []) = of-program (one_certifying limits program)
 does-once limits gives heads natives once Check (program ∷ certificate ∷ []) = of-program (by-equal (one_check limits program certificate))
+does-once limits gives heads natives once CertifySettling (program ∷ []) = of-program (one_settling_certifying limits program)
 does-once limits gives heads natives once CheckSettling (program ∷ certificate ∷ []) = of-program (by-equal (one_settling_check limits program certificate))
 does-once limits gives heads natives once (Run steps) (program ∷ certificate ∷ script ∷ []) = λ a b x y. one_run_outcome gives limits heads natives program certificate script steps a b once x y
 does-once limits gives heads natives once (RunUnchecked options) (program ∷ script ∷ []) = λ a b x y. one_unchecked_outcome gives limits heads natives program script options.depth options.steps a b once x y

@@ -11,7 +11,7 @@ use Rattle.program_commands.specs.Steps.{First, Is, fails, goes_on}
 use Rattle.command_lines.specs.Failing.{OnUnread}
 use Rattle.command_lines.specs.declared.input.InputFault.{InputFault}
 use Rattle.command_lines.specs.declared.words.Command.{Command}
-use Rattle.command_lines.specs.declared.words.Command.TheVariants.{Meta, Certify, Check, CheckSettling, Run, RunUnchecked}
+use Rattle.command_lines.specs.declared.words.Command.TheVariants.{Meta, Certify, Check, CertifySettling, CheckSettling, Run, RunUnchecked}
 use Rattle.trace_tool.specs.Failed.{IfUnread}
 use Rattle.trace_tool.specs.Commands.{CommandComesTo, Does, InputComesTo, IsOfProgram, Runs, RunsFaultless, ran, short, ran_faultless, short_of_memory, refused, limits_of}
 use Rattle.trace_tool.specs.declared.any_machine.outcome.Outcome.{Outcome}
@@ -39,6 +39,7 @@ module _ {N : Type 0} (P : Type 0) where
   of-does limits gives heads natives Meta (program ∷ []) = λ end x. of-program x
   of-does limits gives heads natives Certify (program ∷ []) = λ end x. of-program x
   of-does limits gives heads natives Check (program ∷ certificate ∷ []) = λ end x. of-program x
+  of-does limits gives heads natives CertifySettling (program ∷ []) = λ end x. of-program x
   of-does limits gives heads natives CheckSettling (program ∷ certificate ∷ []) = λ end x. of-program x
   of-does limits gives heads natives (Run steps) (program ∷ certificate ∷ script ∷ []) = λ end x. of-first (λ both o runs. of-faultless runs) x
   of-does limits gives heads natives (RunUnchecked options) (program ∷ script ∷ []) = λ end x. of-first (λ both o runs. of-runs runs) x

@@ -9,8 +9,8 @@ use Rattle.rank_check.specs.Checks.{Checking, Examines}
 use Rattle.script_lang.specs.{Reads.{ReadsScript}, declared.event.Event.{Event}}
 use Rattle.machine_rules.specs.Natives.{NativeAnswers}
 use Rattle.object_machine.specs.{Checked.{IsLimit}, Claims.{Claims}, Seen.{Seen, RunsAll, begun}}
-use Rattle.program_commands.specs.{declared.outcome.Outcome.{Outcome as ProgramOutcome}, declared.outcome.Outcome.TheVariants.{Refused}, declared.refusal.Refusal.{Refusal}, declared.refusal.Refusal.TheVariants.{Script, Check as OfCheck, Natives as OfNatives}, Commands.{CheckComesTo, CertifyComesTo, MetaComesTo}, Settling.{CheckSettlingComesTo}, Loading.{LoadsProgram, LoadsCertified}, Steps.{First, Is, Gives}}
-use Rattle.command_lines.specs.{Cut.{AreTexts}, Words.{IsLine, IsNoLine}, declared.input.InputFault.{InputFault}, declared.usage.UsageFault.{UsageFault}, declared.usage.UsageFault.TheVariants.{Words, TooLarge, Texts}, declared.words.Command.{Command}, declared.words.Command.TheVariants.{Meta, Certify, Check, CheckSettling, Run, RunUnchecked}, declared.words.CommandLine.{CommandLine}}
+use Rattle.program_commands.specs.{declared.outcome.Outcome.{Outcome as ProgramOutcome}, declared.outcome.Outcome.TheVariants.{Refused}, declared.refusal.Refusal.{Refusal}, declared.refusal.Refusal.TheVariants.{Script, Check as OfCheck, Natives as OfNatives}, Commands.{CheckComesTo, CertifyComesTo, MetaComesTo}, Settling.{CertifySettlingComesTo, CheckSettlingComesTo}, Loading.{LoadsProgram, LoadsCertified}, Steps.{First, Is, Gives}}
+use Rattle.command_lines.specs.{Cut.{AreTexts}, Words.{IsLine, IsNoLine}, declared.input.InputFault.{InputFault}, declared.usage.UsageFault.{UsageFault}, declared.usage.UsageFault.TheVariants.{Words, TooLarge, Texts}, declared.words.Command.{Command}, declared.words.Command.TheVariants.{Meta, Certify, Check, CertifySettling, CheckSettling, Run, RunUnchecked}, declared.words.CommandLine.{CommandLine}}
 use Rattle.trace_tool.specs.{Outcomes.{Writes, answer_of}, declared.any_machine.outcome.Outcome.{Outcome}, declared.any_machine.outcome.Outcome.TheVariants.{Usage, NoInput, Program, Ran as OfRun, Memory}, declared.any_machine.outcome.Ran.{Ran}}
 
 -- a program is refused, and doesn't run
@@ -90,6 +90,7 @@ abbrev pub texts_of : Command → ℕ
 texts_of Meta = 1
 texts_of Certify = 1
 texts_of Check = 2
+texts_of CertifySettling = 1
 texts_of CheckSettling = 2
 texts_of (Run steps) = 3
 texts_of (RunUnchecked options) = 2
@@ -114,6 +115,7 @@ abbrev pub Does : {N : Type 0} → Limits → (N → NativeAnswers) → List Nat
 Does limits gives heads natives Meta (program ∷ []) outcome = IsOfProgram (MetaComesTo limits program) outcome
 Does limits gives heads natives Certify (program ∷ []) outcome = IsOfProgram (CertifyComesTo limits program) outcome
 Does limits gives heads natives Check (program ∷ certificate ∷ []) outcome = IsOfProgram (CheckComesTo limits program certificate) outcome
+Does limits gives heads natives CertifySettling (program ∷ []) outcome = IsOfProgram (CertifySettlingComesTo limits program) outcome
 Does limits gives heads natives CheckSettling (program ∷ certificate ∷ []) outcome =
     IsOfProgram (CheckSettlingComesTo limits program certificate) outcome
 Does limits gives heads natives (Run steps) (program ∷ certificate ∷ script ∷ []) outcome =

@@ -45,6 +45,7 @@ pub fn command<R: Read, W: Write>(
 /// - `meta` takes one text, a program, and writes its classes.
 /// - `certify` takes one text, a program, and writes its least valid certificate, or why it has none.
 /// - `check` takes two texts, a program and its certificate, and writes `yes` or the checker's no.
+/// - `certify --settling` takes one text, a program, and writes a settling certificate of it, or why none was made.
 /// - `check --settling` takes two texts, a program and its settling certificate, and answers as `check`.
 /// - `run [--steps M]` takes three texts, a program, its certificate and a script, checks the program, and runs it on the
 ///   script.

@@ -35,7 +35,12 @@ pub fn push_outcome(
 ) -> Result<(), AllocError> {
     match outcome {
         Outcome::Refused(refusal) => push_refusal(text, alloc, limits, input, refusal),
-        Outcome::Uncertified(meta, why) => push_missing(text, alloc, input, meta, why),
+        Outcome::Uncertified(meta, why) => {
+            push_missing(text, alloc, input, meta, meaning_of_reason(why))
+        }
+        Outcome::Settling(SettlingOutcome::Uncertified(meta, why)) => {
+            push_missing(text, alloc, input, meta, meaning_of_unsettled(why))
+        }
         Outcome::Settling(SettlingOutcome::Invalid(no)) => push_invalid(text, no),
         _ => Ok(()),
     }
@@ -170,9 +175,9 @@ fn push_missing(
     alloc: Global,
     input: Option<&[u8]>,
     meta: &Meta,
-    why: &Why,
+    about: Option<&'static str>,
 ) -> Result<(), AllocError> {
-    let Some(about) = meaning_of_reason(why) else {
+    let Some(about) = about else {
         return Ok(());
     };
     if let Some(input) = input {
@@ -241,6 +246,19 @@ fn meaning_of_reason(why: &Why) -> Option<&'static str> {
         ),
         Why::TooHigh(_) => Some("a chain of direct calls can be longer than 256"),
         Why::Memory => None,
+    }
+}
+
+/// The same of a reason why no settling certificate was made.
+fn meaning_of_unsettled(why: &Why) -> Option<&'static str> {
+    match why {
+        Why::Cycle(_) => Some(
+            "there is a circle that doesn't settle: its first node carries no value, its first edge doesn't hand it on, or none of its nodes is a property",
+        ),
+        Why::TooHigh(nodes) if nodes.is_empty() => Some(
+            "along circles and behind them ranks or steps grow too great",
+        ),
+        _ => meaning_of_reason(why),
     }
 }
 

@@ -7,7 +7,7 @@ use texts::{MOST_DEPTH, number, split_line};
 
 /// The commands, as a person writes them.
 const COMMANDS: &str =
-    "commands, and the texts of their input, with a line `%%` between two of them:\n  meta                                a program\n  certify                             a program\n  check                               a program, a certificate\n  check --settling                    a program, a settling certificate\n  run [--steps M]                     a program, a certificate, a script\n  run --unchecked N [--steps M]       a program, a script\nN is from 1 to 256, M from 1 to 9223372036854775807.\n";
+    "commands, and the texts of their input, with a line `%%` between two of them:\n  meta                                a program\n  certify [--settling]                a program\n  check [--settling]                  a program, a certificate\n  run [--steps M]                     a program, a certificate, a script\n  run --unchecked N [--steps M]       a program, a script\nN is from 1 to 256, M from 1 to 9223372036854775807.\n";
 
 /// Adds what is wrong with these words or with this input, and the list of the commands.
 pub fn push_usage(
@@ -67,8 +67,8 @@ fn mistake(words: &[&str]) -> &'static str {
         return "a command is wanted";
     };
     match *command {
-        "meta" | "certify" => "this command takes no further words",
-        "check" => "behind `check` stands `--settling`, or nothing",
+        "meta" => "this command takes no further words",
+        "certify" | "check" => "behind this command stands `--settling`, or nothing",
         "run" => mistake_in_run(options),
         "--help" | "-h" | "help" => "the commands are these",
         _ => "the first word is no command",

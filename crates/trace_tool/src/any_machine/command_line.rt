@@ -23,7 +23,8 @@ use command_lines::{
 };
 use object_machine::ObjectMachine;
 use program_commands::{
-    Outcome as ProgramOutcome, certify_outcome, check_outcome, check_settling_outcome, meta_outcome,
+    Outcome as ProgramOutcome, certify_outcome, certify_settling_outcome, check_outcome,
+    check_settling_outcome, meta_outcome,
 };
 use std::alloc::Global;
 use std::io::{Read, Write};
@@ -161,6 +162,10 @@ fn prepare<N: FittingNatives, M: ObjectMachine<Natives = N>>(
                 certificate,
             )),
             None => Prepared::Done(Outcome::Usage(UsageFault::Texts(2))),
+        },
+        Command::CertifySettling => match one_text(input) {
+            Some(program) => of_program(certify_settling_outcome(alloc, limits, program)),
+            None => Prepared::Done(Outcome::Usage(UsageFault::Texts(1))),
         },
         Command::CheckSettling => match two_texts(input) {
             Some((program, certificate)) => of_program(check_settling_outcome(

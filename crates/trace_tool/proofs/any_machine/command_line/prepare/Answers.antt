@@ -40,6 +40,16 @@ returns-in-Check g c =
     let few : length c.args.input.now ≤ 67108864 = omega (arith, c.if-input-gt-LARGEST_INPUT.false) in
     rw c.in-Check.is (done-now _ _ _ (fails (Texts 2) (few, refl, two_only _ (rw c.in-None-two_texts.is at c.two_texts.ensures.cut))))
 
+pub returns-in-Some-one_text-2 : goal.returns-in-Some-one_text-2
+returns-in-Some-one_text-2 g c =
+    let few : length c.args.input.now ≤ 67108864 = omega (arith, c.if-input-gt-LARGEST_INPUT.false) in
+    rw c.in-CertifySettling.is (done-prepares _ _ _ c.of_program-in-Some-one_text-2.ensures (goes_on (c.in-Some-one_text-2.program.now ∷ []) _ (few, c.in-Some-one_text-2.ensures.cut, refl) (record { told = c.certify_settling_outcome.result; comes = c.certify_settling_outcome.ensures; is = refl })))
+
+pub returns-in-CertifySettling : goal.returns-in-CertifySettling
+returns-in-CertifySettling g c =
+    let few : length c.args.input.now ≤ 67108864 = omega (arith, c.if-input-gt-LARGEST_INPUT.false) in
+    rw c.in-CertifySettling.is (done-now _ _ _ (fails (Texts 1) (few, refl, one_only _ (rw c.in-None-one_text-2.is at c.one_text-in-CertifySettling.ensures.cut))))
+
 pub returns-in-Some-two_texts-2 : goal.returns-in-Some-two_texts-2
 returns-in-Some-two_texts-2 g c =
     let few : length c.args.input.now ≤ 67108864 = omega (arith, c.if-input-gt-LARGEST_INPUT.false) in
